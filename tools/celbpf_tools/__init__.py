@@ -4,6 +4,7 @@
     entry        how a script begins and ends: words, streams, statuses
     commands     a module for each script in Python
     documents    policies, reviews and tests, read as JSON or YAML
+    definitions  the definitions in the folders `specs`, read by their names
     asking       questions to the built program about a policy
     evaluator    what a policy answers to a review, written apart from the crates
     seeded       policies and reviews from a seed
@@ -12,6 +13,6 @@
     pages        what the pages show, as runs
     tests        unit tests, which `tools/run-units` runs
 
-All of it goes by the programs' command lines and outputs alone; nothing here reads a crate's sources but the scripts
-that work on copies of them.
+All of it goes by the programs' command lines and outputs alone; nothing here reads a crate's sources but `definitions`
+and the scripts that work on copies of them.
 """

@@ -1,5 +1,5 @@
 -- Each text names one thing.
-use Rattle.assembler.proofs.Prelude.{◌≡◌, ℕ, suc, ℤ, pos, negsuc, List, [], ◌∷◌, ◌++◌, map, Option, Some, None, sym, ap, arith, AllDigits, if◌then◌else◌, bytes_eq, decimal, offset_text, operand_text, register_text, signed_decimal, Register, Size, SwapWidth, Width, mnemonic_text, IsName, Operand, Imm, Reg, decimal_digits, decimal_injective, Mnemonic, Alu, Neg, SignExtend, ByteSwap, Ja, JaLong, Branch, Call, Exit, Load, LoadSigned, StoreImm, Store, Atomic, LoadWide, Slot}
+use Rattle.assembler.proofs.Prelude.{◌≡◌, ℕ, suc, ℤ, pos, negsuc, List, [], ◌∷◌, ◌++◌, map, Option, Some, None, sym, ap, arith, AllDigits, if◌then◌else◌, bytes_eq, decimal, offset_text, operand_text, register_text, signed_decimal, Register, Size, SwapWidth, Width, mnemonic_text, IsLabel, Operand, Imm, Reg, decimal_digits, decimal_injective, Mnemonic, Alu, Neg, SignExtend, ByteSwap, Ja, JaLong, Branch, Call, Exit, Load, LoadSigned, StoreImm, Store, Atomic, LoadWide, Slot}
 use Rattle.insn_codec.specs.declared.alu_op.AluOp.TheVariants as alu
 use Rattle.insn_codec.specs.declared.atomic_op.AtomicOp.TheVariants as atomic
 use Rattle.insn_codec.specs.declared.byte_order.ByteOrder.TheVariants as order
@@ -76,5 +76,5 @@ operand_injective (Reg r) (Imm z) e = absurd (register_no_number r z e)
 operand_injective (Reg r) (Reg s) e = ap Reg (register_injective r s e)
 
 -- no name is an offset
-pub name_no_offset : (cs : List ℕ) (z : ℤ) → IsName cs → cs ≡ offset_text z → ⊥
+pub name_no_offset : (cs : List ℕ) (z : ℤ) → IsLabel cs → cs ≡ offset_text z → ⊥
 name_no_offset cs h0 h e = grind arith

@@ -1,5 +1,5 @@
 -- Lines of jumps, by an offset or to a name.
-use Rattle.assembler.proofs.Prelude.{◌≡◌, ◌⊎◌, ℕ, ℤ, List, Some, None, true, refl, sym, ◌∙◌, ap, subst, arith, inl, inr, FitsSigned, Err, w16, w32, both_ways, offset_text, operands_text, operand_text, register_text, IsStatement, Mnemonic, Statement, ReadsOperands, item_mnemonic, item_operands, operand_list, HasLine, InRange, Item, statement, label, jump, JumpInRange, fits_16, jump_by, jump_mnemonic, jump_operands, reaches, with_offset, Jump, Near, Long, CallLocal, OutOfRange, IsOperand, Comparison, Operand, Register, Width, TargetIs, Target, Offset, Name}
+use Rattle.assembler.proofs.Prelude.{◌≡◌, ◌⊎◌, ℕ, ℤ, List, Some, None, true, refl, sym, ◌∙◌, ap, subst, arith, inl, inr, FitsSigned, Err, w16, w32, both_ways, offset_text, operands_text, operand_text, register_text, IsStatement, Mnemonic, Statement, ReadsOperands, item_mnemonic, item_operands, operand_list, HasLine, InRange, SourceItem, statement, label, jump, JumpInRange, fits_16, jump_by, jump_mnemonic, jump_operands, reaches, with_offset, Jump, Near, Long, CallLocal, OutOfRange, IsOperand, Comparison, Operand, Register, Width, TargetIs, Target, Offset, Name}
 use Rattle.assembler.proofs.Ends.{either}
 use Rattle.assembler.specs.declared.lines.jump.Jump.TheVariants.{Branch}
 use Rattle.insn_codec.specs.declared.insn.Insn.TheVariants as insn
@@ -58,7 +58,7 @@ IsOfJump (mnemonic.Branch comparison width) = Unit {0}
 IsOfJump _ = ⊥
 
 -- a jump by an offset, or to a name
-abbrev pub JumpsBy : Jump → Item → Type 0
+abbrev pub JumpsBy : Jump → SourceItem → Type 0
 JumpsBy j i = ((z : ℤ) × (i ≡ statement (jump_by j z))) ⊎ ((name : List ℕ) × (i ≡ jump j name))
 
 same : (m n : Mnemonic) → Some m ≡ Some n → m ≡ n
@@ -67,7 +67,7 @@ same m n e = cc
 other : {P : Type 0} (m n : Mnemonic) → (IsOfJump m → ⊥) → IsOfJump n → Some m ≡ Some n → P
 other m n never is e = absurd (never (subst (λ x. IsOfJump x) (sym (same m n e)) is))
 
-pub of_jump : (m : Mnemonic) (i : Item) → IsOfJump m → item_mnemonic i ≡ Some m → (j : Jump) × (jump_mnemonic j ≡ m) × JumpsBy j i
+pub of_jump : (m : Mnemonic) (i : SourceItem) → IsOfJump m → item_mnemonic i ≡ Some m → (j : Jump) × (jump_mnemonic j ≡ m) × JumpsBy j i
 of_jump m (jump j name) is e = (j, same (jump_mnemonic j) m e, inr (name, refl))
 of_jump m (label name) is e = absurd cc
 of_jump m (statement (statement_kind.Insn (insn.Jump z))) is e = (Near, same mnemonic.Ja m e, inl (z, refl))

@@ -1,28 +1,28 @@
 -- Texts that are cut at the first byte of a kind.
-use Rattle.assembler.proofs.Prelude.{◌≡◌, ◌≢◌, ◌<◌, ℕ, zero, suc, List, [], ◌∷◌, ◌++◌, refl, sym, ◌∙◌, ap, subst, arith, length, get_or, Bool, true, false, eq-eqb, ◌==◌, ◌&&◌, not, and_parts, all_go_on, goes_on_name, Lacks}
+use Rattle.assembler.proofs.Prelude.{◌≡◌, ◌≢◌, ◌<◌, ℕ, zero, suc, List, [], ◌∷◌, ◌++◌, refl, sym, ◌∙◌, ap, subst, arith, length, get_or, Bool, true, false, eq-eqb, ◌==◌, ◌&&◌, not, and_parts, all_go_on, goes_on_name, HasNoByte}
 
 -- what is nowhere is at no index
-pub lacks_at : (c : ℕ) (xs : List ℕ) → Lacks c xs → (i : ℕ) → i < length xs → get_or xs i 0 ≢ c
+pub lacks_at : (c : ℕ) (xs : List ℕ) → HasNoByte c xs → (i : ℕ) → i < length xs → get_or xs i 0 ≢ c
 lacks_at c [] h i lt = absurd (omega arith)
 lacks_at c (x ∷ xs) h zero lt = h.0
 lacks_at c (x ∷ xs) h (suc i) lt = lacks_at c xs h.1 i (omega arith)
 
 -- what is at no index is nowhere
-pub lacks_from : (c : ℕ) (xs : List ℕ) → ((i : ℕ) → i < length xs → get_or xs i 0 ≢ c) → Lacks c xs
+pub lacks_from : (c : ℕ) (xs : List ℕ) → ((i : ℕ) → i < length xs → get_or xs i 0 ≢ c) → HasNoByte c xs
 lacks_from c [] h = tt
 lacks_from c (x ∷ xs) h = (h 0 (omega arith), lacks_from c xs (λ i lt. h (suc i) (omega arith)))
 
-pub lacks_append : (c : ℕ) (xs ys : List ℕ) → Lacks c xs → Lacks c ys → Lacks c (xs ++ ys)
+pub lacks_append : (c : ℕ) (xs ys : List ℕ) → HasNoByte c xs → HasNoByte c ys → HasNoByte c (xs ++ ys)
 lacks_append c [] ys h k = k
 lacks_append c (x ∷ xs) ys h k = (h.0, lacks_append c xs ys h.1 k)
 
 -- where a byte stands, it is not lacking
-pub lacks_not : (c : ℕ) (xs ys : List ℕ) → Lacks c (xs ++ c ∷ ys) → ⊥
+pub lacks_not : (c : ℕ) (xs ys : List ℕ) → HasNoByte c (xs ++ c ∷ ys) → ⊥
 lacks_not c [] ys h = h.0 refl
 lacks_not c (x ∷ xs) ys h = lacks_not c xs ys h.1
 
 -- two texts that are equal are cut alike
-pub split_same : (c : ℕ) (xs ys vs ws : List ℕ) → Lacks c xs → Lacks c vs → xs ++ c ∷ ys ≡ vs ++ c ∷ ws → (xs ≡ vs) × (ys ≡ ws)
+pub split_same : (c : ℕ) (xs ys vs ws : List ℕ) → HasNoByte c xs → HasNoByte c vs → xs ++ c ∷ ys ≡ vs ++ c ∷ ws → (xs ≡ vs) × (ys ≡ ws)
 split_same c [] ys [] ws h k e = (refl, cc)
 split_same c [] ys (v ∷ vs) ws h k e = absurd (k.0 (let p : c ≡ v = cc in sym p))
 split_same c (x ∷ xs) ys [] ws h k e = absurd (h.0 (let p : x ≡ c = cc in p))
@@ -32,8 +32,8 @@ split_same c (x ∷ xs) ys (v ∷ vs) ws h k e =
     let r = split_same c xs ys vs ws h.1 k.1 q in
     (ap (λ y. y ∷ xs) p ∙ ap (λ zs. v ∷ zs) r.0, r.1)
 
-pub lacks_gone : (c : ℕ) (text xs ys : List ℕ) → Lacks c text → text ≡ xs ++ c ∷ ys → ⊥
-lacks_gone c text xs ys h e = lacks_not c xs ys (subst (λ t. Lacks c t) e h)
+pub lacks_gone : (c : ℕ) (text xs ys : List ℕ) → HasNoByte c text → text ≡ xs ++ c ∷ ys → ⊥
+lacks_gone c text xs ys h e = lacks_not c xs ys (subst (λ t. HasNoByte c t) e h)
 
 -- a test that computes
 abbrev pub lacks : ℕ → List ℕ → Bool
@@ -43,12 +43,12 @@ lacks c (x ∷ xs) = not (x == c) && lacks c xs
 pub apart : (x c : ℕ) → (x == c) ≡ false → x ≡ c → ⊥
 apart x c e p = absurd (let z : true ≡ false = sym (eq-eqb x c p) ∙ e in cc)
 
-pub lacks_by : (c : ℕ) (xs : List ℕ) → lacks c xs ≡ true → Lacks c xs
+pub lacks_by : (c : ℕ) (xs : List ℕ) → lacks c xs ≡ true → HasNoByte c xs
 lacks_by c [] e = tt
 lacks_by c (x ∷ xs) e = let p = and_parts _ _ e in (apart x c (grind arith), lacks_by c xs p.1)
 
 -- the bytes of names
-pub go_lacks : (c : ℕ) → goes_on_name c ≡ false → (xs : List ℕ) → all_go_on xs ≡ true → Lacks c xs
+pub go_lacks : (c : ℕ) → goes_on_name c ≡ false → (xs : List ℕ) → all_go_on xs ≡ true → HasNoByte c xs
 go_lacks c h [] e = tt
 go_lacks c h (x ∷ xs) e =
     let p = and_parts (goes_on_name x) (all_go_on xs) e in

@@ -1,5 +1,5 @@
 -- The listing of code is its source.
-use Rattle.assembler.proofs.Prelude.{◌≡◌, ◌≢◌, ℕ, ◌+◌, ◌*◌, ◌/◌, ◌%◌, ◌<◌, ◌≤◌, List, [], ◌∷◌, ◌++◌, Option, None, refl, sym, ◌∙◌, ap, subst, arith, length, map, false, ◌==◌, All, ne_eqb, All-tail, NoLineFeed, SlotsAreFilled, StandsFirst, StatementIsSpelled, IsStatement, Lists, Listing, after_statement, lines_text, statement_bytes, statement_of, statement_slots, statement_text, place, Statement, lines_of, before_line, Item, statement, label, slots_of, EachSays, Source, StandFor, none, line, stated}
+use Rattle.assembler.proofs.Prelude.{◌≡◌, ◌≢◌, ℕ, ◌+◌, ◌*◌, ◌/◌, ◌%◌, ◌<◌, ◌≤◌, List, [], ◌∷◌, ◌++◌, Option, None, refl, sym, ◌∙◌, ap, subst, arith, length, map, false, ◌==◌, All, ne_eqb, All-tail, NoLineFeed, SlotsAreFilled, StandsFirst, StatementIsSpelled, IsStatement, Lists, Listing, after_statement, lines_text, statement_bytes, statement_of, statement_slots, statement_text, place, Statement, lines_of, before_line, SourceItem, statement, label, slots_of, EachSays, Source, StandFor, none, line, stated, slot_limit}
 use Rattle.insn_codec.specs.Statements.Lists.{ended}
 
 abbrev IsNoFeed : ℕ → Type 0
@@ -33,7 +33,7 @@ says_each (x ∷ xs) each = ((refl, (grind arith), each.0), says_each xs each.1)
 abbrev no_labels : List ℕ → Option ℕ
 no_labels q = None
 
-no_label : (xs : List Statement) (before later : List Item) (name : List ℕ) → map statement xs ≡ before ++ label name ∷ later → ⊥
+no_label : (xs : List Statement) (before later : List SourceItem) (name : List ℕ) → map statement xs ≡ before ++ label name ∷ later → ⊥
 no_label [] [] later name e = cc
 no_label [] (i ∷ before) later name e = cc
 no_label (x ∷ xs) [] later name e = cc
@@ -65,7 +65,7 @@ stands_of spelled filled code (x ∷ xs) small whole (place {byte = byte} {bytes
     ((first.in_range, more.0), first.bytes ∙ ap (λ z. statement_bytes (statement_of (byte ∷ bytes)) ++ z) more.1)
 
 pub listed : NoLineFeed → StatementIsSpelled → SlotsAreFilled → (code text : List ℕ) → All (λ b. b < 256) code → length code % 8 ≡ 0
-    → length code / 8 ≤ 65536 → Listing code text → Source text code
+    → length code / 8 ≤ slot_limit → Listing code text → Source text code
 listed quiet spelled filled code text small whole room l =
     let stands = stands_of spelled filled code l.statements small whole l.lists in
     let lines : lines_of text ≡ map statement_text l.statements = ap lines_of l.text_is ∙ lines_again quiet l.statements stands.0 in

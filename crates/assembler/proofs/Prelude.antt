@@ -1,7 +1,101 @@
 -- The names that these proofs cite of the library, of the crates below and of the definitions here. Declares nothing.
-pub use Rattle.std.proofs.{Common.All, Common.Bool, Common.Err, Common.FitsSigned, Common.IfSome, Common.IsTrue, Common.List, Common.None, Common.Ok, Common.OnErr, Common.Option, Common.Result, Common.Some, Common.Vec, Common.ℕ, Common.ℤ, Common.[], Common.ap, Common.append-nil, Common.append_assoc, Common.arith, Common.codes, Common.drop, Common.eq-eqb, Common.false, Common.get_or, Common.if◌then◌else◌, Common.inl, Common.inr, Common.length, Common.length-append, Common.lit<, Common.map, Common.nat_eq, Common.neg_ℤ, Common.negsuc, Common.not, Common.of_z, Common.pos, Common.pow-suc, Common.refl, Common.rules, Common.string_bytes, Common.subst, Common.suc, Common.sym, Common.take, Common.to_z, Common.true, Common.zero, Common.zero-add, Common.◌%◌, Common.◌&&◌, Common.◌*◌, Common.◌++◌, Common.◌+◌, Common.◌-◌, Common.◌/◌, Common.◌<◌, Common.◌==◌, Common.◌^◌, Common.◌∙◌, Common.◌∷◌, Common.◌≡◌, Common.◌≢◌, Common.◌≤◌, Common.◌⊎◌, lemmas.Bool.and_parts, lemmas.Bool.both_ways, lemmas.Bool.false≢true, lemmas.Bool.ne_eqb, lemmas.Bool.Decides.nat_tests, lemmas.Grind.common_steps, lemmas.Int.to_z-of_z, lemmas.Int.Digits.all_below_base_digits_of, lemmas.Int.Digits.all_below_base_from_digits, lemmas.Int.Digits.digits_of_step, lemmas.Int.Digits.digits_value-lt, lemmas.Int.Digits.digits_value_is, lemmas.Int.Digits.digits_value_push, lemmas.Int.Digits.first_digits_of, lemmas.Int.Digits.number_after_ge, lemmas.Int.Digits.number_push, lemmas.List.append_cancel_left, lemmas.List.append_cancel_right, lemmas.List.drop_more, lemmas.List.Elements.All-tail, lemmas.Map.Text.btree_map_updates_text, lemmas.Result.IfOk-at_ok, lemmas.Slice.Eq.bytes_eq-Decides, lemmas.Str.digit_value_digit, lemmas.Str.Parse.IsNumeralModel, lemmas.Str.Parse.digit_from_value, lemmas.Str.Parse.numerals_by_value, lemmas.Str.Parse.parse_signed_digits, lemmas.Str.Parse.parse_signed_minus, lemmas.Str.Parse.parse_signed_plus, lemmas.Str.Parse.tells_all_ascii_digits, lemmas.Str.Parse.tells_digits, lemmas.Str.Parse.without_leading_plus_none, lemmas.Str.Pattern.drop_at_char, lemmas.Str.Pattern.find_char, lemmas.Str.Pattern.finds_char_after, lemmas.Str.Pattern.split_after, lemmas.Str.Pattern.split_once_first, lemmas.Str.Pattern.split_parts, lemmas.Str.Pattern.strip_prefix_char, lemmas.Str.Pattern.strip_suffix_char}
-pub use Rattle.std.specs.{BTreeMap.get_by_text, Char.digit_value, Global.Global, Int.w16, Int.w32, Int.Digits.AllBelowBase, Int.Digits.digits_of, Int.Digits.number_from_digits, List.after_first, List.before_first, List.position_or_len, Result.OkIff, Str.IsUtf8, Str.all_ascii_digits, Str.bytes_eq, Str.Parse.AllDigits, Str.Parse.ParsesSigned, Str.Parse.ParsesUnsigned, Str.Parse.digits_value}
-pub use Rattle.insn_codec.proofs.{Decimals.bytes_digits, Decimals.decimal_digits, Decimals.decimal_injective, Decimals.decimal_some, Decimals.decimal_value, Decimals.decimal_zero, Plain.all_plain, Plain.is_plain, Plain.mnemonic_plain, Plain.offset_plain, Plain.operand_plain, Plain.plain_append, Plain.register_plain, Plain.signed_decimal_plain, Plain.wide_plain}
-pub use Rattle.insn_codec.specs.{Laws.NoLineFeed, Laws.SlotsAreFilled, Laws.StandsFirst, Laws.StatementIsSpelled, Lines.address_text, Lines.hex_digit, Lines.offset_text, Lines.operand_text, Lines.operands_text, Lines.place_text, Lines.register_text, Lines.signed_decimal, Lines.wide_text, Mnemonics.alu_text, Mnemonics.atomic_text, Mnemonics.comparison_text, Mnemonics.mnemonic_text, Mnemonics.width_text, Spelling.IsOperand, Statements.IsStatement, Statements.Listing, Statements.Lists, Statements.after_statement, Statements.lines_text, Statements.statement_bytes, Statements.statement_mnemonic, Statements.statement_slots, Statements.statement_text, Statements.Lists.place, declared.alu_op.AluOp.AluOp, declared.atomic_op.AtomicOp.AtomicOp, declared.comparison.Comparison.Comparison, declared.mnemonic.Mnemonic.Mnemonic, declared.mnemonic.Mnemonic.TheVariants.Alu, declared.mnemonic.Mnemonic.TheVariants.Atomic, declared.mnemonic.Mnemonic.TheVariants.Branch, declared.mnemonic.Mnemonic.TheVariants.ByteSwap, declared.mnemonic.Mnemonic.TheVariants.Call, declared.mnemonic.Mnemonic.TheVariants.Exit, declared.mnemonic.Mnemonic.TheVariants.Ja, declared.mnemonic.Mnemonic.TheVariants.JaLong, declared.mnemonic.Mnemonic.TheVariants.Load, declared.mnemonic.Mnemonic.TheVariants.LoadSigned, declared.mnemonic.Mnemonic.TheVariants.LoadWide, declared.mnemonic.Mnemonic.TheVariants.Neg, declared.mnemonic.Mnemonic.TheVariants.SignExtend, declared.mnemonic.Mnemonic.TheVariants.Slot, declared.mnemonic.Mnemonic.TheVariants.Store, declared.mnemonic.Mnemonic.TheVariants.StoreImm, declared.operand.Operand.Operand, declared.operand.Operand.TheVariants.Imm, declared.operand.Operand.TheVariants.Reg, declared.register.Register.Register, declared.size.Size.Size, declared.statement.Statement.Statement, declared.swap_width.SwapWidth.SwapWidth, declared.width.Width.Width}
-unfoldable pub use Rattle.insn_codec.specs.{Lines.decimal, Lines.hex_digits, Statements.statement_of}
-pub use Rattle.assembler.specs.{Answers.AddsLabel, Answers.Answers, Answers.Emits, Answers.FirstLineSays, Answers.FirstPass, Answers.HasSlots, Answers.IsAnswer, Answers.IsFreeIn, Answers.ReadsAt, Answers.ScansOnlyTo, Assembles.Assembles, Assembles.Assembles.refused, Assembles.Assembles.resolved, Cutting.before_line, Cutting.lines_of, FirstPass.Scans, FirstPass.Scans.ended, FirstPass.Scans.formless, FirstPass.Scans.full, FirstPass.Scans.next, FirstPass.Scans.twice, FirstPass.Scans.wide, Forms.Lacks, Forms.ReadsOperands, Forms.item_mnemonic, Forms.item_operands, Forms.operand_list, Hex.all_hex_digits, Hex.is_hex_digit, Items.HasLine, Items.InRange, Items.IsName, Items.Item, Items.all_go_on, Items.begins_name, Items.goes_on_name, Items.item_of, Items.item_slots, Items.item_text, Items.jump, Items.label, Items.slots_of, Items.statement, Jumps.JumpInRange, Jumps.fits_16, Jumps.jump_by, Jumps.jump_mnemonic, Jumps.jump_operands, Jumps.reaches, Jumps.with_offset, Labels.IsFree, Labels.label_slot, Labels.label_slot_from, Labels.names, LineAnswers.ReadsAs, Mnemonics.IsAtomic, Mnemonics.IsOfWidth, Numbers.is_decimal, Numbers.is_immediate, Numbers.is_offset, Numbers.is_positive, Reading.OneReading, Reading.Reading, Reading.Reads, Reading.no_form, Reading.out_of_range, Reading.says, Refusals.FirstRefused, Refusals.IsRefused, Refusals.IsShort, Refusals.NoneRefused, Refusals.Refused, Refusals.IsRefused.too_far, Refusals.IsRefused.unnamed, Refusals.Refused.by_first_pass, Refusals.Refused.by_label, SecondPass.after, SecondPass.and_then, SecondPass.bytes_of, SecondPass.code_bytes, SecondPass.jump_at, SecondPass.line_statement, SecondPass.offset_to, Source.EachSays, Source.GivesSlots, Source.NamedAfter, Source.Source, Source.StandFor, Source.StandsFor, Source.StandFor.line, Source.StandFor.none, Source.StandsFor.jumped, Source.StandsFor.named, Source.StandsFor.stated, Targets.TargetIs, declared.asm_error.AsmError.AsmError, declared.asm_error.AsmError.TheVariants.A1, declared.asm_error.AsmError.TheVariants.A2, declared.asm_error.AsmError.TheVariants.A3, declared.asm_error.AsmError.TheVariants.A4, declared.asm_error.AsmError.TheVariants.A5, declared.asm_error.AsmError.TheVariants.A6, declared.asm_error.AsmError.TheVariants.Memory, declared.lines.jump.Jump.Jump, declared.lines.jump.Jump.TheVariants.CallLocal, declared.lines.jump.Jump.TheVariants.Long, declared.lines.jump.Jump.TheVariants.Near, declared.lines.line.Line.Line, declared.lines.line_error.LineError.LineError, declared.lines.line_error.LineError.TheVariants.NoForm, declared.lines.line_error.LineError.TheVariants.OutOfRange, declared.passes.scan.Scanned.Scanned, declared.text.targets.Target.Target, declared.text.targets.Target.TheVariants.Name, declared.text.targets.Target.TheVariants.Offset}
+pub use Rattle.std.proofs.Common.{All, Bool, Err, FitsSigned, IfSome, IsTrue, List, None, Ok, OnErr, Option, Result}
+pub use Rattle.std.proofs.Common.{Some, Vec, ℕ, ℤ, [], ap, append-nil, append_assoc, arith, codes, drop, eq-eqb}
+pub use Rattle.std.proofs.Common.{false, get_or, if◌then◌else◌, inl, inr, length, length-append, lit<, map, nat_eq}
+pub use Rattle.std.proofs.Common.{neg_ℤ, negsuc, not, of_z, pos, pow-suc, refl, rules, string_bytes, subst, suc, sym}
+pub use Rattle.std.proofs.Common.{take, to_z, true, zero, zero-add, ◌%◌, ◌&&◌, ◌*◌, ◌++◌, ◌+◌, ◌-◌, ◌/◌, ◌<◌, ◌==◌}
+pub use Rattle.std.proofs.Common.{◌^◌, ◌∙◌, ◌∷◌, ◌≡◌, ◌≢◌, ◌≤◌, ◌⊎◌}
+pub use Rattle.std.proofs.lemmas.Bool.{and_parts, both_ways, false≢true, ne_eqb}
+pub use Rattle.std.proofs.lemmas.Bool.Decides.{nat_tests}
+pub use Rattle.std.proofs.lemmas.Grind.{common_steps}
+pub use Rattle.std.proofs.lemmas.Int.{to_z-of_z}
+pub use Rattle.std.proofs.lemmas.Int.Digits.{all_below_base_digits_of, all_below_base_from_digits, digits_of_step}
+pub use Rattle.std.proofs.lemmas.Int.Digits.{digits_value-lt, digits_value_is, digits_value_push, first_digits_of}
+pub use Rattle.std.proofs.lemmas.Int.Digits.{number_after_ge, number_push}
+pub use Rattle.std.proofs.lemmas.List.{append_cancel_left, append_cancel_right, drop_more}
+pub use Rattle.std.proofs.lemmas.List.Elements.{All-tail}
+pub use Rattle.std.proofs.lemmas.Map.Text.{btree_map_updates_text}
+pub use Rattle.std.proofs.lemmas.Result.{IfOk-at_ok}
+pub use Rattle.std.proofs.lemmas.Slice.Eq.{bytes_eq-Decides}
+pub use Rattle.std.proofs.lemmas.Str.{digit_value_digit}
+pub use Rattle.std.proofs.lemmas.Str.Parse.{IsNumeralModel, digit_from_value, numerals_by_value, parse_signed_digits}
+pub use Rattle.std.proofs.lemmas.Str.Parse.{parse_signed_minus, parse_signed_plus, tells_all_ascii_digits}
+pub use Rattle.std.proofs.lemmas.Str.Parse.{tells_digits, without_leading_plus_none}
+pub use Rattle.std.proofs.lemmas.Str.Pattern.{drop_at_char, find_char, finds_char_after, split_after}
+pub use Rattle.std.proofs.lemmas.Str.Pattern.{split_once_first, split_parts, strip_prefix_char, strip_suffix_char}
+pub use Rattle.std.specs.BTreeMap.{get_by_text}
+pub use Rattle.std.specs.Char.{digit_value}
+pub use Rattle.std.specs.Global.{Global}
+pub use Rattle.std.specs.Int.{w16, w32}
+pub use Rattle.std.specs.Int.Digits.{AllBelowBase, digits_of, number_from_digits}
+pub use Rattle.std.specs.List.{after_first, before_first, position_or_len}
+pub use Rattle.std.specs.Result.{OkIff}
+pub use Rattle.std.specs.Str.{IsUtf8, all_ascii_digits, bytes_eq}
+pub use Rattle.std.specs.Str.Parse.{AllDigits, ParsesSigned, ParsesUnsigned, digits_value}
+pub use Rattle.insn_codec.proofs.Decimals.{bytes_digits, decimal_digits, decimal_injective, decimal_some}
+pub use Rattle.insn_codec.proofs.Decimals.{decimal_value, decimal_zero}
+pub use Rattle.insn_codec.proofs.Plain.{all_plain, is_plain, mnemonic_plain, offset_plain, operand_plain}
+pub use Rattle.insn_codec.proofs.Plain.{plain_append, register_plain, signed_decimal_plain, wide_plain}
+pub use Rattle.insn_codec.specs.Laws.{NoLineFeed, SlotsAreFilled, StandsFirst, StatementIsSpelled}
+pub use Rattle.insn_codec.specs.Limits.{slot_limit}
+pub use Rattle.insn_codec.specs.Lines.{address_text, hex_digit, offset_text, operand_text, operands_text, place_text}
+pub use Rattle.insn_codec.specs.Lines.{register_text, signed_decimal, wide_text}
+pub use Rattle.insn_codec.specs.Mnemonics.{alu_text, atomic_text, comparison_text, mnemonic_text, width_text}
+pub use Rattle.insn_codec.specs.Spelling.{IsOperand}
+pub use Rattle.insn_codec.specs.Statements.{IsStatement, Listing, Lists, after_statement, lines_text, statement_bytes}
+pub use Rattle.insn_codec.specs.Statements.{statement_mnemonic, statement_slots, statement_text}
+pub use Rattle.insn_codec.specs.Statements.Lists.{place}
+pub use Rattle.insn_codec.specs.declared.alu_op.AluOp.{AluOp}
+pub use Rattle.insn_codec.specs.declared.atomic_op.AtomicOp.{AtomicOp}
+pub use Rattle.insn_codec.specs.declared.comparison.Comparison.{Comparison}
+pub use Rattle.insn_codec.specs.declared.mnemonic.Mnemonic.{Mnemonic}
+pub use Rattle.insn_codec.specs.declared.mnemonic.Mnemonic.TheVariants.{Alu, Atomic, Branch, ByteSwap, Call, Exit, Ja}
+pub use Rattle.insn_codec.specs.declared.mnemonic.Mnemonic.TheVariants.{JaLong, Load, LoadSigned, LoadWide, Neg}
+pub use Rattle.insn_codec.specs.declared.mnemonic.Mnemonic.TheVariants.{SignExtend, Slot, Store, StoreImm}
+pub use Rattle.insn_codec.specs.declared.operand.Operand.{Operand}
+pub use Rattle.insn_codec.specs.declared.operand.Operand.TheVariants.{Imm, Reg}
+pub use Rattle.insn_codec.specs.declared.register.Register.{Register}
+pub use Rattle.insn_codec.specs.declared.size.Size.{Size}
+pub use Rattle.insn_codec.specs.declared.statement.Statement.{Statement}
+pub use Rattle.insn_codec.specs.declared.swap_width.SwapWidth.{SwapWidth}
+pub use Rattle.insn_codec.specs.declared.width.Width.{Width}
+unfoldable pub use Rattle.insn_codec.specs.Lines.{decimal, hex_digits}
+unfoldable pub use Rattle.insn_codec.specs.Statements.{statement_of}
+pub use Rattle.assembler.specs.Answers.{AddsLabel, AssembleReturns, SecondPass, FirstLineSays, FirstPass, HasSlots}
+pub use Rattle.assembler.specs.Answers.{IsAssemblyResult, IsFreeIn, ReadsAt, ScansOnlyTo}
+pub use Rattle.assembler.specs.Assembles.{Assembles}
+pub use Rattle.assembler.specs.Assembles.Assembles.{refused, resolved}
+pub use Rattle.assembler.specs.Cutting.{before_line, lines_of}
+pub use Rattle.assembler.specs.FirstPass.{Scans}
+pub use Rattle.assembler.specs.FirstPass.Scans.{ended, formless, full, next, twice, wide}
+pub use Rattle.assembler.specs.Forms.{HasNoByte, ReadsOperands, item_mnemonic, item_operands, operand_list}
+pub use Rattle.assembler.specs.Hex.{all_hex_digits, is_hex_digit}
+pub use Rattle.assembler.specs.Items.{HasLine, InRange, IsLabel, SourceItem, all_go_on, begins_name, goes_on_name, item_of}
+pub use Rattle.assembler.specs.Items.{item_slots, item_text, jump, label, slots_of, statement}
+pub use Rattle.assembler.specs.Jumps.{JumpInRange, fits_16, jump_by, jump_mnemonic, jump_operands, reaches}
+pub use Rattle.assembler.specs.Jumps.{with_offset}
+pub use Rattle.assembler.specs.Labels.{IsFree, label_slot, label_slot_from, names}
+pub use Rattle.assembler.specs.LineAnswers.{ReadsAs}
+pub use Rattle.assembler.specs.Mnemonics.{IsAtomic, IsOfWidth}
+pub use Rattle.assembler.specs.Numbers.{is_decimal, is_immediate, is_offset, is_positive}
+pub use Rattle.assembler.specs.Reading.{OneReading, LineReading, ReadsLine, no_form, out_of_range, says}
+pub use Rattle.assembler.specs.Refusals.{FirstRefused, IsJumpRefused, IsShort, NoneRefused, IsSourceRefused}
+pub use Rattle.assembler.specs.Refusals.IsJumpRefused.{too_far, unnamed}
+pub use Rattle.assembler.specs.Refusals.IsSourceRefused.{by_first_pass, by_label}
+pub use Rattle.assembler.specs.SecondPass.{after, and_then, bytes_of, code_bytes, jump_at, line_statement, offset_to}
+pub use Rattle.assembler.specs.Source.{EachSays, GivesSlots, NamedAfter, Source, StandFor, StandsFor}
+pub use Rattle.assembler.specs.Source.StandFor.{line, none}
+pub use Rattle.assembler.specs.Source.StandsFor.{jumped, named, stated}
+pub use Rattle.assembler.specs.Targets.{TargetIs}
+pub use Rattle.assembler.specs.declared.asm_error.AsmError.{AsmError}
+pub use Rattle.assembler.specs.declared.asm_error.AsmError.TheVariants.{UnknownLine, NumberOutOfRange, UnknownLabel}
+pub use Rattle.assembler.specs.declared.asm_error.AsmError.TheVariants.{DuplicateLabel, JumpTooFar, TooManySlots}
+pub use Rattle.assembler.specs.declared.asm_error.AsmError.TheVariants.{Memory}
+pub use Rattle.assembler.specs.declared.lines.jump.Jump.{Jump}
+pub use Rattle.assembler.specs.declared.lines.jump.Jump.TheVariants.{CallLocal, Long, Near}
+pub use Rattle.assembler.specs.declared.lines.line.Line.{Line}
+pub use Rattle.assembler.specs.declared.lines.line_error.LineError.{LineError}
+pub use Rattle.assembler.specs.declared.lines.line_error.LineError.TheVariants.{NoForm, OutOfRange}
+pub use Rattle.assembler.specs.declared.passes.scan.Scanned.{Scanned}
+pub use Rattle.assembler.specs.declared.text.targets.Target.{Target}
+pub use Rattle.assembler.specs.declared.text.targets.Target.TheVariants.{Name, Offset}

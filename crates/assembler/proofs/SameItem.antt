@@ -1,5 +1,5 @@
 -- A mnemonic and operands are those of one item.
-use Rattle.assembler.proofs.Prelude.{◌≡◌, ℕ, ℤ, pos, negsuc, List, [], ◌∷◌, ◌++◌, Some, inl, inr, refl, sym, ◌∙◌, ap, subst, Option, None, arith, Jump, jump_by, jump_mnemonic, jump_operands, operands_text, address_text, offset_text, operand_text, place_text, register_text, signed_decimal, Operand, Register, HasLine, Item, statement, jump, Lacks, item_mnemonic, item_operands, operand_list, Mnemonic, append_cancel_right}
+use Rattle.assembler.proofs.Prelude.{◌≡◌, ℕ, ℤ, pos, negsuc, List, [], ◌∷◌, ◌++◌, Some, inl, inr, refl, sym, ◌∙◌, ap, subst, Option, None, arith, Jump, jump_by, jump_mnemonic, jump_operands, operands_text, address_text, offset_text, operand_text, place_text, register_text, signed_decimal, Operand, Register, HasLine, SourceItem, statement, jump, HasNoByte, item_mnemonic, item_operands, operand_list, Mnemonic, append_cancel_right}
 use Rattle.insn_codec.specs.declared.insn.Insn.TheVariants as insn
 use Rattle.insn_codec.specs.declared.statement.Statement.TheVariants as statement_kind
 use Rattle.insn_codec.specs.declared.mnemonic.Mnemonic.TheVariants as mnemonic
@@ -11,7 +11,7 @@ use Rattle.assembler.proofs.Lacking.{split_same}
 use Rattle.assembler.proofs.NameBytes.{lacks_operand, lacks_place}
 
 -- what an item of the mnemonic is; of a jump nothing is said, and `exit` has no operands
-abbrev Shape : Mnemonic → Item → Type 0
+abbrev Shape : Mnemonic → SourceItem → Type 0
 Shape (mnemonic.Alu op width) i = (dst : Register) × (operand : Operand) × (i ≡ statement (statement_kind.Insn (insn.Alu op width dst operand)))
 Shape (mnemonic.Neg width) i = (dst : Register) × (i ≡ statement (statement_kind.Insn (insn.Neg width dst)))
 Shape (mnemonic.SignExtend extension) i = (dst : Register) × (src : Register) × (i ≡ statement (statement_kind.Insn (insn.SignExtend extension dst src)))
@@ -27,18 +27,18 @@ Shape mnemonic.Slot i = (word : ℕ) × (i ≡ statement (statement_kind.Slot wo
 Shape mnemonic.Exit i = ⊥
 Shape _ i = Unit {0}
 
-abbrev ShapeOf : Option Mnemonic → Item → Type 0
+abbrev ShapeOf : Option Mnemonic → SourceItem → Type 0
 ShapeOf None i = Unit {0}
 ShapeOf (Some m) i = Shape m i
 
-shape_of : (m : Mnemonic) (i : Item) → item_mnemonic i ≡ Some m → Shape m i
+shape_of : (m : Mnemonic) (i : SourceItem) → item_mnemonic i ≡ Some m → Shape m i
 shape_of m i e = subst (λ o. ShapeOf o i) e (grind arith)
 
 -- equal operands of what two items are
-between : (i j v w : Item) → i ≡ v → j ≡ w → item_operands i ≡ item_operands j → item_operands v ≡ item_operands w
+between : (i j v w : SourceItem) → i ≡ v → j ≡ w → item_operands i ≡ item_operands j → item_operands v ≡ item_operands w
 between i j v w p q e = sym (ap item_operands p) ∙ e ∙ ap item_operands q
 
-listed_same : (xs ys vs ws : List ℕ) → Lacks 44 xs → Lacks 44 vs → operand_list xs ys ≡ operand_list vs ws → (xs ≡ vs) × (ys ≡ ws)
+listed_same : (xs ys vs ws : List ℕ) → HasNoByte 44 xs → HasNoByte 44 vs → operand_list xs ys ≡ operand_list vs ws → (xs ≡ vs) × (ys ≡ ws)
 listed_same xs ys vs ws h k e = grind (arith, split_same, tails)
 
 register_listed : (r s : Register) (ys ws : List ℕ) → operand_list (register_text r) ys ≡ operand_list (register_text s) ws → (r ≡ s) × (ys ≡ ws)
@@ -67,7 +67,7 @@ compared_same r s o p xs ys e =
     (t.0, operand_injective o p u.0, u.1)
 
 -- the text of a jump's target
-target_of : (j : Jump) (i : Item) → JumpsBy j i → (target : List ℕ) × (item_operands i ≡ operands_text (jump_operands j target))
+target_of : (j : Jump) (i : SourceItem) → JumpsBy j i → (target : List ℕ) × (item_operands i ≡ operands_text (jump_operands j target))
 target_of j i (inl p) = (offset_text p.0, ap item_operands p.1 ∙ sym (grind arith))
 target_of j i (inr p) = (p.0, ap item_operands p.1)
 
@@ -75,14 +75,14 @@ target_of j i (inr p) = (p.0, ap item_operands p.1)
 jumps_same : (j l : Jump) (t u : List ℕ) → jump_mnemonic j ≡ jump_mnemonic l → operands_text (jump_operands j t) ≡ operands_text (jump_operands l u) → (j ≡ l) × (t ≡ u)
 jumps_same j l t u m e = grind (arith, compared_same)
 
-same_target : (j l : Jump) (i k : Item) → (p : JumpsBy j i) → (q : JumpsBy l k) → HasLine i → HasLine k → j ≡ l → (target_of j i p).0 ≡ (target_of l k q).0 → i ≡ k
+same_target : (j l : Jump) (i k : SourceItem) → (p : JumpsBy j i) → (q : JumpsBy l k) → HasLine i → HasLine k → j ≡ l → (target_of j i p).0 ≡ (target_of l k q).0 → i ≡ k
 unfolding target_of
 same_target j l i k (inl p) (inl q) h g e t = p.1 ∙ (λ x. statement (jump_by (e x) (offset_injective p.0 q.0 t x))) ∙ sym q.1
 same_target j l i k (inl p) (inr q) h g e t = absurd (name_no_offset q.0 p.0 (subst (λ x. HasLine x) q.1 g) (sym t))
 same_target j l i k (inr p) (inl q) h g e t = absurd (name_no_offset p.0 q.0 (subst (λ x. HasLine x) p.1 h) t)
 same_target j l i k (inr p) (inr q) h g e t = p.1 ∙ (λ x. jump (e x) (t x)) ∙ sym q.1
 
-same_jump : (m : Mnemonic) → IsOfJump m → (i k : Item) → item_mnemonic i ≡ Some m → item_mnemonic k ≡ Some m → HasLine i → HasLine k → item_operands i ≡ item_operands k → i ≡ k
+same_jump : (m : Mnemonic) → IsOfJump m → (i k : SourceItem) → item_mnemonic i ≡ Some m → item_mnemonic k ≡ Some m → HasLine i → HasLine k → item_operands i ≡ item_operands k → i ≡ k
 same_jump m is i k a b h g e =
     let p = of_jump m i is a in
     let q = of_jump m k is b in
@@ -91,7 +91,7 @@ same_jump m is i k a b h g e =
     let s = jumps_same p.0 q.0 t.0 u.0 (p.1 ∙ sym q.1) (sym t.1 ∙ e ∙ u.1) in
     same_target p.0 q.0 i k p.2 q.2 h g s.0 s.1
 
-same_shaped : (m : Mnemonic) (i j : Item) → Shape m i → Shape m j → item_mnemonic i ≡ Some m → item_mnemonic j ≡ Some m → HasLine i → HasLine j → item_operands i ≡ item_operands j → i ≡ j
+same_shaped : (m : Mnemonic) (i j : SourceItem) → Shape m i → Shape m j → item_mnemonic i ≡ Some m → item_mnemonic j ≡ Some m → HasLine i → HasLine j → item_operands i ≡ item_operands j → i ≡ j
 same_shaped (mnemonic.Alu op width) i j p q a b h k e =
     let t = register_listed p.0 q.0 (operand_text p.1) (operand_text q.1) (between i j _ _ p.2 q.2 e) in
     let o = operand_injective p.1 q.1 t.1 in
@@ -117,5 +117,5 @@ same_shaped (mnemonic.StoreImm size) i j p q a b h k e =
 same_shaped _ i j p q a b h k e = grind (arith, register_listed, place_listed, between, register_injective, wide_injective)
 
 -- a mnemonic and operands are those of one item
-pub same_code : (m : Mnemonic) (i j : Item) → item_mnemonic i ≡ Some m → item_mnemonic j ≡ Some m → HasLine i → HasLine j → item_operands i ≡ item_operands j → i ≡ j
+pub same_code : (m : Mnemonic) (i j : SourceItem) → item_mnemonic i ≡ Some m → item_mnemonic j ≡ Some m → HasLine i → HasLine j → item_operands i ≡ item_operands j → i ≡ j
 same_code m i j a b h k e = same_shaped m i j (shape_of m i a) (shape_of m j b) a b h k e

@@ -3,15 +3,15 @@ use Rattle.std.specs.Prelude.{◌≡◌, ℕ, List, [], ◌∷◌, Option, Some,
 use Rattle.insn_codec.specs.Lines.{operands_text}
 use Rattle.insn_codec.specs.Statements.{statement_mnemonic, statement_operands}
 use Rattle.insn_codec.specs.declared.mnemonic.Mnemonic.{Mnemonic}
-use Rattle.assembler.specs.Items.{HasLine, InRange, Item, item_of, statement, label, jump}
+use Rattle.assembler.specs.Items.{HasLine, InRange, SourceItem, item_of, statement, label, jump}
 use Rattle.assembler.specs.Jumps.{jump_mnemonic, jump_operands}
 use Rattle.assembler.specs.declared.lines.line.Line.{Line}
 use Rattle.assembler.specs.declared.lines.line_error.LineError.{LineError, TheVariants.NoForm, TheVariants.OutOfRange}
 
 -- the byte stands nowhere in the text
-abbrev pub Lacks : ℕ → List ℕ → Type 0
-Lacks c [] = Unit {0}
-Lacks c (x ∷ xs) = (x ≡ c → ⊥) × Lacks c xs
+abbrev pub HasNoByte : ℕ → List ℕ → Type 0
+HasNoByte c [] = Unit {0}
+HasNoByte c (x ∷ xs) = (x ≡ c → ⊥) × HasNoByte c xs
 
 -- two operands, with a comma and a space between them
 abbrev pub operand_list : List ℕ → List ℕ → List ℕ
@@ -23,13 +23,13 @@ before_operands [] m = None
 before_operands (x ∷ xs) m = Some m
 
 -- the mnemonic of a line with operands
-abbrev pub item_mnemonic : Item → Option Mnemonic
+abbrev pub item_mnemonic : SourceItem → Option Mnemonic
 item_mnemonic (statement x) = before_operands (statement_operands x) (statement_mnemonic x)
 item_mnemonic (label name) = None
 item_mnemonic (jump j name) = Some (jump_mnemonic j)
 
 -- its operands
-abbrev pub item_operands : Item → List ℕ
+abbrev pub item_operands : SourceItem → List ℕ
 item_operands (statement x) = operands_text (statement_operands x)
 item_operands (label name) = []
 item_operands (jump j name) = operands_text (jump_operands j name)
@@ -38,5 +38,6 @@ item_operands (jump j name) = operands_text (jump_operands j name)
 abbrev pub ReadsOperands : Mnemonic → List ℕ → Result Line LineError → Type 0
 ReadsOperands m text (Ok l) =
     (item_mnemonic (item_of l) ≡ Some m) × (text ≡ item_operands (item_of l)) × HasLine (item_of l) × InRange (item_of l)
-ReadsOperands m text (Err NoForm) = (i : Item) → HasLine i → item_mnemonic i ≡ Some m → text ≡ item_operands i → ⊥
-ReadsOperands m text (Err OutOfRange) = (i : Item) × HasLine i × (item_mnemonic i ≡ Some m) × (text ≡ item_operands i) × (InRange i → ⊥)
+ReadsOperands m text (Err NoForm) = (i : SourceItem) → HasLine i → item_mnemonic i ≡ Some m → text ≡ item_operands i → ⊥
+ReadsOperands m text (Err OutOfRange) = (i : SourceItem) × HasLine i × (item_mnemonic i ≡ Some m) × (text ≡ item_operands i)
+    × (InRange i → ⊥)

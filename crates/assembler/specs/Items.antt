@@ -11,19 +11,19 @@ use Rattle.assembler.specs.declared.lines.line.Line.{Line}
 use Rattle.assembler.specs.declared.lines.line.Line.TheVariants as line
 
 -- what a line says: a statement, the name of the next slot, or a jump to a name
-pub data Item : Type 0 where
-  statement : Statement → Item
-  label : List ℕ → Item
-  jump : Jump → List ℕ → Item
+pub data SourceItem : Type 0 where
+  statement : Statement → SourceItem
+  label : List ℕ → SourceItem
+  jump : Jump → List ℕ → SourceItem
 
 -- what a line that was read says
-abbrev pub item_of : Line → Item
+abbrev pub item_of : Line → SourceItem
 item_of (line.Statement x) = statement x
 item_of (line.Label name) = label name.now
 item_of (line.Jump j name) = jump j name.now
 
 -- the line that says it
-abbrev pub item_text : Item → List ℕ
+abbrev pub item_text : SourceItem → List ℕ
 item_text (statement x) = statement_text x
 item_text (label name) = name ++ codes ":"
 item_text (jump j name) = line_with (jump_mnemonic j) (jump_operands j name)
@@ -41,9 +41,9 @@ abbrev pub all_go_on : List ℕ → Bool
 all_go_on = list_all goes_on_name
 
 -- an identifier: a letter or an underscore, and then any of letters, underscores and digits
-abbrev pub IsName : List ℕ → Type 0
-IsName [] = ⊥
-IsName (b ∷ bs) = IsTrue (begins_name b) × IsTrue (all_go_on bs)
+abbrev pub IsLabel : List ℕ → Type 0
+IsLabel [] = ⊥
+IsLabel (b ∷ bs) = IsTrue (begins_name b) × IsTrue (all_go_on bs)
 
 -- sixteen digits hold numbers of 64 bits
 abbrev pub HasDigits : Statement → Type 0
@@ -52,24 +52,24 @@ HasDigits (Insn _) = Unit {0}
 HasDigits (Slot word) = word < 2 ^ 64
 
 -- it has a line: names are identifiers, and wide words have their digits; an immediate or an offset can be any number
-abbrev pub HasLine : Item → Type 0
+abbrev pub HasLine : SourceItem → Type 0
 HasLine (statement x) = HasDigits x
-HasLine (label name) = IsName name
-HasLine (jump j name) = IsName name
+HasLine (label name) = IsLabel name
+HasLine (jump j name) = IsLabel name
 
 -- its immediate and its offset are in their ranges
-abbrev pub InRange : Item → Type 0
+abbrev pub InRange : SourceItem → Type 0
 InRange (statement x) = IsStatement x
 InRange (label name) = Unit {0}
 InRange (jump j name) = JumpInRange j
 
 -- how many slots it takes
-abbrev pub item_slots : Item → ℕ
+abbrev pub item_slots : SourceItem → ℕ
 item_slots (statement x) = statement_slots x
 item_slots (label name) = 0
 item_slots (jump j name) = 1
 
 -- how many slots all of them take
-abbrev pub slots_of : List Item → ℕ
+abbrev pub slots_of : List SourceItem → ℕ
 slots_of [] = 0
 slots_of (i ∷ is) = item_slots i + slots_of is

@@ -1,9 +1,10 @@
 -- Laws on assembling.
 use Rattle.std.specs.Prelude.{◌≡◌, ◌↔◌, ℕ, ◌/◌, ◌%◌, ◌<◌, ◌≤◌, List, Result, Ok, Err, All, length}
 use Rattle.insn_codec.specs.Statements.{Listing}
+use Rattle.insn_codec.specs.Limits.{slot_limit}
 use Rattle.assembler.specs.Assembles.{Assembles}
 use Rattle.assembler.specs.Cutting.{lines_of}
-use Rattle.assembler.specs.Refusals.{Refused}
+use Rattle.assembler.specs.Refusals.{IsSourceRefused}
 use Rattle.assembler.specs.Source.{Source}
 use Rattle.assembler.specs.declared.asm_error.AsmError.{AsmError}
 
@@ -17,9 +18,9 @@ OneAnswer = (lines : List (List ℕ)) (r s : Result (List ℕ) AsmError) → Ass
 
 -- the listing of code, of at most 65,536 whole slots, is its source
 abbrev pub ListingIsSource : Type 0
-ListingIsSource = (code text : List ℕ) → All (λ b. b < 256) code → length code % 8 ≡ 0 → length code / 8 ≤ 65536 → Listing code text
+ListingIsSource = (code text : List ℕ) → All (λ b. b < 256) code → length code % 8 ≡ 0 → length code / 8 ≤ slot_limit → Listing code text
     → Source text code
 
 -- a text is refused by exactly its refusal's cause
 abbrev pub RefusedByCause : Type 0
-RefusedByCause = (lines : List (List ℕ)) (error : AsmError) → (Assembles lines (Err error) ↔ Refused lines error)
+RefusedByCause = (lines : List (List ℕ)) (error : AsmError) → (Assembles lines (Err error) ↔ IsSourceRefused lines error)

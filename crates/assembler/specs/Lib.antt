@@ -16,4 +16,5 @@ pub mod Assembles
 pub mod Source
 pub mod Refusals
 pub mod Answers
+pub mod ErrorCodes
 pub mod Laws

@@ -2,14 +2,14 @@
 use Rattle.std.specs.Prelude.{◌≡◌, ℕ, suc, pos, ◌-ℤ◌, FitsSigned, List, [], ◌∷◌, ◌++◌, Ok, Err, length}
 use Rattle.std.specs.Int.{w16}
 use Rattle.assembler.specs.FirstPass.{Scans}
-use Rattle.assembler.specs.Items.{Item, jump, slots_of}
+use Rattle.assembler.specs.Items.{SourceItem, jump, slots_of}
 use Rattle.assembler.specs.Source.{NamedAfter}
-use Rattle.assembler.specs.declared.asm_error.AsmError.{AsmError, TheVariants.A3, TheVariants.A5}
+use Rattle.assembler.specs.declared.asm_error.AsmError.{AsmError, TheVariants.UnknownLabel, TheVariants.JumpTooFar}
 use Rattle.assembler.specs.declared.lines.jump.Jump.{Jump, TheVariants.Near, TheVariants.Long, TheVariants.CallLocal, TheVariants.Branch}
 
 -- no line names the label
-abbrev pub IsUnnamed : List Item → List ℕ → Type 0
-IsUnnamed items name = (before : List Item) → NamedAfter items name before → ⊥
+abbrev pub IsUnnamed : List SourceItem → List ℕ → Type 0
+IsUnnamed items name = (before : List SourceItem) → NamedAfter items name before → ⊥
 
 -- the jump's offset has 16 bits
 abbrev pub IsShort : Jump → Type 0
@@ -18,33 +18,38 @@ IsShort Long = ⊥
 IsShort CallLocal = ⊥
 IsShort (Branch comparison width dst operand) = Unit {0}
 
--- a line names the label, and its slot less the slot after the jump, which stands behind these lines, is outside 16 bits signed
-pub record IsTooFar (items before : List Item) (j : Jump) (name : List ℕ) : Type 0 where
+-- a line names the label, and its slot less the slot after the jump, which stands behind these lines, is outside 16
+-- bits signed
+pub record IsTooFar (items before : List SourceItem) (j : Jump) (name : List ℕ) : Type 0 where
   pub short : IsShort j
-  pub front : List Item
+  pub front : List SourceItem
   pub named : NamedAfter items name front
   pub outside : FitsSigned w16 (pos (slots_of front) -ℤ pos (suc (slots_of before))) → ⊥
 
 -- why the line behind these ones is refused: it jumps to a label that no line names, or that is too far
-pub data IsRefused (items before : List Item) : Item → AsmError → Type 0 where
-  unnamed : {j : Jump} {name : List ℕ} → IsUnnamed items name → IsRefused items before (jump j name) (A3 (suc (length before)))
-  too_far : {j : Jump} {name : List ℕ} → IsTooFar items before j name → IsRefused items before (jump j name) (A5 (suc (length before)))
+pub data IsJumpRefused (items before : List SourceItem) : SourceItem → AsmError → Type 0 where
+  unnamed : {j : Jump} {name : List ℕ} → IsUnnamed items name
+      → IsJumpRefused items before (jump j name) (UnknownLabel (suc (length before)))
+  too_far : {j : Jump} {name : List ℕ} → IsTooFar items before j name
+      → IsJumpRefused items before (jump j name) (JumpTooFar (suc (length before)))
 
 -- none of these lines is refused so
-abbrev pub NoneRefused : List Item → List Item → Type 0
-NoneRefused items before = (front : List Item) (i : Item) (rest : List Item) (e : AsmError) → before ≡ front ++ i ∷ rest
-    → IsRefused items front i e → ⊥
+abbrev pub NoneRefused : List SourceItem → List SourceItem → Type 0
+NoneRefused items before = (front : List SourceItem) (i : SourceItem) (rest : List SourceItem) (e : AsmError) → before ≡ front ++ i ∷ rest
+    → IsJumpRefused items front i e → ⊥
 
 -- the first line that is
-pub record FirstRefused (items : List Item) (error : AsmError) : Type 0 where
-  pub before : List Item
-  pub here : Item
-  pub later : List Item
+pub record FirstRefused (items : List SourceItem) (error : AsmError) : Type 0 where
+  pub before : List SourceItem
+  pub here : SourceItem
+  pub later : List SourceItem
   pub stands : items ≡ before ++ here ∷ later
-  pub refused : IsRefused items before here error
+  pub refused : IsJumpRefused items before here error
   pub first : NoneRefused items before
 
--- the first pass refuses a line; or it refuses none, and the first line is refused whose label no line names, or is too far
-pub data Refused (lines : List (List ℕ)) : AsmError → Type 0 where
-  by_first_pass : {error : AsmError} → Scans [] lines (Err error) → Refused lines error
-  by_label : {error : AsmError} (items : List Item) → Scans [] lines (Ok items) → FirstRefused items error → Refused lines error
+-- the first pass refuses a line; or it refuses none, and the first line is refused whose label no line names, or is too
+-- far
+pub data IsSourceRefused (lines : List (List ℕ)) : AsmError → Type 0 where
+  by_first_pass : {error : AsmError} → Scans [] lines (Err error) → IsSourceRefused lines error
+  by_label : {error : AsmError} (items : List SourceItem) → Scans [] lines (Ok items) → FirstRefused items error
+      → IsSourceRefused lines error

@@ -2,10 +2,10 @@
 use Rattle.std.specs.Prelude.{ℕ, suc, ◌+◌, ℤ, pos, ◌-ℤ◌, List, [], ◌∷◌, ◌++◌, Option, Some, None, Result, Ok, Err}
 use Rattle.insn_codec.specs.Statements.{statement_bytes}
 use Rattle.insn_codec.specs.declared.statement.Statement.{Statement}
-use Rattle.assembler.specs.Items.{Item, statement, label, jump, item_slots}
+use Rattle.assembler.specs.Items.{SourceItem, statement, label, jump, item_slots}
 use Rattle.assembler.specs.Jumps.{with_offset}
 use Rattle.assembler.specs.declared.lines.jump.Jump.{Jump}
-use Rattle.assembler.specs.declared.asm_error.AsmError.{AsmError, TheVariants.A3, TheVariants.A5}
+use Rattle.assembler.specs.declared.asm_error.AsmError.{AsmError, TheVariants.UnknownLabel, TheVariants.JumpTooFar}
 
 -- a jump's offset is the label's slot less the slot after the jump
 abbrev pub offset_to : ℕ → ℕ → ℤ
@@ -13,16 +13,16 @@ offset_to slot target = pos target -ℤ pos (suc slot)
 
 -- the jump, or the refusal of its line, whose label is too far
 abbrev pub in_reach : ℕ → Option Statement → Result (Option Statement) AsmError
-in_reach number None = Err (A5 number)
+in_reach number None = Err (JumpTooFar number)
 in_reach number (Some x) = Ok (Some x)
 
 -- the jump in this slot, on the line of this number, to the label's slot
 abbrev pub jump_at : ℕ → ℕ → Jump → Option ℕ → Result (Option Statement) AsmError
-jump_at number slot j None = Err (A3 number)
+jump_at number slot j None = Err (UnknownLabel number)
 jump_at number slot j (Some target) = in_reach number (with_offset j (offset_to slot target))
 
 -- what the line of this number, which begins at this slot, stands for
-abbrev pub line_statement : (List ℕ → Option ℕ) → ℕ → ℕ → Item → Result (Option Statement) AsmError
+abbrev pub line_statement : (List ℕ → Option ℕ) → ℕ → ℕ → SourceItem → Result (Option Statement) AsmError
 line_statement labels number slot (statement x) = Ok (Some x)
 line_statement labels number slot (label name) = Ok None
 line_statement labels number slot (jump j name) = jump_at number slot j (labels name)
@@ -43,7 +43,7 @@ and_then (Ok x) rest = after (bytes_of x) rest
 and_then (Err error) rest = Err error
 
 -- the bytes of the lines from this one on, or the first line whose label is unknown or too far
-abbrev pub code_bytes : (List ℕ → Option ℕ) → ℕ → ℕ → List Item → Result (List ℕ) AsmError
+abbrev pub code_bytes : (List ℕ → Option ℕ) → ℕ → ℕ → List SourceItem → Result (List ℕ) AsmError
 code_bytes labels number slot [] = Ok []
 code_bytes labels number slot (i ∷ is) =
     and_then (line_statement labels number slot i) (code_bytes labels (suc number) (slot + item_slots i) is)

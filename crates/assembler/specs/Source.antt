@@ -2,48 +2,49 @@
 use Rattle.std.specs.Prelude.{◌≡◌, ℕ, suc, ◌+◌, ◌≤◌, pos, ◌-ℤ◌, List, [], ◌∷◌, ◌++◌, Option, Some}
 use Rattle.insn_codec.specs.Statements.{IsStatement, statement_bytes}
 use Rattle.insn_codec.specs.declared.statement.Statement.{Statement}
+use Rattle.insn_codec.specs.Limits.{slot_limit}
 use Rattle.assembler.specs.Jumps.{jump_by}
 use Rattle.assembler.specs.Cutting.{lines_of}
-use Rattle.assembler.specs.Items.{Item, statement, label, jump, item_slots, slots_of}
-use Rattle.assembler.specs.Reading.{Reads, says}
+use Rattle.assembler.specs.Items.{SourceItem, statement, label, jump, item_slots, slots_of}
+use Rattle.assembler.specs.Reading.{ReadsLine, says}
 use Rattle.assembler.specs.declared.lines.jump.Jump.{Jump}
 
 -- each line says what stands at its place
-abbrev pub EachSays : List (List ℕ) → List Item → Type 0
+abbrev pub EachSays : List (List ℕ) → List SourceItem → Type 0
 EachSays [] [] = Unit {0}
-EachSays (line ∷ lines) (i ∷ is) = Reads line (says i) × EachSays lines is
+EachSays (line ∷ lines) (i ∷ is) = ReadsLine line (says i) × EachSays lines is
 EachSays _ _ = ⊥
 
 -- after these lines stands one that names the label
-abbrev pub NamedAfter : List Item → List ℕ → List Item → Type 0
-NamedAfter items name before = (later : List Item) × (items ≡ before ++ label name ∷ later)
+abbrev pub NamedAfter : List SourceItem → List ℕ → List SourceItem → Type 0
+NamedAfter items name before = (later : List SourceItem) × (items ≡ before ++ label name ∷ later)
 
 -- the map gives each label, named by exactly one line, the number of slots before that line, and has no other
-pub record GivesSlots (labels : List ℕ → Option ℕ) (items : List Item) : Type 0 where
-  pub gives : (name : List ℕ) (before : List Item) → NamedAfter items name before → labels name ≡ Some (slots_of before)
-  pub once : (name : List ℕ) (before again : List Item) → NamedAfter items name before → NamedAfter items name again → before ≡ again
-  pub named : (name : List ℕ) (slot : ℕ) → labels name ≡ Some slot → (before : List Item) × NamedAfter items name before
+pub record GivesSlots (labels : List ℕ → Option ℕ) (items : List SourceItem) : Type 0 where
+  pub gives : (name : List ℕ) (before : List SourceItem) → NamedAfter items name before → labels name ≡ Some (slots_of before)
+  pub once : (name : List ℕ) (before again : List SourceItem) → NamedAfter items name before → NamedAfter items name again → before ≡ again
+  pub named : (name : List ℕ) (slot : ℕ) → labels name ≡ Some slot → (before : List SourceItem) × NamedAfter items name before
 
 -- what a line that begins at this slot stands for: a statement for its bytes, a label for none, and a jump to a label
 -- for the bytes of that jump by the label's slot less the slot after the jump
-pub data StandsFor (labels : List ℕ → Option ℕ) (slot : ℕ) : Item → List ℕ → Type 0 where
+pub data StandsFor (labels : List ℕ → Option ℕ) (slot : ℕ) : SourceItem → List ℕ → Type 0 where
   stated : (x : Statement) → StandsFor labels slot (statement x) (statement_bytes x)
   named : (name : List ℕ) → StandsFor labels slot (label name) []
   jumped : (j : Jump) (name : List ℕ) (target : ℕ) → labels name ≡ Some target → IsStatement (jump_by j (pos target -ℤ pos (suc slot)))
       → StandsFor labels slot (jump j name) (statement_bytes (jump_by j (pos target -ℤ pos (suc slot))))
 
 -- the bytes that the lines from this slot on stand for, in order
-pub data StandFor (labels : List ℕ → Option ℕ) : ℕ → List Item → List ℕ → Type 0 where
+pub data StandFor (labels : List ℕ → Option ℕ) : ℕ → List SourceItem → List ℕ → Type 0 where
   none : {slot : ℕ} → StandFor labels slot [] []
-  line : {slot : ℕ} {i : Item} {is : List Item} {bytes more : List ℕ} → StandsFor labels slot i bytes
+  line : {slot : ℕ} {i : SourceItem} {is : List SourceItem} {bytes more : List ℕ} → StandsFor labels slot i bytes
       → StandFor labels (slot + item_slots i) is more → StandFor labels slot (i ∷ is) (bytes ++ more)
 
 -- The lines say something each. Some map gives each label, named by exactly one line, the number of slots before that
 -- line, and the bytes are, in order, the at most 65,536 slots that the lines stand for.
 pub record Source (text bytes : List ℕ) : Type 0 where
-  pub items : List Item
+  pub items : List SourceItem
   pub lines : EachSays (lines_of text) items
   pub labels : List ℕ → Option ℕ
   pub places : GivesSlots labels items
-  pub room : slots_of items ≤ 65536
+  pub room : slots_of items ≤ slot_limit
   pub code : StandFor labels 0 items bytes

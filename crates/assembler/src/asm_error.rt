@@ -1,4 +1,4 @@
-//! Why a text is no program.
+//! Why a text does not assemble.
 
 ghost use Rattle.std.specs.Prelude.{◌≡◌};
 ghost use Rattle.assembler.specs.declared.asm_error.AsmError.TheVariants.{Memory};
@@ -6,30 +6,66 @@ ghost use Rattle.assembler.specs.declared.asm_error.AsmError.TheVariants.{Memory
 use std::alloc::{AllocError, AllocFailed};
 use thiserror::Error;
 
-/// Why a text is no program. Each has the line's number, counted from 1.
+/// Why a text does not assemble. The number of a variant is that of the line, counted from 1.
 #[derive(Clone, Copy, Debug, PartialEq, Eq, Error)]
 pub enum AsmError {
-    /// The line is none of an instruction, a slot and a label.
+    /// The line is not an instruction, a slot or a label.
     #[error("line {0} is no instruction, slot or label")]
-    A1(usize),
-    /// A number of the line is outside its field's range.
+    UnknownLine(usize),
+    /// An immediate or an offset of the line is outside the range of its field.
     #[error("line {0} has a number that is out of range")]
-    A2(usize),
-    /// No line names the label that the line jumps to.
+    NumberOutOfRange(usize),
+    /// No line defines the label that the line jumps to.
     #[error("line {0} jumps to a label that no line names")]
-    A3(usize),
-    /// An earlier line has named the label already.
+    UnknownLabel(usize),
+    /// An earlier line defines the same label.
     #[error("line {0} names a label a second time")]
-    A4(usize),
-    /// The label is too far away for the 16 bits of the jump's offset.
+    DuplicateLabel(usize),
+    /// The offset to the label is outside the 16 bits, signed, of the line's jump.
     #[error("line {0} jumps to a label that is too far away")]
-    A5(usize),
-    /// With the line there are more than 65,536 slots.
+    JumpTooFar(usize),
+    /// The lines up to and including this one have more than 65,536 slots.
     #[error("line {0} is past the 65536 slots that a program can have")]
-    A6(usize),
-    /// There is no memory for the lines, the labels or the code.
+    TooManySlots(usize),
+    /// An allocation failed.
     #[error("out of memory")]
     Memory,
+}
+
+impl AsmError {
+    ghost use Rattle.std.specs.Prelude.{◌≤◌, length};
+    ghost use Rattle.assembler.specs.ErrorCodes.{asm_error_code, asm_error_line};
+
+    /// The error's code: `A1` to `A6`, or `memory`.
+    pub fn code(&self) -> &'static str
+        ensures text { result.now ≡ asm_error_code self.now }
+        ensures length { length result.now ≤ 6 }
+    {
+        match self {
+            AsmError::UnknownLine(_) => "A1",
+            AsmError::NumberOutOfRange(_) => "A2",
+            AsmError::UnknownLabel(_) => "A3",
+            AsmError::DuplicateLabel(_) => "A4",
+            AsmError::JumpTooFar(_) => "A5",
+            AsmError::TooManySlots(_) => "A6",
+            AsmError::Memory => "memory",
+        }
+    }
+
+    /// The line at which the text is refused, counted from 1.
+    pub fn line(&self) -> Option<usize>
+        ensures { result ≡ asm_error_line self.now }
+    {
+        match *self {
+            AsmError::UnknownLine(line)
+            | AsmError::NumberOutOfRange(line)
+            | AsmError::UnknownLabel(line)
+            | AsmError::DuplicateLabel(line)
+            | AsmError::JumpTooFar(line)
+            | AsmError::TooManySlots(line) => Some(line),
+            AsmError::Memory => None,
+        }
+    }
 }
 
 impl From<AllocError> for AsmError {

@@ -1,7 +1,7 @@
 //! The code of a program's text.
 
 ghost use Rattle.std.specs.Prelude.{List, Result, ℕ};
-ghost use Rattle.assembler.specs.Answers.{Answers, IsAnswer};
+ghost use Rattle.assembler.specs.Answers.{AssembleReturns, IsAssemblyResult};
 ghost use Rattle.assembler.specs.Assembles.{Assembles};
 ghost use Rattle.assembler.specs.Cutting.{lines_of};
 ghost use Rattle.assembler.specs.declared.asm_error.AsmError.{AsmError as Refusal};
@@ -15,13 +15,14 @@ use std::alloc::Global;
 ///
 /// # Errors
 ///
-/// Of the first line that has one, its first of: A1 no form, A2 a number out of range, A4 a label
-/// named a second time, A6 more than 65,536 slots. Where no line has one of these, A3 or A5 of the
+/// The error of the first line that has one, and its first of these: `UnknownLine` (it has no
+/// form), `NumberOutOfRange`, `DuplicateLabel` (it names a label again), `TooManySlots` (the code
+/// has more than 65,536 slots). If no line has one of these, `UnknownLabel` or `JumpTooFar` of the
 /// first line whose label no line names, or is too far away. Memory where none is left; a first
 /// line that says nothing is refused before any is asked for.
 pub fn assemble(alloc: Global, text: &str) -> Result<Vec<u8>, AsmError>
-    ensures answers { Answers text.now result }
-    ensures only { (r : Result (List ℕ) Refusal) → Assembles (lines_of text.now) r → IsAnswer r result }
+    ensures answers { AssembleReturns text.now result }
+    ensures only { (r : Result (List ℕ) Refusal) → Assembles (lines_of text.now) r → IsAssemblyResult r result }
 {
     let scanned = match scan(alloc, text) {
         Ok(scanned) => scanned,

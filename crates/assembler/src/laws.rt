@@ -11,8 +11,9 @@ pub fn source_is_assembled()
     ensures { SourceIsAssembled }
 {}
 
-/// A text is refused by the first line that has A1, A2, A4 or A6; where none has, by the first
-/// line with a jump to a label that no line names (A3) or that is too far (A5).
+/// A text is refused by the first line that has `UnknownLine`, `NumberOutOfRange`, `DuplicateLabel`
+/// or `TooManySlots`; if none has, by the first line with a jump to a label that no line names
+/// (`UnknownLabel`) or that is too far (`JumpTooFar`).
 #[tactic(auto, using(crate::proofs::Refusing::caused, crate::proofs::Refusing::of_cause))]
 pub fn refused_by_cause()
     ensures { RefusedByCause }

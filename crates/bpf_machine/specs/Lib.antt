@@ -1,6 +1,8 @@
+pub mod Limits
 pub mod State
 pub mod Decoding
 pub mod Operands
+pub mod Conversions
 pub mod Words
 pub mod Arithmetic
 pub mod Jumps

@@ -1,7 +1,7 @@
 -- The printed text of a state: what the debugger answers to a move and to `r`.
 use Rattle.std.specs.Prelude.{ℕ, ℤ, zero, suc, List, [], ◌∷◌, ◌++◌, codes, decimal, slice_index}
 use Rattle.std.specs.Fmt.{signed_decimal}
-use Rattle.guest_memory.specs.Text.{fault_text}
+use Rattle.guest_memory.specs.ErrorCodes.{fault_code}
 use Rattle.insn_codec.specs.Lines.{wide_text}
 pub use Rattle.insn_codec.specs.Lines.{hex_digit, hex_digits}
 use Rattle.bpf_machine.specs.State.{State}
@@ -15,7 +15,7 @@ word_text w = wide_text w
 abbrev pub status_text : Status → List ℕ
 status_text Running = codes "running"
 status_text (Exited w) = codes "exited " ++ word_text w
-status_text (Fault f) = codes "fault " ++ fault_text f
+status_text (Fault f) = codes "fault " ++ fault_code f
 
 -- the line of a move to step k, at this `pc` and with this status
 unfoldable pub move_line : ℕ → ℤ → Status → List ℕ

@@ -2,7 +2,7 @@
 #![tactic(auto, using(crate::proofs::States::states_are_kept, crate::proofs::States::step_is_row))]
 
 ghost use Rattle.bpf_machine.specs.Decoding.{DecodesSpelling};
-ghost use Rattle.bpf_machine.specs.Rows.{RowsStand};
+ghost use Rattle.bpf_machine.specs.Rows.{MachineRowsHold};
 ghost use Rattle.bpf_machine.specs.Starts.{StartsAreTables};
 ghost use Rattle.bpf_machine.specs.States.{StatesAreKept, StepsAreRows};
 ghost use Rattle.bpf_machine.specs.Trace.{StopsOnce};
@@ -19,7 +19,7 @@ pub fn stops_once()
 
 /// Images run by hand.
 pub fn rows_stand()
-    ensures { RowsStand }
+    ensures { MachineRowsHold }
 {}
 
 /// What the machine finds at a slot is what the code spells there.
@@ -34,8 +34,8 @@ pub fn steps_are_rows()
     ensures { StepsAreRows }
 {}
 
-/// Every state of a run from a start on a table has eleven registers with a word each, at most seven
-/// records, memory of its sizes, and the values of a table.
+/// Every state of a run from a start on a table has eleven registers with a word each, at most
+/// seven records, memory of its sizes, and the values of a table.
 pub fn states_are_kept()
     ensures { StatesAreKept }
 {

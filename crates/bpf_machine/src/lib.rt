@@ -1,12 +1,19 @@
 //! The machine: its state, its step and its runs.
 #![tactic(auto)]
 
+mod alu_operation;
+mod condition;
+mod conversions;
 mod decoding;
 mod flattening;
 mod frame;
+mod imm_branch;
 pub mod laws;
+mod limits;
 mod machine;
+mod memory_operand;
 mod program;
+mod reg_branch;
 mod slot;
 mod status;
 mod targets;

@@ -37,11 +37,21 @@ difference_is bits a b h =
 mag_quotient : (x y : ℤ) → mag (int_div x y) ≤ mag x + 1
 mag_quotient x y = grind arith
 
+-- a number of the width that a word reads as
+pub record IsSigned (w : Width) (word : ℕ) (z : ℤ) : Type 0 where
+  pub fits : FitsSigned w z
+  pub is : z ≡ signed_of (bits w) word
+
 -- `wrapping_div` of what two words read as leaves the word of the quotient
-pub quotient_is : (w : Width) (a b : ℕ) (x y q : ℤ) → FitsSigned w x → FitsSigned w y → FitsSigned w q → x ≡ signed_of (bits w) a
-    → y ≡ signed_of (bits w) b → q ≡ int_wrapping_div w (cast_signed w (cast_unsigned w x)) (cast_signed w (cast_unsigned w y))
+pub quotient_is : (w : Width) (a b : ℕ) (x y q : ℤ) → IsSigned w a x → IsSigned w b y → FitsSigned w q
+    → q ≡ int_wrapping_div w (cast_signed w (cast_unsigned w x)) (cast_signed w (cast_unsigned w y))
     → word_of (bits w) (cast_signed w (cast_unsigned w q)) ≡ word_of (bits w) (int_div (signed_of (bits w) a) (signed_of (bits w) b))
-quotient_is w a b x y q fx fy fq ex ey e = grind (arith, to_z-of_z, wrapped_is, mag_quotient)
+quotient_is w a b x y q first second fq e =
+    let fx = first.fits in
+    let fy = second.fits in
+    let ex = first.is in
+    let ey = second.is in
+    grind (arith, to_z-of_z, wrapped_is, mag_quotient)
 
 -- a word that is not 0 is no number 0, wrapped or not
 pub nonzero_is : (w : Width) (n : ℕ) (z : ℤ) → n < 2 ^ bits w → ¬ (n ≡ 0) → FitsSigned w z → z ≡ signed_of (bits w) n → IsNonZero w (cast_signed w (cast_unsigned w z))

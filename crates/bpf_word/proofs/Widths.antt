@@ -1,11 +1,11 @@
 -- A result is a word of the width of its operation.
-use Rattle.bpf_word.proofs.Prelude.{ℕ, ◌+◌, ◌*◌, ◌<◌, ◌^◌, ◌%◌, arith, mod-lt, div-le_self, pow_pos, or_lt, xor_lt, and_lt, ℤ, operated, word_of, Operation, Add, Mul, Div, Sdiv, Or, And, Lsh, Rsh, Mod, Smod, Xor, Mov}
+use Rattle.bpf_word.proofs.Prelude.{ℕ, ◌+◌, ◌*◌, ◌<◌, ◌^◌, ◌%◌, arith, mod-lt, div-le_self, pow_pos, or_lt, xor_lt, and_lt, ℤ, operated, word_of, AluOp, Add, Mul, Div, Sdiv, Or, And, Lsh, Rsh, Mod, Smod, Xor, Mov}
 
 pub word_below : (bits : ℕ) (z : ℤ) → word_of bits z < 2 ^ bits
 unfolding word_of
 word_below bits z = grind (arith, mod-lt, pow_pos)
 
-pub operated_below : (bits : ℕ) (operation : Operation) (a b : ℕ) → a < 2 ^ bits → b < 2 ^ bits → operated bits operation a b < 2 ^ bits
+pub operated_below : (bits : ℕ) (op : AluOp) (a b : ℕ) → a < 2 ^ bits → b < 2 ^ bits → operated bits op a b < 2 ^ bits
 unfolding operated
 operated_below bits Add a b p q = mod-lt (a + b) (pow_pos bits)
 operated_below bits Mul a b p q = mod-lt (a * b) (pow_pos bits)

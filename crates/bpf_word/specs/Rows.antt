@@ -5,12 +5,12 @@ use Rattle.bpf_word.specs.Bytes.{swap_of}
 use Rattle.bpf_word.specs.Comparisons.{holds_of}
 use Rattle.bpf_word.specs.Signs.{sext_of}
 use Rattle.bpf_word.specs.declared.comparison.Comparison.TheVariants.{Gt, Set, Sgt}
-use Rattle.bpf_word.specs.declared.operation.Operation.TheVariants.{Add, Sub, Div, Sdiv, Lsh, Mod, Smod, Mov, Arsh}
-use Rattle.bpf_word.specs.declared.sign_bits.SignBits.TheVariants.{B8, B32}
+use Rattle.bpf_word.specs.declared.alu_op.AluOp.TheVariants.{Add, Sub, Div, Sdiv, Lsh, Mod, Smod, Mov, Arsh}
+use Rattle.bpf_word.specs.declared.signed_size.SignedSize.TheVariants.{B, W}
 use Rattle.bpf_word.specs.declared.swap_width.SwapWidth.TheVariants.{Bits16, Bits32, Bits64}
 
 -- an operation with its operands in each row, and its result
-pub record RowsStand : Type 0 where
+pub record WordRowsHold : Type 0 where
   pub add_wraps : alu64_of Add 0xffff_ffff_ffff_ffff 1 ≡ 0
   pub sub_wraps : alu32_of Sub 2 5 ≡ 0xffff_fffd
   pub div_by_zero : alu64_of Div 7 0 ≡ 0
@@ -30,8 +30,8 @@ pub record RowsStand : Type 0 where
   pub mov_of_32 : alu32_of Mov 5 0xffff_ffff_ffff_ffff ≡ 0x0000_0000_ffff_ffff
   pub arsh_rounds_down : alu64_of Arsh 0xffff_ffff_ffff_fff3 1 ≡ 0xffff_ffff_ffff_fff9
   pub arsh_of_32 : alu32_of Arsh 0x8000_0000 63 ≡ 0xffff_ffff
-  pub sext_of_8 : sext_of B8 128 ≡ 0xffff_ffff_ffff_ff80
-  pub sext_of_32 : sext_of B32 0xffff_ffff_0000_0001 ≡ 1
+  pub sext_of_8 : sext_of B 128 ≡ 0xffff_ffff_ffff_ff80
+  pub sext_of_32 : sext_of W 0xffff_ffff_0000_0001 ≡ 1
   pub swap_of_16 : swap_of Bits16 0x1234 ≡ 0x3412
   pub swap_of_32 : swap_of Bits32 0x1234 ≡ 0x3412_0000
   pub swap_of_64 : swap_of Bits64 0x0123_4567_89ab_cdef ≡ 0xefcd_ab89_6745_2301

@@ -1,18 +1,11 @@
 -- Expansion keeps the tree and its meaning.
-use Rattle.cel_macros.proofs.Prelude.{◌≡◌, ℕ, Bool, true, List, [], ◌∷◌, Option, Some, IfSome, bytes_eq, refl, ap, ◌∙◌, arith, Tree, Trees, Entries, no_trees, more_trees, no_entries, more_entries, Value, ValueOrError, Environment, bind, truth, ternary_of, index_of, list_literal, map_literal, function_named, method_of, test_named, text_test_of, Macro, Map, macro_name, macros, macro_named, has_name, variables_name, is_map, is_has, is_variables, name_of, field_name, range_of, over_range, map_over_range, unary_of, binary_of, selected, called, meaning, operand_meaning, meanings, entry_meanings, CoreTree, plain_tree, plain_trees, plain_entries, selection, call_or_has, method_or_fold, method_or_fold_map, expanded, expanded_operand, expanded_trees, expanded_entries, folded, folded_map, fold_meaning, fold_meanings, fold_entries}
-use Rattle.std.proofs.Common.{find}
+use Rattle.cel_macros.proofs.Prelude.{◌≡◌, ℕ, Bool, true, List, Option, Some, IfSome, bytes_eq, refl, ap, ◌∙◌, arith, Tree, Trees, TreeEntries, no_trees, more_trees, no_entries, more_entries, Value, ValueOrError, Environment, bind, truth, ternary_of, index_of, list_literal, map_literal, function_named, method_of, text_test_of, Macro, Map, macro_name, macros, macro_named, has_name, variables_name, is_map, is_has, is_variables, name_of, field_name, range_of, over_range, map_over_range, unary_of, binary_of, selected, called, meaning, operand_meaning, meanings, entry_meanings, Core, plain_tree, plain_trees, plain_entries, selection, call_or_has, method_or_fold, method_or_fold_map, expanded, expanded_operand, expanded_trees, expanded_entries, folded, folded_map, fold_meaning, fold_meanings, fold_entries}
 use lib.Pointwise.{bytes_decides}
 use Rattle.cel_reader.specs.Tree as tree
+use Rattle.cel_macros.proofs.Callees.{callee_back, found, function_stays, test_stays, weaker}
 use Rattle.cel_macros.proofs.Folds.{folds_mean, fold_maps_mean}
 
 -- ---- names
-
-weaker : {A : Type 0} (o : Option A) (P Q : A → Type 0) → ((a : A) → P a → Q a) → IfSome o P → IfSome o Q
-weaker o P Q h p = grind arith
-
-found : {A : Type 0} (test : A → Bool) (xs : List A) → IfSome (find test xs) (λ a. test a ≡ true)
-found test [] = tt
-found test (x ∷ xs) = grind (arith, found test xs)
 
 macro_back : (n : List ℕ) → IfSome (macro_named n) (λ m. macro_name m ≡ n)
 unfolding macro_named
@@ -39,17 +32,21 @@ selection_plain : (b : Bool) (a : Tree) (f : List ℕ) → is_variables a ≡ b 
 unfolding plain_tree
 selection_plain b a f e h = grind (arith, variables_back)
 
-call_plain : (b : Bool) (k : Option (List ℕ)) (n : List ℕ) (inner c : CoreTree) (a : Tree) → is_has n ≡ b → IfSome k (λ f. tree.select (plain_tree inner) f ≡ a) → plain_tree c ≡ a → plain_tree (call_or_has b k n inner c) ≡ tree.call n (more_trees a no_trees)
+call_plain : (b : Bool) (k : Option (List ℕ)) (n : List ℕ) (inner c : Core) (a : Tree) → is_has n ≡ b → IfSome k (λ f. tree.select (plain_tree inner) f ≡ a) → plain_tree c ≡ a → plain_tree (call_or_has b k n inner c) ≡ tree.call n (more_trees a no_trees)
 unfolding plain_tree
-call_plain b k n inner c a e h p = grind (arith, has_back)
+call_plain b k n inner c a e h p = grind (arith, has_back, callee_back)
 
-fold_plain : (m : Option Macro) (k : Option (List ℕ)) (n : List ℕ) (ca cx cp : CoreTree) (a x p : Tree) → IfSome m (λ m. macro_name m ≡ n) → IfSome k (λ i. tree.name i ≡ x) → plain_tree ca ≡ a → plain_tree cx ≡ x → plain_tree cp ≡ p → plain_tree (method_or_fold m k n ca cx cp) ≡ tree.method a n (more_trees x (more_trees p no_trees))
-unfolding plain_tree
-fold_plain m k n ca cx cp a x p em ek ha hx hp = grind arith
+-- a macro's list, variable and first expression
+module _ (k : Option (List ℕ)) (n : List ℕ) (ca cx cp : Core) (a x p : Tree) (ek : IfSome k (λ i. tree.name i ≡ x)) (ha : plain_tree ca ≡ a) (hx : plain_tree cx ≡ x) (hp : plain_tree cp ≡ p) where
+  fold_plain : (m : Option Macro) → IfSome m (λ m. macro_name m ≡ n)
+      → plain_tree (method_or_fold m k n ca cx cp) ≡ tree.method a n (more_trees x (more_trees p no_trees))
+  unfolding plain_tree
+  fold_plain m em = grind (arith, callee_back)
 
-fold_map_plain : (b : Bool) (k : Option (List ℕ)) (n : List ℕ) (ca cx cp ct : CoreTree) (a x p t : Tree) → is_map n ≡ b → IfSome k (λ i. tree.name i ≡ x) → plain_tree ca ≡ a → plain_tree cx ≡ x → plain_tree cp ≡ p → plain_tree ct ≡ t → plain_tree (method_or_fold_map b k n ca cx cp ct) ≡ tree.method a n (more_trees x (more_trees p (more_trees t no_trees)))
-unfolding plain_tree
-fold_map_plain b k n ca cx cp ct a x p t e ek ha hx hp ht = grind (arith, map_back)
+  fold_map_plain : (b : Bool) (ct : Core) (t : Tree) → is_map n ≡ b → plain_tree ct ≡ t
+      → plain_tree (method_or_fold_map b k n ca cx cp ct) ≡ tree.method a n (more_trees x (more_trees p (more_trees t no_trees)))
+  unfolding plain_tree
+  fold_map_plain b ct t e ht = grind (arith, map_back, callee_back)
 
 mutual
   unfolding expanded plain_tree
@@ -62,15 +59,16 @@ mutual
   expansion_plain (tree.ternary c a b) = λ j. tree.ternary (expansion_plain c j) (expansion_plain a j) (expansion_plain b j)
   expansion_plain (tree.list items) = ap tree.list (trees_plain items)
   expansion_plain (tree.map es) = ap tree.map (entries_plain es)
+  expansion_plain (tree.call n no_trees) = ap (λ m. tree.call m no_trees) (callee_back n)
   expansion_plain (tree.call n (more_trees a no_trees)) = call_plain (is_has n) (field_name a) n (expanded_operand a) (expanded a) a refl (operand_plain a) (expansion_plain a)
-  expansion_plain (tree.call n (more_trees a (more_trees b more))) = λ j. tree.call n (more_trees (expansion_plain a j) (more_trees (expansion_plain b j) (trees_plain more j)))
-  expansion_plain (tree.method a n no_trees) = ap (λ t. tree.method t n no_trees) (expansion_plain a)
-  expansion_plain (tree.method a n (more_trees b no_trees)) = λ j. tree.method (expansion_plain a j) n (more_trees (expansion_plain b j) no_trees)
+  expansion_plain (tree.call n (more_trees a (more_trees b more))) = λ j. tree.call (callee_back n j) (more_trees (expansion_plain a j) (more_trees (expansion_plain b j) (trees_plain more j)))
+  expansion_plain (tree.method a n no_trees) = λ j. tree.method (expansion_plain a j) (callee_back n j) no_trees
+  expansion_plain (tree.method a n (more_trees b no_trees)) = λ j. tree.method (expansion_plain a j) (callee_back n j) (more_trees (expansion_plain b j) no_trees)
   expansion_plain (tree.method a n (more_trees x (more_trees p no_trees))) =
-      fold_plain (macro_named n) (name_of x) n (expanded a) (expanded x) (expanded p) a x p (macro_back n) (name_back x) (expansion_plain a) (expansion_plain x) (expansion_plain p)
+      fold_plain (name_of x) n (expanded a) (expanded x) (expanded p) a x p (name_back x) (expansion_plain a) (expansion_plain x) (expansion_plain p) (macro_named n) (macro_back n)
   expansion_plain (tree.method a n (more_trees x (more_trees p (more_trees t no_trees)))) =
-      fold_map_plain (is_map n) (name_of x) n (expanded a) (expanded x) (expanded p) (expanded t) a x p t refl (name_back x) (expansion_plain a) (expansion_plain x) (expansion_plain p) (expansion_plain t)
-  expansion_plain (tree.method a n (more_trees x (more_trees p (more_trees t (more_trees u more))))) = λ j. tree.method (expansion_plain a j) n (more_trees (expansion_plain x j) (more_trees (expansion_plain p j) (more_trees (expansion_plain t j) (more_trees (expansion_plain u j) (trees_plain more j)))))
+      fold_map_plain (name_of x) n (expanded a) (expanded x) (expanded p) a x p (name_back x) (expansion_plain a) (expansion_plain x) (expansion_plain p) (is_map n) (expanded t) t refl (expansion_plain t)
+  expansion_plain (tree.method a n (more_trees x (more_trees p (more_trees t (more_trees u more))))) = λ j. tree.method (expansion_plain a j) (callee_back n j) (more_trees (expansion_plain x j) (more_trees (expansion_plain p j) (more_trees (expansion_plain t j) (more_trees (expansion_plain u j) (trees_plain more j)))))
   expansion_plain _ = refl
 
   operand_plain : (a : Tree) → IfSome (field_name a) (λ f. tree.select (plain_tree (expanded_operand a)) f ≡ a)
@@ -81,29 +79,32 @@ mutual
   trees_plain no_trees = refl
   trees_plain (more_trees a more) = grind (arith, expansion_plain a, trees_plain more)
 
-  entries_plain : (es : Entries) → plain_entries (expanded_entries es) ≡ es
+  entries_plain : (es : TreeEntries) → plain_entries (expanded_entries es) ≡ es
   entries_plain no_entries = refl
   entries_plain (more_entries k v more) = grind (arith, expansion_plain k, expansion_plain v, entries_plain more)
 
 -- ---- the meaning of each form
 
-selection_means : (b : Bool) (f : List ℕ) (c : CoreTree) (x : ValueOrError) (env : Environment) → fold_meaning c env ≡ x → fold_meaning (selection b f c) env ≡ selected b f x env
+selection_means : (b : Bool) (f : List ℕ) (c : Core) (x : ValueOrError) (env : Environment) → fold_meaning c env ≡ x → fold_meaning (selection b f c) env ≡ selected b f x env
 unfolding fold_meaning
 selection_means b f c x env h = grind arith
 
-call_means : (b : Bool) (k : Option (List ℕ)) (n : List ℕ) (inner c : CoreTree) (x y : ValueOrError) (env : Environment) → IfSome k (λ f. fold_meaning inner env ≡ x) → fold_meaning c env ≡ y → fold_meaning (call_or_has b k n inner c) env ≡ called b k (function_named n) x y
+call_means : (b : Bool) (k : Option (List ℕ)) (n : List ℕ) (inner c : Core) (x y : ValueOrError) (env : Environment) → IfSome k (λ f. fold_meaning inner env ≡ x) → fold_meaning c env ≡ y → fold_meaning (call_or_has b k n inner c) env ≡ called b k (function_named n) x y
 unfolding fold_meaning
-call_means b k n inner c x y env hx hy = grind arith
+call_means b k n inner c x y env hx hy = grind (arith, function_stays)
 
-fold_means : (m : Option Macro) (k : Option (List ℕ)) (n : List ℕ) (ca cx cp : CoreTree) (env : Environment) (x : ValueOrError) (f : List ℕ → Value → ValueOrError) → fold_meaning ca env ≡ x → ((i : List ℕ) (v : Value) → fold_meaning cp (bind i v env) ≡ f i v) → fold_meaning (method_or_fold m k n ca cx cp) env ≡ over_range m k f (range_of x)
-unfolding fold_meaning
-fold_means (Some m) (Some i) n ca cx cp env x f ha hp = (λ j. folded m (λ v. hp i v j) (range_of (ha j))) ∙ folds_mean m i f (range_of x)
-fold_means _ _ n ca cx cp env x f ha hp = refl
+-- a macro's list and first expression
+module _ (n : List ℕ) (ca cx cp : Core) (env : Environment) (x : ValueOrError) (p : List ℕ → Value → ValueOrError) (ha : fold_meaning ca env ≡ x) (hp : (i : List ℕ) (v : Value) → fold_meaning cp (bind i v env) ≡ p i v) where
+  fold_means : (m : Option Macro) (k : Option (List ℕ)) → fold_meaning (method_or_fold m k n ca cx cp) env ≡ over_range m k p (range_of x)
+  unfolding fold_meaning
+  fold_means (Some m) (Some i) = (λ j. folded m (λ v. hp i v j) (range_of (ha j))) ∙ folds_mean m i p (range_of x)
+  fold_means _ _ = refl
 
-fold_map_means : (b : Bool) (k : Option (List ℕ)) (n : List ℕ) (ca cx cp ct : CoreTree) (env : Environment) (x : ValueOrError) (p f : List ℕ → Value → ValueOrError) → fold_meaning ca env ≡ x → ((i : List ℕ) (v : Value) → fold_meaning cp (bind i v env) ≡ p i v) → ((i : List ℕ) (v : Value) → fold_meaning ct (bind i v env) ≡ f i v) → fold_meaning (method_or_fold_map b k n ca cx cp ct) env ≡ map_over_range b k p f (range_of x)
-unfolding fold_meaning
-fold_map_means true (Some i) n ca cx cp ct env x p f ha hp ht = (λ j. folded_map (λ v. truth (hp i v j)) (λ v. ht i v j) (range_of (ha j))) ∙ fold_maps_mean i p f (range_of x)
-fold_map_means _ _ n ca cx cp ct env x p f ha hp ht = refl
+  fold_map_means : (b : Bool) (k : Option (List ℕ)) (ct : Core) (f : List ℕ → Value → ValueOrError) → ((i : List ℕ) (v : Value) → fold_meaning ct (bind i v env) ≡ f i v)
+      → fold_meaning (method_or_fold_map b k n ca cx cp ct) env ≡ map_over_range b k p f (range_of x)
+  unfolding fold_meaning
+  fold_map_means true (Some i) ct f ht = (λ j. folded_map (λ v. truth (hp i v j)) (λ v. ht i v j) (range_of (ha j))) ∙ fold_maps_mean i p f (range_of x)
+  fold_map_means _ _ ct f ht = refl
 
 mutual
   unfolding expanded fold_meaning meaning
@@ -118,12 +119,12 @@ mutual
   expansion_means (tree.map es) env = ap map_literal (entries_mean es env)
   expansion_means (tree.call n (more_trees a no_trees)) env =
       call_means (is_has n) (field_name a) n (expanded_operand a) (expanded a) (operand_meaning a env) (meaning a env) env (operand_means a env) (expansion_means a env)
-  expansion_means (tree.method a n no_trees) env = ap (method_of (function_named n)) (expansion_means a env)
-  expansion_means (tree.method a n (more_trees b no_trees)) env = λ j. text_test_of (test_named n) (expansion_means a env j) (expansion_means b env j)
+  expansion_means (tree.method a n no_trees) env = λ j. method_of (function_stays n j) (expansion_means a env j)
+  expansion_means (tree.method a n (more_trees b no_trees)) env = λ j. text_test_of (test_stays n j) (expansion_means a env j) (expansion_means b env j)
   expansion_means (tree.method a n (more_trees x (more_trees p no_trees))) env =
-      fold_means (macro_named n) (name_of x) n (expanded a) (expanded x) (expanded p) env (meaning a env) (λ i v. meaning p (bind i v env)) (expansion_means a env) (λ i v. expansion_means p (bind i v env))
+      fold_means n (expanded a) (expanded x) (expanded p) env (meaning a env) (λ i v. meaning p (bind i v env)) (expansion_means a env) (λ i v. expansion_means p (bind i v env)) (macro_named n) (name_of x)
   expansion_means (tree.method a n (more_trees x (more_trees p (more_trees t no_trees)))) env =
-      fold_map_means (is_map n) (name_of x) n (expanded a) (expanded x) (expanded p) (expanded t) env (meaning a env) (λ i v. meaning p (bind i v env)) (λ i v. meaning t (bind i v env)) (expansion_means a env) (λ i v. expansion_means p (bind i v env)) (λ i v. expansion_means t (bind i v env))
+      fold_map_means n (expanded a) (expanded x) (expanded p) env (meaning a env) (λ i v. meaning p (bind i v env)) (expansion_means a env) (λ i v. expansion_means p (bind i v env)) (is_map n) (name_of x) (expanded t) (λ i v. meaning t (bind i v env)) (λ i v. expansion_means t (bind i v env))
   expansion_means _ env = refl
 
   operand_means : (a : Tree) (env : Environment) → IfSome (field_name a) (λ f. fold_meaning (expanded_operand a) env ≡ operand_meaning a env)
@@ -134,6 +135,6 @@ mutual
   trees_mean no_trees env = refl
   trees_mean (more_trees a more) env = grind (arith, expansion_means a env, trees_mean more env)
 
-  entries_mean : (es : Entries) (env : Environment) → fold_entries (expanded_entries es) env ≡ entry_meanings es env
+  entries_mean : (es : TreeEntries) (env : Environment) → fold_entries (expanded_entries es) env ≡ entry_meanings es env
   entries_mean no_entries env = refl
   entries_mean (more_entries k v more) env = grind (arith, expansion_means k env, expansion_means v env, entries_mean more env)

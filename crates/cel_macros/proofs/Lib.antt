@@ -1,6 +1,7 @@
 pub mod Quantified
 pub mod Kept
 pub mod Folds
+pub mod Callees
 pub mod Expansion
 pub mod Arguments
 pub mod Views

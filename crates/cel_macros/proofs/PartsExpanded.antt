@@ -1,5 +1,5 @@
 -- What expansion makes of a call and a method, from their expanded parts.
-use Rattle.cel_macros.proofs.Prelude.{◌≡◌, ℕ, ◌<◌, ◌≤◌, Bool, true, List, [], ◌∷◌, length, get_or, Option, is_some, map, refl, arith, Expr, Tree, Trees, no_trees, more_trees, view, trees, entries, name_of, field_name, CoreTree, name, call, call_or_has, expanded, expanded_operand, expanded_trees, expanded_entries, Core, core_view, cores, core_entries, core_name, core_selection, has_or_call, call_with, call_of, IsPair, IsTriple, IsOther, expanded_pair}
+use Rattle.cel_macros.proofs.Prelude.{◌≡◌, ℕ, ◌<◌, ◌≤◌, Bool, true, List, [], ◌∷◌, length, get_or, Option, is_some, map, refl, arith, Expr, Tree, Trees, no_trees, more_trees, view, trees, entries, name_of, field_name, Core, name, call, call_or_has, expanded, expanded_operand, expanded_trees, expanded_entries, callee_named, CodeCore, core_view, cores, core_entries, core_name, core_selection, has_or_call, call_with, call_of, IsPair, IsTriple, AreCallArguments, expanded_pair}
 use Rattle.cel_reader.specs.Tree as tree
 use Rattle.cel_macros.specs.Expanding.{method_of}
 use Rattle.cel_macros.proofs.Expansion.{variables_back}
@@ -11,7 +11,7 @@ unfolding expanded
 name_stays x = grind arith
 
 -- of the macro `has` by what is selected, of a call by its argument
-abbrev Selects : CoreTree → Option (List ℕ) → CoreTree → Type 0
+abbrev Selects : Core → Option (List ℕ) → Core → Type 0
 Selects a k inner = (b : Bool) (n : List ℕ) → has_or_call b (core_selection a) n a ≡ call_or_has b k n inner a
 
 selection_stays : (a : Tree) → Selects (expanded a) (field_name a) (expanded_operand a)
@@ -31,28 +31,28 @@ method_expanded a n (more_trees x (more_trees p no_trees)) = grind (arith, name_
 method_expanded a n (more_trees x (more_trees p (more_trees t no_trees))) = grind (arith, name_stays)
 method_expanded a n _ = refl
 
-pub call_of_many : (b : Bool) (n : List ℕ) (items : List Core) → (length items ≡ 1 → ⊥) → call_with b n (cores (map core_view items)) ≡ call n (cores (map core_view items))
+pub call_of_many : (b : Bool) (n : List ℕ) (items : List CodeCore) → (length items ≡ 1 → ⊥) → call_with b n (cores (map core_view items)) ≡ call (callee_named n) (cores (map core_view items))
 call_of_many b n (a ∷ []) h = absurd (h refl)
 call_of_many b n _ h = refl
 
 -- ---- shapes
 
-named : (c : CoreTree) → is_some (core_name c) ≡ true → (i : List ℕ) × (c ≡ name i)
+named : (c : Core) → is_some (core_name c) ≡ true → (i : List ℕ) × (c ≡ name i)
 named c e = grind arith
 
-pub pair_shape : (items : List Core) (x : Core) → 2 ≤ length items → length items < 3 → x ≡ get_or items 0 x → is_some (core_name (core_view x)) ≡ true → IsPair (map core_view items)
+pub pair_shape : (items : List CodeCore) (x : CodeCore) → 2 ≤ length items → length items < 3 → x ≡ get_or items 0 x → is_some (core_name (core_view x)) ≡ true → IsPair (map core_view items)
 pair_shape (a ∷ b ∷ []) x h g e t = grind arith
 pair_shape _ x h g e t = absurd (omega arith)
 
-pub triple_shape : (items : List Core) (x : Core) → 3 ≤ length items → length items < 4 → x ≡ get_or items 0 x → is_some (core_name (core_view x)) ≡ true → IsTriple (map core_view items)
+pub triple_shape : (items : List CodeCore) (x : CodeCore) → 3 ≤ length items → length items < 4 → x ≡ get_or items 0 x → is_some (core_name (core_view x)) ≡ true → IsTriple (map core_view items)
 triple_shape (a ∷ b ∷ d ∷ []) x h g e t = grind arith
 triple_shape _ x h g e t = absurd (omega arith)
 
-pub other_few : (items : List Core) → length items < 2 → IsOther (map core_view items)
+pub other_few : (items : List CodeCore) → length items < 2 → AreCallArguments (map core_view items)
 other_few (a ∷ b ∷ items) h = absurd (omega arith)
 other_few _ h = λ o n. refl
 
-pub other_many : (items : List Core) → 3 < length items → IsOther (map core_view items)
+pub other_many : (items : List CodeCore) → 3 < length items → AreCallArguments (map core_view items)
 other_many (a ∷ b ∷ d ∷ f ∷ items) h = λ o n. refl
 other_many _ h = absurd (omega arith)
 

@@ -1,5 +1,5 @@
 -- Parts of values, and what literals, macros and names make of values, are values.
-use Rattle.cel_macros.proofs.Prelude.{ℕ, suc, Bool, true, false, cond, List, [], ◌∷◌, map as each, filter, Option, Some, IfSome, arith, rules, ℤ, ⊤, slice_get, AllByRecursion, list_any, list_all, IsUtf8, Value, boolean, text, Items, no_items, item, entry, ValueOrError, error, value, list_of, items_of, keys_of, items_join, Ascend, find, inserted, inserted_in_order, Macro, All, Exists, ExistsOne, Filter, Map, Environment, bind, lookup, value_or_error, item_or_root, name_value, result_or_error, variable_value, Truth, truth, field_among, Container, Index, container, part_at, with_value, values_in, list_or_error, list_literal, text_part, entries_in, map_or_error, is_yes, is_no, is_other, where_true, map_of, macro_of, over_range, map_over_range, range_of, selected, IsValue, AreValues, HasValues, IsValueOrError, NamesValues}
+use Rattle.cel_macros.proofs.Prelude.{ℕ, suc, Bool, true, false, cond, List, [], ◌∷◌, map as each, filter, Option, Some, IfSome, arith, rules, ℤ, ⊤, slice_get, AllByRecursion, list_any, list_all, IsUtf8, Value, boolean, text, Items, no_items, item, entry, ValueOrError, error, value, list_of, items_of, keys_of, items_join, Ascend, find, inserted, inserted_in_order, Macro, All, Exists, ExistsOne, Filter, Map, Environment, bind, lookup, value_or_error, item_or_root, name_value, result_or_error, variable_value, Truth, truth, field_among, Container, Index, container, part_at, with_value, values_in, list_or_error, list_literal, text_part, entries_in, map_or_error, is_yes, is_no, is_other, where_true, map_of, macro_of, over_range, map_over_range, range_of, selected, IsValue, AreValues, AreEntryValues, IsValueOrError, NamesValues}
 use Rattle.std.specs.List.Sorted.{IsStrictlySortedBy}
 use Rattle.value_store.specs.Value.{Entries, no_entries}
 use Rattle.cel_macros.specs.Selection as selection
@@ -21,7 +21,7 @@ module _ (P : ℤ → Type 0) where
   pub a_value : (o : Option Value) → Part o → Is (value_or_error o)
   a_value o h = grind arith
 
-  pub found : (key : List ℕ) (es : Entries) → HasValues P es → Part (find key es)
+  pub found : (key : List ℕ) (es : Entries) → AreEntryValues P es → Part (find key es)
   found key no_entries h = tt
   found key (entry k v more) h = grind (arith, found key more h.2)
 
@@ -29,7 +29,7 @@ module _ (P : ℤ → Type 0) where
   listed no_items h = tt
   listed (item v more) h = (h.0, listed more h.1)
 
-  pub keyed : (es : Entries) → HasValues P es → AllByRecursion (IsValue P) (each text (keys_of es))
+  pub keyed : (es : Entries) → AreEntryValues P es → AllByRecursion (IsValue P) (each text (keys_of es))
   keyed no_entries h = tt
   keyed (entry k v more) h = (h.0, keyed more h.2)
 
@@ -45,18 +45,18 @@ module _ (P : ℤ → Type 0) where
   joined no_items js h k = k
   joined (item v more) js h k = (h.0, joined more js h.1 k)
 
-  pub put : (key : List ℕ) (x : Value) (es : Entries) → IsUtf8 key → IsValue P x → HasValues P es → IfSome (inserted key x es) (HasValues P)
+  pub put : (key : List ℕ) (x : Value) (es : Entries) → IsUtf8 key → IsValue P x → AreEntryValues P es → IfSome (inserted key x es) (AreEntryValues P)
   put key x no_entries u a h = (u, a, tt)
   put key x (entry k v more) u a h = grind (arith, put key x more u a h.2)
 
   -- ---- fields, keys and indices
 
-  pub a_field : (f : List ℕ) (o : Option Entries) → IfSome o (HasValues P) → Is (field_among f o)
+  pub a_field : (f : List ℕ) (o : Option Entries) → IfSome o (AreEntryValues P) → Is (field_among f o)
   a_field f o h = grind (arith, a_value, found)
 
   abbrev pub Contained : Container → Type 0
   Contained (selection.Listed is) = AreValues P is
-  Contained (selection.Keyed es) = HasValues P es
+  Contained (selection.Keyed es) = AreEntryValues P es
   Contained selection.NoContainer = ⊤
 
   pub contained : (x : ValueOrError) → Is x → Contained (container x)
@@ -79,9 +79,9 @@ module _ (P : ℤ → Type 0) where
   a_list_literal xs h = grind (arith, as_list, all_values)
 
   abbrev pub InOrder : Entries → Type 0
-  InOrder es = Ascend (keys_of es) × HasValues P es
+  InOrder es = Ascend (keys_of es) × AreEntryValues P es
 
-  pub both : (o : Option Entries) → IfSome o (λ es. Ascend (keys_of es)) → IfSome o (HasValues P) → IfSome o InOrder
+  pub both : (o : Option Entries) → IfSome o (λ es. Ascend (keys_of es)) → IfSome o (AreEntryValues P) → IfSome o InOrder
   both o a b = grind arith
 
   pub key_in : (x : ValueOrError) → Is x → IfSome (text_part x) IsUtf8

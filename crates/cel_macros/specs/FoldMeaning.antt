@@ -8,12 +8,13 @@ use Rattle.cel_macros.specs.Arithmetic.{int_part}
 use Rattle.cel_macros.specs.Comparison.{equal_of}
 use Rattle.cel_macros.specs.Selection.{field_of, has_of, index_of}
 use Rattle.cel_macros.specs.Literals.{literal_of, list_literal, map_literal}
-use Rattle.cel_macros.specs.Functions.{function_named, function_of, method_of, test_named, text_test_of}
+use Rattle.cel_macros.specs.Callee.{function_in, test_in}
+use Rattle.cel_macros.specs.Functions.{function_of, method_of, text_test_of}
 use Rattle.cel_macros.specs.declared.macros.Macro.{Macro, TheVariants.All, TheVariants.Exists, TheVariants.ExistsOne, TheVariants.Filter, TheVariants.Map}
 use Rattle.cel_macros.specs.Macros.{is_yes, is_no, range_of}
 use Rattle.cel_macros.specs.Meaning.{unary_of, binary_of}
-use Rattle.cel_macros.specs.CoreTree.{CoreTree, literal, name, variable, select, has, index, call, method, unary, binary, ternary, map}
-use Rattle.cel_macros.specs.CoreTree.{fold, fold_map, CoreTrees, no_cores, more_cores, CoreEntries, no_core_entries, more_core_entries}
+use Rattle.cel_macros.specs.CoreTree.{Core, literal, name, variable, select, has, index, call, method, unary, binary, ternary, map}
+use Rattle.cel_macros.specs.CoreTree.{fold, fold_map, Cores, no_cores, more_cores, CoreEntries, no_core_entries, more_core_entries}
 use Rattle.cel_macros.specs.CoreTree as core
 
 -- the items, where the result is a list
@@ -94,7 +95,7 @@ folded_map p f None = error
 
 unfoldable mutual
   -- what an expanded expression means in an environment: a value or the error
-  pub fold_meaning : CoreTree → Environment → ValueOrError
+  pub fold_meaning : Core → Environment → ValueOrError
   fold_meaning (literal l) env = literal_of l
   fold_meaning (name n) env = name_value n env
   fold_meaning (variable v) env = variable_value v env.variables
@@ -106,17 +107,17 @@ unfoldable mutual
   fold_meaning (ternary c a b) env = ternary_of (fold_meaning c env) (fold_meaning a env) (fold_meaning b env)
   fold_meaning (core.list items) env = list_literal (fold_meanings items env)
   fold_meaning (map es) env = map_literal (fold_entries es env)
-  fold_meaning (call n (more_cores a no_cores)) env = function_of (function_named n) (fold_meaning a env)
-  fold_meaning (call n _) env = error
-  fold_meaning (method a n no_cores) env = method_of (function_named n) (fold_meaning a env)
-  fold_meaning (method a n (more_cores b no_cores)) env = text_test_of (test_named n) (fold_meaning a env) (fold_meaning b env)
-  fold_meaning (method a n _) env = error
+  fold_meaning (call c (more_cores a no_cores)) env = function_of (function_in c) (fold_meaning a env)
+  fold_meaning (call c _) env = error
+  fold_meaning (method a c no_cores) env = method_of (function_in c) (fold_meaning a env)
+  fold_meaning (method a c (more_cores b no_cores)) env = text_test_of (test_in c) (fold_meaning a env) (fold_meaning b env)
+  fold_meaning (method a c _) env = error
   fold_meaning (fold m n r p) env = folded m (λ v. fold_meaning p (bind n v env)) (range_of (fold_meaning r env))
   fold_meaning (fold_map n r p t) env =
       folded_map (λ v. truth (fold_meaning p (bind n v env))) (λ v. fold_meaning t (bind n v env)) (range_of (fold_meaning r env))
 
   -- what each of the expressions means
-  pub fold_meanings : CoreTrees → Environment → List ValueOrError
+  pub fold_meanings : Cores → Environment → List ValueOrError
   fold_meanings no_cores env = []
   fold_meanings (more_cores a more) env = fold_meaning a env ∷ fold_meanings more env
 

@@ -5,12 +5,8 @@ use Rattle.std.specs.Fmt.{signed_decimal}
 use Rattle.text_kernels.specs.Scans.{code_points_of}
 use Rattle.value_store.specs.Value.{ValueOrError, error, value, boolean, int, text, list, map, keys_of, list_of}
 use Rattle.cel_macros.specs.Literals.{text_part}
-
--- functions of one operand
-pub data Function : Type 0 where
-  Size : Function
-  String : Function
-  Dyn : Function
+use Rattle.cel_macros.specs.declared.function.Function.{Function, TheVariants.Size, TheVariants.String, TheVariants.Dyn}
+use Rattle.cel_macros.specs.declared.text_test.TextTest.{TextTest, TheVariants.StartsWith, TheVariants.EndsWith, TheVariants.Contains}
 
 -- how a function is written
 abbrev pub function_name : Function → List ℕ
@@ -48,12 +44,6 @@ method_of (Some Size) x = size_of x
 method_of (Some String) x = error
 method_of (Some Dyn) x = error
 method_of None x = error
-
--- tests of two texts, written as methods
-pub data TextTest : Type 0 where
-  StartsWith : TextTest
-  EndsWith : TextTest
-  Contains : TextTest
 
 -- how a test of two texts is written
 abbrev pub test_name : TextTest → List ℕ

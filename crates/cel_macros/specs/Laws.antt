@@ -9,7 +9,7 @@ use Rattle.cel_macros.specs.CoreTree.{plain_tree, expanded}
 use Rattle.cel_macros.specs.FoldMeaning.{fold_meaning, step_of, is_settled}
 
 -- expansion loses nothing of the tree, and folds from the left give the macros' meaning
-pub record Expands : Type 0 where
+pub record ExpansionKeepsMeaning : Type 0 where
   pub plain : (e : Tree) → plain_tree (expanded e) ≡ e
   pub means : (e : Tree) (env : Environment) → fold_meaning (expanded e) env ≡ meaning e env
 

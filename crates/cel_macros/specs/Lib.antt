@@ -5,6 +5,7 @@ pub mod Comparison
 pub mod Selection
 pub mod Literals
 pub mod Functions
+pub mod Callee
 pub mod Macros
 pub mod Meaning
 pub mod Values
@@ -14,6 +15,7 @@ pub mod Expanding
 pub mod CoreViewLaws
 pub mod FoldMeaning
 pub mod MacroFault
+pub mod ErrorCodes
 pub mod Written
 pub mod Rows
 pub mod Laws

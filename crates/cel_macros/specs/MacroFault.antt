@@ -1,13 +1,14 @@
 -- The first macro that is not well formed, a node before its parts, parts from left to right.
 use Rattle.std.specs.Prelude.{ℕ, Bool, true, false, ◌||◌, List, Option, Some, None, Result, Ok, Err, if◌then◌else◌, bytes_eq}
 use Rattle.cel_reader.specs.Tree as tree
-use Rattle.cel_reader.specs.Tree.{Tree, Trees, Entries, no_trees, more_trees, no_entries, more_entries}
-use Rattle.cel_macros.specs.declared.macro_error.MacroError.{MacroError, TheVariants.M1, TheVariants.M2, TheVariants.M3}
+use Rattle.cel_reader.specs.Tree.{Tree, Trees, TreeEntries, no_trees, more_trees, no_entries, more_entries}
+use Rattle.cel_macros.specs.declared.macro_error.MacroError.{MacroError, TheVariants.WrongArgumentCount, TheVariants.InvalidIterationName, TheVariants.HasWithoutSelection}
 use Rattle.cel_macros.specs.Environment.{is_root}
 use Rattle.cel_macros.specs.declared.macros.Macro.{Macro, TheVariants.All, TheVariants.Exists, TheVariants.ExistsOne, TheVariants.Filter, TheVariants.Map}
 use Rattle.cel_macros.specs.Macros.{macro_named, is_has, variables_name, name_of, field_name}
 
--- what is wrong with a macro: how many arguments it has, its iteration name, or that the argument of `has` selects no field
+-- what is wrong with a macro: how many arguments it has, its iteration name, or that the argument of `has` selects no
+-- field
 pub data MacroFault : Type 0 where
   ArgumentCount : MacroFault
   IterationName : MacroFault
@@ -32,7 +33,8 @@ abbrev pub selection_fault : Option (List ℕ) → Option MacroFault
 selection_fault (Some f) = None
 selection_fault None = Some NoSelection
 
--- what is wrong with a call, which has a fault only where its name is `has`: that takes one argument, which selects a field
+-- what is wrong with a call, which has a fault only where its name is `has`: that takes one argument, which selects a
+-- field
 abbrev pub has_fault : Bool → Trees → Option MacroFault
 has_fault false arguments = None
 has_fault true (more_trees a no_trees) = selection_fault (field_name a)
@@ -75,15 +77,15 @@ unfoldable mutual
   trees_fault (more_trees a more) = before (macro_fault a) (trees_fault more)
 
   -- the first fault in the entries, a key before its value
-  pub entries_fault : Entries → Option MacroFault
+  pub entries_fault : TreeEntries → Option MacroFault
   entries_fault no_entries = None
   entries_fault (more_entries k v more) = before (macro_fault k) (before (macro_fault v) (entries_fault more))
 
 -- the number that each is refused by
 abbrev pub fault_error : MacroFault → MacroError
-fault_error ArgumentCount = M1
-fault_error IterationName = M2
-fault_error NoSelection = M3
+fault_error ArgumentCount = WrongArgumentCount
+fault_error IterationName = InvalidIterationName
+fault_error NoSelection = HasWithoutSelection
 
 -- the answer to a test for faults
 abbrev pub refusal : Option MacroFault → Result (Unit {0}) MacroError

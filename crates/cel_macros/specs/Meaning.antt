@@ -1,7 +1,7 @@
 -- What an expression means in an environment: a value or the error, by cases on its tree (cel-spec, Evaluation).
 use Rattle.std.specs.Prelude.{ℕ, Bool, true, false, List, [], ◌∷◌, Option, Some, None}
 use Rattle.cel_reader.specs.Tree as tree
-use Rattle.cel_reader.specs.Tree.{Tree, Trees, Entries, no_trees, more_trees, no_entries, more_entries}
+use Rattle.cel_reader.specs.Tree.{Tree, Trees, TreeEntries, no_trees, more_trees, no_entries, more_entries}
 use Rattle.cel_reader.specs.declared.operator.BinaryOperator.{BinaryOperator}
 use Rattle.cel_reader.specs.declared.operator.BinaryOperator.TheVariants as binary
 use Rattle.cel_reader.specs.declared.operator.UnaryOperator.{UnaryOperator}
@@ -13,7 +13,8 @@ use Rattle.cel_macros.specs.Arithmetic.{sum_of, difference_of, product_of, quoti
 use Rattle.cel_macros.specs.Comparison.{equal_of, unequal_of, less_of, less_equal_of, greater_of, greater_equal_of, member_of}
 use Rattle.cel_macros.specs.Selection.{field_of, has_of, index_of}
 use Rattle.cel_macros.specs.Literals.{literal_of, list_literal, map_literal}
-use Rattle.cel_macros.specs.Functions.{Function, function_named, function_of, method_of, test_named, text_test_of}
+use Rattle.cel_macros.specs.Functions.{function_named, function_of, method_of, test_named, text_test_of}
+use Rattle.cel_macros.specs.declared.function.Function.{Function}
 use Rattle.cel_macros.specs.Macros.{macro_named, is_map, is_has, is_variables, name_of, field_name, range_of, over_range, map_over_range}
 
 -- an operator before its operand
@@ -83,6 +84,6 @@ unfoldable mutual
   meanings (more_trees a more) env = meaning a env ∷ meanings more env
 
   -- what each key and each value means
-  pub entry_meanings : Entries → Environment → List (ValueOrError × ValueOrError)
+  pub entry_meanings : TreeEntries → Environment → List (ValueOrError × ValueOrError)
   entry_meanings no_entries env = []
   entry_meanings (more_entries k v more) env = (meaning k env, meaning v env) ∷ entry_meanings more env

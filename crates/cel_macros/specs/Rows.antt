@@ -15,7 +15,7 @@ use Rattle.cel_macros.specs.Rows.Macro.{MacroRows}
 use Rattle.cel_macros.specs.Rows.MacroFault.{MacroFaultRows}
 
 -- the rows of each family stand
-pub record RowsStand : Type 0 where
+pub record MeaningRowsHold : Type 0 where
   pub logic : LogicRows
   pub arithmetic : ArithmeticRows
   pub comparison : ComparisonRows

@@ -5,24 +5,26 @@ use Rattle.std.specs.List.{AllByRecursion}
 use Rattle.std.specs.Str.{IsUtf8}
 use Rattle.cel_reader.specs.Tree as tree
 use Rattle.cel_reader.specs.Tree.{Tree, Trees, no_trees, more_trees}
-use Rattle.cel_reader.specs.Tree.{Entries as TreeEntries, no_entries as no_tree_entries, more_entries}
+use Rattle.cel_reader.specs.Tree.{TreeEntries, no_entries as no_tree_entries, more_entries}
 use Rattle.cel_reader.specs.WellFormed.{IsWellFormed}
 use Rattle.value_store.specs.Value.{Value, null, boolean, int, text, list, map, Items, no_items, item, Entries, no_entries, entry}
 use Rattle.value_store.specs.Value.{ValueOrError, error, value, keys_of}
 use Rattle.value_store.specs.Keys.{Ascend}
 use Rattle.cel_macros.specs.Environment.{Environment}
-use Rattle.cel_macros.specs.Functions.{Size, function_named}
+use Rattle.cel_macros.specs.Functions.{function_named}
+use Rattle.cel_macros.specs.declared.function.Function.{TheVariants.Size}
 use Rattle.cel_macros.specs.Meaning.{meaning}
 
 abbrev mutual
-  -- a value whose ints are as P says, whose texts are in UTF-8, and whose maps have texts as keys in byte order, each once
+  -- a value whose ints are as P says, whose texts are in UTF-8, and whose maps have texts as keys in byte order, each
+  -- once
   pub IsValue : (ℤ → Type 0) → Value → Type 0
   IsValue P null = ⊤
   IsValue P (boolean b) = ⊤
   IsValue P (int z) = P z
   IsValue P (text s) = IsUtf8 s
   IsValue P (list is) = AreValues P is
-  IsValue P (map es) = Ascend (keys_of es) × HasValues P es
+  IsValue P (map es) = Ascend (keys_of es) × AreEntryValues P es
 
   -- each of the items is such a value
   pub AreValues : (ℤ → Type 0) → Items → Type 0
@@ -30,9 +32,9 @@ abbrev mutual
   AreValues P (item v more) = IsValue P v × AreValues P more
 
   -- its keys are texts, and what stands at them are values
-  pub HasValues : (ℤ → Type 0) → Entries → Type 0
-  HasValues P no_entries = ⊤
-  HasValues P (entry k v more) = IsUtf8 k × IsValue P v × HasValues P more
+  pub AreEntryValues : (ℤ → Type 0) → Entries → Type 0
+  AreEntryValues P no_entries = ⊤
+  AreEntryValues P (entry k v more) = IsUtf8 k × IsValue P v × AreEntryValues P more
 
 -- such a value, or the error
 abbrev pub IsValueOrError : (ℤ → Type 0) → ValueOrError → Type 0
@@ -82,8 +84,8 @@ HasNoSize e = AtSize ⊥ e
 abbrev pub TextsAndKeysStay : Type 0
 TextsAndKeysStay = (e : Tree) (env : Environment) → IsWellFormed e → NamesValues (λ z. ⊤) env → IsValueOrError (λ z. ⊤) (meaning e env)
 
--- and where no size is taken, ints stay in 64 bits signed: a text, a list or a map of 2^63 parts has a greater size, and
--- nothing bounds them here
+-- and where no size is taken, ints stay in 64 bits signed: a text, a list or a map of 2^63 parts has a greater size,
+-- and nothing bounds them here
 abbrev pub IntsStay : Type 0
 IntsStay = (e : Tree) (env : Environment) → IsWellFormed e → HasNoSize e → NamesValues (FitsSigned w64) env
     → IsValueOrError (FitsSigned w64) (meaning e env)

@@ -3,10 +3,12 @@
 ghost use Rattle.std.specs.Prelude.{◌≡◌, IfOk, string_bytes};
 ghost use Rattle.std.specs.Prelude as list;
 ghost use Rattle.cel_reader.specs.Tree.{literal_view};
+ghost use Rattle.cel_macros.specs.Callee.{callee_named};
 ghost use Rattle.cel_macros.specs.CoreTree as node;
 ghost use Rattle.cel_macros.specs.CoreView.{core_view, cores, core_entries};
 ghost use Rattle.cel_macros.specs.Expanding.{core_pair};
 
+use crate::callee::Callee;
 use crate::core_tree::Core;
 use crate::macros::Macro;
 use cel_reader::Literal;
@@ -57,9 +59,9 @@ pub(crate) fn has(alloc: Global, of: Core, field: String) -> Result<Core, AllocE
 
 /// A call of a function.
 pub(crate) fn call(alloc: Global, name: &str, arguments: Vec<Core>) -> Result<Core, AllocError>
-    ensures { IfOk result (λ c. core_view c ≡ node.call name.now (cores (list.map core_view arguments.items))) }
+    ensures { IfOk result (λ c. core_view c ≡ node.call (callee_named name.now) (cores (list.map core_view arguments.items))) }
 {
-    Ok(Core::Call(String::from_str(alloc, name)?, arguments))
+    Ok(Core::Call(Callee::of_name(alloc, name)?, arguments))
 }
 
 /// A list literal.
@@ -83,9 +85,9 @@ pub(crate) fn method(
     name: &str,
     arguments: Vec<Core>,
 ) -> Result<Core, AllocError>
-    ensures { IfOk result (λ c. core_view c ≡ node.method (core_view of.value) name.now (cores (list.map core_view arguments.items))) }
+    ensures { IfOk result (λ c. core_view c ≡ node.method (core_view of.value) (callee_named name.now) (cores (list.map core_view arguments.items))) }
 {
-    Ok(Core::Method(of, String::from_str(alloc, name)?, arguments))
+    Ok(Core::Method(of, Callee::of_name(alloc, name)?, arguments))
 }
 
 /// A macro over a range.

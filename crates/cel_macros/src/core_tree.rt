@@ -1,5 +1,6 @@
 //! Expressions without macros.
 
+use crate::callee::Callee;
 use crate::macros::Macro;
 use cel_reader::{BinaryOperator, Literal, UnaryOperator};
 
@@ -17,9 +18,9 @@ pub enum Core {
     Has(Box<Core>, String),
     /// The item or entry at an index.
     Index(Box<Core>, Box<Core>),
-    Call(String, Vec<Core>),
-    /// A call of the method of this name.
-    Method(Box<Core>, String, Vec<Core>),
+    Call(Callee, Vec<Core>),
+    /// A call of a method.
+    Method(Box<Core>, Callee, Vec<Core>),
     Unary(UnaryOperator, Box<Core>),
     Binary(BinaryOperator, Box<Core>, Box<Core>),
     /// A condition, what stands where it is true, and what stands where it is false.

@@ -114,12 +114,13 @@ fn expansion(alloc: Global, e: &Expr) -> Result<Core, AllocError>
 }
 
 /// The expression with its macros expanded. Else the error says what is wrong with the first macro
-/// that is not well formed, a node before its parts, parts from left to right: M1 for another number
-/// of arguments, M2 for what may not be an iteration name, M3 for `has` of what is no selection.
+/// that is not well formed, a node before its parts, parts from left to right: `WrongArgumentCount`
+/// for another number of arguments, `InvalidIterationName` for what may not be an iteration name,
+/// `HasWithoutSelection` for `has` of what is no selection.
 ///
 /// The host's stack holds one frame for each level of the tree. The limit of open brackets does not
-/// bound these levels, since operators nest without brackets; the number of tokens of a text, 4,096,
-/// does. (cel-spec, Macros)
+/// bound these levels, since operators nest without brackets; the number of tokens of a text,
+/// 4,096, does. (cel-spec, Macros)
 #[tactic(auto, using(crate::proofs::Expansion::expansion_means, crate::proofs::Expansion::expansion_plain))]
 pub fn expand(alloc: Global, e: Expr) -> Result<Core, MacroError>
     ensures refused { IfSome (macro_fault (view e)) (λ fault. result ≡ list.Err (fault_error fault)) }

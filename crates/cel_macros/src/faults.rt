@@ -18,11 +18,11 @@ fn test_name(name: &Expr) -> Result<(), MacroError>
     match name {
         Expr::Name(name) => {
             if is_taken(name.as_str()) {
-                return Err(MacroError::M2);
+                return Err(MacroError::InvalidIterationName);
             }
             Ok(())
         }
-        _ => Err(MacroError::M2),
+        _ => Err(MacroError::InvalidIterationName),
     }
 }
 
@@ -32,7 +32,7 @@ fn test_selection(argument: &Expr) -> Result<(), MacroError>
 {
     match argument {
         Expr::Select(..) => Ok(()),
-        _ => Err(MacroError::M3),
+        _ => Err(MacroError::HasWithoutSelection),
     }
 }
 
@@ -43,7 +43,7 @@ fn test_has(arguments: &[Expr]) -> Result<(), MacroError>
 {
     match arguments {
         [argument] => test_selection(argument),
-        _ => Err(MacroError::M1),
+        _ => Err(MacroError::WrongArgumentCount),
     }
 }
 
@@ -53,7 +53,9 @@ fn test_three(found: Macro, name: &Expr) -> Result<(), MacroError>
 {
     match found {
         Macro::Map => test_name(name),
-        Macro::All | Macro::Exists | Macro::ExistsOne | Macro::Filter => Err(MacroError::M1),
+        Macro::All | Macro::Exists | Macro::ExistsOne | Macro::Filter => Err(
+            MacroError::WrongArgumentCount,
+        ),
     }
 }
 
@@ -65,7 +67,7 @@ fn test_fold(found: Macro, arguments: &[Expr]) -> Result<(), MacroError>
     match arguments {
         [name, _] => test_name(name),
         [name, _, _] => test_three(found, name),
-        _ => Err(MacroError::M1),
+        _ => Err(MacroError::WrongArgumentCount),
     }
 }
 

@@ -1,18 +1,18 @@
 //! The laws of the meaning, each the contract of an empty function.
 
-ghost use Rattle.cel_macros.specs.Rows.{RowsStand};
-ghost use Rattle.cel_macros.specs.Laws.{Expands, SettledStays};
+ghost use Rattle.cel_macros.specs.Rows.{MeaningRowsHold};
+ghost use Rattle.cel_macros.specs.Laws.{ExpansionKeepsMeaning, SettledStays};
 ghost use Rattle.cel_macros.specs.Values.{IntsStay, TextsAndKeysStay};
 
 /// Expressions that were worked by hand from cel-spec have the meanings that it gives them.
 pub fn rows_stand()
-    ensures { RowsStand }
+    ensures { MeaningRowsHold }
 {}
 
 /// An expanded tree is the plain one again, and its folds give the plain one's meaning.
 #[tactic(auto, using(crate::proofs::Expansion::expansion_means, crate::proofs::Expansion::expansion_plain))]
 pub fn expands()
-    ensures { Expands }
+    ensures { ExpansionKeepsMeaning }
 {}
 
 /// A fold's answer that is settled stays, so that a loop may end there.

@@ -9,18 +9,36 @@ use thiserror::Error;
 /// Why an expression is not expanded.
 #[derive(Clone, Copy, Debug, PartialEq, Eq, Error)]
 pub enum MacroError {
-    /// A macro has another number of arguments.
+    /// A macro has a number of arguments that it does not take.
     #[error("a macro has another number of arguments")]
-    M1,
-    /// An iteration name is no plain identifier, or is a root's name or `variables`.
+    WrongArgumentCount,
+    /// An iteration name is not a plain identifier, or it is the name of a root or `variables`.
     #[error("an iteration name is no plain identifier, a root's name or `variables`")]
-    M2,
-    /// The argument of `has` is no selection of a field.
+    InvalidIterationName,
+    /// The argument of `has` is not the selection of a field.
     #[error("the argument of `has` selects no field")]
-    M3,
-    /// There is no memory for the expanded expression.
+    HasWithoutSelection,
+    /// An allocation failed.
     #[error("out of memory")]
     Memory,
+}
+
+impl MacroError {
+    ghost use Rattle.std.specs.Prelude.{◌≤◌, length};
+    ghost use Rattle.cel_macros.specs.ErrorCodes.{macro_error_code};
+
+    /// The error's code: `M1` to `M3`, or `memory`.
+    pub fn code(&self) -> &'static str
+        ensures text { result.now ≡ macro_error_code self.now }
+        ensures length { length result.now ≤ 6 }
+    {
+        match self {
+            MacroError::WrongArgumentCount => "M1",
+            MacroError::InvalidIterationName => "M2",
+            MacroError::HasWithoutSelection => "M3",
+            MacroError::Memory => "memory",
+        }
+    }
 }
 
 impl From<AllocError> for MacroError {

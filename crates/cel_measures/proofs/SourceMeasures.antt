@@ -1,11 +1,11 @@
 -- Each measure of the source is that of the expansion: the tables give the measures of each form.
-use Rattle.cel_measures.proofs.Prelude.{◌≡◌, ℕ, ◌+◌, max, List, refl, ap, arith, map as each, CoreTree, CoreTrees, CoreEntries, no_cores, more_cores, no_core_entries, more_core_entries, nodes, nodes_of, entries_nodes, need, call_need, needs, needs_behind, entries_need, deepest, deepest_of, entries_deepest, total, greatest, nodes_by, need_by, deepest_by, SameNodes, SameNeed, SameDepth}
+use Rattle.cel_measures.proofs.Prelude.{◌≡◌, ℕ, ◌+◌, max, List, refl, ap, arith, map as each, Core, Cores, CoreEntries, no_cores, more_cores, no_core_entries, more_core_entries, nodes, nodes_of, entries_nodes, need, call_need, needs, needs_behind, entries_need, deepest, deepest_of, entries_deepest, total, greatest, nodes_by, need_by, deepest_by, SameNodes, SameNeed, SameDepth}
 use Rattle.cel_measures.specs.SourceMeasures as source
 use Rattle.cel_measures.proofs.SourceParts.{IsBy, each_core, core_pairs, source_same}
 
 -- ---- nodes
 
-total_nodes : (cs : CoreTrees) → total (each_core nodes cs) ≡ nodes_of cs
+total_nodes : (cs : Cores) → total (each_core nodes cs) ≡ nodes_of cs
 unfolding nodes
 total_nodes no_cores = refl
 total_nodes (more_cores a more) = ap (λ k. nodes a + k) (total_nodes more)
@@ -24,12 +24,12 @@ same_nodes e = source_same nodes_by nodes nodes_table e
 
 -- ---- need
 
-greatest_need : (cs : CoreTrees) → greatest (each_core need cs) ≡ needs cs
+greatest_need : (cs : Cores) → greatest (each_core need cs) ≡ needs cs
 unfolding need
 greatest_need no_cores = refl
 greatest_need (more_cores a more) = ap (λ k. max (need a) k) (greatest_need more)
 
-greatest_behind : (cs : CoreTrees) → greatest (each (λ b. 1 + b) (each_core need cs)) ≡ needs_behind cs
+greatest_behind : (cs : Cores) → greatest (each (λ b. 1 + b) (each_core need cs)) ≡ needs_behind cs
 unfolding need
 greatest_behind no_cores = refl
 greatest_behind (more_cores a more) = ap (λ k. max (1 + need a) k) (greatest_behind more)
@@ -39,7 +39,7 @@ unfolding need
 entry_need no_core_entries = refl
 entry_need (more_core_entries k v more) = ap (λ n. max (max (1 + need k) (2 + need v)) n) (entry_need more)
 
-a_call : (cs : CoreTrees) → source.call_need (each_core need cs) ≡ call_need cs
+a_call : (cs : Cores) → source.call_need (each_core need cs) ≡ call_need cs
 unfolding need
 a_call (more_cores a (more_cores b more)) = ap (λ k. 1 + max (need a) (max (need b) k)) (greatest_need more)
 a_call _ = refl
@@ -54,10 +54,10 @@ same_need e = source_same need_by need need_table e
 -- ---- depth
 
 module _ (s : List (List ℕ × ℕ)) where
-  abbrev deep : CoreTree → ℕ
+  abbrev deep : Core → ℕ
   deep a = deepest a s
 
-  greatest_deep : (cs : CoreTrees) → greatest (each_core deep cs) ≡ deepest_of cs s
+  greatest_deep : (cs : Cores) → greatest (each_core deep cs) ≡ deepest_of cs s
   unfolding deepest
   greatest_deep no_cores = refl
   greatest_deep (more_cores a more) = ap (λ k. max (deepest a s) k) (greatest_deep more)

@@ -2,12 +2,12 @@
 -- depth of a variable that it defines.
 use Rattle.std.specs.Prelude.{ℕ, ◌+◌, max, List, Option, Some, None}
 use Rattle.cel_macros.specs.Environment.{lookup}
-use Rattle.cel_macros.specs.CoreTree.{CoreTree, CoreTrees, CoreEntries, no_cores, more_cores, no_core_entries, more_core_entries, literal}
+use Rattle.cel_macros.specs.CoreTree.{Core, Cores, CoreEntries, no_cores, more_cores, no_core_entries, more_core_entries, literal}
 use Rattle.cel_macros.specs.CoreTree.{name, variable, select, has, index, call, method, unary, binary, ternary, list, map, fold, fold_map}
 
 unfoldable mutual
   -- how many nodes an expression has; the name that a macro declares and the selection inside `has` are none
-  pub nodes : CoreTree → ℕ
+  pub nodes : Core → ℕ
   nodes (literal l) = 1
   nodes (name n) = 1
   nodes (variable v) = 1
@@ -25,7 +25,7 @@ unfoldable mutual
   nodes (fold_map n r p t) = 1 + nodes r + nodes p + nodes t
 
   -- the nodes of all of the expressions
-  pub nodes_of : CoreTrees → ℕ
+  pub nodes_of : Cores → ℕ
   nodes_of no_cores = 0
   nodes_of (more_cores a more) = nodes a + nodes_of more
 
@@ -38,7 +38,7 @@ unfoldable mutual
   -- how many words of the stack an expression takes: an operand stands in a word while the operands behind it are
   -- evaluated; a list and an entry of a map stand in one while their parts are, a key in one more while its value is,
   -- and a macro's state in five while its other parts are
-  pub need : CoreTree → ℕ
+  pub need : Core → ℕ
   need (literal l) = 1
   need (name n) = 1
   need (variable v) = 1
@@ -56,18 +56,18 @@ unfoldable mutual
   need (fold_map n r p t) = max (need r) (5 + max (need p) (need t))
 
   -- a call of a function takes what its one operand takes; other operands would be kept like the items of a list
-  pub call_need : CoreTrees → ℕ
+  pub call_need : Cores → ℕ
   call_need no_cores = 1
   call_need (more_cores a no_cores) = need a
   call_need (more_cores a (more_cores b more)) = 1 + max (need a) (max (need b) (needs more))
 
   -- the most that one of the expressions takes, 0 where there are none
-  pub needs : CoreTrees → ℕ
+  pub needs : Cores → ℕ
   needs no_cores = 0
   needs (more_cores a more) = max (need a) (needs more)
 
   -- the most that operands behind a first one take, which stands in a word
-  pub needs_behind : CoreTrees → ℕ
+  pub needs_behind : Cores → ℕ
   needs_behind no_cores = 0
   needs_behind (more_cores a more) = max (1 + need a) (needs_behind more)
 
@@ -83,7 +83,7 @@ depth_or_none None = 0
 
 unfoldable mutual
   -- the greatest depth of the variables that an expression names, 0 where it names none; s: the depth of each variable
-  pub deepest : CoreTree → List (List ℕ × ℕ) → ℕ
+  pub deepest : Core → List (List ℕ × ℕ) → ℕ
   deepest (literal l) s = 0
   deepest (name n) s = 0
   deepest (variable v) s = depth_or_none (lookup v s)
@@ -101,7 +101,7 @@ unfoldable mutual
   deepest (fold_map n r p t) s = max (deepest r s) (max (deepest p s) (deepest t s))
 
   -- the greatest of the expressions
-  pub deepest_of : CoreTrees → List (List ℕ × ℕ) → ℕ
+  pub deepest_of : Cores → List (List ℕ × ℕ) → ℕ
   deepest_of no_cores s = 0
   deepest_of (more_cores a more) s = max (deepest a s) (deepest_of more s)
 
@@ -111,5 +111,5 @@ unfoldable mutual
   entries_deepest (more_core_entries k v more) s = max (max (deepest k s) (deepest v s)) (entries_deepest more s)
 
 -- the depth of a variable with this expression, where the variables that it may name have these depths
-abbrev pub depth : CoreTree → List (List ℕ × ℕ) → ℕ
+abbrev pub depth : Core → List (List ℕ × ℕ) → ℕ
 depth e s = 1 + deepest e s

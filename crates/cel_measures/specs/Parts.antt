@@ -1,39 +1,40 @@
--- The parts of an expression as it is written, each with its measure. What is a macro, a `has` or `variables.v` is said here
--- once, so that each measure is a table with one row for each form.
+-- The parts of an expression as it is written, each with its measure. What is a macro, a `has` or `variables.v` is said
+-- here once, so that each measure is a table with one row for each form.
 use Rattle.std.specs.Prelude.{ℕ, Bool, true, false, List, [], ◌∷◌, Option, Some, None}
 use Rattle.cel_reader.specs.Tree as tree
-use Rattle.cel_reader.specs.Tree.{Tree, Trees, Entries, no_trees, more_trees, no_entries, more_entries}
+use Rattle.cel_reader.specs.Tree.{Tree, Trees, TreeEntries, no_trees, more_trees, no_entries, more_entries}
 use Rattle.cel_macros.specs.declared.macros.Macro.{Macro}
 use Rattle.cel_macros.specs.Macros.{macro_named, is_map, is_has, is_variables, name_of}
 
--- the form of an expression, with the measure of each of its parts; the name of a field, the selection inside `has`, the
--- word `variables` and the name that a macro declares are no parts
-pub data Parts (R : Type 0) : Type 0 where
-  plain : Parts R  -- a literal or a name
-  variable : List ℕ → Parts R  -- variables.v
-  of_one : R → Parts R  -- e.f, has(e.f), or an operator with the operand e
-  of_two : R → R → Parts R  -- e[k], or an operator with two operands
-  ternary : R → R → R → Parts R  -- c ? a : b
-  call : List R → Parts R  -- f(a, ..)
-  method : R → List R → Parts R  -- e.f(a, ..)
-  list : List R → Parts R  -- [a, ..]
-  map : List (R × R) → Parts R  -- {k: v, ..}
-  macro : R → R → Parts R  -- r.all(x, p), and so of exists, exists_one, filter and map
-  map_where : R → R → R → Parts R  -- r.map(x, p, t)
+-- the form of an expression, with the measure of each of its parts; the name of a field, the selection inside `has`,
+-- the word `variables` and the name that a macro declares are no parts
+pub data ExpressionForm (R : Type 0) : Type 0 where
+  plain : ExpressionForm R  -- a literal or a name
+  variable : List ℕ → ExpressionForm R  -- variables.v
+  of_one : R → ExpressionForm R  -- e.f, has(e.f), or an operator with the operand e
+  of_two : R → R → ExpressionForm R  -- e[k], or an operator with two operands
+  ternary : R → R → R → ExpressionForm R  -- c ? a : b
+  call : List R → ExpressionForm R  -- f(a, ..)
+  method : R → List R → ExpressionForm R  -- e.f(a, ..)
+  list : List R → ExpressionForm R  -- [a, ..]
+  map : List (R × R) → ExpressionForm R  -- {k: v, ..}
+  macro : R → R → ExpressionForm R  -- r.all(x, p), and so of exists, exists_one, filter and map
+  map_where : R → R → R → ExpressionForm R  -- r.map(x, p, t)
 
 -- a selection from an operand of this measure; b: the operand is the name `variables`
-abbrev pub selected : {R : Type 0} → (b : Bool) → List ℕ → R → Parts R
+abbrev pub selected : {R : Type 0} → (b : Bool) → List ℕ → R → ExpressionForm R
 selected true f a = variable f
 selected false f a = of_one a
 
--- a call with arguments of these measures; b: it is of `has`; operand: where its first argument is a selection, what that is from
-abbrev pub called : {R : Type 0} → List R → (b : Bool) → (operand : Option R) → Parts R
+-- a call with arguments of these measures; b: it is of `has`; operand: where its first argument is a selection, what
+-- that is from
+abbrev pub called : {R : Type 0} → List R → (b : Bool) → (operand : Option R) → ExpressionForm R
 called (x ∷ []) true (Some a) = of_one a
 called arguments b operand = call arguments
 
--- a method of an operand of measure a with arguments of these measures, or a macro over that operand: w: the macro of the
--- method's name, where there is one; b: that is `map`; x: the first argument, where it is a name
-abbrev pub by_method : {R : Type 0} → R → List R → (w : Option Macro) → (b : Bool) → (x : Option (List ℕ)) → Parts R
+-- a method of an operand of measure a with arguments of these measures, or a macro over that operand: w: the macro of
+-- the method's name, where there is one; b: that is `map`; x: the first argument, where it is a name
+abbrev pub by_method : {R : Type 0} → R → List R → (w : Option Macro) → (b : Bool) → (x : Option (List ℕ)) → ExpressionForm R
 by_method a (i ∷ p ∷ []) (Some m) b (Some x) = macro a p
 by_method a (i ∷ p ∷ t ∷ []) m true (Some x) = map_where a p t
 by_method a arguments m b x = method a arguments
@@ -45,7 +46,7 @@ first_name (more_trees x more) = name_of x
 
 unfoldable mutual
   -- the measure of an expression, by the table that gives it from its parts
-  pub measured : {R : Type 0} → (Parts R → R) → Tree → R
+  pub measured : {R : Type 0} → (ExpressionForm R → R) → Tree → R
   measured by (tree.literal l) = by plain
   measured by (tree.name n) = by plain
   measured by (tree.select a f) = by (selected (is_variables a) f (measured by a))
@@ -60,16 +61,16 @@ unfoldable mutual
       by (by_method (measured by a) (each_measured by arguments) (macro_named n) (is_map n) (first_name arguments))
 
   -- where the first argument is a selection e.f, the measure of e
-  pub operand_measured : {R : Type 0} → (Parts R → R) → Trees → Option R
+  pub operand_measured : {R : Type 0} → (ExpressionForm R → R) → Trees → Option R
   operand_measured by (more_trees (tree.select a f) more) = Some (measured by a)
   operand_measured by _ = None
 
   -- the measure of each of the expressions
-  pub each_measured : {R : Type 0} → (Parts R → R) → Trees → List R
+  pub each_measured : {R : Type 0} → (ExpressionForm R → R) → Trees → List R
   each_measured by no_trees = []
   each_measured by (more_trees a more) = measured by a ∷ each_measured by more
 
   -- the measure of each key and of its value
-  pub entries_measured : {R : Type 0} → (Parts R → R) → Entries → List (R × R)
+  pub entries_measured : {R : Type 0} → (ExpressionForm R → R) → TreeEntries → List (R × R)
   entries_measured by no_entries = []
   entries_measured by (more_entries k v more) = (measured by k, measured by v) ∷ entries_measured by more

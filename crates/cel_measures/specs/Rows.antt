@@ -39,7 +39,7 @@ abbrev pub all_true : Tree
 all_true = method (list_literal (num 1 ∷ [])) "all" (name "x" ∷ yes ∷ [])
 
 -- expressions, each with a measure
-pub record RowsStand : Type 0 where
+pub record MeasureRowsHold : Type 0 where
   -- 1 + (1 + (.. + 1)) == 1
   pub need_of_59 : Needs (binary Equal (to_the_right 59) (num 1)) 60
   pub need_of_60 : Needs (binary Equal (to_the_right 60) (num 1)) 61

@@ -6,7 +6,7 @@ use Rattle.cel_macros.specs.Environment.{lookup}
 use Rattle.cel_macros.specs.CoreTree.{expanded}
 use Rattle.cel_measures.specs.Measures as core
 use Rattle.cel_measures.specs.Measures.{depth_or_none}
-use Rattle.cel_measures.specs.Parts.{Parts, measured, plain, variable, of_one, of_two, ternary, call, method, list, map, macro, map_where}
+use Rattle.cel_measures.specs.Parts.{ExpressionForm, measured, plain, variable, of_one, of_two, ternary, call, method, list, map, macro, map_where}
 
 -- the sum of the measures
 abbrev pub total : List ℕ → ℕ
@@ -19,7 +19,7 @@ greatest [] = 0
 greatest (n ∷ ns) = max n (greatest ns)
 
 -- every form is one node, and the nodes of its parts are added
-abbrev pub nodes_by : Parts ℕ → ℕ
+abbrev pub nodes_by : ExpressionForm ℕ → ℕ
 nodes_by plain = 1
 nodes_by (variable v) = 1
 nodes_by (of_one a) = 1 + a
@@ -39,9 +39,9 @@ call_need [] = 1
 call_need (a ∷ []) = a
 call_need (a ∷ b ∷ more) = 1 + greatest (a ∷ b ∷ more)
 
--- a value takes a word; an operand stands in one while those behind it are evaluated, a list or a map while its parts are,
--- a key in one more while its value is, and a macro's state in five while its other parts are
-abbrev pub need_by : Parts ℕ → ℕ
+-- a value takes a word; an operand stands in one while those behind it are evaluated, a list or a map while its parts
+-- are, a key in one more while its value is, and a macro's state in five while its other parts are
+abbrev pub need_by : ExpressionForm ℕ → ℕ
 need_by plain = 1
 need_by (variable v) = 1
 need_by (of_one a) = a
@@ -55,7 +55,7 @@ need_by (macro r p) = max r (5 + p)
 need_by (map_where r p t) = max r (5 + max p t)
 
 -- the depth of variables.v, and the greatest of the parts of all else; s: the depth of each variable
-abbrev pub deepest_by : List (List ℕ × ℕ) → Parts ℕ → ℕ
+abbrev pub deepest_by : List (List ℕ × ℕ) → ExpressionForm ℕ → ℕ
 deepest_by s plain = 0
 deepest_by s (variable v) = depth_or_none (lookup v s)
 deepest_by s (of_one a) = a

@@ -36,9 +36,9 @@ fn entries_nodes(pairs: &[(Core, Core)]) -> u64
     total
 }
 
-/// How many nodes the expression has: one for each literal, name, variable, selection, `has`, index,
-/// call, operator, ternary, list or map literal and macro. It is the greatest number of 64 bits where
-/// there are more, and takes no memory.
+/// How many nodes the expression has: one for each literal, name, variable, selection, `has`,
+/// index, call, operator, ternary, list or map literal and macro. It is the greatest number of 64
+/// bits where there are more, and takes no memory.
 #[cycle(nodes)]
 #[tactic(auto, using(cel_macros::specs::CoreViewLaws::view_map), unfolding(crate::specs::Measures::nodes))]
 pub fn nodes(core: &Core) -> u64

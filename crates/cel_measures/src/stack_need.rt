@@ -63,9 +63,9 @@ fn call_need(arguments: &[Core]) -> u64
 }
 
 /// The stack words that the expression needs, its value's among them, as the table of needs counts
-/// them for code to be made of it: an operand stands in a word while those behind it are evaluated, a
-/// list or map literal while its parts are, and a macro keeps five words while its other parts are. It
-/// is the greatest number of 64 bits where there are more, and takes no memory.
+/// them for code to be made of it: an operand stands in a word while those behind it are evaluated,
+/// a list or map literal while its parts are, and a macro keeps five words while its other parts
+/// are. It is the greatest number of 64 bits where there are more, and takes no memory.
 #[cycle(need)]
 #[tactic(auto, using(cel_macros::specs::CoreViewLaws::view_map), unfolding(crate::specs::Measures::need))]
 pub fn need(core: &Core) -> u64

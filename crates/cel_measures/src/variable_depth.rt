@@ -82,8 +82,8 @@ fn deepest(core: &Core, variables: &[Variable]) -> u64
 }
 
 /// The depth of a variable with this expression in this scope: one more than the greatest depth of
-/// the variables that it names, so 1 where it names none. It is the greatest number of 64 bits where it
-/// is more, and takes no memory.
+/// the variables that it names, so 1 where it names none. It is the greatest number of 64 bits
+/// where it is more, and takes no memory.
 pub fn depth(core: &Core, scope: &Scope) -> u64
     ensures { result ≡ saturated (specs.depth (core_view core.now) (depths_of scope.now)) }
 {

@@ -1,5 +1,5 @@
 -- Words that begin in the same way, before different ends.
-use Rattle.cel_reader.proofs.Prelude.{◌≡◌, List, [], ◌∷◌, sym, subst, Word, Look, IsNot, Lacks}
+use Rattle.cel_reader.proofs.Prelude.{◌≡◌, List, [], ◌∷◌, sym, subst, Word, Look, IsNot, IsNotNext}
 
 -- ws ends with x and us with y, and before these they are the same
 pub data Alike : List Word → List Word → List Word → List Word → Type 0 where
@@ -16,7 +16,7 @@ SameHead [] [] = Unit {0}
 SameHead (w ∷ ws) (u ∷ us) = u ≡ w
 SameHead _ _ = ⊥
 
-pub lacks_too : (l : Look) (ws us : List Word) → SameHead ws us → Lacks l ws → Lacks l us
+pub lacks_too : (l : Look) (ws us : List Word) → SameHead ws us → IsNotNext l ws → IsNotNext l us
 lacks_too l [] [] h n = tt
 lacks_too l (w ∷ ws) (u ∷ us) h n = subst (λ (x : Word). IsNot l x) (sym h) n
 lacks_too l _ _ h n = absurd h

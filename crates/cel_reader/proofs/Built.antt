@@ -1,5 +1,5 @@
 -- What is derived is read by some run of the reader.
-use Rattle.cel_reader.proofs.Prelude.{◌≡◌, ℕ, suc, List, [], ◌∷◌, Bool, true, false, ◌&&◌, Some, None, inl, inr, refl, sym, ◌∙◌, ap, is_name, Word, name, mark, Mark, Question, Colon, Comma, OpenParen, Tree, Literal, trees, is_identifier, may_stand_free, literal_of, literal_role, role_of, at, operator, this_mark, this_name, this_literal, this_operator, Lacks, Closes, GoesOn, closing_mark, takes_comma, Class, Expression, Infix, Unary, Prefixed, Member, Primary, Items, OptionalItems, Pairs, OptionalPairs, Phrase, One, Many, Keyed, below, OptionalComma, Derives, Outcome, Got, Row, Tail, Suffix, Listed, Item, Behind, Mapped, Entry, BehindEntry, maybe_call, Runs, stands, goes, calls, found, missing, enters, passes, opened, Reads, Level, Or, And, Relation, Sum, Product, Closing, Call, Map, Role}
+use Rattle.cel_reader.proofs.Prelude.{◌≡◌, ℕ, suc, List, [], ◌∷◌, Bool, true, false, ◌&&◌, Some, None, inl, inr, refl, sym, ◌∙◌, ap, is_name, Word, name, mark, Mark, Question, Colon, Comma, OpenParen, Tree, Literal, trees, is_identifier, may_stand_free, literal_of, literal_role, role_of, at, operator, this_mark, this_name, this_literal, this_operator, IsNotNext, Closes, GoesOn, closing_mark, takes_comma, Class, Expression, Infix, Unary, Prefixed, Member, Primary, Items, OptionalItems, Pairs, OptionalPairs, Phrase, One, Many, Keyed, below, OptionalComma, Derives, ReadOutcome, Got, Row, Tail, Suffix, Listed, Item, Behind, Mapped, Entry, BehindEntry, maybe_call, PlanRuns, stands, goes, calls, found, missing, enters, passes, opened, StepReads, Level, Or, And, Relation, Sum, Product, Closing, Call, Map, Role}
 use Rattle.cel_reader.specs.Tree as tree
 use Rattle.cel_reader.specs.Grammar as derives
 use Rattle.cel_reader.specs.declared.closing.Closing.TheVariants.{List as ListLiteral}
@@ -12,22 +12,22 @@ use Rattle.cel_reader.proofs.Stops.{StopsExpression, StopsMember, Stops, ends_op
 
 -- a run of the row, from a run of what comes behind its phrase
 abbrev BuiltOne : Class → ℕ → List Word → Tree → List Word → Type 0
-BuiltOne Expression room ws a rest = StopsExpression rest → Reads (Row Expression) room ws (Got (One a) rest)
-BuiltOne (Infix l) room ws a rest = (o : Outcome) → Stops (below l) rest → Reads (Tail l a) room rest o → Reads (Row (Infix l)) room ws o
-BuiltOne Unary room ws a rest = StopsMember rest → Reads (Row Unary) room ws (Got (One a) rest)
-BuiltOne (Prefixed op) room ws a rest = StopsMember rest → Reads (Row (Prefixed op)) room ws (Got (One a) rest)
-BuiltOne Member room ws a rest = (o : Outcome) → Lacks (at OpenParen) rest → Reads (Suffix a) room rest o → Reads (Row Member) room ws o
-BuiltOne Primary room ws a rest = Lacks (at OpenParen) rest → Reads (Row Primary) room ws (Got (One a) rest)
+BuiltOne Expression room ws a rest = StopsExpression rest → StepReads (Row Expression) room ws (Got (One a) rest)
+BuiltOne (Infix l) room ws a rest = (o : ReadOutcome) → Stops (below l) rest → StepReads (Tail l a) room rest o → StepReads (Row (Infix l)) room ws o
+BuiltOne Unary room ws a rest = StopsMember rest → StepReads (Row Unary) room ws (Got (One a) rest)
+BuiltOne (Prefixed op) room ws a rest = StopsMember rest → StepReads (Row (Prefixed op)) room ws (Got (One a) rest)
+BuiltOne Member room ws a rest = (o : ReadOutcome) → IsNotNext (at OpenParen) rest → StepReads (Suffix a) room rest o → StepReads (Row Member) room ws o
+BuiltOne Primary room ws a rest = IsNotNext (at OpenParen) rest → StepReads (Row Primary) room ws (Got (One a) rest)
 BuiltOne other room ws a rest = Unit {0}
 
 abbrev BuiltMany : Class → ℕ → List Word → List Tree → List Word → Type 0
-BuiltMany Items room ws items rest = (c : Closing) (o : Outcome) → StopsExpression rest → Reads (Behind c items) room rest o → Reads (Item c []) room ws o
-BuiltMany OptionalItems room ws items rest = (c : Closing) (end : List Word) → Closes c rest end → Reads (Listed c) (suc room) ws (Got (Many items) end)
+BuiltMany Items room ws items rest = (c : Closing) (o : ReadOutcome) → StopsExpression rest → StepReads (Behind c items) room rest o → StepReads (Item c []) room ws o
+BuiltMany OptionalItems room ws items rest = (c : Closing) (end : List Word) → Closes c rest end → StepReads (Listed c) (suc room) ws (Got (Many items) end)
 BuiltMany other room ws items rest = Unit {0}
 
 abbrev BuiltKeyed : Class → ℕ → List Word → List (Tree × Tree) → List Word → Type 0
-BuiltKeyed Pairs room ws pairs rest = (o : Outcome) → StopsExpression rest → Reads (BehindEntry pairs) room rest o → Reads (Entry []) room ws o
-BuiltKeyed OptionalPairs room ws pairs rest = (end : List Word) → Closes Map rest end → Reads Mapped (suc room) ws (Got (Keyed pairs) end)
+BuiltKeyed Pairs room ws pairs rest = (o : ReadOutcome) → StopsExpression rest → StepReads (BehindEntry pairs) room rest o → StepReads (Entry []) room ws o
+BuiltKeyed OptionalPairs room ws pairs rest = (end : List Word) → Closes Map rest end → StepReads Mapped (suc room) ws (Got (Keyed pairs) end)
 BuiltKeyed other room ws pairs rest = Unit {0}
 
 abbrev Built : Class → ℕ → List Word → Phrase → List Word → Type 0
@@ -36,17 +36,17 @@ Built c room ws (Many items) rest = BuiltMany c room ws items rest
 Built c room ws (Keyed pairs) rest = BuiltKeyed c room ws pairs rest
 
 ended_infix : (l : Level) (room : ℕ) (ws rest : List Word) (a : Tree) → BuiltOne (Infix l) room ws a rest
-    → Lacks (operator l) rest × Stops (below l) rest → Reads (Row (Infix l)) room ws (Got (One a) rest)
+    → IsNotNext (operator l) rest × Stops (below l) rest → StepReads (Row (Infix l)) room ws (Got (One a) rest)
 ended_infix l room ws rest a f n = f (Got (One a) rest) n.1 (goes (missing n.0 stands))
 
-ended_below : (l : Level) (room : ℕ) (ws rest : List Word) (a : Tree) → BuiltOne (below l) room ws a rest → Stops (below l) rest → Reads (Row (below l)) room ws (Got (One a) rest)
+ended_below : (l : Level) (room : ℕ) (ws rest : List Word) (a : Tree) → BuiltOne (below l) room ws a rest → Stops (below l) rest → StepReads (Row (below l)) room ws (Got (One a) rest)
 ended_below Or room ws rest a f n = ended_infix And room ws rest a f n
 ended_below And room ws rest a f n = ended_infix Relation room ws rest a f n
 ended_below Relation room ws rest a f n = ended_infix Sum room ws rest a f n
 ended_below Sum room ws rest a f n = ended_infix Product room ws rest a f n
 ended_below Product room ws rest a f n = f n
 
-ended_member : (room : ℕ) (ws rest : List Word) (a : Tree) → BuiltOne Member room ws a rest → StopsMember rest → Reads (Row Member) room ws (Got (One a) rest)
+ended_member : (room : ℕ) (ws rest : List Word) (a : Tree) → BuiltOne Member room ws a rest → StopsMember rest → StepReads (Row Member) room ws (Got (One a) rest)
 ended_member room ws rest a f n = f (Got (One a) rest) n.2 (goes (missing n.0 (passes n.1 stands)))
 
 -- no list ends at a comma before an expression
@@ -66,8 +66,8 @@ plain_no_literal true role.Plain e = refl
 plain_no_literal _ _ e = absurd (let g : false ≡ true = e in cc)
 
 -- an identifier, or a call
-identified : {room : ℕ} {us : List Word} {n : List ℕ} {o : Outcome} → is_identifier n ≡ true
-    → Runs (maybe_call (tree.name n) (λ items. tree.call n (trees items))) room us o → Reads (Row Primary) room (name n ∷ us) o
+identified : {room : ℕ} {us : List Word} {n : List ℕ} {o : ReadOutcome} → is_identifier n ≡ true
+    → PlanRuns (maybe_call (tree.name n) (λ items. tree.call n (trees items))) room us o → StepReads (Row Primary) room (name n ∷ us) o
 identified {n = n} is r =
     goes (passes (λ e. cc) (passes (λ e. cc) (passes (λ e. cc) (missing (plain_no_literal (is_name n) (role_of n) is) (found (this_name is) r)))))
 

@@ -1,6 +1,6 @@
 -- Where the reader refuses, some words go on from there to the end of its step; where a bracket or conditional is too
 -- many, with one more than there is room for, and with no more from the word before.
-use Rattle.cel_reader.proofs.Prelude.{◌≡◌, ℕ, suc, ◌≤◌, List, [], ◌∷◌, ◌++◌, pos, Bool, true, false, ◌⊎◌, inl, inr, refl, codes, arith, Word, int, mark, Mark, Colon, CloseBrace, Tree, trees, is_selector, is_identifier, is_reserved, role_of, Look, opens, opens_mark, closing_mark, Found, Is, this_mark, this_name, this_literal, Class, Expression, Infix, Unary, Prefixed, Member, Primary, Items, OptionalItems, Pairs, OptionalPairs, below, Cause, Misfit, Deep, Refused, Kind, whole, Of, Step, Row, Tail, Suffix, Selection, Enclosed, Listed, Item, Behind, Mapped, Entry, BehindEntry, Plan, done, misfit, go, call, look, enter, inside, operand, maybe_call, listed, behind, plan, Runs, Reads, Level, Or, Sum, Product, Closing, Map, UnaryOperator}
+use Rattle.cel_reader.proofs.Prelude.{◌≡◌, ℕ, suc, ◌≤◌, List, [], ◌∷◌, ◌++◌, pos, Bool, true, false, ◌⊎◌, inl, inr, refl, codes, arith, Word, int, mark, Mark, Colon, CloseBrace, Tree, trees, is_selector, is_identifier, is_reserved, role_of, Look, opens, opens_mark, closing_mark, FoundBy, Is, this_mark, this_name, this_literal, Class, Expression, Infix, Unary, Prefixed, Member, Primary, Items, OptionalItems, Pairs, OptionalPairs, below, Cause, Misfit, Deep, Refused, Kind, whole, Of, Step, Row, Tail, Suffix, Selection, Enclosed, Listed, Item, Behind, Mapped, Entry, BehindEntry, Plan, done, misfit, go, call, look, enter, inside, operand, maybe_call, listed, behind, plan, PlanRuns, StepReads, Level, Or, Sum, Product, Closing, Map, UnaryOperator}
 use Rattle.cel_reader.specs.Tree as tree
 use Rattle.cel_reader.specs.Reading as runs
 use Rattle.cel_reader.specs.declared.operator.UnaryOperator.TheVariants as unary
@@ -83,9 +83,9 @@ data Whole : (b : Bool) (k : Kind) → Plan b k → Type 0 where
   at_done : {k : Kind} {x : Of k} → Whole false k (done x)
   at_step : {b : Bool} {k : Kind} {s : Step b k} → Stood s → Whole b k (go s)
   at_call : {b : Bool} {j k : Kind} {s : Step b j} {f : Of j → Plan false k} → Stood s → ((x : Of j) → Whole false k (f x)) → Whole b k (call s f)
-  at_last : {k : Kind} {l : Look} {f : Found l → Plan false k} {w : Word} {x : Found l} → Is l w x → ((y : Found l) → Whole false k (f y))
+  at_last : {k : Kind} {l : Look} {f : FoundBy l → Plan false k} {w : Word} {x : FoundBy l} → Is l w x → ((y : FoundBy l) → Whole false k (f y))
       → Whole false k (look l f misfit)
-  at_look : {k : Kind} {l : Look} {f : Found l → Plan false k} {p : Plan false k} → ((x : Found l) → Whole false k (f x)) → Whole false k p
+  at_look : {k : Kind} {l : Look} {f : FoundBy l → Plan false k} {p : Plan false k} → ((x : FoundBy l) → Whole false k (f x)) → Whole false k p
       → Whole false k (look l f p)
   at_bracket : {k : Kind} {m : Mark} {e : opens_mark m ≡ true} {p : Plan true k} {q : Plan false k} → Whole true k p → Whole false k q
       → Whole false k (enter m e p q)
@@ -195,7 +195,7 @@ step_ends {b = false} s h = ends s h
 
 -- what a plan refuses of which the other may come to as much
 ended_by : {b : Bool} {k : Kind} {p q : Plan b k} {room : ℕ} {ws : List Word} {e : Cause}
-    → ((n : ℕ) (us : List Word) (x : Of k) → Loose q n us x [] → Loose p n us x []) → EndsHere b p → Whole b k q → Runs q room ws (Refused e)
+    → ((n : ℕ) (us : List Word) (x : Of k) → Loose q n us x [] → Loose p n us x []) → EndsHere b p → Whole b k q → PlanRuns q room ws (Refused e)
     → Ended b p room ws e
 ended_by f here at_done r = elim r [ ]
 ended_by f here (at_step {s = s} h) (runs.goes r) = ended_by (λ n us x d. f n us x (goes d)) here (plan_whole s h) r
@@ -227,5 +227,5 @@ ended_by {e = e} f here (within p) (runs.opened {room = inner} r) =
 ended_by f here (within p) (runs.full {ws = ws}) =
     let t = whole_end p 0 in ((t.0, t.0, t.1, same, f _ _ _ (opened t.2)), inl (refl, refl))
 
-pub ended : {room : ℕ} {ws : List Word} {e : Cause} → Reads (Row Expression) room ws (Refused e) → Ended false (go (Row Expression)) room ws e
+pub ended : {room : ℕ} {ws : List Word} {e : Cause} → StepReads (Row Expression) room ws (Refused e) → Ended false (go (Row Expression)) room ws e
 ended r = ended_by (λ n us x d. d) (ends (Row Expression) tt) (at_step tt) r

@@ -1,5 +1,5 @@
 -- What a phrase begins with.
-use Rattle.cel_reader.proofs.Prelude.{◌≡◌, ℕ, List, [], ◌∷◌, Bool, true, false, inl, inr, Some, None, refl, sym, ◌∙◌, ap, subst, or_left, ◌||◌, Word, mark, Mark, Not, Minus, Comma, OpenParen, OpenBracket, OpenBrace, Literal, unary_mark, literal_of, at, Lacks, GoesOn, closing_mark, Class, Member, Primary, OptionalItems, OptionalPairs, Phrase, below, Derives, Level, Or, Closing, Call, UnaryOperator}
+use Rattle.cel_reader.proofs.Prelude.{◌≡◌, ℕ, List, [], ◌∷◌, Bool, true, false, inl, inr, Some, None, refl, sym, ◌∙◌, ap, subst, or_left, ◌||◌, Word, mark, Mark, Not, Minus, Comma, OpenParen, OpenBracket, OpenBrace, Literal, unary_mark, literal_of, at, IsNotNext, GoesOn, closing_mark, Class, Member, Primary, OptionalItems, OptionalPairs, Phrase, below, Derives, Level, Or, Closing, Call, UnaryOperator}
 use Rattle.cel_reader.specs.Grammar as derives
 use Rattle.cel_reader.specs.declared.operator.UnaryOperator.TheVariants as unary
 
@@ -80,7 +80,7 @@ first (derives.next_pair d e f) = first d
 first _ = refl
 
 -- another mark is first
-pub not_first : (p : Word → Bool) (m : Mark) (ws : List Word) → p (mark m) ≡ false → FirstIs p ws → Lacks (at m) ws
+pub not_first : (p : Word → Bool) (m : Mark) (ws : List Word) → p (mark m) ≡ false → FirstIs p ws → IsNotNext (at m) ws
 not_first p m [] none x = tt
 not_first p m (w ∷ ws) none x = λ e. absurd (let f : true ≡ false = sym x ∙ ap p e ∙ none in cc)
 
@@ -96,7 +96,7 @@ pub goes_on : (c : Closing) (ws : List Word) → FirstIs begins ws → GoesOn c 
 goes_on c ws x rest (inl e) = mark_not_first (closing_mark c) ws rest (closing_not_first c) x e
 goes_on c ws x rest (inr p) = mark_not_first Comma ws (mark (closing_mark c) ∷ rest) refl x p.1
 
-pub no_comma : (ws : List Word) → FirstIs begins ws → Lacks (at Comma) ws
+pub no_comma : (ws : List Word) → FirstIs begins ws → IsNotNext (at Comma) ws
 no_comma ws x = not_first begins Comma ws refl x
 
 -- no member begins with an operator before an operand
@@ -104,5 +104,5 @@ member_prefix : (op : UnaryOperator) → begins_member (mark (unary_mark op)) �
 member_prefix unary.Not = refl
 member_prefix unary.Negate = refl
 
-pub no_prefix : (op : UnaryOperator) (ws : List Word) → FirstIs begins_member ws → Lacks (at (unary_mark op)) ws
+pub no_prefix : (op : UnaryOperator) (ws : List Word) → FirstIs begins_member ws → IsNotNext (at (unary_mark op)) ws
 no_prefix op ws x = not_first begins_member (unary_mark op) ws (member_prefix op) x

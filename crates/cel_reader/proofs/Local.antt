@@ -1,5 +1,5 @@
 -- The reader looks at no word behind the first that it leaves: it goes the same way before other words.
-use Rattle.cel_reader.proofs.Prelude.{ℕ, List, ◌∷◌, Bool, true, false, refl, Word, mark, Phrase, at, Cause, Misfit, Deep, Outcome, Got, Refused, Kind, Plan, Runs, stands, unfit, goes, fails, calls, found, missing, enters, passes, opened, full}
+use Rattle.cel_reader.proofs.Prelude.{ℕ, List, ◌∷◌, Bool, true, false, refl, Word, mark, Phrase, at, Cause, Misfit, Deep, ReadOutcome, Got, Refused, Kind, Plan, PlanRuns, stands, unfit, goes, fails, calls, found, missing, enters, passes, opened, full}
 use Rattle.cel_reader.proofs.Alike.{Alike, over, down, same, SameHead, lacks_too}
 
 -- the words that a refusal leaves, and the same refusal with other words
@@ -11,11 +11,11 @@ abbrev pub caused : Cause → List Word → Cause
 caused (Misfit rest) vs = Misfit vs
 caused (Deep rest) vs = Deep vs
 
-abbrev pub left : Outcome → List Word
+abbrev pub left : ReadOutcome → List Word
 left (Got p rest) = rest
 left (Refused e) = left_by e
 
-abbrev pub ending : Outcome → List Word → Outcome
+abbrev pub ending : ReadOutcome → List Word → ReadOutcome
 ending (Got p rest) vs = Got p vs
 ending (Refused e) vs = Refused (caused e vs)
 
@@ -24,26 +24,26 @@ abbrev pub NearCause : Cause → List Word → List Word → Type 0
 NearCause (Misfit rest) ws us = SameHead ws us
 NearCause (Deep rest) ws us = Unit {0}
 
-abbrev pub Near : Outcome → List Word → List Word → Type 0
+abbrev pub Near : ReadOutcome → List Word → List Word → Type 0
 Near (Got p rest) ws us = SameHead ws us
 Near (Refused e) ws us = NearCause e ws us
 
-near : (o : Outcome) (ws us : List Word) → SameHead ws us → Near o ws us
+near : (o : ReadOutcome) (ws us : List Word) → SameHead ws us → Near o ws us
 near (Refused (Deep rest)) ws us h = tt
 near _ ws us h = h
 
 -- and so is the first word of the plan, unless a bracket stands before it
-abbrev Begun : Bool → Outcome → List Word → List Word → Type 0
+abbrev Begun : Bool → ReadOutcome → List Word → List Word → Type 0
 Begun true o ws us = Near o ws us
 Begun false o ws us = SameHead ws us
 
-begun : (b : Bool) (o : Outcome) (p : Phrase) (rest ws us : List Word) → Begun b (Got p rest) ws us → Begun b o ws us
+begun : (b : Bool) (o : ReadOutcome) (p : Phrase) (rest ws us : List Word) → Begun b (Got p rest) ws us → Begun b o ws us
 begun true o p rest ws us h = near o ws us h
 begun false o p rest ws us h = h
 
 -- the plan before other words
-pub local : {b : Bool} {k : Kind} {p : Plan b k} {room : ℕ} {ws : List Word} {o : Outcome} → Runs p room ws o → (vs : List Word) → Near o (left o) vs
-    → (us : List Word) × Alike (left o) vs ws us × Begun b o ws us × Runs p room us (ending o vs)
+pub local : {b : Bool} {k : Kind} {p : Plan b k} {room : ℕ} {ws : List Word} {o : ReadOutcome} → PlanRuns p room ws o → (vs : List Word) → Near o (left o) vs
+    → (us : List Word) × Alike (left o) vs ws us × Begun b o ws us × PlanRuns p room us (ending o vs)
 local stands vs n = (vs, same, n, stands)
 local unfit vs n = (vs, same, n, unfit)
 local (goes r) vs n = let t = local r vs n in (t.0, t.1, t.2, goes t.3)

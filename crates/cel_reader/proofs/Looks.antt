@@ -1,35 +1,35 @@
 -- What the reader looks for at the front of the words: that it finds one thing or none, and what it finds.
-use Rattle.cel_reader.proofs.Prelude.{◌≡◌, ◌≢◌, ℕ, List, [], ◌∷◌, Bool, true, false, Option, Some, None, inl, inr, ◌⊎◌, refl, sym, ◌∙◌, Word, name, mark, Mark, Literal, literal_of, operator_of, level_of, Look, at, in_literal, named, constant, operator, Found, Is, this_mark, this_one, this_name, this_literal, this_operator, IsNot, Lacks, takes_comma, Level, Closing, BinaryOperator}
+use Rattle.cel_reader.proofs.Prelude.{◌≡◌, ◌≢◌, ℕ, List, [], ◌∷◌, Bool, true, false, Option, Some, None, inl, inr, ◌⊎◌, refl, sym, ◌∙◌, Word, name, mark, Mark, Literal, literal_of, operator_of, level_of, Look, at, in_literal, named, constant, operator, FoundBy, Is, this_mark, this_one, this_name, this_literal, this_operator, IsNot, IsNotNext, takes_comma, Level, Closing, BinaryOperator}
 use denote.Enum.Bare.{sameb, same_true, same_false}
 use Rattle.cel_tokens.specs.contracts.mark.Mark.{the_type}
 use Rattle.cel_reader.specs.declared.level.Level.TheVariants as level
 
 -- what the word is, by equations
-abbrev Says : (l : Look) → Word → Found l → Type 0
+abbrev Says : (l : Look) → Word → FoundBy l → Type 0
 Says (at m) w x = Unit {0}
 Says (in_literal c m) w x = Unit {0}
 Says (named test) w n = w ≡ name n
 Says constant w v = literal_of w ≡ Some v
 Says (operator l) w op = operator_of w ≡ Some op
 
-says : {l : Look} {w : Word} {x : Found l} → Is l w x → Says l w x
+says : {l : Look} {w : Word} {x : FoundBy l} → Is l w x → Says l w x
 says this_mark = tt
 says (this_one e) = tt
 says (this_name e) = refl
 says (this_literal e) = e
 says (this_operator e f) = e
 
-one_said : (l : Look) (w : Word) (x y : Found l) → Says l w x → Says l w y → x ≡ y
+one_said : (l : Look) (w : Word) (x y : FoundBy l) → Says l w x → Says l w y → x ≡ y
 one_said (at m) w x y e f = refl
 one_said (in_literal c m) w x y e f = refl
 one_said (named test) w x y e f = cc
 one_said constant w x y e f = cc
 one_said (operator l) w x y e f = cc
 
-pub one_found : {l : Look} {w : Word} {x y : Found l} → Is l w x → Is l w y → x ≡ y
+pub one_found : {l : Look} {w : Word} {x y : FoundBy l} → Is l w x → Is l w y → x ≡ y
 one_found {l} {w} {x} {y} i j = one_said l w x y (says i) (says j)
 
-pub not_both : {l : Look} {w : Word} {x : Found l} → Is l w x → IsNot l w → ⊥
+pub not_both : {l : Look} {w : Word} {x : FoundBy l} → Is l w x → IsNot l w → ⊥
 not_both this_mark n = n refl
 not_both (this_one e) n = n e refl
 not_both (this_name {n = k} e) n = let f : true ≡ false = sym e ∙ n k refl in cc
@@ -40,8 +40,8 @@ not_both (this_operator {op = op} e f) n = n op e f
 
 -- found in the first word, or not there
 pub data Seen (l : Look) : List Word → Type 0 where
-  yes : {w : Word} {ws : List Word} (x : Found l) → Is l w x → Seen l (w ∷ ws)
-  no : {ws : List Word} → Lacks l ws → Seen l ws
+  yes : {w : Word} {ws : List Word} (x : FoundBy l) → Is l w x → Seen l (w ∷ ws)
+  no : {ws : List Word} → IsNotNext l ws → Seen l ws
 
 pub mark_is : (m n : Mark) → n ≡ m → Is (at m) (mark n) tt
 mark_is m n e = rw e this_mark
@@ -50,7 +50,7 @@ unfoldable pub mark_by : (m n : Mark) (us : List Word) (b : Bool) → sameb the_
 mark_by m n us true e = yes tt (mark_is m n (same_true the_type tt n m e))
 mark_by m n us false e = no (λ f. same_false the_type n m e (cc))
 
-pub other_one : (c : Closing) (m : Mark) (ws : List Word) → takes_comma c ≡ false → Lacks (in_literal c m) ws
+pub other_one : (c : Closing) (m : Mark) (ws : List Word) → takes_comma c ≡ false → IsNotNext (in_literal c m) ws
 other_one c m [] e = tt
 other_one c m (w ∷ ws) e = λ f. let g : true ≡ false = sym f ∙ e in cc
 

@@ -1,5 +1,5 @@
 -- What a plan may come to where it may pass by what it looks for: so read, a phrase is one before any words.
-use Rattle.cel_reader.proofs.Prelude.{◌≡◌, ℕ, zero, suc, ◌≤◌, List, ◌∷◌, Bool, true, false, refl, subst, arith, Word, mark, Mark, Phrase, Look, Found, Is, opens_mark, Kind, Of, phrase, Got, Step, Plan, done, go, call, look, enter, inside, plan, Runs}
+use Rattle.cel_reader.proofs.Prelude.{◌≡◌, ℕ, zero, suc, ◌≤◌, List, ◌∷◌, Bool, true, false, refl, subst, arith, Word, mark, Mark, Phrase, Look, FoundBy, Is, opens_mark, Kind, Of, phrase, Got, Step, Plan, done, go, call, look, enter, inside, plan, PlanRuns}
 use Rattle.cel_reader.specs.Reading as runs
 use Rattle.cel_reader.proofs.Plans.{one_phrase}
 use Rattle.cel_reader.proofs.Alike.{Alike, over, down, same}
@@ -9,9 +9,9 @@ pub data May : (b : Bool) (k : Kind) → Plan b k → ℕ → List Word → Of k
   goes : {b : Bool} {k : Kind} {s : Step b k} {room : ℕ} {ws rest : List Word} {x : Of k} → May b k (plan s) room ws x rest → May b k (go s) room ws x rest
   calls : {b : Bool} {j k : Kind} {s : Step b j} {f : Of j → Plan false k} {room : ℕ} {ws us rest : List Word} {y : Of k} (x : Of j)
       → May b j (go s) room ws x us → May false k (f x) room us y rest → May b k (call s f) room ws y rest
-  found : {k : Kind} {l : Look} {f : Found l → Plan false k} {p : Plan false k} {room : ℕ} {w : Word} {ws rest : List Word} {x : Found l} {y : Of k}
+  found : {k : Kind} {l : Look} {f : FoundBy l → Plan false k} {p : Plan false k} {room : ℕ} {w : Word} {ws rest : List Word} {x : FoundBy l} {y : Of k}
       → Is l w x → May false k (f x) room ws y rest → May false k (look l f p) room (w ∷ ws) y rest
-  skips : {k : Kind} {l : Look} {f : Found l → Plan false k} {p : Plan false k} {room : ℕ} {ws rest : List Word} {x : Of k}
+  skips : {k : Kind} {l : Look} {f : FoundBy l → Plan false k} {p : Plan false k} {room : ℕ} {ws rest : List Word} {x : Of k}
       → May false k p room ws x rest → May false k (look l f p) room ws x rest
   enters : {k : Kind} {m : Mark} {e : opens_mark m ≡ true} {p : Plan true k} {q : Plan false k} {room : ℕ} {ws rest : List Word} {x : Of k}
       → May true k p room ws x rest → May false k (enter m e p q) room (mark m ∷ ws) x rest
@@ -24,7 +24,7 @@ abbrev pub Loose : {b : Bool} {k : Kind} → Plan b k → ℕ → List Word → 
 Loose {b} {k} p room ws x rest = May b k p room ws x rest
 
 -- what a plan comes to, it may come to
-some_phrase : {b : Bool} {k : Kind} {p : Plan b k} {room : ℕ} {ws rest : List Word} {q : Phrase} → Runs p room ws (Got q rest)
+some_phrase : {b : Bool} {k : Kind} {p : Plan b k} {room : ℕ} {ws rest : List Word} {q : Phrase} → PlanRuns p room ws (Got q rest)
     → (x : Of k) × (phrase k x ≡ q) × Loose p room ws x rest
 some_phrase runs.stands = (_, refl, stands)
 some_phrase (runs.goes r) = let t = some_phrase r in (t.0, t.1, goes t.2)
@@ -38,7 +38,7 @@ some_phrase (runs.enters r) = let t = some_phrase r in (t.0, t.1, enters t.2)
 some_phrase (runs.passes n r) = let t = some_phrase r in (t.0, t.1, passes t.2)
 some_phrase (runs.opened r) = let t = some_phrase r in (t.0, t.1, opened t.2)
 
-pub loosely : {b : Bool} {k : Kind} {p : Plan b k} {room : ℕ} {ws rest : List Word} {x : Of k} → Runs p room ws (Got (phrase k x) rest) → Loose p room ws x rest
+pub loosely : {b : Bool} {k : Kind} {p : Plan b k} {room : ℕ} {ws rest : List Word} {x : Of k} → PlanRuns p room ws (Got (phrase k x) rest) → Loose p room ws x rest
 loosely {k = k} {p = p} {room = room} {ws = ws} {rest = rest} {x = x} r = grind (arith, some_phrase, one_phrase)
 
 pub wide : {b : Bool} {k : Kind} {p : Plan b k} {room : ℕ} {ws rest : List Word} {x : Of k} → Loose p room ws x rest

@@ -1,8 +1,8 @@
 -- What is too deep has more opening brackets and question marks than there is room.
-use Rattle.cel_reader.proofs.Prelude.{◌≡◌, ℕ, suc, ◌+◌, ◌<◌, ◌≤◌, List, Bool, true, false, arith, if◌then◌else◌, Word, openings, opens, Misfit, Deep, Outcome, Got, Refused, Kind, Plan, Runs, stands, unfit, goes, fails, calls, found, missing, enters, passes, opened, full}
+use Rattle.cel_reader.proofs.Prelude.{◌≡◌, ℕ, suc, ◌+◌, ◌<◌, ◌≤◌, List, Bool, true, false, arith, if◌then◌else◌, Word, openings, opens, Misfit, Deep, ReadOutcome, Got, Refused, Kind, Plan, PlanRuns, stands, unfit, goes, fails, calls, found, missing, enters, passes, opened, full}
 
 -- of at most so many openings: what is left has no more of them, and what is too deep more than the room
-abbrev Within : ℕ → ℕ → Outcome → Type 0
+abbrev Within : ℕ → ℕ → ReadOutcome → Type 0
 Within room most (Got p rest) = openings rest ≤ most
 Within room most (Refused (Deep us)) = room < most
 Within room most (Refused (Misfit us)) = Unit {0}
@@ -13,11 +13,11 @@ before true n = suc n
 before false n = n
 
 -- fewer openings, then more
-within : (room few most : ℕ) (o : Outcome) → few ≤ most → Within room few o → Within room most o
+within : (room few most : ℕ) (o : ReadOutcome) → few ≤ most → Within room few o → Within room most o
 within room few most o h x = grind arith
 
 -- behind one more bracket
-within_one : (room most : ℕ) (o : Outcome) → Within room most o → Within (suc room) (suc most) o
+within_one : (room most : ℕ) (o : ReadOutcome) → Within room most o → Within (suc room) (suc most) o
 within_one room most o x = grind arith
 
 count_word : (b : Bool) (n : ℕ) → n ≤ (if b then 1 else 0) + n
@@ -28,7 +28,7 @@ count_opening : (b : Bool) (n : ℕ) → b ≡ true → suc n ≤ (if b then 1 e
 count_opening true n o = omega arith
 count_opening false n o = absurd cc
 
-pub counted : {b : Bool} {k : Kind} {p : Plan b k} {room : ℕ} {ws : List Word} {o : Outcome} → Runs p room ws o → Within room (before b (openings ws)) o
+pub counted : {b : Bool} {k : Kind} {p : Plan b k} {room : ℕ} {ws : List Word} {o : ReadOutcome} → PlanRuns p room ws o → Within room (before b (openings ws)) o
 counted stands = omega arith
 counted unfit = tt
 counted (goes r) = counted r

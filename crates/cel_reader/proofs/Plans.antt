@@ -1,5 +1,5 @@
 -- A plan has one outcome, and more room changes nothing but what was too deep.
-use Rattle.cel_reader.proofs.Prelude.{◌≡◌, ℕ, zero, suc, ◌≤◌, List, ◌∷◌, Bool, true, false, refl, sym, subst, arith, Word, mark, Mark, at, Lacks, opens_mark, Phrase, Kind, whole, many, keyed, Of, phrase, Deep, Outcome, Got, Refused, Plan, enter, Runs, stands, unfit, goes, fails, calls, found, missing, enters, passes, opened, full}
+use Rattle.cel_reader.proofs.Prelude.{◌≡◌, ℕ, zero, suc, ◌≤◌, List, ◌∷◌, Bool, true, false, refl, sym, subst, arith, Word, mark, Mark, at, IsNotNext, opens_mark, Phrase, Kind, whole, many, keyed, Of, phrase, Deep, ReadOutcome, Got, Refused, Plan, enter, PlanRuns, stands, unfit, goes, fails, calls, found, missing, enters, passes, opened, full}
 use Rattle.cel_reader.proofs.Looks.{one_found, not_both}
 
 pub one_phrase : (k : Kind) (x y : Of k) → phrase k x ≡ phrase k y → x ≡ y
@@ -11,13 +11,13 @@ same_got : (p q : Phrase) (rest end : List Word) → Got p rest ≡ Got q end �
 same_got p q rest end e = (cc, cc)
 
 -- behind the mark that opens
-entered : {k : Kind} {m : Mark} {e : opens_mark m ≡ true} {p : Plan true k} {q : Plan false k} {room : ℕ} {ws us : List Word} {o : Outcome}
-    → Runs (enter m e p q) room ws o → ws ≡ mark m ∷ us → Runs p room us o
-entered {p = p} {room = room} {us = us} {o = o} (enters {ws = vs} r) g = let f : vs ≡ us = cc in subst (λ (y : List Word). Runs p room y o) f r
-entered {m = m} (passes n r) g = absurd (subst (λ (y : List Word). Lacks (at m) y) g n refl)
+entered : {k : Kind} {m : Mark} {e : opens_mark m ≡ true} {p : Plan true k} {q : Plan false k} {room : ℕ} {ws us : List Word} {o : ReadOutcome}
+    → PlanRuns (enter m e p q) room ws o → ws ≡ mark m ∷ us → PlanRuns p room us o
+entered {p = p} {room = room} {us = us} {o = o} (enters {ws = vs} r) g = let f : vs ≡ us = cc in subst (λ (y : List Word). PlanRuns p room y o) f r
+entered {m = m} (passes n r) g = absurd (subst (λ (y : List Word). IsNotNext (at m) y) g n refl)
 
 -- from one place the reader comes to one outcome
-pub one_outcome : {b : Bool} {k : Kind} {p : Plan b k} {room : ℕ} {ws : List Word} {o other : Outcome} → Runs p room ws o → Runs p room ws other → o ≡ other
+pub one_outcome : {b : Bool} {k : Kind} {p : Plan b k} {room : ℕ} {ws : List Word} {o other : ReadOutcome} → PlanRuns p room ws o → PlanRuns p room ws other → o ≡ other
 one_outcome stands stands = refl
 one_outcome unfit unfit = refl
 one_outcome (goes r) (goes s) = one_outcome r s
@@ -26,10 +26,10 @@ one_outcome (fails r) (calls x s t) = let e = one_outcome r s in absurd cc
 one_outcome (calls x r t) (fails s) = let e = one_outcome r s in absurd cc
 one_outcome {other = other} (calls {j = j} {f = f} {room = room} {rest = rest} x r t) (calls {rest = end} y s u) =
     let same = same_got (phrase j x) (phrase j y) rest end (one_outcome r s) in
-    one_outcome t (subst (λ (z : Of j). Runs (f z) room rest other) (sym (one_phrase j x y same.0))
-    (subst (λ (z : List Word). Runs (f y) room z other) (sym same.1) u))
+    one_outcome t (subst (λ (z : Of j). PlanRuns (f z) room rest other) (sym (one_phrase j x y same.0))
+    (subst (λ (z : List Word). PlanRuns (f y) room z other) (sym same.1) u))
 one_outcome {other = other} (found {f = f} {room = room} {ws = ws} i r) (found j s) =
-    one_outcome r (subst (λ z. Runs (f z) room ws other) (sym (one_found i j)) s)
+    one_outcome r (subst (λ z. PlanRuns (f z) room ws other) (sym (one_found i j)) s)
 one_outcome (found i r) (missing n s) = absurd (not_both i n)
 one_outcome (missing n r) (found i s) = absurd (not_both i n)
 one_outcome (missing n r) (missing m s) = one_outcome r s
@@ -39,8 +39,8 @@ one_outcome (passes n r) (passes m s) = one_outcome r s
 one_outcome (opened r) (opened s) = one_outcome r s
 one_outcome full full = refl
 
-pub roomier : {b : Bool} {k : Kind} {p : Plan b k} {room : ℕ} {ws : List Word} {o : Outcome} → Runs p room ws o → (more : ℕ) → room ≤ more
-    → ((us : List Word) → o ≡ Refused (Deep us) → ⊥) → Runs p more ws o
+pub roomier : {b : Bool} {k : Kind} {p : Plan b k} {room : ℕ} {ws : List Word} {o : ReadOutcome} → PlanRuns p room ws o → (more : ℕ) → room ≤ more
+    → ((us : List Word) → o ≡ Refused (Deep us) → ⊥) → PlanRuns p more ws o
 roomier stands more h fits = stands
 roomier unfit more h fits = unfit
 roomier (goes r) more h fits = goes (roomier r more h fits)

@@ -1,8 +1,75 @@
 -- The names that these proofs cite of the library, of the crates below and of the definitions here. Declares nothing.
-pub use Rattle.std.proofs.{Common.All, Common.Bool, Common.Err, Common.FitsSigned, Common.IfOk, Common.IfSome, Common.IsErrAnd, Common.List, Common.MatchResult, Common.None, Common.Ok, Common.Option, Common.Result, Common.Some, Common.ℕ, Common.[], Common.ap, Common.arith, Common.codes, Common.drop, Common.false, Common.if◌then◌else◌, Common.inl, Common.inr, Common.length, Common.map, Common.nat_lt, Common.pos, Common.refl, Common.subst, Common.suc, Common.sym, Common.take, Common.true, Common.true≢false, Common.zero, Common.◌&&◌, Common.◌*◌, Common.◌++◌, Common.◌+◌, Common.◌-◌, Common.◌<◌, Common.◌||◌, Common.◌∙◌, Common.◌∷◌, Common.◌≡◌, Common.◌≢◌, Common.◌≤◌, Common.◌⊎◌, Math.Seq.take-append-add, Math.Seq.take-append_seam, lemmas.Bool.cases_order, lemmas.Bool.ltb-false, lemmas.Bool.ltb-true, lemmas.Bool.or_left, lemmas.Bool.Decides.nat_tests, lemmas.List.append_assoc, lemmas.List.drop-map, lemmas.List.length-append, lemmas.List.length-map, lemmas.List.length-take, lemmas.List.length-take-le, lemmas.List.map-append, lemmas.List.take-append-drop, lemmas.List.take-append-le, lemmas.List.Elements.All-cons, lemmas.List.Elements.All-head, lemmas.List.Elements.All-nil, lemmas.List.Elements.All-push, lemmas.List.Elements.All-tail, lemmas.Result.err_from_is_err_and, lemmas.Str.IsUtf8-from_ascii, lemmas.Str.IsUtf8-string_bytes, lemmas.Str.Ascii.IsAscii-cons, lemmas.Str.Ascii.IsAscii-nil}
-pub use Rattle.std.specs.{Int.w64, List.list_all, Str.IsAscii, Str.IsUtf8}
-pub use Rattle.cel_tokens.proofs.{IntsFit.lexemes_fit, OneReading.one_end, Taking.some_taken}
-pub use Rattle.cel_tokens.specs.{Bytes.is_letter, Bytes.is_name, Bytes.is_name_byte, Front.Front, Front.sign_may_follow, Laws.IntFits, Lexis.Cuts, Lexis.Lexes, Lexis.lexeme, Marks.mark_of, Token.Lexeme, Token.Word, Token.int, Token.mark, Token.mark_word, Token.name, Token.seen, Token.word_of, declared.mark.Mark.Mark, declared.mark.Mark.TheVariants.CloseBrace, declared.mark.Mark.TheVariants.CloseBracket, declared.mark.Mark.TheVariants.CloseParen, declared.mark.Mark.TheVariants.Colon, declared.mark.Mark.TheVariants.Comma, declared.mark.Mark.TheVariants.Dot, declared.mark.Mark.TheVariants.Minus, declared.mark.Mark.TheVariants.Not, declared.mark.Mark.TheVariants.OpenBrace, declared.mark.Mark.TheVariants.OpenBracket, declared.mark.Mark.TheVariants.OpenParen, declared.mark.Mark.TheVariants.Question, declared.read_error.ReadError.ReadError, declared.read_error.ReadError.TheVariants.Memory, declared.read_error.ReadError.TheVariants.P1, declared.read_error.ReadError.TheVariants.P2, declared.read_error.ReadError.TheVariants.P3, declared.read_error.ReadError.TheVariants.P4, declared.read_error.ReadError.TheVariants.P5, declared.read_error.ReadError.TheVariants.P6, declared.token.Token.Token}
-unfoldable pub use Rattle.cel_tokens.specs.{Bytes.between, Bytes.run, Ints.number_from, Texts.content, Texts.escape}
-pub use Rattle.cel_reader.specs.{Answers.Answers, Answers.DeepAt, Answers.IsAnswer, Answers.IsExpression, Answers.IsNoExpression, Answers.MisfitAt, Answers.StandsAt, Answers.Told, Answers.Placed, Answers.ToldAt, Answers.Viable, Answers.place_at, Grammar.Class, Grammar.Derives, Grammar.Expression, Grammar.Infix, Grammar.Items, Grammar.Keyed, Grammar.Many, Grammar.Member, Grammar.One, Grammar.OptionalComma, Grammar.OptionalItems, Grammar.OptionalPairs, Grammar.Pairs, Grammar.Phrase, Grammar.Prefixed, Grammar.Primary, Grammar.Unary, Grammar.below, Laws.GoesWrongOnce, Laws.HasOneAnswer, Look.Closes, Look.Found, Look.GoesOn, Look.Is, Look.IsNot, Look.Lacks, Look.Look, Look.at, Look.closing_mark, Look.constant, Look.in_literal, Look.named, Look.openings, Look.opens, Look.opens_mark, Look.operator, Look.spoken, Look.takes_comma, Look.this_literal, Look.this_mark, Look.this_name, Look.this_one, Look.this_operator, Look.words, Place.place_left, Place.refused_at, Prefixes.Prefixes, Prefixes.none, Prefixes.one_more, Prefixes.wrapped, Reading.Behind, Reading.BehindEntry, Reading.Cause, Reading.Deep, Reading.Enclosed, Reading.Entry, Reading.Gives, Reading.Got, Reading.Item, Reading.Kind, Reading.Listed, Reading.Mapped, Reading.Misfit, Reading.Of, Reading.Outcome, Reading.Plan, Reading.Reads, Reading.Refused, Reading.Row, Reading.Runs, Reading.Selection, Reading.Step, Reading.Suffix, Reading.Tail, Reading.behind, Reading.call, Reading.calls, Reading.done, Reading.enter, Reading.enters, Reading.fails, Reading.found, Reading.full, Reading.go, Reading.goes, Reading.inside, Reading.keyed, Reading.listed, Reading.look, Reading.many, Reading.maybe_call, Reading.misfit, Reading.missing, Reading.opened, Reading.operand, Reading.passes, Reading.phrase, Reading.plan, Reading.stands, Reading.unfit, Reading.whole, RefusalRows.RefusalRowsStand, RefusalRows.Stand, RefusalRows.refused_texts, Tree.Entries, Tree.Literal, Tree.Tree, Tree.Trees, Tree.entries, Tree.entry_count, Tree.entry_list, Tree.entry_view, Tree.more_entries, Tree.more_trees, Tree.no_entries, Tree.no_trees, Tree.tree_count, Tree.tree_list, Tree.trees, Tree.view, WellFormed.AreWellFormed, WellFormed.HasWellFormedEntries, WellFormed.IsWellFormed, WellFormed.IsWellFormedLiteral, Words.is_identifier, Words.is_selector, Words.level_of, Words.literal_of, Words.literal_role, Words.may_stand_free, Words.operator_mark, Words.operator_of, Words.unary_mark, declared.closing.Closing.Closing, declared.closing.Closing.TheVariants.Call, declared.closing.Closing.TheVariants.Map, declared.expr.Expr.Expr, declared.level.Level.Level, declared.level.Level.TheVariants.And, declared.level.Level.TheVariants.Or, declared.level.Level.TheVariants.Product, declared.level.Level.TheVariants.Relation, declared.level.Level.TheVariants.Sum, declared.operator.BinaryOperator.BinaryOperator, declared.operator.UnaryOperator.UnaryOperator, declared.refusal.Refusal.Refusal, declared.role.Role.Role}
-unfoldable pub use Rattle.cel_reader.specs.{Words.is_reserved, Words.role_of}
+pub use Rattle.std.proofs.Common.{All, Bool, Err, FitsSigned, IfOk, IfSome, IsErrAnd, List, MatchResult, None, Ok}
+pub use Rattle.std.proofs.Common.{Option, Result, Some, ℕ, [], ap, arith, codes, drop, false, if◌then◌else◌, inl, inr}
+pub use Rattle.std.proofs.Common.{length, map, nat_lt, pos, refl, subst, suc, sym, take, true, true≢false, zero, ◌&&◌}
+pub use Rattle.std.proofs.Common.{◌*◌, ◌++◌, ◌+◌, ◌-◌, ◌<◌, ◌||◌, ◌∙◌, ◌∷◌, ◌≡◌, ◌≢◌, ◌≤◌, ◌⊎◌}
+pub use Rattle.std.proofs.Math.Seq.{take-append-add, take-append_seam}
+pub use Rattle.std.proofs.lemmas.Bool.{cases_order, ltb-false, ltb-true, or_left}
+pub use Rattle.std.proofs.lemmas.Bool.Decides.{nat_tests}
+pub use Rattle.std.proofs.lemmas.List.{append_assoc, drop-map, length-append, length-map, length-take, length-take-le}
+pub use Rattle.std.proofs.lemmas.List.{map-append, take-append-drop, take-append-le}
+pub use Rattle.std.proofs.lemmas.List.Elements.{All-cons, All-head, All-nil, All-push, All-tail}
+pub use Rattle.std.proofs.lemmas.Result.{err_from_is_err_and}
+pub use Rattle.std.proofs.lemmas.Str.{IsUtf8-from_ascii, IsUtf8-string_bytes}
+pub use Rattle.std.proofs.lemmas.Str.Ascii.{IsAscii-cons, IsAscii-nil}
+pub use Rattle.std.specs.Int.{w64}
+pub use Rattle.std.specs.List.{list_all}
+pub use Rattle.std.specs.Str.{IsAscii, IsUtf8}
+pub use Rattle.cel_tokens.proofs.IntsFit.{lexemes_fit}
+pub use Rattle.cel_tokens.proofs.OneReading.{one_end}
+pub use Rattle.cel_tokens.proofs.Taking.{some_taken}
+pub use Rattle.cel_tokens.specs.Bytes.{is_letter, is_name, is_name_byte}
+pub use Rattle.cel_tokens.specs.Lexed.{Lexed, sign_may_follow}
+pub use Rattle.cel_tokens.specs.Laws.{IntFits}
+pub use Rattle.cel_tokens.specs.Lexis.{Cuts, Lexes, lexeme}
+pub use Rattle.cel_tokens.specs.Limits.{text_limit, token_limit}
+pub use Rattle.cel_tokens.specs.Marks.{mark_of}
+pub use Rattle.cel_tokens.specs.Token.{Token, Word, int, mark, mark_word, name, token_view, word_of}
+pub use Rattle.cel_tokens.specs.declared.mark.Mark.{Mark}
+pub use Rattle.cel_tokens.specs.declared.mark.Mark.TheVariants.{CloseBrace, CloseBracket, CloseParen, Colon, Comma}
+pub use Rattle.cel_tokens.specs.declared.mark.Mark.TheVariants.{Dot, Minus, Not, OpenBrace, OpenBracket, OpenParen}
+pub use Rattle.cel_tokens.specs.declared.mark.Mark.TheVariants.{Question}
+pub use Rattle.cel_tokens.specs.declared.read_error.ReadError.{ReadError}
+pub use Rattle.cel_tokens.specs.declared.read_error.ReadError.TheVariants.{Memory, UnknownCharacter}
+pub use Rattle.cel_tokens.specs.declared.read_error.ReadError.TheVariants.{InvalidTextLiteral, IntOutOfRange}
+pub use Rattle.cel_tokens.specs.declared.read_error.ReadError.TheVariants.{UnexpectedToken, TooManyOpen, TextTooLong}
+pub use Rattle.cel_tokens.specs.declared.token.Token.{Token as CodeToken}
+unfoldable pub use Rattle.cel_tokens.specs.Bytes.{between, run}
+unfoldable pub use Rattle.cel_tokens.specs.Ints.{number_from}
+unfoldable pub use Rattle.cel_tokens.specs.Texts.{content, escape}
+pub use Rattle.cel_reader.specs.Answers.{ReadReturns, DeepAt, IsReadResult, IsExpression, IsNoExpression}
+pub use Rattle.cel_reader.specs.Answers.{UnexpectedAt, StandsAt, ParseReturns, ErrorIsAt, ParseErrorIsAt, IsViablePrefix}
+pub use Rattle.cel_reader.specs.Answers.{place_at}
+pub use Rattle.cel_reader.specs.Grammar.{Class, Derives, Expression, Infix, Items, Keyed, Many, Member, One}
+pub use Rattle.cel_reader.specs.Grammar.{OptionalComma, OptionalItems, OptionalPairs, Pairs, Phrase, Prefixed}
+pub use Rattle.cel_reader.specs.Grammar.{Primary, Unary, below}
+pub use Rattle.cel_reader.specs.Laws.{GoesWrongOnce, ReadHasOneResult}
+pub use Rattle.cel_reader.specs.Limits.{open_limit}
+pub use Rattle.cel_reader.specs.Look.{Closes, FoundBy, GoesOn, Is, IsNot, IsNotNext, Look, at, closing_mark, constant}
+pub use Rattle.cel_reader.specs.Look.{in_literal, named, openings, opens, opens_mark, operator, words_only}
+pub use Rattle.cel_reader.specs.Look.{takes_comma, this_literal, this_mark, this_name, this_one, this_operator, words}
+pub use Rattle.cel_reader.specs.Place.{place_left, refused_at}
+pub use Rattle.cel_reader.specs.Prefixes.{Prefixes, none, one_more, wrapped}
+pub use Rattle.cel_reader.specs.Reading.{Behind, BehindEntry, Cause, Deep, Enclosed, Entry, ReturnsOutcome, Got, Item}
+pub use Rattle.cel_reader.specs.Reading.{Kind, Listed, Mapped, Misfit, Of, ReadOutcome, Plan, StepReads, Refused, Row}
+pub use Rattle.cel_reader.specs.Reading.{PlanRuns, Selection, Step, Suffix, Tail, behind, call, calls, done, enter}
+pub use Rattle.cel_reader.specs.Reading.{enters, fails, found, full, go, goes, inside, keyed, listed, look, many}
+pub use Rattle.cel_reader.specs.Reading.{maybe_call, misfit, missing, opened, operand, passes, phrase, plan, stands}
+pub use Rattle.cel_reader.specs.Reading.{unfit, whole}
+pub use Rattle.cel_reader.specs.RefusalRows.{RefusalRowsStand, Stand, refused_texts}
+pub use Rattle.cel_reader.specs.Tree.{TreeEntries, Literal, Tree, Trees, entries, entry_count, entry_list, entry_view}
+pub use Rattle.cel_reader.specs.Tree.{more_entries, more_trees, no_entries, no_trees, tree_count, tree_list, trees}
+pub use Rattle.cel_reader.specs.Tree.{view}
+pub use Rattle.cel_reader.specs.WellFormed.{AreWellFormed, HasWellFormedEntries, IsWellFormed, IsWellFormedLiteral}
+pub use Rattle.cel_reader.specs.Words.{is_identifier, is_selector, level_of, literal_of, literal_role, may_stand_free}
+pub use Rattle.cel_reader.specs.Words.{operator_mark, operator_of, unary_mark}
+pub use Rattle.cel_reader.specs.declared.closing.Closing.{Closing}
+pub use Rattle.cel_reader.specs.declared.closing.Closing.TheVariants.{Call, Map}
+pub use Rattle.cel_reader.specs.declared.expr.Expr.{Expr}
+pub use Rattle.cel_reader.specs.declared.level.Level.{Level}
+pub use Rattle.cel_reader.specs.declared.level.Level.TheVariants.{And, Or, Product, Relation, Sum}
+pub use Rattle.cel_reader.specs.declared.operator.BinaryOperator.{BinaryOperator}
+pub use Rattle.cel_reader.specs.declared.operator.UnaryOperator.{UnaryOperator}
+pub use Rattle.cel_reader.specs.declared.refusal.Refusal.{Refusal}
+pub use Rattle.cel_reader.specs.declared.role.Role.{Role}
+unfoldable pub use Rattle.cel_reader.specs.Words.{is_reserved, role_of}

@@ -1,15 +1,15 @@
 -- The reader's runs, computed.
 pub mod Refusals
-use Rattle.cel_reader.proofs.Prelude.{◌≡◌, ℕ, zero, suc, List, ◌∷◌, Bool, true, false, Option, Some, None, refl, sym, subst, Word, Mark, Look, at, Is, this_mark, Found, opens_mark, Phrase, One, Many, Keyed, Kind, whole, many, keyed, Of, phrase, Outcome, Got, Refused, Plan, done, misfit, go, call, look, enter, inside, plan, Runs, stands, unfit, goes, fails, calls, found, missing, enters, passes, opened, full}
+use Rattle.cel_reader.proofs.Prelude.{◌≡◌, ℕ, zero, suc, List, ◌∷◌, Bool, true, false, Option, Some, None, refl, sym, subst, Word, Mark, Look, at, Is, this_mark, FoundBy, opens_mark, Phrase, One, Many, Keyed, Kind, whole, many, keyed, Of, phrase, ReadOutcome, Got, Refused, Plan, done, misfit, go, call, look, enter, inside, plan, PlanRuns, stands, unfit, goes, fails, calls, found, missing, enters, passes, opened, full}
 use Rattle.cel_reader.proofs.Looks.{Seen, yes, no, seen}
 
 -- an outcome that the plan comes to; or none is known
 pub data Run (b : Bool) (k : Kind) (p : Plan b k) (room : ℕ) (ws : List Word) : Type 0 where
-  ran : (o : Outcome) → Runs p room ws o → Run b k p room ws
+  ran : (o : ReadOutcome) → PlanRuns p room ws o → Run b k p room ws
   none : Run b k p room ws
 
 unfoldable pub after : {b c : Bool} {j k : Kind} {p : Plan b j} {q : Plan c k} {room other : ℕ} {ws us : List Word} → Run b j p room ws
-    → ((o : Outcome) → Runs p room ws o → Runs q other us o) → Run c k q other us
+    → ((o : ReadOutcome) → PlanRuns p room ws o → PlanRuns q other us o) → Run c k q other us
 after (ran o r) f = ran o (f o r)
 after none f = none
 
@@ -20,13 +20,13 @@ of many (Many items) = Some (items, refl)
 of keyed (Keyed pairs) = Some (pairs, refl)
 of _ _ = None
 
-unfoldable pub by_look : {k : Kind} {l : Look} {f : Found l → Plan false k} {p : Plan false k} {room : ℕ} {ws : List Word}
-    → ((x : Found l) (us : List Word) → Run false k (f x) room us) → (Unit {0} → Run false k p room ws) → Seen l ws → Run false k (look l f p) room ws
+unfoldable pub by_look : {k : Kind} {l : Look} {f : FoundBy l → Plan false k} {p : Plan false k} {room : ℕ} {ws : List Word}
+    → ((x : FoundBy l) (us : List Word) → Run false k (f x) room us) → (Unit {0} → Run false k p room ws) → Seen l ws → Run false k (look l f p) room ws
 by_look g h (yes {ws = us} x i) = after (g x us) (λ o r. found i r)
 by_look g h (no n) = after (h tt) (λ o r. missing n r)
 
-pub enters_by : {k : Kind} {m : Mark} {e : opens_mark m ≡ true} {p : Plan true k} {q : Plan false k} {room : ℕ} {w : Word} {ws : List Word} {o : Outcome}
-    {x : Unit {0}} → Is (at m) w x → Runs p room ws o → Runs (enter m e p q) room (w ∷ ws) o
+pub enters_by : {k : Kind} {m : Mark} {e : opens_mark m ≡ true} {p : Plan true k} {q : Plan false k} {room : ℕ} {w : Word} {ws : List Word} {o : ReadOutcome}
+    {x : Unit {0}} → Is (at m) w x → PlanRuns p room ws o → PlanRuns (enter m e p q) room (w ∷ ws) o
 enters_by this_mark r = enters r
 
 unfoldable pub by_mark : {k : Kind} {m : Mark} {e : opens_mark m ≡ true} {p : Plan true k} {q : Plan false k} {room : ℕ} {ws : List Word}
@@ -42,7 +42,7 @@ run (suc fuel) (go s) room ws = after (run fuel (plan s) room ws) (λ o r. goes 
 run (suc fuel) (call {j = j} s f) room ws = elim (run fuel (go s) room ws) [
   | ran (Refused e) r ↦ ran (Refused e) (fails r)
   | ran (Got p rest) r ↦ elim (of j p) [
-    | Some x ↦ after (run fuel (f x.0) room rest) (λ o t. calls x.0 (subst (λ (q : Phrase). Runs (go s) room ws (Got q rest)) (sym x.1) r) t)
+    | Some x ↦ after (run fuel (f x.0) room rest) (λ o t. calls x.0 (subst (λ (q : Phrase). PlanRuns (go s) room ws (Got q rest)) (sym x.1) r) t)
     | None ↦ none
   ]
   | none ↦ none

@@ -1,5 +1,5 @@
 -- What the reader reads, the grammar derives.
-use Rattle.cel_reader.proofs.Prelude.{◌≡◌, ℕ, suc, List, [], ◌∷◌, ◌++◌, Bool, false, true, ◌⊎◌, inl, inr, refl, Word, name, mark, Mark, Colon, Dot, Comma, OpenParen, CloseParen, OpenBracket, CloseBracket, OpenBrace, Tree, trees, entries, is_identifier, is_selector, Look, Found, Is, opens_mark, this_mark, this_one, this_name, this_literal, this_operator, Closes, closing_mark, Class, Expression, Infix, Unary, Prefixed, Member, Primary, Items, OptionalItems, Pairs, OptionalPairs, One, Phrase, Many, Keyed, OptionalComma, Derives, Kind, Of, Step, Row, Tail, Suffix, Selection, Enclosed, Listed, Item, Behind, Mapped, Entry, BehindEntry, Plan, done, go, call, look, enter, inside, plan, Closing, Call, Map}
+use Rattle.cel_reader.proofs.Prelude.{◌≡◌, ℕ, suc, List, [], ◌∷◌, ◌++◌, Bool, false, true, ◌⊎◌, inl, inr, refl, Word, name, mark, Mark, Colon, Dot, Comma, OpenParen, CloseParen, OpenBracket, CloseBracket, OpenBrace, Tree, trees, entries, is_identifier, is_selector, Look, FoundBy, Is, opens_mark, this_mark, this_one, this_name, this_literal, this_operator, Closes, closing_mark, Class, Expression, Infix, Unary, Prefixed, Member, Primary, Items, OptionalItems, Pairs, OptionalPairs, One, Phrase, Many, Keyed, OptionalComma, Derives, Kind, Of, Step, Row, Tail, Suffix, Selection, Enclosed, Listed, Item, Behind, Mapped, Entry, BehindEntry, Plan, done, go, call, look, enter, inside, plan, Closing, Call, Map}
 use Rattle.cel_reader.specs.Tree as tree
 use Rattle.cel_reader.specs.Grammar as derives
 use Rattle.cel_reader.specs.declared.closing.Closing.TheVariants.{List as ListLiteral}
@@ -82,9 +82,9 @@ data Once : (b : Bool) (k : Kind) → Plan b k → ℕ → List Word → Of k �
   goes : {b : Bool} {k : Kind} {s : Step b k} {room : ℕ} {ws rest : List Word} {x : Of k} → Sound s room ws x rest → Once b k (go s) room ws x rest
   calls : {b : Bool} {j k : Kind} {s : Step b j} {f : Of j → Plan false k} {room : ℕ} {ws us rest : List Word} {y : Of k} (x : Of j)
       → Sound s room ws x us → Once false k (f x) room us y rest → Once b k (call s f) room ws y rest
-  found : {k : Kind} {l : Look} {f : Found l → Plan false k} {p : Plan false k} {room : ℕ} {w : Word} {ws rest : List Word} {x : Found l} {y : Of k}
+  found : {k : Kind} {l : Look} {f : FoundBy l → Plan false k} {p : Plan false k} {room : ℕ} {w : Word} {ws rest : List Word} {x : FoundBy l} {y : Of k}
       → Is l w x → Once false k (f x) room ws y rest → Once false k (look l f p) room (w ∷ ws) y rest
-  skips : {k : Kind} {l : Look} {f : Found l → Plan false k} {p : Plan false k} {room : ℕ} {ws rest : List Word} {x : Of k}
+  skips : {k : Kind} {l : Look} {f : FoundBy l → Plan false k} {p : Plan false k} {room : ℕ} {ws rest : List Word} {x : Of k}
       → Once false k p room ws x rest → Once false k (look l f p) room ws x rest
   enters : {k : Kind} {m : Mark} {e : opens_mark m ≡ true} {p : Plan true k} {q : Plan false k} {room : ℕ} {ws rest : List Word} {x : Of k}
       → Once true k p room ws x rest → Once false k (enter m e p q) room (mark m ∷ ws) x rest

@@ -1,28 +1,28 @@
 -- What ends a phrase: the words that go on with none.
-use Rattle.cel_reader.proofs.Prelude.{◌≡◌, List, [], ◌∷◌, inl, inr, Some, None, refl, sym, ◌∙◌, ap, subst, Word, mark, Mark, Question, Colon, Dot, Comma, OpenParen, CloseParen, OpenBracket, CloseBracket, CloseBrace, operator_of, operator_mark, level_of, at, operator, Lacks, Closes, closing_mark, Class, Infix, Unary, Prefixed, Member, Primary, below, Level, Or, And, Relation, Sum, Product, Closing, Call, Map, BinaryOperator}
+use Rattle.cel_reader.proofs.Prelude.{◌≡◌, List, [], ◌∷◌, inl, inr, Some, None, refl, sym, ◌∙◌, ap, subst, Word, mark, Mark, Question, Colon, Dot, Comma, OpenParen, CloseParen, OpenBracket, CloseBracket, CloseBrace, operator_of, operator_mark, level_of, at, operator, IsNotNext, Closes, closing_mark, Class, Infix, Unary, Prefixed, Member, Primary, below, Level, Or, And, Relation, Sum, Product, Closing, Call, Map, BinaryOperator}
 use Rattle.cel_reader.specs.declared.closing.Closing.TheVariants.{List as ListLiteral}
 
 -- no word goes on with the phrase; a name before a parenthesis would be a call
 abbrev pub StopsMember : List Word → Type 0
-StopsMember ws = Lacks (at Dot) ws × Lacks (at OpenBracket) ws × Lacks (at OpenParen) ws
+StopsMember ws = IsNotNext (at Dot) ws × IsNotNext (at OpenBracket) ws × IsNotNext (at OpenParen) ws
 
 abbrev pub StopsProduct : List Word → Type 0
-StopsProduct ws = Lacks (operator Product) ws × (StopsMember ws)
+StopsProduct ws = IsNotNext (operator Product) ws × (StopsMember ws)
 
 abbrev pub StopsSum : List Word → Type 0
-StopsSum ws = Lacks (operator Sum) ws × (StopsProduct ws)
+StopsSum ws = IsNotNext (operator Sum) ws × (StopsProduct ws)
 
 abbrev pub StopsRelation : List Word → Type 0
-StopsRelation ws = Lacks (operator Relation) ws × (StopsSum ws)
+StopsRelation ws = IsNotNext (operator Relation) ws × (StopsSum ws)
 
 abbrev pub StopsAnd : List Word → Type 0
-StopsAnd ws = Lacks (operator And) ws × (StopsRelation ws)
+StopsAnd ws = IsNotNext (operator And) ws × (StopsRelation ws)
 
 abbrev pub StopsOr : List Word → Type 0
-StopsOr ws = Lacks (operator Or) ws × (StopsAnd ws)
+StopsOr ws = IsNotNext (operator Or) ws × (StopsAnd ws)
 
 abbrev pub StopsExpression : List Word → Type 0
-StopsExpression ws = Lacks (at Question) ws × (StopsOr ws)
+StopsExpression ws = IsNotNext (at Question) ws × (StopsOr ws)
 
 abbrev pub Stops : Class → List Word → Type 0
 Stops (Infix Or) ws = StopsOr ws
@@ -33,11 +33,11 @@ Stops (Infix Product) ws = StopsProduct ws
 Stops Unary ws = StopsMember ws
 Stops (Prefixed op) ws = StopsMember ws
 Stops Member ws = StopsMember ws
-Stops Primary ws = Lacks (at OpenParen) ws
+Stops Primary ws = IsNotNext (at OpenParen) ws
 Stops _ ws = StopsExpression ws
 
 -- an operator of one level is none of another
-other_level : (k l : Level) (w : Word) (ws : List Word) (op : BinaryOperator) → operator_of w ≡ Some op → level_of op ≡ k → (k ≡ l → ⊥) → Lacks (operator l) (w ∷ ws)
+other_level : (k l : Level) (w : Word) (ws : List Word) (op : BinaryOperator) → operator_of w ≡ Some op → level_of op ≡ k → (k ≡ l → ⊥) → IsNotNext (operator l) (w ∷ ws)
 other_level k l w ws op e level differ = λ other f g. differ cc
 
 -- an operator is no other mark
@@ -57,7 +57,7 @@ ends_operand Relation w ws op e f = (other_level Relation Sum w ws op e f (λ q.
 ends_operand Sum w ws op e f = (other_level Sum Product w ws op e f (λ q. cc), operator_member w ws op e)
 ends_operand Product w ws op e f = operator_member w ws op e
 
-no_operator : (l : Level) (m : Mark) (ws : List Word) → operator_mark m ≡ None → Lacks (operator l) (mark m ∷ ws)
+no_operator : (l : Level) (m : Mark) (ws : List Word) → operator_mark m ≡ None → IsNotNext (operator l) (mark m ∷ ws)
 no_operator l m ws none = λ op e f. let g : None ≡ Some op = sym none ∙ e in cc
 
 -- a mark that is no operator and begins no suffix ends an Or

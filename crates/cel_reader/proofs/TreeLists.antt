@@ -1,5 +1,5 @@
 -- Trees and entries are the lists of them.
-use Rattle.cel_reader.proofs.Prelude.{◌≡◌, List, [], ◌∷◌, length, refl, ap, arith, Tree, Trees, Entries, no_trees, more_trees, no_entries, more_entries, trees, entries, tree_list, entry_list, tree_count, entry_count}
+use Rattle.cel_reader.proofs.Prelude.{◌≡◌, List, [], ◌∷◌, length, refl, ap, arith, Tree, Trees, TreeEntries, no_trees, more_trees, no_entries, more_entries, trees, entries, tree_list, entry_list, tree_count, entry_count}
 
 pub list_of_trees : (items : List Tree) → tree_list (trees items) ≡ items
 list_of_trees [] = refl
@@ -17,10 +17,10 @@ pub list_of_entries : (pairs : List (Tree × Tree)) → entry_list (entries pair
 list_of_entries [] = refl
 list_of_entries (e ∷ more) = ap (λ (xs : List (Tree × Tree)). e ∷ xs) (list_of_entries more)
 
-pub entries_of_list : (es : Entries) → entries (entry_list es) ≡ es
+pub entries_of_list : (es : TreeEntries) → entries (entry_list es) ≡ es
 entries_of_list no_entries = refl
 entries_of_list (more_entries k v more) = ap (more_entries k v) (entries_of_list more)
 
-pub count_of_entries : (es : Entries) → entry_count es ≡ length (entry_list es)
+pub count_of_entries : (es : TreeEntries) → entry_count es ≡ length (entry_list es)
 count_of_entries no_entries = refl
 count_of_entries (more_entries k v more) = let e = count_of_entries more in omega (arith, e)

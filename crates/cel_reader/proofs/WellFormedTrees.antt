@@ -1,5 +1,5 @@
 -- What is derived from the words of a text's tokens is well formed.
-use Rattle.cel_reader.proofs.Prelude.{◌≡◌, ℕ, ◌-◌, List, [], ◌∷◌, map, take, drop, Option, Some, None, inl, inr, subst, All, IfSome, IfOk, Ok, Err, Result, FitsSigned, w64, IsUtf8, All-nil, All-cons, All-head, All-tail, All-push, IsUtf8-string_bytes, Word, Lexeme, mark, seen, word_of, mark_word, mark_of, Lexes, IntFits, lexemes_fit, Mark, CloseBracket, CloseBrace, Token, ReadError, Tree, trees, entries, view, literal_of, literal_role, role_of, words, Class, Phrase, One, Many, Keyed, Derives, OptionalComma, Told, IsWellFormedLiteral, IsWellFormed, AreWellFormed, HasWellFormedEntries, Expr, Role}
+use Rattle.cel_reader.proofs.Prelude.{◌≡◌, ℕ, ◌-◌, List, [], ◌∷◌, map, take, drop, Option, Some, None, inl, inr, subst, All, IfSome, IfOk, Ok, Err, Result, FitsSigned, w64, IsUtf8, All-nil, All-cons, All-head, All-tail, All-push, IsUtf8-string_bytes, Word, Token, mark, token_view, word_of, mark_word, mark_of, Lexes, IntFits, lexemes_fit, Mark, CloseBracket, CloseBrace, CodeToken, ReadError, Tree, trees, entries, view, literal_of, literal_role, role_of, words, Class, Phrase, One, Many, Keyed, Derives, OptionalComma, ParseReturns, IsWellFormedLiteral, IsWellFormed, AreWellFormed, HasWellFormedEntries, Expr, Role}
 use Rattle.cel_tokens.specs.Token as word
 use Rattle.cel_tokens.specs.declared.kind.Kind.{Kind}
 use Rattle.cel_tokens.specs.declared.kind.Kind.TheVariants as kind
@@ -91,14 +91,14 @@ token_plain bytes (kind.Text s) f = IsUtf8-string_bytes s
 token_plain bytes kind.Mark f = mark_plain (mark_of bytes)
 
 -- the words of a text's tokens
-words_plain : (source : List ℕ) (tokens : List Token) → All (λ l. IntFits l.word) (map (seen source) tokens) → ArePlain (words source tokens)
+words_plain : (source : List ℕ) (tokens : List CodeToken) → All (λ l. IntFits l.word) (map (token_view source) tokens) → ArePlain (words source tokens)
 words_plain source [] f = tt
 words_plain source (t ∷ ts) f =
-    let fits = All-head (λ (l : Lexeme). IntFits l.word) (seen source t) (map (seen source) ts) f in
-    (token_plain (take (t.end - t.place) (drop t.place source)) t.kind fits, words_plain source ts (All-tail (λ (l : Lexeme). IntFits l.word) (seen source t) (map (seen source) ts) f))
+    let fits = All-head (λ (l : Token). IntFits l.word) (token_view source t) (map (token_view source) ts) f in
+    (token_plain (take (t.end - t.place) (drop t.place source)) t.kind fits, words_plain source ts (All-tail (λ (l : Token). IntFits l.word) (token_view source t) (map (token_view source) ts) f))
 
 -- the tree of a text
-pub told_formed : (source : List ℕ) (tokens : List Token) (r : Result Expr ReadError) → Lexes source (Ok (map (seen source) tokens))
-    → Told (words source tokens) r → IfOk r (λ e. IsWellFormed (view e))
-told_formed source tokens (Ok e) l t = (formed t (words_plain source tokens (lexemes_fit source (map (seen source) tokens) l))).0
+pub told_formed : (source : List ℕ) (tokens : List CodeToken) (r : Result Expr ReadError) → Lexes source (Ok (map (token_view source) tokens))
+    → ParseReturns (words source tokens) r → IfOk r (λ e. IsWellFormed (view e))
+told_formed source tokens (Ok e) l t = (formed t (words_plain source tokens (lexemes_fit source (map (token_view source) tokens) l))).0
 told_formed source tokens (Err e) l t = tt

@@ -2,8 +2,8 @@
 use Rattle.std.specs.Prelude.{◌≡◌, ◌≤◌, ℕ, List, length, Result, Ok, Err}
 use Rattle.cel_tokens.specs.Token.{Word}
 use Rattle.cel_tokens.specs.declared.read_error.ReadError.{ReadError}
-use Rattle.cel_reader.specs.Tree.{Tree, Trees, Entries, view, trees, entries, tree_list, entry_list, tree_count, entry_count}
-use Rattle.cel_reader.specs.Answers.{IsExpression, MisfitAt, DeepAt, IsAnswer}
+use Rattle.cel_reader.specs.Tree.{Tree, Trees, TreeEntries, view, trees, entries, tree_list, entry_list, tree_count, entry_count}
+use Rattle.cel_reader.specs.Answers.{IsExpression, UnexpectedAt, DeepAt, IsReadResult}
 use Rattle.cel_reader.specs.declared.expr.Expr.{Expr}
 
 -- words are one expression at most, however many brackets and conditionals may be open
@@ -16,9 +16,9 @@ KeepsWithMoreRoom = (room more : ℕ) (ws : List Word) (a : Tree) → room ≤ m
 
 -- words that are no expression go wrong behind one number of them at most, and in one way
 pub record GoesWrongOnce (ws : List Word) : Type 0 where
-  pub misfit : (count other : ℕ) → MisfitAt count ws → MisfitAt other ws → count ≡ other
+  pub misfit : (count other : ℕ) → UnexpectedAt count ws → UnexpectedAt other ws → count ≡ other
   pub deep : (count other : ℕ) → DeepAt count ws → DeepAt other ws → count ≡ other
-  pub not_both : (count other : ℕ) → MisfitAt count ws → DeepAt other ws → ⊥
+  pub not_both : (count other : ℕ) → UnexpectedAt count ws → DeepAt other ws → ⊥
 
 -- the tree of an answer, or its refusal
 abbrev pub tree_of : Result Expr ReadError → Result Tree ReadError
@@ -26,8 +26,8 @@ tree_of (Ok e) = Ok (view e)
 tree_of (Err e) = Err e
 
 -- two answers to a text are one tree or one refusal, with its place
-abbrev pub HasOneAnswer : Type 0
-HasOneAnswer = (source : List ℕ) (a b : Result Expr ReadError) → IsAnswer source a → IsAnswer source b → tree_of a ≡ tree_of b
+abbrev pub ReadHasOneResult : Type 0
+ReadHasOneResult = (source : List ℕ) (a b : Result Expr ReadError) → IsReadResult source a → IsReadResult source b → tree_of a ≡ tree_of b
 
 -- trees are the list of them, and as many
 pub record TreesAreLists : Type 0 where
@@ -38,5 +38,5 @@ pub record TreesAreLists : Type 0 where
 -- and so are entries
 pub record EntriesAreLists : Type 0 where
   pub list : (pairs : List (Tree × Tree)) → entry_list (entries pairs) ≡ pairs
-  pub entries_again : (es : Entries) → entries (entry_list es) ≡ es
-  pub count : (es : Entries) → entry_count es ≡ length (entry_list es)
+  pub entries_again : (es : TreeEntries) → entries (entry_list es) ≡ es
+  pub count : (es : TreeEntries) → entry_count es ≡ length (entry_list es)

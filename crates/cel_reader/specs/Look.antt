@@ -1,7 +1,7 @@
 -- What stands at the front of the words.
 use Rattle.std.specs.Prelude.{◌≡◌, ◌≢◌, ℕ, ◌+◌, List, [], ◌∷◌, map, Bool, true, false, if◌then◌else◌, Some, None, ◌⊎◌}
-use Rattle.cel_tokens.specs.Token.{Word, Lexeme, seen, name, int, text, mark}
-use Rattle.cel_tokens.specs.declared.token.Token.{Token}
+use Rattle.cel_tokens.specs.Token.{Word, Token, token_view, name, int, text, mark}
+use Rattle.cel_tokens.specs.declared.token.Token.{Token as CodeToken}
 use Rattle.cel_tokens.specs.declared.mark.Mark.{Mark}
 use Rattle.cel_tokens.specs.declared.mark.Mark.TheVariants as marks
 use Rattle.cel_reader.specs.Tree.{Literal}
@@ -11,13 +11,13 @@ use Rattle.cel_reader.specs.declared.operator.BinaryOperator.{BinaryOperator}
 use Rattle.cel_reader.specs.declared.closing.Closing.{Closing}
 use Rattle.cel_reader.specs.declared.closing.Closing.TheVariants.{Call, List as ListLiteral, Map}
 
--- the words of the lexemes
-abbrev pub spoken : List Lexeme → List Word
-spoken lexemes = map (λ l. l.word) lexemes
+-- the words of the tokens
+abbrev pub words_only : List Token → List Word
+words_only lexemes = map (λ l. l.word) lexemes
 
 -- the words of the code's tokens in this text
-abbrev pub words : List ℕ → List Token → List Word
-words source tokens = spoken (map (seen source) tokens)
+abbrev pub words : List ℕ → List CodeToken → List Word
+words source tokens = words_only (map (token_view source) tokens)
 
 -- the mark that closes the list
 abbrev pub closing_mark : Closing → Mark
@@ -41,15 +41,15 @@ pub data Look : Type 0 where
   operator : Level → Look
 
 -- what it finds there
-abbrev pub Found : Look → Type 0
-Found (at m) = Unit {0}
-Found (in_literal c m) = Unit {0}
-Found (named test) = List ℕ
-Found constant = Literal
-Found (operator l) = BinaryOperator
+abbrev pub FoundBy : Look → Type 0
+FoundBy (at m) = Unit {0}
+FoundBy (in_literal c m) = Unit {0}
+FoundBy (named test) = List ℕ
+FoundBy constant = Literal
+FoundBy (operator l) = BinaryOperator
 
 -- the word is what it looks for
-pub data Is : (l : Look) → Word → Found l → Type 0 where
+pub data Is : (l : Look) → Word → FoundBy l → Type 0 where
   this_mark : {m : Mark} → Is (at m) (mark m) tt
   this_one : {c : Closing} {m : Mark} → takes_comma c ≡ true → Is (in_literal c m) (mark m) tt
   this_name : {test : List ℕ → Bool} {n : List ℕ} → test n ≡ true → Is (named test) (name n) n
@@ -65,9 +65,9 @@ IsNot constant w = literal_of w ≡ None
 IsNot (operator l) w = (op : BinaryOperator) → operator_of w ≡ Some op → level_of op ≢ l
 
 -- the words do not begin with one that it looks for
-abbrev pub Lacks : Look → List Word → Type 0
-Lacks l [] = Unit {0}
-Lacks l (w ∷ ws) = IsNot l w
+abbrev pub IsNotNext : Look → List Word → Type 0
+IsNotNext l [] = Unit {0}
+IsNotNext l (w ∷ ws) = IsNot l w
 
 -- the list is closed here, and `rest` are the words behind
 abbrev pub Closes : Closing → List Word → List Word → Type 0

@@ -16,6 +16,6 @@ place_left len tokens left = place_of len (drop (length tokens - left) tokens)
 
 -- the refusal with its place
 abbrev pub refused_at : ℕ → List Token → Refusal → ReadError
-refused_at len tokens (Misfit left) = errors.P4 (place_left len tokens left)
-refused_at len tokens (Deep left) = errors.P5 (place_left len tokens left)
+refused_at len tokens (Misfit left) = errors.UnexpectedToken (place_left len tokens left)
+refused_at len tokens (Deep left) = errors.TooManyOpen (place_left len tokens left)
 refused_at len tokens Memory = errors.Memory

@@ -4,12 +4,12 @@ use Rattle.cel_tokens.specs.Token.{Word, mark}
 use Rattle.cel_reader.specs.Tree as tree
 use Rattle.cel_reader.specs.Tree.{Tree}
 use Rattle.cel_reader.specs.Words.{unary_mark}
-use Rattle.cel_reader.specs.Look.{at, Lacks}
+use Rattle.cel_reader.specs.Look.{at, IsNotNext}
 use Rattle.cel_reader.specs.declared.operator.UnaryOperator.{UnaryOperator}
 
 -- the words begin with the operator so many times, and go on with `rest`, which does not
 pub data Prefixes : UnaryOperator → ℕ → List Word → List Word → Type 0 where
-  none : {op : UnaryOperator} {ws : List Word} → Lacks (at (unary_mark op)) ws → Prefixes op 0 ws ws
+  none : {op : UnaryOperator} {ws : List Word} → IsNotNext (at (unary_mark op)) ws → Prefixes op 0 ws ws
   one_more : {op : UnaryOperator} {n : ℕ} {ws us rest : List Word} → ws ≡ mark (unary_mark op) ∷ us → Prefixes op n us rest
       → Prefixes op (suc n) ws rest
 

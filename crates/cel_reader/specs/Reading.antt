@@ -8,7 +8,7 @@ use Rattle.cel_reader.specs.Tree as tree
 use Rattle.cel_reader.specs.Tree.{Tree, trees, entries}
 use Rattle.cel_reader.specs.Words.{is_identifier, is_selector, unary_mark}
 use Rattle.cel_reader.specs.Grammar.{Class, Expression, Infix, Unary, Prefixed, Member, Primary, Phrase, One, Many, Keyed, below}
-use Rattle.cel_reader.specs.Look.{Look, at, in_literal, named, constant, operator, Found, Is, Lacks, opens_mark, closing_mark}
+use Rattle.cel_reader.specs.Look.{Look, at, in_literal, named, constant, operator, FoundBy, Is, IsNotNext, opens_mark, closing_mark}
 use Rattle.cel_reader.specs.declared.level.Level.{Level, TheVariants.Or}
 use Rattle.cel_reader.specs.declared.closing.Closing.{Closing}
 use Rattle.cel_reader.specs.declared.closing.Closing.TheVariants.{Call, List as ListLiteral, Map}
@@ -24,9 +24,9 @@ pub data Cause : Type 0 where
   Deep : List Word → Cause
 
 -- a phrase and the words behind it, or none
-pub data Outcome : Type 0 where
-  Got : Phrase → List Word → Outcome
-  Refused : Cause → Outcome
+pub data ReadOutcome : Type 0 where
+  Got : Phrase → List Word → ReadOutcome
+  Refused : Cause → ReadOutcome
 
 -- what a step gives: an expression, a list of them, or keys with their values
 pub data Kind : Type 0 where
@@ -66,7 +66,8 @@ pub data Plan : Bool → Kind → Type 0 where
   misfit : {k : Kind} → Plan false k  -- the first of the words, or the end, does not fit
   go : {b : Bool} {k : Kind} → Step b k → Plan b k  -- this step
   call : {b : Bool} {j k : Kind} → Step b j → (Of j → Plan false k) → Plan b k  -- this step, and then what its phrase asks for
-  look : {k : Kind} (l : Look) → (Found l → Plan false k) → Plan false k → Plan false k  -- behind such a word; or else, where none is first
+  -- behind such a word; or else, where none is first
+  look : {k : Kind} (l : Look) → (FoundBy l → Plan false k) → Plan false k → Plan false k
   enter : {k : Kind} (m : Mark) → opens_mark m ≡ true → Plan true k → Plan false k → Plan false k  -- the same of a mark that opens
   inside : {k : Kind} → Plan false k → Plan true k  -- where one more may be open
 
@@ -120,38 +121,40 @@ plan (Entry pairs) =
 plan (BehindEntry pairs) = behind Map pairs (Entry pairs)
 
 -- with this room, before these words, the plan ends with this outcome
-pub data Comes : (b : Bool) (k : Kind) → Plan b k → ℕ → List Word → Outcome → Type 0 where
-  stands : {k : Kind} {x : Of k} {room : ℕ} {ws : List Word} → Comes false k (done x) room ws (Got (phrase k x) ws)
-  unfit : {k : Kind} {room : ℕ} {ws : List Word} → Comes false k misfit room ws (Refused (Misfit ws))
-  goes : {b : Bool} {k : Kind} {s : Step b k} {room : ℕ} {ws : List Word} {o : Outcome}
-      → Comes b k (plan s) room ws o → Comes b k (go s) room ws o
+pub data PlanEnds : (b : Bool) (k : Kind) → Plan b k → ℕ → List Word → ReadOutcome → Type 0 where
+  stands : {k : Kind} {x : Of k} {room : ℕ} {ws : List Word} → PlanEnds false k (done x) room ws (Got (phrase k x) ws)
+  unfit : {k : Kind} {room : ℕ} {ws : List Word} → PlanEnds false k misfit room ws (Refused (Misfit ws))
+  goes : {b : Bool} {k : Kind} {s : Step b k} {room : ℕ} {ws : List Word} {o : ReadOutcome}
+      → PlanEnds b k (plan s) room ws o → PlanEnds b k (go s) room ws o
   fails : {b : Bool} {j k : Kind} {s : Step b j} {f : Of j → Plan false k} {room : ℕ} {ws : List Word} {e : Cause}
-      → Comes b j (go s) room ws (Refused e) → Comes b k (call s f) room ws (Refused e)
-  calls : {b : Bool} {j k : Kind} {s : Step b j} {f : Of j → Plan false k} {room : ℕ} {ws rest : List Word} {o : Outcome} (x : Of j)
-      → Comes b j (go s) room ws (Got (phrase j x) rest) → Comes false k (f x) room rest o → Comes b k (call s f) room ws o
-  found : {k : Kind} {l : Look} {f : Found l → Plan false k} {p : Plan false k} {room : ℕ} {w : Word} {ws : List Word} {x : Found l}
-      {o : Outcome} → Is l w x → Comes false k (f x) room ws o → Comes false k (look l f p) room (w ∷ ws) o
-  missing : {k : Kind} {l : Look} {f : Found l → Plan false k} {p : Plan false k} {room : ℕ} {ws : List Word} {o : Outcome}
-      → Lacks l ws → Comes false k p room ws o → Comes false k (look l f p) room ws o
-  enters : {k : Kind} {m : Mark} {e : opens_mark m ≡ true} {p : Plan true k} {q : Plan false k} {room : ℕ} {ws : List Word} {o : Outcome}
-      → Comes true k p room ws o → Comes false k (enter m e p q) room (mark m ∷ ws) o
-  passes : {k : Kind} {m : Mark} {e : opens_mark m ≡ true} {p : Plan true k} {q : Plan false k} {room : ℕ} {ws : List Word} {o : Outcome}
-      → Lacks (at m) ws → Comes false k q room ws o → Comes false k (enter m e p q) room ws o
-  opened : {k : Kind} {p : Plan false k} {room : ℕ} {ws : List Word} {o : Outcome}
-      → Comes false k p room ws o → Comes true k (inside p) (suc room) ws o
-  full : {k : Kind} {p : Plan false k} {ws : List Word} → Comes true k (inside p) zero ws (Refused (Deep ws))
+      → PlanEnds b j (go s) room ws (Refused e) → PlanEnds b k (call s f) room ws (Refused e)
+  calls : {b : Bool} {j k : Kind} {s : Step b j} {f : Of j → Plan false k} {room : ℕ} {ws rest : List Word} {o : ReadOutcome} (x : Of j)
+      → PlanEnds b j (go s) room ws (Got (phrase j x) rest) → PlanEnds false k (f x) room rest o → PlanEnds b k (call s f) room ws o
+  found : {k : Kind} {l : Look} {f : FoundBy l → Plan false k} {p : Plan false k} {room : ℕ} {w : Word} {ws : List Word} {x : FoundBy l}
+      {o : ReadOutcome} → Is l w x → PlanEnds false k (f x) room ws o → PlanEnds false k (look l f p) room (w ∷ ws) o
+  missing : {k : Kind} {l : Look} {f : FoundBy l → Plan false k} {p : Plan false k} {room : ℕ} {ws : List Word} {o : ReadOutcome}
+      → IsNotNext l ws → PlanEnds false k p room ws o → PlanEnds false k (look l f p) room ws o
+  enters : {k : Kind} {m : Mark} {e : opens_mark m ≡ true} {p : Plan true k} {q : Plan false k} {room : ℕ} {ws : List Word}
+      {o : ReadOutcome}
+      → PlanEnds true k p room ws o → PlanEnds false k (enter m e p q) room (mark m ∷ ws) o
+  passes : {k : Kind} {m : Mark} {e : opens_mark m ≡ true} {p : Plan true k} {q : Plan false k} {room : ℕ} {ws : List Word}
+      {o : ReadOutcome}
+      → IsNotNext (at m) ws → PlanEnds false k q room ws o → PlanEnds false k (enter m e p q) room ws o
+  opened : {k : Kind} {p : Plan false k} {room : ℕ} {ws : List Word} {o : ReadOutcome}
+      → PlanEnds false k p room ws o → PlanEnds true k (inside p) (suc room) ws o
+  full : {k : Kind} {p : Plan false k} {ws : List Word} → PlanEnds true k (inside p) zero ws (Refused (Deep ws))
 
 -- with this room, before these words, what the plan says comes to this outcome
-abbrev pub Runs : {b : Bool} {k : Kind} → Plan b k → ℕ → List Word → Outcome → Type 0
-Runs {b} {k} p room ws o = Comes b k p room ws o
+abbrev pub PlanRuns : {b : Bool} {k : Kind} → Plan b k → ℕ → List Word → ReadOutcome → Type 0
+PlanRuns {b} {k} p room ws o = PlanEnds b k p room ws o
 
 -- Where it stands, with this room, before these words, the reader ends with this outcome.
-abbrev pub Reads : {b : Bool} {k : Kind} → Step b k → ℕ → List Word → Outcome → Type 0
-Reads s room ws o = Runs (go s) room ws o
+abbrev pub StepReads : {b : Bool} {k : Kind} → Step b k → ℕ → List Word → ReadOutcome → Type 0
+StepReads s room ws o = PlanRuns (go s) room ws o
 
 -- the answer is an outcome of this reading, unless memory ran out; a refusal says how many words stand from there on
-abbrev pub Gives : {X : Type 0} → (X → Outcome) → Result X Refusal → (Outcome → Type 0) → Type 0
-Gives seen (Ok x) P = P (seen x)
-Gives seen (Err (refusal.Misfit left)) P = (rest : List Word) × (left ≡ length rest) × P (Refused (Misfit rest))
-Gives seen (Err (refusal.Deep left)) P = (rest : List Word) × (left ≡ suc (length rest)) × P (Refused (Deep rest))
-Gives seen (Err refusal.Memory) P = Unit {0}
+abbrev pub ReturnsOutcome : {X : Type 0} → (X → ReadOutcome) → Result X Refusal → (ReadOutcome → Type 0) → Type 0
+ReturnsOutcome seen (Ok x) P = P (seen x)
+ReturnsOutcome seen (Err (refusal.Misfit left)) P = (rest : List Word) × (left ≡ length rest) × P (Refused (Misfit rest))
+ReturnsOutcome seen (Err (refusal.Deep left)) P = (rest : List Word) × (left ≡ suc (length rest)) × P (Refused (Deep rest))
+ReturnsOutcome seen (Err refusal.Memory) P = Unit {0}

@@ -1,7 +1,7 @@
 -- Texts that are refused, and how, worked by hand.
 use Rattle.std.specs.Prelude.{ℕ, zero, suc, List, [], ◌∷◌, ◌++◌, Err, codes}
-use Rattle.cel_tokens.specs.declared.read_error.ReadError.{ReadError, TheVariants.P1, TheVariants.P2, TheVariants.P3, TheVariants.P4, TheVariants.P5}
-use Rattle.cel_reader.specs.Answers.{IsAnswer}
+use Rattle.cel_tokens.specs.declared.read_error.ReadError.{ReadError, TheVariants.UnknownCharacter, TheVariants.InvalidTextLiteral, TheVariants.IntOutOfRange, TheVariants.UnexpectedToken, TheVariants.TooManyOpen}
+use Rattle.cel_reader.specs.Answers.{IsReadResult}
 
 -- the text so many times
 abbrev pub times : ℕ → List ℕ → List ℕ
@@ -11,63 +11,63 @@ times (suc n) text = text ++ times n text
 -- each text with its refusal
 abbrev pub refused_texts : List (List ℕ × ReadError)
 refused_texts =
-    (codes "namespace", P4 0) ∷
-    (codes "f(1,)", P4 4) ∷
-    (codes "!-x", P4 1) ∷
-    (codes "-!x", P4 1) ∷
-    (codes "a.b.", P4 4) ∷
-    (codes "a.  ", P4 4) ∷
-    (codes "object.spec. <= 3", P4 13) ∷
-    (codes "a.in", P4 2) ∷
-    (codes "while(1)", P4 0) ∷
-    (codes "true(1)", P4 4) ∷
-    (codes "in", P4 0) ∷
-    (codes "", P4 0) ∷
-    (codes "  ", P4 2) ∷
-    (codes "1 2", P4 2) ∷
-    (codes "(1", P4 2) ∷
-    (codes "(1]", P4 2) ∷
-    (codes "a[1", P4 3) ∷
-    (codes "a[", P4 2) ∷
-    (codes "a[]", P4 2) ∷
-    (codes "f(,)", P4 2) ∷
-    (codes "f(1 2)", P4 4) ∷
-    (codes "[,1]", P4 2) ∷
-    (codes "[1,,]", P4 3) ∷
-    (codes "[1 2]", P4 3) ∷
-    (codes "{,1}", P4 2) ∷
-    (codes "{'a'}", P4 4) ∷
-    (codes "{'a': 1 2}", P4 8) ∷
-    (codes "a ? b", P4 5) ∷
-    (codes "a ? b ? c : d : e", P4 6) ∷
-    (codes "a ? b :", P4 7) ∷
-    (codes "-(9223372036854775808)", P3 2) ∷
-    (codes "9223372036854775808", P3 0) ∷
-    (codes "a # b", P1 2) ∷
-    (codes ") #", P1 2) ∷
-    (codes "1.5", P4 2) ∷
-    (codes "1u", P4 1) ∷
-    (codes ".a", P4 0) ∷
-    (codes "a.?b", P4 2) ∷
-    (codes "a in in b", P4 5) ∷
-    (codes "a. // b", P4 7) ∷
-    (codes "'ab", P2 0) ∷
-    (times 101 (codes "("), P5 100) ∷
-    (times 101 (codes "["), P5 100) ∷
-    (times 101 (codes "{1:"), P5 300) ∷
-    (times 101 (codes "f("), P5 201) ∷
-    (times 101 (codes "a.f("), P5 403) ∷
-    (times 101 (codes "a["), P5 201) ∷
-    (times 101 (codes "a?a:") ++ codes "a", P5 401) ∷
-    (times 101 (codes "(") ++ codes ")", P5 100) ∷
-    (codes "1 1" ++ times 101 (codes "("), P4 2) ∷
-    (times 100 (codes "["), P4 100) ∷
-    (times 100 (codes "(") ++ codes "1(", P4 101) ∷ []
+    (codes "namespace", UnexpectedToken 0) ∷
+    (codes "f(1,)", UnexpectedToken 4) ∷
+    (codes "!-x", UnexpectedToken 1) ∷
+    (codes "-!x", UnexpectedToken 1) ∷
+    (codes "a.b.", UnexpectedToken 4) ∷
+    (codes "a.  ", UnexpectedToken 4) ∷
+    (codes "object.spec. <= 3", UnexpectedToken 13) ∷
+    (codes "a.in", UnexpectedToken 2) ∷
+    (codes "while(1)", UnexpectedToken 0) ∷
+    (codes "true(1)", UnexpectedToken 4) ∷
+    (codes "in", UnexpectedToken 0) ∷
+    (codes "", UnexpectedToken 0) ∷
+    (codes "  ", UnexpectedToken 2) ∷
+    (codes "1 2", UnexpectedToken 2) ∷
+    (codes "(1", UnexpectedToken 2) ∷
+    (codes "(1]", UnexpectedToken 2) ∷
+    (codes "a[1", UnexpectedToken 3) ∷
+    (codes "a[", UnexpectedToken 2) ∷
+    (codes "a[]", UnexpectedToken 2) ∷
+    (codes "f(,)", UnexpectedToken 2) ∷
+    (codes "f(1 2)", UnexpectedToken 4) ∷
+    (codes "[,1]", UnexpectedToken 2) ∷
+    (codes "[1,,]", UnexpectedToken 3) ∷
+    (codes "[1 2]", UnexpectedToken 3) ∷
+    (codes "{,1}", UnexpectedToken 2) ∷
+    (codes "{'a'}", UnexpectedToken 4) ∷
+    (codes "{'a': 1 2}", UnexpectedToken 8) ∷
+    (codes "a ? b", UnexpectedToken 5) ∷
+    (codes "a ? b ? c : d : e", UnexpectedToken 6) ∷
+    (codes "a ? b :", UnexpectedToken 7) ∷
+    (codes "-(9223372036854775808)", IntOutOfRange 2) ∷
+    (codes "9223372036854775808", IntOutOfRange 0) ∷
+    (codes "a # b", UnknownCharacter 2) ∷
+    (codes ") #", UnknownCharacter 2) ∷
+    (codes "1.5", UnexpectedToken 2) ∷
+    (codes "1u", UnexpectedToken 1) ∷
+    (codes ".a", UnexpectedToken 0) ∷
+    (codes "a.?b", UnexpectedToken 2) ∷
+    (codes "a in in b", UnexpectedToken 5) ∷
+    (codes "a. // b", UnexpectedToken 7) ∷
+    (codes "'ab", InvalidTextLiteral 0) ∷
+    (times 101 (codes "("), TooManyOpen 100) ∷
+    (times 101 (codes "["), TooManyOpen 100) ∷
+    (times 101 (codes "{1:"), TooManyOpen 300) ∷
+    (times 101 (codes "f("), TooManyOpen 201) ∷
+    (times 101 (codes "a.f("), TooManyOpen 403) ∷
+    (times 101 (codes "a["), TooManyOpen 201) ∷
+    (times 101 (codes "a?a:") ++ codes "a", TooManyOpen 401) ∷
+    (times 101 (codes "(") ++ codes ")", TooManyOpen 100) ∷
+    (codes "1 1" ++ times 101 (codes "("), UnexpectedToken 2) ∷
+    (times 100 (codes "["), UnexpectedToken 100) ∷
+    (times 100 (codes "(") ++ codes "1(", UnexpectedToken 101) ∷ []
 
 -- each of these is what is answered
 abbrev pub Stand : List (List ℕ × ReadError) → Type 0
 Stand [] = Unit {0}
-Stand (row ∷ rows) = IsAnswer row.0 (Err row.1) × Stand rows
+Stand (row ∷ rows) = IsReadResult row.0 (Err row.1) × Stand rows
 
 -- all of them are
 abbrev pub RefusalRowsStand : Type 0

@@ -3,8 +3,8 @@ use Rattle.cel_tokens.specs.Token as word
 use Rattle.cel_reader.specs.declared.word.Word.{Word, TheVariants.Name, TheVariants.Int, TheVariants.Text, TheVariants.Mark}
 
 -- the word that the code's one stands for
-abbrev pub shown : Word → word.Word
-shown (Name bytes) = word.name bytes.now
-shown (Int z) = word.int z
-shown (Text bytes) = word.text bytes.now
-shown (Mark m) = word.mark m
+abbrev pub word_view : Word → word.Word
+word_view (Name bytes) = word.name bytes.now
+word_view (Int z) = word.int z
+word_view (Text bytes) = word.text bytes.now
+word_view (Mark m) = word.mark m

@@ -30,7 +30,7 @@ mutual
     binary : BinaryOperator → Tree → Tree → Tree
     ternary : Tree → Tree → Tree → Tree
     list : Trees → Tree
-    map : Entries → Tree
+    map : TreeEntries → Tree
 
   -- expressions one after another: the arguments of a call, or the elements of a list
   pub data Trees : Type 0 where
@@ -38,9 +38,9 @@ mutual
     more_trees : Tree → Trees → Trees
 
   -- the entries of a map one after another, each an expression for its key and one for its value
-  pub data Entries : Type 0 where
-    no_entries : Entries
-    more_entries : Tree → Tree → Entries → Entries
+  pub data TreeEntries : Type 0 where
+    no_entries : TreeEntries
+    more_entries : Tree → Tree → TreeEntries → TreeEntries
 
 -- the same expressions from a list of them
 abbrev pub trees : List Tree → Trees
@@ -48,7 +48,7 @@ trees [] = no_trees
 trees (a ∷ more) = more_trees a (trees more)
 
 -- the same entries from a list of keys and values
-abbrev pub entries : List (Tree × Tree) → Entries
+abbrev pub entries : List (Tree × Tree) → TreeEntries
 entries [] = no_entries
 entries (e ∷ es) = more_entries e.0 e.1 (entries es)
 
@@ -58,7 +58,7 @@ tree_list no_trees = []
 tree_list (more_trees a more) = a ∷ tree_list more
 
 -- the list of the entries, each a key and its value
-abbrev pub entry_list : Entries → List (Tree × Tree)
+abbrev pub entry_list : TreeEntries → List (Tree × Tree)
 entry_list no_entries = []
 entry_list (more_entries k v more) = (k, v) ∷ entry_list more
 
@@ -68,7 +68,7 @@ tree_count no_trees = 0
 tree_count (more_trees a more) = tree_count more + 1
 
 -- how many entries they are
-abbrev pub entry_count : Entries → ℕ
+abbrev pub entry_count : TreeEntries → ℕ
 entry_count no_entries = 0
 entry_count (more_entries k v more) = entry_count more + 1
 

@@ -4,7 +4,7 @@ use Rattle.std.specs.Prelude.{◌≡◌, true, FitsSigned}
 use Rattle.std.specs.Int.{w64}
 use Rattle.std.specs.Str.{IsUtf8}
 use Rattle.cel_reader.specs.Tree as tree
-use Rattle.cel_reader.specs.Tree.{Literal, Tree, Trees, Entries, no_trees, more_trees, no_entries, more_entries}
+use Rattle.cel_reader.specs.Tree.{Literal, Tree, Trees, TreeEntries, no_trees, more_trees, no_entries, more_entries}
 use Rattle.cel_reader.specs.Words.{is_identifier, is_selector}
 
 -- an int is of 64 bits signed, and a text is in UTF-8
@@ -35,6 +35,6 @@ abbrev mutual
   AreWellFormed (more_trees a more) = IsWellFormed a × AreWellFormed more
 
   -- each key and each value is
-  pub HasWellFormedEntries : Entries → Type 0
+  pub HasWellFormedEntries : TreeEntries → Type 0
   HasWellFormedEntries no_entries = Unit {0}
   HasWellFormedEntries (more_entries k v more) = IsWellFormed k × IsWellFormed v × HasWellFormedEntries more

@@ -2,7 +2,7 @@
 
 ghost use Rattle.std.specs.Prelude.{List};
 ghost use Rattle.cel_tokens.specs.Token.{Word};
-ghost use Rattle.cel_reader.specs.Laws.{GoesWrongOnce, HasOneAnswer, HasOneTree, KeepsWithMoreRoom, TreesAreLists, EntriesAreLists};
+ghost use Rattle.cel_reader.specs.Laws.{GoesWrongOnce, ReadHasOneResult, HasOneTree, KeepsWithMoreRoom, TreesAreLists, EntriesAreLists};
 ghost use Rattle.cel_reader.specs.RefusalRows.{RefusalRowsStand};
 
 /// Words are one expression at most, and the same one where more brackets and conditionals may be
@@ -13,12 +13,12 @@ pub fn one_tree()
     ensures kept { KeepsWithMoreRoom }
 {}
 
-/// But for want of memory a text has one answer at most, its tree or one refusal with its place. For
-/// words that are no expression go wrong behind one number of them at most, and in one way.
+/// But for want of memory a text has one answer at most, its tree or one refusal with its place.
+/// For words that are no expression go wrong behind one number of them at most, and in one way.
 #[tactic(auto, using(crate::proofs::OneAnswer::one_answer, crate::proofs::OneAnswer::wrong_once))]
 pub fn one_answer()
     ensures place { (ws : List Word) → GoesWrongOnce ws }
-    ensures answer { HasOneAnswer }
+    ensures answer { ReadHasOneResult }
 {}
 
 /// Texts that are refused, and how, worked by hand.

@@ -6,6 +6,7 @@ mod closing;
 mod expr;
 mod laws;
 mod level;
+mod limits;
 mod literal;
 mod look;
 mod name;

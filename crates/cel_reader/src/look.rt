@@ -3,11 +3,11 @@
 ghost use Rattle.std.specs.Prelude.{◌≡◌, ◌<◌, ◌≤◌, ◌∷◌, length, true, false, Some, IfOk, IfSome, MatchOption, ◌↔◌, IsTrue, option_map};
 ghost use Rattle.cel_tokens.specs.Token as word;
 ghost use Rattle.cel_reader.specs.Look as looks;
-ghost use Rattle.cel_reader.specs.Look.{words, Lacks, Closes, GoesOn};
+ghost use Rattle.cel_reader.specs.Look.{words, IsNotNext, Closes, GoesOn};
 ghost use Rattle.cel_reader.specs.Words as specs;
 ghost use Rattle.cel_reader.specs.Tree.{literal_view};
 ghost use Rattle.cel_reader.specs.Prefixes.{Prefixes};
-ghost use Rattle.cel_reader.specs.Shown.{shown};
+ghost use Rattle.cel_reader.specs.Shown.{word_view};
 
 use crate::closing::Closing;
 use crate::level::Level;
@@ -21,7 +21,7 @@ use std::alloc::{AllocError, Global};
 
 /// Whether the word is this mark.
 fn is_mark(found: Word, wanted: Mark) -> bool
-    ensures { IsTrue result ↔ (shown found.entry ≡ word.mark wanted) }
+    ensures { IsTrue result ↔ (word_view found.entry ≡ word.mark wanted) }
 {
     match found {
         Word::Mark(mark) => mark == wanted,
@@ -31,7 +31,7 @@ fn is_mark(found: Word, wanted: Mark) -> bool
 
 /// The tokens behind this mark, if it is first.
 pub fn after<'a>(text: &'a [u8], tokens: &'a [Token], wanted: Mark) -> Option<&'a [Token]>
-    ensures at { MatchOption result (Lacks (looks.at wanted) (words text.now tokens.now)) (λ rest. words text.now tokens.now ≡ word.mark wanted ∷ words text.now rest.now) }
+    ensures at { MatchOption result (IsNotNext (looks.at wanted) (words text.now tokens.now)) (λ rest. words text.now tokens.now ≡ word.mark wanted ∷ words text.now rest.now) }
     ensures shorter { IfSome result (λ rest. length rest.now < length tokens.now) }
 {
     let (found, rest) = first(text, tokens)?;
@@ -66,7 +66,7 @@ fn operator_mark(mark: Mark) -> Option<BinaryOperator>
 
 /// The operator that the word is between operands.
 fn operator_of(found: Word) -> Option<BinaryOperator>
-    ensures { result ≡ specs.operator_of (shown found.entry) }
+    ensures { result ≡ specs.operator_of (word_view found.entry) }
 {
     match found {
         Word::Name(name) => match role_of(name) {
@@ -84,7 +84,10 @@ pub fn operator_at<'a>(
     tokens: &'a [Token],
     level: Level,
 ) -> Option<(BinaryOperator, &'a [Token])>
-    ensures at { MatchOption result (Lacks (looks.operator level) (words text.now tokens.now)) (λ x. (w : word.Word) × (specs.operator_of w ≡ Some x.0) × (specs.level_of x.0 ≡ level) × (words text.now tokens.now ≡ w ∷ words text.now x.1.now)) }
+    ensures at { MatchOption result
+        (IsNotNext (looks.operator level) (words text.now tokens.now))
+        (λ x. (w : word.Word) × (specs.operator_of w ≡ Some x.0) × (specs.level_of x.0 ≡ level)
+        × (words text.now tokens.now ≡ w ∷ words text.now x.1.now)) }
     ensures shorter { IfSome result (λ x. length x.1.now < length tokens.now) }
 {
     let (found, rest) = first(text, tokens)?;
@@ -98,7 +101,10 @@ pub fn operator_at<'a>(
 
 /// The operator before an operand, if one is first, and the tokens behind it.
 pub fn prefix_at<'a>(text: &'a [u8], tokens: &'a [Token]) -> Option<(UnaryOperator, &'a [Token])>
-    ensures at { MatchOption result (Lacks (looks.at Mark.Not) (words text.now tokens.now) × Lacks (looks.at Mark.Minus) (words text.now tokens.now)) (λ x. words text.now tokens.now ≡ word.mark (specs.unary_mark x.0) ∷ words text.now x.1.now) }
+    ensures at { MatchOption result
+        (IsNotNext (looks.at Mark.Not) (words text.now tokens.now)
+        × IsNotNext (looks.at Mark.Minus) (words text.now tokens.now))
+        (λ x. words text.now tokens.now ≡ word.mark (specs.unary_mark x.0) ∷ words text.now x.1.now) }
     ensures shorter { IfSome result (λ x. length x.1.now < length tokens.now) }
 {
     if let Some(rest) = after(text, tokens, Mark::Not) {
@@ -110,7 +116,10 @@ pub fn prefix_at<'a>(text: &'a [u8], tokens: &'a [Token]) -> Option<(UnaryOperat
 
 /// The name that may stand behind a dot, if one is first, and the tokens behind it.
 pub fn selector_at<'a>(text: &'a [u8], tokens: &'a [Token]) -> Option<(&'a [u8], &'a [Token])>
-    ensures at { MatchOption result (Lacks (looks.named specs.is_selector) (words text.now tokens.now)) (λ x. (words text.now tokens.now ≡ word.name x.0.now ∷ words text.now x.1.now) × (specs.is_selector x.0.now ≡ true)) }
+    ensures at { MatchOption result
+        (IsNotNext (looks.named specs.is_selector) (words text.now tokens.now))
+        (λ x. (words text.now tokens.now ≡ word.name x.0.now ∷ words text.now x.1.now)
+        × (specs.is_selector x.0.now ≡ true)) }
     ensures shorter { IfSome result (λ x. length x.1.now < length tokens.now) }
 {
     let (found, rest) = first(text, tokens)?;
@@ -122,7 +131,10 @@ pub fn selector_at<'a>(text: &'a [u8], tokens: &'a [Token]) -> Option<(&'a [u8],
 
 /// The name that may stand for itself, if one is first, and the tokens behind it.
 pub fn identifier_at<'a>(text: &'a [u8], tokens: &'a [Token]) -> Option<(&'a [u8], &'a [Token])>
-    ensures at { MatchOption result (Lacks (looks.named specs.is_identifier) (words text.now tokens.now)) (λ x. (words text.now tokens.now ≡ word.name x.0.now ∷ words text.now x.1.now) × (specs.is_identifier x.0.now ≡ true)) }
+    ensures at { MatchOption result
+        (IsNotNext (looks.named specs.is_identifier) (words text.now tokens.now))
+        (λ x. (words text.now tokens.now ≡ word.name x.0.now ∷ words text.now x.1.now)
+        × (specs.is_identifier x.0.now ≡ true)) }
     ensures shorter { IfSome result (λ x. length x.1.now < length tokens.now) }
 {
     let (found, rest) = first(text, tokens)?;
@@ -134,7 +146,7 @@ pub fn identifier_at<'a>(text: &'a [u8], tokens: &'a [Token]) -> Option<(&'a [u8
 
 /// The literal that the word is.
 fn literal_of(alloc: Global, found: Word) -> Result<Option<Literal>, AllocError>
-    ensures { IfOk result (λ o. option_map literal_view o ≡ specs.literal_of (shown found.entry)) }
+    ensures { IfOk result (λ o. option_map literal_view o ≡ specs.literal_of (word_view found.entry)) }
 {
     match found {
         Word::Name(name) => Ok(match role_of(name) {
@@ -155,7 +167,10 @@ pub fn literal_at<'a>(
     text: &'a [u8],
     tokens: &'a [Token],
 ) -> Result<Option<(Literal, &'a [Token])>, AllocError>
-    ensures at { IfOk result (λ o. MatchOption o (Lacks looks.constant (words text.now tokens.now)) (λ x. (w : word.Word) × (words text.now tokens.now ≡ w ∷ words text.now x.1.now) × (specs.literal_of w ≡ Some (literal_view x.0)))) }
+    ensures at { IfOk result (λ o. MatchOption o
+        (IsNotNext looks.constant (words text.now tokens.now))
+        (λ x. (w : word.Word) × (words text.now tokens.now ≡ w ∷ words text.now x.1.now)
+        × (specs.literal_of w ≡ Some (literal_view x.0)))) }
     ensures shorter { IfOk result (λ o. IfSome o (λ x. length x.1.now < length tokens.now)) }
 {
     let Some((found, rest)) = first(text, tokens) else {

@@ -22,8 +22,8 @@ pub fn placed(text: &[u8], tokens: &[Token], refusal: Refusal) -> ReadError
     ensures { result ≡ refused_at (length text.now) tokens.now refusal }
 {
     match refusal {
-        Refusal::Misfit(left) => ReadError::P4(place_of(text, tokens, left)),
-        Refusal::Deep(left) => ReadError::P5(place_of(text, tokens, left)),
+        Refusal::Misfit(left) => ReadError::UnexpectedToken(place_of(text, tokens, left)),
+        Refusal::Deep(left) => ReadError::TooManyOpen(place_of(text, tokens, left)),
         Refusal::Memory => ReadError::Memory,
     }
 }

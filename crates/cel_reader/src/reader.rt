@@ -6,7 +6,7 @@ ghost use Rattle.cel_reader.specs.Tree.{view, entry_view};
 ghost use Rattle.cel_reader.specs.Grammar as row;
 ghost use Rattle.cel_reader.specs.Grammar.{One, Many, Keyed, below};
 ghost use Rattle.cel_reader.specs.Look.{words};
-ghost use Rattle.cel_reader.specs.Reading.{Gives, Reads, Got, Row, Selection, Enclosed, Listed, Mapped};
+ghost use Rattle.cel_reader.specs.Reading.{ReturnsOutcome, StepReads, Got, Row, Selection, Enclosed, Listed, Mapped};
 
 use crate::build;
 use crate::closing::Closing;
@@ -27,7 +27,7 @@ type Read<'a, T = Expr> = Result<(T, &'a [Token]), Refusal>;
 /// behind it.
 #[cycle(reader)]
 pub fn expression<'a>(alloc: Global, text: &'a [u8], tokens: &'a [Token], room: u8) -> Read<'a>
-    ensures reads { Gives (λ x. Got (One (view x.0)) (words text.now x.1.now)) result (Reads (Row row.Expression) room (words text.now tokens.now)) }
+    ensures reads { ReturnsOutcome (λ x. Got (One (view x.0)) (words text.now x.1.now)) result (StepReads (Row row.Expression) room (words text.now tokens.now)) }
     ensures shorter { IfOk result (λ x. length x.1.now < length tokens.now) }
 {
     let (condition, rest) = infix(alloc, text, tokens, Level::Or, room)?;
@@ -48,7 +48,7 @@ pub fn expression<'a>(alloc: Global, text: &'a [u8], tokens: &'a [Token], room: 
 /// An operand of the level and its operators, from the left.
 #[cycle(reader)]
 fn infix<'a>(alloc: Global, text: &'a [u8], tokens: &'a [Token], level: Level, room: u8) -> Read<'a>
-    ensures reads { Gives (λ x. Got (One (view x.0)) (words text.now x.1.now)) result (Reads (Row (row.Infix level)) room (words text.now tokens.now)) }
+    ensures reads { ReturnsOutcome (λ x. Got (One (view x.0)) (words text.now x.1.now)) result (StepReads (Row (row.Infix level)) room (words text.now tokens.now)) }
     ensures shorter { IfOk result (λ x. length x.1.now < length tokens.now) }
 {
     let (mut left, mut rest) = operand(alloc, text, tokens, level, room)?;
@@ -69,7 +69,7 @@ fn operand<'a>(
     level: Level,
     room: u8,
 ) -> Read<'a>
-    ensures reads { Gives (λ x. Got (One (view x.0)) (words text.now x.1.now)) result (Reads (Row (below level)) room (words text.now tokens.now)) }
+    ensures reads { ReturnsOutcome (λ x. Got (One (view x.0)) (words text.now x.1.now)) result (StepReads (Row (below level)) room (words text.now tokens.now)) }
     ensures shorter { IfOk result (λ x. length x.1.now < length tokens.now) }
 {
     match level {
@@ -84,7 +84,7 @@ fn operand<'a>(
 /// A member and the operators before it.
 #[cycle(reader)]
 fn unary<'a>(alloc: Global, text: &'a [u8], tokens: &'a [Token], room: u8) -> Read<'a>
-    ensures reads { Gives (λ x. Got (One (view x.0)) (words text.now x.1.now)) result (Reads (Row row.Unary) room (words text.now tokens.now)) }
+    ensures reads { ReturnsOutcome (λ x. Got (One (view x.0)) (words text.now x.1.now)) result (StepReads (Row row.Unary) room (words text.now tokens.now)) }
     ensures shorter { IfOk result (λ x. length x.1.now < length tokens.now) }
 {
     let Some((operator, behind)) = prefix_at(text, tokens) else {
@@ -99,7 +99,7 @@ fn unary<'a>(alloc: Global, text: &'a [u8], tokens: &'a [Token], room: u8) -> Re
 /// A primary, its selections, calls and indexes.
 #[cycle(reader)]
 fn member<'a>(alloc: Global, text: &'a [u8], tokens: &'a [Token], room: u8) -> Read<'a>
-    ensures reads { Gives (λ x. Got (One (view x.0)) (words text.now x.1.now)) result (Reads (Row row.Member) room (words text.now tokens.now)) }
+    ensures reads { ReturnsOutcome (λ x. Got (One (view x.0)) (words text.now x.1.now)) result (StepReads (Row row.Member) room (words text.now tokens.now)) }
     ensures shorter { IfOk result (λ x. length x.1.now < length tokens.now) }
 {
     let (mut tree, mut rest) = primary(alloc, text, tokens, room)?;
@@ -121,7 +121,7 @@ fn member<'a>(alloc: Global, text: &'a [u8], tokens: &'a [Token], room: u8) -> R
 /// The field or the method's call that stands behind a dot.
 #[cycle(reader)]
 fn selection<'a>(alloc: Global, text: &'a [u8], tokens: &'a [Token], of: Expr, room: u8) -> Read<'a>
-    ensures reads { Gives (λ x. Got (One (view x.0)) (words text.now x.1.now)) result (Reads (Selection (view of)) room (words text.now tokens.now)) }
+    ensures reads { ReturnsOutcome (λ x. Got (One (view x.0)) (words text.now x.1.now)) result (StepReads (Selection (view of)) room (words text.now tokens.now)) }
     ensures shorter { IfOk result (λ x. length x.1.now < length tokens.now) }
 {
     let Some((name, rest)) = selector_at(text, tokens) else {
@@ -138,7 +138,7 @@ fn selection<'a>(alloc: Global, text: &'a [u8], tokens: &'a [Token], of: Expr, r
 /// A name, a call, a literal or an expression in brackets.
 #[cycle(reader)]
 fn primary<'a>(alloc: Global, text: &'a [u8], tokens: &'a [Token], room: u8) -> Read<'a>
-    ensures reads { Gives (λ x. Got (One (view x.0)) (words text.now x.1.now)) result (Reads (Row row.Primary) room (words text.now tokens.now)) }
+    ensures reads { ReturnsOutcome (λ x. Got (One (view x.0)) (words text.now x.1.now)) result (StepReads (Row row.Primary) room (words text.now tokens.now)) }
     ensures shorter { IfOk result (λ x. length x.1.now < length tokens.now) }
 {
     if let Some(inside) = after(text, tokens, Mark::OpenParen) {
@@ -175,7 +175,7 @@ fn enclosed<'a>(
     close: Mark,
     room: u8,
 ) -> Read<'a>
-    ensures reads { Gives (λ x. Got (One (view x.0)) (words text.now x.1.now)) result (Reads (Enclosed close) room (words text.now tokens.now)) }
+    ensures reads { ReturnsOutcome (λ x. Got (One (view x.0)) (words text.now x.1.now)) result (StepReads (Enclosed close) room (words text.now tokens.now)) }
     ensures shorter { IfOk result (λ x. length x.1.now < length tokens.now) }
 {
     if room == 0 {
@@ -197,7 +197,7 @@ fn items<'a>(
     closing: Closing,
     room: u8,
 ) -> Read<'a, Vec<Expr>>
-    ensures reads { Gives (λ x. Got (Many (list.map view x.0.items)) (words text.now x.1.now)) result (Reads (Listed closing) room (words text.now tokens.now)) }
+    ensures reads { ReturnsOutcome (λ x. Got (Many (list.map view x.0.items)) (words text.now x.1.now)) result (StepReads (Listed closing) room (words text.now tokens.now)) }
     ensures shorter { IfOk result (λ x. length x.1.now < length tokens.now) }
 {
     if room == 0 {
@@ -232,7 +232,7 @@ fn entries<'a>(
     tokens: &'a [Token],
     room: u8,
 ) -> Read<'a, Vec<(Expr, Expr)>>
-    ensures reads { Gives (λ x. Got (Keyed (list.map entry_view x.0.items)) (words text.now x.1.now)) result (Reads Mapped room (words text.now tokens.now)) }
+    ensures reads { ReturnsOutcome (λ x. Got (Keyed (list.map entry_view x.0.items)) (words text.now x.1.now)) result (StepReads Mapped room (words text.now tokens.now)) }
     ensures shorter { IfOk result (λ x. length x.1.now < length tokens.now) }
 {
     if room == 0 {

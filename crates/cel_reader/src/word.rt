@@ -1,9 +1,9 @@
 //! Words of a text.
 
 ghost use Rattle.std.specs.Prelude.{◌≡◌, ◌<◌, ◌-◌, [], ◌∷◌, take, drop, length, IfSome, MatchOption};
-ghost use Rattle.cel_tokens.specs.Token.{seen};
+ghost use Rattle.cel_tokens.specs.Token.{token_view};
 ghost use Rattle.cel_reader.specs.Look.{words};
-ghost use Rattle.cel_reader.specs.Shown.{shown};
+ghost use Rattle.cel_reader.specs.Shown.{word_view};
 
 use cel_tokens::{Kind, Mark, Token, mark_of};
 
@@ -29,7 +29,7 @@ fn bytes_of<'a>(text: &'a [u8], token: &Token) -> &'a [u8]
 /// The word of the token. One of a mark's kind whose bytes are none is a name of no bytes, which no
 /// token of a text is.
 fn word_of<'a>(text: &'a [u8], token: &'a Token) -> Word<'a>
-    ensures { shown result ≡ (seen text.now token.now).word }
+    ensures { word_view result ≡ (token_view text.now token.now).word }
 {
     let bytes = bytes_of(text, token);
     match &token.kind {
@@ -45,7 +45,7 @@ fn word_of<'a>(text: &'a [u8], token: &'a Token) -> Word<'a>
 
 /// The first word, and the tokens behind it.
 pub fn first<'a>(text: &'a [u8], tokens: &'a [Token]) -> Option<(Word<'a>, &'a [Token])>
-    ensures word { MatchOption result (words text.now tokens.now ≡ []) (λ x. words text.now tokens.now ≡ shown x.0 ∷ words text.now x.1.now) }
+    ensures word { MatchOption result (words text.now tokens.now ≡ []) (λ x. words text.now tokens.now ≡ word_view x.0 ∷ words text.now x.1.now) }
     ensures shorter { IfSome result (λ x. length x.1.now < length tokens.now) }
 {
     match tokens {

@@ -1,5 +1,5 @@
 -- The tokens of what is found at the front.
-use Rattle.cel_tokens.proofs.Prelude.{◌≡◌, ℕ, suc, ◌+◌, ◌≤◌, List, [], ◌∷◌, ◌++◌, length, take, drop, refl, sym, ◌∙◌, ap, subst, arith, Bool, true, false, Option, Some, pos, neg_ℤ, length-take-le, length-drop, length-append, append_assoc, take-take, take-append-drop, take-append_seam, Mark, name, int, text, mark, mark_word, is_letter, is_name_byte, run, mark_at, mark_of, one_byte, two_bytes, opening_len, is_quote, is_raw_prefix, Says, Skips, none, blank, comment, IsToken, HasToken, a_name, a_signed_int, a_mark, a_text, a_raw_text, FollowsSign}
+use Rattle.cel_tokens.proofs.Prelude.{◌≡◌, ℕ, suc, ◌+◌, ◌≤◌, List, [], ◌∷◌, ◌++◌, length, take, drop, refl, sym, ◌∙◌, ap, subst, arith, Bool, true, false, Option, Some, pos, neg_ℤ, length-take-le, length-drop, length-append, append_assoc, take-take, take-append-drop, take-append_seam, Mark, name, int, text, mark, mark_word, is_letter, is_name_byte, run, mark_at, mark_of, one_byte, two_bytes, opening_len, is_quote, is_raw_prefix, LiteralMeans, Skips, none, blank, comment, IsToken, HasToken, a_name, a_signed_int, a_mark, a_text, a_raw_text, FollowsSign}
 use mathlib.Core.Logic.{inl, inr}
 use Rattle.cel_tokens.proofs.Runs.{run_within}
 use Rattle.cel_tokens.proofs.Marked as marked
@@ -9,8 +9,8 @@ use Rattle.cel_tokens.proofs.OwnBytes.{says_within, says_alike}
 -- ---- text literals
 
 -- a literal alone
-own : (raw : Bool) (quote n : ℕ) (bytes said : List ℕ) → Says raw quote bytes n said → (n ≤ length bytes)
-    × Says raw quote (take n bytes) (length (take n bytes)) said
+own : (raw : Bool) (quote n : ℕ) (bytes said : List ℕ) → LiteralMeans raw quote bytes n said → (n ≤ length bytes)
+    × LiteralMeans raw quote (take n bytes) (length (take n bytes)) said
 own raw quote n bytes said s = grind (arith, says_within, length-take-le, says_alike, take-take)
 
 -- the first byte of a literal, or the first two of a raw one
@@ -19,7 +19,7 @@ Opens false quote b bs = (b ≡ quote) × (is_quote quote ≡ true)
 Opens true quote b [] = ⊥
 Opens true quote b (c ∷ cs) = (c ≡ quote) × (is_raw_prefix b ≡ true) × (is_quote quote ≡ true)
 
-pub text_token : (signed raw : Bool) (quote b n : ℕ) (bs said : List ℕ) → Opens raw quote b bs → Says raw quote (drop (opening_len raw) (b ∷ bs)) n said
+pub text_token : (signed raw : Bool) (quote b n : ℕ) (bs said : List ℕ) → Opens raw quote b bs → LiteralMeans raw quote (drop (opening_len raw) (b ∷ bs)) n said
     → HasToken signed (b ∷ bs) (opening_len raw + n) (text said)
 text_token signed false quote b n bs said o s =
     let w = own false quote n bs said s in

@@ -1,8 +1,8 @@
 -- What is found at the front, by cases.
 use Rattle.cel_tokens.proofs.Prelude.{◌≡◌, ℕ, ◌≤◌, List, [], ◌∷◌, take, drop, refl, arith, Bool, true, false, Option, Some, None, ◌==◌, ◌&&◌, if◌then◌else◌, nat_lt, nat_tests, name, is_letter, is_name_byte, is_digit_of, run, between, mark_at, opening, opening_len, content, digit_begins, front, front_word, front_text, front_int, front_mark, before_digits, signed_int_begins}
-use Rattle.cel_tokens.specs.Front as front
+use Rattle.cel_tokens.specs.Lexed as front
 
-pub data Found (signed : Bool) (b : ℕ) (bs : List ℕ) : front.Front → Type 0 where
+pub data Found (signed : Bool) (b : ℕ) (bs : List ℕ) : front.Lexed → Type 0 where
   a_gap : (n : ℕ) → 1 ≤ n → n ≡ between false (b ∷ bs) → Found signed b bs (front.space n)
   a_text : (raw : Bool) (quote : ℕ) → opening (b ∷ bs) ≡ Some (raw, quote)
       → Found signed b bs (front_text (opening_len raw) (content raw quote 0 0 [] (drop (opening_len raw) (b ∷ bs))))

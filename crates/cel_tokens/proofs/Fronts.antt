@@ -1,7 +1,7 @@
 -- The definition of what stands at the front, without cases on the text.
 use Rattle.cel_tokens.proofs.Prelude.{◌≡◌, ℕ, ◌<◌, ◌≤◌, List, length, get_or, refl, arith, Bool, true, false, if◌then◌else◌, nat_lt, ◌==◌, Result, OnErr, nat_tests, between, IsUtf8, drop, IsQuoted, EndsText, opening, opening_len, front, front_word}
 use Rattle.cel_tokens.proofs.Contents.{rest_utf8, quote_ascii}
-use Rattle.cel_tokens.specs.Front.{over, space}
+use Rattle.cel_tokens.specs.Lexed.{over, space}
 
 pub front_nil : (signed : Bool) (xs : List ℕ) → length xs ≤ 0 → front signed xs ≡ over
 unfolding front

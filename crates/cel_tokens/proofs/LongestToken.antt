@@ -1,6 +1,6 @@
 -- No longer token stands at the front.
-use Rattle.cel_tokens.proofs.Prelude.{◌≡◌, ℕ, suc, ◌+◌, ◌<◌, ◌≤◌, List, [], ◌∷◌, ◌++◌, length, take, drop, refl, sym, ◌∙◌, ap, subst, arith, Bool, true, false, Option, Some, None, ◌⊎◌, ◌==◌, ℤ, nat_tests, length-append, length-take-le, append_assoc, take-append-drop, take-append-le, drop-append_seam, Mark, Word, text, is_letter, is_name_byte, is_digit_of, is_blank, mark_at, mark_of, of_two, two_bytes, opening, opening_len, is_quote, is_raw_prefix, Says, int_at, int_of, front, int_front, front_mark, before_digits, IsName, Takes, Skips, IsLineOver, none, blank, comment, Spells, IsInt, FollowsSign, decimal, hex, IsToken, HasToken, IsLongestToken, a_name, an_int, a_signed_int, a_mark, a_text, a_raw_text}
-use Rattle.cel_tokens.specs.Front as front
+use Rattle.cel_tokens.proofs.Prelude.{◌≡◌, ℕ, suc, ◌+◌, ◌<◌, ◌≤◌, List, [], ◌∷◌, ◌++◌, length, take, drop, refl, sym, ◌∙◌, ap, subst, arith, Bool, true, false, Option, Some, None, ◌⊎◌, ◌==◌, ℤ, nat_tests, length-append, length-take-le, append_assoc, take-append-drop, take-append-le, drop-append_seam, Mark, Word, text, is_letter, is_name_byte, is_digit_of, is_blank, mark_at, mark_of, of_two, two_bytes, opening, opening_len, is_quote, is_raw_prefix, LiteralMeans, int_at, int_of, front, int_front, front_mark, before_digits, IsName, Takes, Skips, IsLineOver, none, blank, comment, Spells, IsInt, FollowsSign, decimal, hex, IsToken, HasToken, IsLongestToken, a_name, an_int, a_signed_int, a_mark, a_text, a_raw_text}
+use Rattle.cel_tokens.specs.Lexed as front
 use Rattle.cel_tokens.proofs.Runs.{run_on}
 use Rattle.cel_tokens.proofs.NoLonger.{begins_here, no_text, int_len, no_longer_name, no_longer_int, no_longer_hex}
 use Rattle.cel_tokens.proofs.NegatedInts.{int_is, no_longer, int_digit, sign_front}
@@ -11,7 +11,7 @@ use Rattle.cel_tokens.proofs.FrontCases as case
 use Rattle.cel_tokens.proofs.FrontCases.{Found}
 
 -- what is found takes so many of the bytes at least, and something is found
-abbrev AtLeast : List ℕ → ℕ → front.Front → Type 0
+abbrev AtLeast : List ℕ → ℕ → front.Lexed → Type 0
 AtLeast bytes k (front.space n) = Unit {0}
 AtLeast bytes k (front.word n w) = k ≤ n
 AtLeast bytes k front.wrong_text = Unit {0}
@@ -26,7 +26,7 @@ name_byte : (b : ℕ) → is_letter b ≡ true → is_name_byte b ≡ true
 name_byte b l = rw l refl
 
 -- a byte at least, where something is found
-takes_one : (signed : Bool) (b : ℕ) (bs : List ℕ) (x : front.Front) → Found signed b bs x
+takes_one : (signed : Bool) (b : ℕ) (bs : List ℕ) (x : front.Lexed) → Found signed b bs x
     → (is_letter b ≡ false → AtLeast (b ∷ bs) 1 (front_mark (mark_at (b ∷ bs)))) → AtLeast (b ∷ bs) 1 x
 takes_one signed b bs x (case.a_gap n l q) h = tt
 takes_one signed b bs x (case.a_text raw quote o) h = grind arith
@@ -147,12 +147,12 @@ prefix_is_plain : (b : ℕ) → is_raw_prefix b ≡ true → (is_blank b ≡ fal
 prefix_is_plain b r = (grind (arith, nat_tests), grind (arith, nat_tests), grind (arith, nat_tests))
 
 text_front : (signed raw : Bool) (quote b n : ℕ) (bs said : List ℕ) → is_blank b ≡ false → (b == 47) ≡ false → opening (b ∷ bs) ≡ Some (raw, quote)
-    → Says raw quote (drop (opening_len raw) (b ∷ bs)) n said → front signed (b ∷ bs) ≡ front.word (opening_len raw + n) (text said)
+    → LiteralMeans raw quote (drop (opening_len raw) (b ∷ bs)) n said → front signed (b ∷ bs) ≡ front.word (opening_len raw + n) (text said)
 unfolding front
 text_front signed raw quote b n bs said k s o p = rw (begins_here b bs (k, s), o, (says_its_pieces raw quote (drop (opening_len raw) (b ∷ bs)) n said).1 p) refl
 
-more_says : {raw : Bool} {quote : ℕ} {bytes said : List ℕ} → Says raw quote bytes (length bytes) said → (rest : List ℕ)
-    → Says raw quote (bytes ++ rest) (length bytes) said
+more_says : {raw : Bool} {quote : ℕ} {bytes said : List ℕ} → LiteralMeans raw quote bytes (length bytes) said → (rest : List ℕ)
+    → LiteralMeans raw quote (bytes ++ rest) (length bytes) said
 more_says {raw} {quote} {bytes} s rest = grind (arith, says_alike, length-append, take-append-le)
 
 pub raw_quoted : (prefix quote : ℕ) (bs : List ℕ) → is_raw_prefix prefix ≡ true → is_quote quote ≡ true → opening (prefix ∷ quote ∷ bs) ≡ Some (true, quote)

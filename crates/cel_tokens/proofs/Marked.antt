@@ -1,6 +1,6 @@
 -- The bytes of a mark say which it is.
 use Rattle.cel_tokens.proofs.Prelude.{arith, ◌≡◌, ℕ, List, [], ◌∷◌, take, Option, Some, sym, subst, ap, inl, inr, ◌⊎◌, front_mark, mark_at, mark_of, of_one, of_two, one_byte, two_bytes, mark, mark_word, Mark}
-use Rattle.cel_tokens.specs.Front as front
+use Rattle.cel_tokens.specs.Lexed as front
 
 pub of_one_is : (o : Option Mark) (m : Mark) (n : ℕ) → of_one o ≡ Some (m, n) → (o ≡ Some m) × (n ≡ 1)
 of_one_is o m n h0 = grind arith

@@ -1,5 +1,5 @@
 -- What is computed of an escape is what its bytes name.
-use Rattle.cel_tokens.proofs.Prelude.{◌≡◌, ℕ, suc, ◌+◌, ◌*◌, ◌≤◌, List, [], ◌∷◌, ◌++◌, length, take, drop, refl, sym, ◌∙◌, ap, subst, arith, Bool, true, false, Option, Some, None, ◌⊎◌, ◌==◌, ◌&&◌, ◌||◌, if◌then◌else◌, nat_lt, option_map, option_and_then, digit_value, nat_tests, length-take, length-take-le, take-append-drop, take-append_seam, is_digit_of, run, number, number_from, escape, simple, numeric, code_point, is_code_point, AllPass, AreDigits, Names, bell, backspace, form_feed, line_feed, carriage_return, tab, vertical_tab, backslash, question_mark, double_quote, single_quote, back_quote, two_hex, four_hex, eight_hex, octal}
+use Rattle.cel_tokens.proofs.Prelude.{◌≡◌, ℕ, suc, ◌+◌, ◌*◌, ◌≤◌, List, [], ◌∷◌, ◌++◌, length, take, drop, refl, sym, ◌∙◌, ap, subst, arith, Bool, true, false, Option, Some, None, ◌⊎◌, ◌==◌, ◌&&◌, ◌||◌, if◌then◌else◌, nat_lt, option_map, option_and_then, digit_value, nat_tests, length-take, length-take-le, take-append-drop, take-append_seam, is_digit_of, run, number, number_from, escape, simple, numeric, code_point, is_code_point, AllPass, AreDigits, EscapeNames, bell, backspace, form_feed, line_feed, carriage_return, tab, vertical_tab, backslash, question_mark, double_quote, single_quote, back_quote, two_hex, four_hex, eight_hex, octal}
 use Rattle.cel_tokens.proofs.Runs.{run_on, run_within}
 
 -- ---- digits
@@ -37,13 +37,13 @@ gives base count len ds rest d c = grind (arith, take-append_seam, run_passes)
 -- ---- what stands behind a backslash is named
 
 abbrev Named : List ℕ → ℕ × ℕ → Type 0
-Named bytes x = (x.1 ≤ length bytes) × Names (take x.1 bytes) x.0
+Named bytes x = (x.1 ≤ length bytes) × EscapeNames (take x.1 bytes) x.0
 
 abbrev NamedIf : List ℕ → Option (ℕ × ℕ) → Type 0
 NamedIf bytes o = (x : ℕ × ℕ) → o ≡ Some x → Named bytes x
 
 -- one letter
-one : (k code : ℕ) (bs : List ℕ) → Names (k ∷ []) code → NamedIf (k ∷ bs) (Some (code, 1))
+one : (k code : ℕ) (bs : List ℕ) → EscapeNames (k ∷ []) code → NamedIf (k ∷ bs) (Some (code, 1))
 one k code bs h0 = grind arith
 
 -- what stands behind a test, whichever way it goes
@@ -62,11 +62,11 @@ read_as : (b k : ℕ) (bs : List ℕ) (o : Option (ℕ × ℕ)) → NamedIf (k �
 read_as b k bs o i t = subst (λ c. NamedIf (c ∷ bs) o) (sym (grind (arith, nat_tests))) i
 
 -- one letter, else what comes behind it in the table
-letter : (b k code : ℕ) (bs : List ℕ) (o : Option (ℕ × ℕ)) → Names (k ∷ []) code → NamedIf (b ∷ bs) o → NamedIf (b ∷ bs) (if b == k then Some (code, 1) else o)
+letter : (b k code : ℕ) (bs : List ℕ) (o : Option (ℕ × ℕ)) → EscapeNames (k ∷ []) code → NamedIf (b ∷ bs) o → NamedIf (b ∷ bs) (if b == k then Some (code, 1) else o)
 letter b k code bs o n i = choose (b ∷ bs) (b == k) _ o (read_as b k bs _ (one k code bs n)) i
 
 -- a mark that stands for itself
-itself : (b k : ℕ) (bs : List ℕ) → Names (k ∷ []) k → (b == k) ≡ true → NamedIf (b ∷ bs) (Some (b, 1))
+itself : (b k : ℕ) (bs : List ℕ) → EscapeNames (k ∷ []) k → (b == k) ≡ true → NamedIf (b ∷ bs) (Some (b, 1))
 itself b k bs n t = subst (λ c. NamedIf (c ∷ bs) (Some (c, 1))) (sym (grind (arith, nat_tests))) (one k k bs n)
 
 simple_named : (b : ℕ) (bs : List ℕ) → NamedIf (b ∷ bs) (simple b)
@@ -85,7 +85,7 @@ simple_named b bs =
     (choose (b ∷ bs) (b == 96) _ None (itself b 96 bs back_quote) (λ x e. absurd cc))))))))))))
 
 -- a letter and so many hex digits
-hex_named : (b count : ℕ) (bs : List ℕ) → ((ds : List ℕ) → AreDigits 16 count ds → is_code_point (number 16 ds) ≡ true → Names (b ∷ ds) (number 16 ds))
+hex_named : (b count : ℕ) (bs : List ℕ) → ((ds : List ℕ) → AreDigits 16 count ds → is_code_point (number 16 ds) ≡ true → EscapeNames (b ∷ ds) (number 16 ds))
     → NamedIf (b ∷ bs) (numeric 16 count (suc count) bs)
 hex_named b count bs names x e = grind (arith, given)
 
@@ -146,7 +146,7 @@ octal_computed (a ∷ b ∷ c ∷ []) d h rest =
     octal_here a (b ∷ c ∷ rest) (first_octal a b c (omega (arith, n, h)) d.1.0) ∙ gives 8 3 3 (a ∷ b ∷ c ∷ []) rest d (grind (arith, nat_tests))
 octal_computed _ d h rest = let l = d.0 in absurd (omega (arith, l))
 
-computed : {written : List ℕ} {code : ℕ} → Names written code → Computed written code
+computed : {written : List ℕ} {code : ℕ} → EscapeNames written code → Computed written code
 unfolding escape
 computed (two_hex x ds h d) rest = two_computed x ds h d rest
 computed (four_hex ds d c) rest = let l = d.0 in gives 16 4 5 ds rest d c ∙ same_length (number 16 ds) 5 (length (117 ∷ ds)) (omega (arith, l))
@@ -154,9 +154,9 @@ computed (eight_hex ds d c) rest = let l = d.0 in gives 16 8 9 ds rest d c ∙ s
 computed (octal ds d h) rest = octal_computed ds d h rest
 computed _ rest = refl
 
-back : (bytes : List ℕ) (code len : ℕ) → (len ≤ length bytes) × Names (take len bytes) code → escape bytes ≡ Some (code, len)
+back : (bytes : List ℕ) (code len : ℕ) → (len ≤ length bytes) × EscapeNames (take len bytes) code → escape bytes ≡ Some (code, len)
 back bytes code len h =
     ap escape (sym (take-append-drop len bytes)) ∙ (computed h.1 (drop len bytes) ∙ same_length code (length (take len bytes)) len (length-take-le len bytes h.0))
 
-pub names_its_code_point : (bytes : List ℕ) (code len : ℕ) → (escape bytes ≡ Some (code, len) → (len ≤ length bytes) × Names (take len bytes) code) × ((len ≤ length bytes) × Names (take len bytes) code → escape bytes ≡ Some (code, len))
+pub names_its_code_point : (bytes : List ℕ) (code len : ℕ) → (escape bytes ≡ Some (code, len) → (len ≤ length bytes) × EscapeNames (take len bytes) code) × ((len ≤ length bytes) × EscapeNames (take len bytes) code → escape bytes ≡ Some (code, len))
 names_its_code_point bytes code len = (escape_named bytes (code, len), back bytes code len)

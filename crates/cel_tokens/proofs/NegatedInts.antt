@@ -1,7 +1,7 @@
 -- A minus and the int behind it are one token, where the minus may be a sign.
 use Rattle.cel_tokens.proofs.Prelude.{◌≡◌, ℕ, suc, ◌+◌, ◌^◌, ◌<◌, ◌≤◌, List, [], ◌∷◌, ◌++◌, length, take, drop, refl, sym, ◌∙◌, ap, subst, arith, Bool, true, false, ◌⊎◌, ◌&&◌, if◌then◌else◌, ℤ, pos, neg_ℤ, nat_tests, cases_lt, length-take-le, length-drop, take-append-drop, Minus, int, mark, is_digit_of, run, between, number, int_at, int_of, digit_begins, hex_begins, spelled, fits64, front, int_front, AllPass, IsDecimal, Spells, IsInt, FollowsSign, decimal, hex}
 use mathlib.Core.Logic.{inr}
-use Rattle.cel_tokens.specs.Front as front
+use Rattle.cel_tokens.specs.Lexed as front
 use Rattle.cel_tokens.proofs.Runs.{run_on, run_within}
 use Rattle.cel_tokens.proofs.NoLonger.{begins_here, digit_is_token, no_text, int_len, hex_len}
 use Rattle.cel_tokens.proofs.LongestGap.{goes_on, is_longest_gap}
@@ -79,7 +79,7 @@ gap_is bytes gap n v f = grind (arith, goes_on, stops_at_digit, int_digit, lengt
 behind_minus : (bytes : List ℕ) → drop (between false bytes + 1) (45 ∷ bytes) ≡ drop (between false bytes) bytes
 behind_minus bytes = grind arith
 
-abbrev signed_front : ℕ → List ℕ → front.Front
+abbrev signed_front : ℕ → List ℕ → front.Lexed
 signed_front gap rest = int_front (gap + 1) (int_at rest).0 (int_of true (int_at rest).1)
 
 front_minus : (signed : Bool) (bytes : List ℕ) → front signed (45 ∷ bytes) ≡ (if signed && digit_begins (drop (between false bytes) bytes) then signed_front (between false bytes) (drop (between false bytes) bytes) else front.word 1 (mark Minus))
@@ -112,7 +112,7 @@ too_wide bytes gap n v f h = sign_front bytes gap n v f ∙ (rw (is_wide v h) re
 -- ---- what the front is, by cases
 
 -- what a minus begins: an int with its sign, one too wide, or a mark
-abbrev Begun : List ℕ → front.Front → Type 0
+abbrev Begun : List ℕ → front.Lexed → Type 0
 Begun bytes x =
     ((gap n v : ℕ) × FollowsSign bytes gap n v × (v ≤ 2 ^ 63) × (x ≡ front.word (gap + 1 + n) (int (neg_ℤ (pos v))))) ⊎ (((gap n v : ℕ) × FollowsSign bytes gap n v × (2 ^ 63 < v) × (x ≡ front.wide_int (gap + 1))) ⊎ (x ≡ front.word 1 (mark Minus)))
 
@@ -134,10 +134,10 @@ Negated bytes len z = (gap n value : ℕ) × FollowsSign bytes gap n value × (l
 abbrev Wide : List ℕ → ℕ → Type 0
 Wide bytes before = (gap n value : ℕ) × FollowsSign bytes gap n value × (before ≡ 1 + gap) × (2 ^ 63 < value)
 
-is_negated : (bytes : List ℕ) (x : front.Front) (len : ℕ) (z : ℤ) → Begun bytes x → x ≡ front.word len (int z) → Negated bytes len z
+is_negated : (bytes : List ℕ) (x : front.Lexed) (len : ℕ) (z : ℤ) → Begun bytes x → x ≡ front.word len (int z) → Negated bytes len z
 is_negated bytes x len z h0 h1 = grind arith
 
-is_too_wide : (bytes : List ℕ) (x : front.Front) (before : ℕ) → Begun bytes x → x ≡ front.wide_int before → Wide bytes before
+is_too_wide : (bytes : List ℕ) (x : front.Lexed) (before : ℕ) → Begun bytes x → x ≡ front.wide_int before → Wide bytes before
 is_too_wide bytes x before h0 h1 = grind arith
 
 wide_back : (bytes : List ℕ) (before : ℕ) → Wide bytes before → front true (45 ∷ bytes) ≡ front.wide_int before

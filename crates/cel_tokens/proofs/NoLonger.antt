@@ -1,6 +1,6 @@
 -- No longer name and no longer int stands where a token is.
 use Rattle.cel_tokens.proofs.Prelude.{◌≡◌, ℕ, ◌+◌, ◌≤◌, List, [], ◌∷◌, ◌++◌, length, take, refl, arith, Bool, true, false, None, ◌⊎◌, ◌==◌, if◌then◌else◌, drop, nat_tests, name, is_letter, is_name_byte, is_digit_of, is_blank, opens_comment, between, run, int_at, hex_begins, spelled, opening, is_quote, is_raw_prefix, front, front_int, AllPass, IsName, IsDecimal, Takes}
-use Rattle.cel_tokens.specs.Front as front
+use Rattle.cel_tokens.specs.Lexed as front
 use Rattle.cel_tokens.proofs.Runs.{between_off, run_on}
 
 run_prefix : (p : ℕ → Bool) (xs ys : List ℕ) → AllPass p xs → length xs ≤ run p (xs ++ ys)

@@ -1,6 +1,6 @@
 -- One thing stands at the front of a text.
 use Rattle.cel_tokens.proofs.Prelude.{◌≡◌, ℕ, ◌+◌, ◌≤◌, List, [], ◌∷◌, drop, refl, sym, ap, arith, Bool, true, false, length-drop, Word, int, IsGap, IsInt, IsLongestToken, DigitsAt, StandsAtFront, NothingElseStands, here, behind_sign}
-use Rattle.cel_tokens.specs.Front as front
+use Rattle.cel_tokens.specs.Lexed as front
 use Rattle.cel_tokens.proofs.NegatedInts.{int_digit, gap_is}
 use Rattle.cel_tokens.proofs.OneWord.{one_word, no_int}
 use Rattle.cel_tokens.proofs.LongestToken.{none_at_end}
@@ -23,13 +23,13 @@ same_place m n v w (behind_sign {bytes = bytes} h s) here i j = let d : false �
 same_place m n v w (behind_sign {bytes = bytes} {gap = k} h s) (behind_sign {gap = l} g t) i j = grind (arith, gap_is)
 
 -- at the end of a text stands nothing more
-at_end : (signed : Bool) (bytes : List ℕ) (y : front.Front) → bytes ≡ [] → StandsAtFront signed bytes y → front.over ≡ y
+at_end : (signed : Bool) (bytes : List ℕ) (y : front.Lexed) → bytes ≡ [] → StandsAtFront signed bytes y → front.over ≡ y
 at_end signed bytes y e g = grind (arith, none_at_end)
 
 same_word : (m n : ℕ) (w v : Word) → m ≡ n → w ≡ v → front.word m w ≡ front.word n v
 same_word m n w v e f = λ i. front.word (e i) (f i)
 
-only : (signed : Bool) (bytes : List ℕ) (x y : front.Front) → StandsAtFront signed bytes x → StandsAtFront signed bytes y → x ≡ y
+only : (signed : Bool) (bytes : List ℕ) (x y : front.Lexed) → StandsAtFront signed bytes x → StandsAtFront signed bytes y → x ≡ y
 only signed bytes front.over y f g = at_end signed bytes y f g
 only signed bytes x front.over f g = sym (at_end signed bytes x g f)
 only signed bytes (front.space m) (front.space n) f g = ap front.space (same_gap bytes m n f.1 g.1)

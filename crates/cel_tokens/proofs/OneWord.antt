@@ -1,5 +1,5 @@
 -- The bytes of a token have one word.
-use Rattle.cel_tokens.proofs.Prelude.{◌≡◌, ℕ, zero, suc, ◌<◌, List, [], ◌∷◌, ◌++◌, length, drop, refl, sym, ◌∙◌, ap, subst, arith, Bool, true, false, Some, ◌==◌, ℤ, pos, neg_ℤ, nat_tests, append-nil, length-append, drop-append_seam, digit_begins, Mark, Word, name, int, text, mark, is_letter, is_digit_of, between, mark_of, one_byte, two_bytes, is_quote, is_raw_prefix, Says, Skips, Spells, decimal, hex, IsToken, HasToken, OpensText, by_quote, by_prefix, a_name, an_int, a_signed_int, a_mark, a_text, a_raw_text}
+use Rattle.cel_tokens.proofs.Prelude.{◌≡◌, ℕ, zero, suc, ◌<◌, List, [], ◌∷◌, ◌++◌, length, drop, refl, sym, ◌∙◌, ap, subst, arith, Bool, true, false, Some, ◌==◌, ℤ, pos, neg_ℤ, nat_tests, append-nil, length-append, drop-append_seam, digit_begins, Mark, Word, name, int, text, mark, is_letter, is_digit_of, between, mark_of, one_byte, two_bytes, is_quote, is_raw_prefix, LiteralMeans, Skips, Spells, decimal, hex, IsToken, HasToken, OpensText, by_quote, by_prefix, a_name, an_int, a_signed_int, a_mark, a_text, a_raw_text}
 use Rattle.cel_tokens.proofs.NegatedInts.{same_value, stops_at_digit}
 use Rattle.cel_tokens.proofs.LongestGap.{goes_on}
 use Rattle.cel_tokens.proofs.LongestToken.{name_byte_is_no_quote, skipped, some_behind, some_digits}
@@ -45,8 +45,8 @@ Of Name bytes w = w ≡ name bytes
 Of Int bytes w = (value : ℕ) × Spells bytes value × (w ≡ int (pos value))
 Of Signed bytes w = (digits : List ℕ) × (value : ℕ) × Skips (behind bytes) digits × Spells digits value × (w ≡ int (neg_ℤ (pos value)))
 Of Sign bytes w = (m : Mark) × (mark_of bytes ≡ Some m) × (w ≡ mark m)
-Of Text (b ∷ bs) w = (said : List ℕ) × Says false b bs (length bs) said × (w ≡ text said)
-Of Raw (b ∷ c ∷ cs) w = (said : List ℕ) × Says true c cs (length cs) said × (w ≡ text said)
+Of Text (b ∷ bs) w = (said : List ℕ) × LiteralMeans false b bs (length bs) said × (w ≡ text said)
+Of Raw (b ∷ c ∷ cs) w = (said : List ℕ) × LiteralMeans true c cs (length cs) said × (w ≡ text said)
 Of _ _ w = ⊥
 
 digit_plain : (b : ℕ) → is_digit_of 10 b ≡ true → (is_quote b ≡ false) × (is_letter b ≡ false)

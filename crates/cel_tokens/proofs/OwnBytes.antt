@@ -1,5 +1,5 @@
 -- What a text literal says depends on its own bytes alone.
-use Rattle.cel_tokens.proofs.Prelude.{◌≡◌, ℕ, ◌+◌, ◌≤◌, List, [], ◌∷◌, ◌++◌, length, take, drop, sym, ◌∙◌, ap, subst, arith, Bool, Option, Some, None, encode_utf8, length-drop, take-take, drop-take, escape, escaped, piece, Says, closing, one_piece, Names}
+use Rattle.cel_tokens.proofs.Prelude.{◌≡◌, ℕ, ◌+◌, ◌≤◌, List, [], ◌∷◌, ◌++◌, length, take, drop, sym, ◌∙◌, ap, subst, arith, Bool, Option, Some, None, encode_utf8, length-drop, take-take, drop-take, escape, escaped, piece, LiteralMeans, closing, one_piece, EscapeNames}
 use Rattle.cel_tokens.proofs.NamedEscapes.{names_its_code_point}
 
 -- the first n bytes are the same
@@ -20,7 +20,7 @@ alike_fewer m n xs ys h a =
 
 escape_alike : (xs ys : List ℕ) (code len : ℕ) → escape xs ≡ Some (code, len) → Alike len xs ys → escape ys ≡ Some (code, len)
 escape_alike xs ys code len e a =
-    (names_its_code_point ys code len).1 (a.0, subst (λ (zs : List ℕ). Names zs code) (sym a.1) ((names_its_code_point xs code len).0 e).1)
+    (names_its_code_point ys code len).1 (a.0, subst (λ (zs : List ℕ). EscapeNames zs code) (sym a.1) ((names_its_code_point xs code len).0 e).1)
 
 escaped_alike : (b : ℕ) (xs ys : List ℕ) (x : ℕ × List ℕ) (o : Option (ℕ × ℕ)) → escape xs ≡ o → escaped o ≡ Some x → Alike x.0 (b ∷ xs) (b ∷ ys)
     → escaped (escape ys) ≡ Some x
@@ -34,26 +34,26 @@ piece_alike : (raw : Bool) (b : ℕ) (xs ys : List ℕ) (x : ℕ × List ℕ) �
 piece_alike raw b xs ys x e a = grind (arith, escaped_alike)
 
 -- a literal takes a byte at least
-says_some : {raw : Bool} {quote n : ℕ} {xs said : List ℕ} → Says raw quote xs n said → 1 ≤ n
+says_some : {raw : Bool} {quote n : ℕ} {xs said : List ℕ} → LiteralMeans raw quote xs n said → 1 ≤ n
 says_some h0 = grind arith
 
 -- and no more than there are
-pub says_within : {raw : Bool} {quote n : ℕ} {xs said : List ℕ} → Says raw quote xs n said → n ≤ length xs
+pub says_within : {raw : Bool} {quote n : ℕ} {xs said : List ℕ} → LiteralMeans raw quote xs n said → n ≤ length xs
 says_within closing = omega arith
 says_within (one_piece {b = b} {bs = bs} x d e s) = grind (arith, says_some, length-drop, says_within s)
 
 first_alike : (n b c : ℕ) (xs ys : List ℕ) → 1 ≤ n → Alike n (b ∷ xs) (c ∷ ys) → c ≡ b
 first_alike n b c xs ys h0 h1 = grind arith
 
-pub says_alike : {raw : Bool} {quote n : ℕ} {xs said : List ℕ} → Says raw quote xs n said → (ys : List ℕ) → Alike n xs ys → Says raw quote ys n said
+pub says_alike : {raw : Bool} {quote n : ℕ} {xs said : List ℕ} → LiteralMeans raw quote xs n said → (ys : List ℕ) → Alike n xs ys → LiteralMeans raw quote ys n said
 says_alike {raw} {quote} (closing {rest = rest}) [] a = let l = a.0 in absurd (omega (arith, l))
 says_alike {raw} {quote} (closing {rest = rest}) (c ∷ ys) a =
-    subst (λ k. Says raw quote (k ∷ ys) 1 []) (sym (first_alike 1 quote c rest ys (omega arith) a)) closing
+    subst (λ k. LiteralMeans raw quote (k ∷ ys) 1 []) (sym (first_alike 1 quote c rest ys (omega arith) a)) closing
 says_alike {raw} {quote} (one_piece x d e s) [] a = let l = a.0 in let k = says_some s in absurd (omega (arith, l, k))
 says_alike {raw} {quote} (one_piece {b = b} {n = n} {bs = bs} {said = said} x d e s) (c ∷ ys) a =
     let k = says_some s in
     let f = first_alike (x.0 + n) b c bs ys (omega (arith, k)) a in
     let g = subst (λ z. Alike (x.0 + n) (b ∷ bs) (z ∷ ys)) f a in
-    subst (λ z. Says raw quote (z ∷ ys) (x.0 + n) (x.1 ++ said)) (sym f)
+    subst (λ z. LiteralMeans raw quote (z ∷ ys) (x.0 + n) (x.1 ++ said)) (sym f)
     (one_piece x d (piece_alike raw b bs ys x e (alike_fewer x.0 (x.0 + n) (b ∷ bs) (b ∷ ys) (omega arith) g)) (says_alike s (drop x.0 (b ∷ ys))
     (alike_behind x.0 n (b ∷ bs) (b ∷ ys) g)))

@@ -23,9 +23,9 @@ plain_run raw quote [] q n said = ended raw quote 0 n said ∙ sym (ended raw qu
 plain_run raw quote (b ∷ bs) q n said = plain_run_at raw quote n b said bs q (plain_run raw quote bs q) (is_plain b) refl
 
 -- one stretch of the loop over a text
-pub stretch_step : (raw : Bool) (quote n k : ℕ) (said new rest xs : List ℕ) → is_quote quote ≡ true → rest ≡ drop n xs → k ≡ skip_plain_of rest
-    → new ≡ said ++ take k rest → content raw quote 0 (n + k) new (drop (n + k) xs) ≡ content raw quote 0 n said (drop n xs)
-stretch_step raw quote n k said new rest xs q r l a = grind (arith, plain_run, drop-drop)
+pub stretch_step : (raw : Bool) (quote n k : ℕ) (said rest xs : List ℕ) → is_quote quote ≡ true → rest ≡ drop n xs → k ≡ skip_plain_of rest
+    → content raw quote 0 (n + k) (said ++ take k rest) (drop (n + k) xs) ≡ content raw quote 0 n said (drop n xs)
+stretch_step raw quote n k said rest xs q r l = grind (arith, plain_run, drop-drop)
 
 pub stretch_utf8 : (n k : ℕ) (said new rest xs : List ℕ) → rest ≡ drop n xs → new ≡ said ++ take k rest → IsUtf8 (said ++ drop n xs) → IsUtf8 (new ++ drop (n + k) xs)
 stretch_utf8 n k said new rest xs r a u =

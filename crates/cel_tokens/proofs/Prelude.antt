@@ -1,6 +1,71 @@
 -- The names that these proofs cite of the library, of the crates below and of the definitions here. Declares nothing.
-pub use Rattle.std.proofs.{Common.All, Common.Bool, Common.Err, Common.IfOk, Common.IfSome, Common.List, Common.None, Common.Ok, Common.OnErr, Common.Option, Common.Result, Common.Some, Common.Vec, Common.ℕ, Common.ℤ, Common.[], Common.ap, Common.arith, Common.bytes_eq, Common.codes, Common.cond, Common.drop, Common.drop-cons, Common.encode_utf8, Common.false, Common.get_or, Common.if◌then◌else◌, Common.inl, Common.inr, Common.length, Common.lit≤, Common.map, Common.min, Common.nat_le, Common.nat_lt, Common.neg_ℤ, Common.not, Common.option_and_then, Common.option_map, Common.pos, Common.refl, Common.subst, Common.suc, Common.sym, Common.take, Common.true, Common.zero, Common.◌&&◌, Common.◌*◌, Common.◌++◌, Common.◌+◌, Common.◌-◌, Common.◌<◌, Common.◌==◌, Common.◌^◌, Common.◌||◌, Common.◌↔◌, Common.◌∙◌, Common.◌∷◌, Common.◌≡◌, Common.◌≢◌, Common.◌≤◌, Common.◌⊎◌, Math.Nat.le-mul_of_pos_right, Math.Seq.drop-append-add, Math.Seq.drop-append_seam, Math.Seq.take-append_seam, lemmas.Bool.cases_lt, lemmas.Bool.false_from_ne_true, lemmas.Bool.Decides.nat_tests, lemmas.Bool.Decides.not_from_Decides, lemmas.List.append-nil, lemmas.List.append_assoc, lemmas.List.drop-drop, lemmas.List.drop-take, lemmas.List.get_or-append-add, lemmas.List.get_or-drop, lemmas.List.get_or-take, lemmas.List.length-append, lemmas.List.length-drop, lemmas.List.length-map, lemmas.List.length-take, lemmas.List.length-take-le, lemmas.List.map-append, lemmas.List.take-append-drop, lemmas.List.take-append-le, lemmas.List.take-take, lemmas.List.take_all, lemmas.List.Elements.All-push, lemmas.List.Sums.prefix_len-le-length, lemmas.Result.err_from_is_err_and, lemmas.Slice.Eq.bytes_eq-Decides, lemmas.Str.IsCharBoundary-after_ascii, lemmas.Str.IsCharBoundary-before_ascii, lemmas.Str.IsUtf8-append, lemmas.Str.IsUtf8-drop, lemmas.Str.IsUtf8-encode, lemmas.Str.IsUtf8-take}
-pub use Rattle.std.specs.{Char.IsScalar, Char.digit_value, Global.Global, Str.IsUtf8}
-pub use Rattle.text_kernels.specs.{Scans.is_plain, Scans.skip_plain_of}
-pub use Rattle.cel_tokens.specs.{AsWritten.DigitsAt, AsWritten.FindsWhatStands, AsWritten.HasToken, AsWritten.IsLongestToken, AsWritten.IsTextWord, AsWritten.IsToken, AsWritten.NothingElseStands, AsWritten.OpensText, AsWritten.StandsAtFront, AsWritten.DigitsAt.behind_sign, AsWritten.DigitsAt.here, AsWritten.IsToken.a_mark, AsWritten.IsToken.a_name, AsWritten.IsToken.a_raw_text, AsWritten.IsToken.a_signed_int, AsWritten.IsToken.a_text, AsWritten.IsToken.an_int, AsWritten.OpensText.by_prefix, AsWritten.OpensText.by_quote, Bytes.is_between, Bytes.is_blank, Bytes.is_digit_of, Bytes.is_letter, Bytes.is_line_end, Bytes.is_name_byte, Bytes.opens_comment, Bytes.stays_in_comment, Escapes.AreDigits, Escapes.Names, Escapes.Names.back_quote, Escapes.Names.backslash, Escapes.Names.backspace, Escapes.Names.bell, Escapes.Names.carriage_return, Escapes.Names.double_quote, Escapes.Names.eight_hex, Escapes.Names.form_feed, Escapes.Names.four_hex, Escapes.Names.line_feed, Escapes.Names.octal, Escapes.Names.question_mark, Escapes.Names.single_quote, Escapes.Names.tab, Escapes.Names.two_hex, Escapes.Names.vertical_tab, Front.Front, Front.before_digits, Front.front_int, Front.front_mark, Front.front_plain, Front.front_text, Front.front_word, Front.int_front, Front.sign_may_follow, Front.signed_int_begins, Gaps.IsGap, Gaps.IsLineOver, Gaps.Skips, Gaps.Skips.blank, Gaps.Skips.comment, Gaps.Skips.none, Ints.digit_begins, Ints.fits64, Ints.hex_begins, Ints.int_at, Ints.int_of, Ints.number, Ints.spelled, Laws.IntFits, Lexis.Answers, Lexis.Begins, Lexis.Cuts, Lexis.IsTokens, Lexis.Lexes, Lexis.TakesMemory, Lexis.Tokens, Lexis.lexeme, Lexis.Begins.a_word, Lexis.Cuts.nothing, Lexis.Cuts.over, Lexis.Cuts.space, Lexis.Cuts.token, Lexis.Cuts.too_many, Lexis.Cuts.wide_int, Lexis.Cuts.wrong_text, Lexis.Lexes.read, Lexis.Lexes.too_long, Lexis.TakesMemory.behind_space, Lexis.TakesMemory.for_text, Lexis.TakesMemory.for_word, Longest.AllPass, Longest.IsDecimal, Longest.IsName, Longest.Takes, Marks.mark_at, Marks.mark_of, Marks.of_one, Marks.of_two, Marks.one_byte, Marks.two_bytes, Shown.EndsText, Shown.IsQuoted, SignedInts.EndsOperand, SignedInts.FollowsSign, SignedInts.IsInt, SignedInts.Spells, SignedInts.EndsOperand.brace, SignedInts.EndsOperand.bracket, SignedInts.EndsOperand.identifier, SignedInts.EndsOperand.paren, SignedInts.Spells.decimal, SignedInts.Spells.hex, Steps.CutsTo, Steps.Ends, Steps.Refused, Steps.refusal_of, TextLiterals.Says, TextLiterals.Says.closing, TextLiterals.Says.one_piece, Texts.code_point, Texts.digits, Texts.escaped, Texts.is_code_point, Texts.is_quote, Texts.is_raw_prefix, Texts.numeric, Texts.opening, Texts.opening_len, Texts.piece, Texts.simple, Token.Lexeme, Token.Word, Token.int, Token.mark, Token.mark_word, Token.name, Token.seen, Token.text, Token.word_of, declared.kind.Kind.Kind, declared.mark.Mark.Mark, declared.mark.Mark.TheVariants.CloseBrace, declared.mark.Mark.TheVariants.CloseBracket, declared.mark.Mark.TheVariants.CloseParen, declared.mark.Mark.TheVariants.Minus, declared.read_error.ReadError.ReadError, declared.read_error.ReadError.TheVariants.Memory, declared.read_error.ReadError.TheVariants.P1, declared.read_error.ReadError.TheVariants.P2, declared.read_error.ReadError.TheVariants.P3, declared.read_error.ReadError.TheVariants.P4, declared.read_error.ReadError.TheVariants.P5, declared.read_error.ReadError.TheVariants.P6, declared.token.Token.Token}
-unfoldable pub use Rattle.cel_tokens.specs.{Bytes.between, Bytes.run, Front.front, Ints.number_from, Texts.content, Texts.escape}
+pub use Rattle.std.proofs.Common.{All, Bool, Err, IfOk, IfSome, List, None, Ok, OnErr, Option, Result, Some, Vec, ℕ}
+pub use Rattle.std.proofs.Common.{ℤ, [], ap, arith, bytes_eq, codes, cond, drop, drop-cons, encode_utf8, false}
+pub use Rattle.std.proofs.Common.{get_or, if◌then◌else◌, inl, inr, length, lit≤, map, min, nat_le, nat_lt, neg_ℤ, not}
+pub use Rattle.std.proofs.Common.{option_and_then, option_map, pos, refl, subst, suc, sym, take, true, zero, ◌&&◌}
+pub use Rattle.std.proofs.Common.{◌*◌, ◌++◌, ◌+◌, ◌-◌, ◌<◌, ◌==◌, ◌^◌, ◌||◌, ◌↔◌, ◌∙◌, ◌∷◌, ◌≡◌, ◌≢◌, ◌≤◌, ◌⊎◌}
+pub use Rattle.std.proofs.Math.Nat.{le-mul_of_pos_right}
+pub use Rattle.std.proofs.Math.Seq.{drop-append-add, drop-append_seam, take-append_seam}
+pub use Rattle.std.proofs.lemmas.Bool.{cases_lt, false_from_ne_true}
+pub use Rattle.std.proofs.lemmas.Bool.Decides.{nat_tests, not_from_Decides}
+pub use Rattle.std.proofs.lemmas.List.{append-nil, append_assoc, drop-drop, drop-take, get_or-append-add, get_or-drop}
+pub use Rattle.std.proofs.lemmas.List.{get_or-take, length-append, length-drop, length-map, length-take}
+pub use Rattle.std.proofs.lemmas.List.{length-take-le, map-append, take-append-drop, take-append-le, take-take}
+pub use Rattle.std.proofs.lemmas.List.{take_all}
+pub use Rattle.std.proofs.lemmas.List.Elements.{All-push}
+pub use Rattle.std.proofs.lemmas.List.Sums.{prefix_len-le-length}
+pub use Rattle.std.proofs.lemmas.Result.{err_from_is_err_and}
+pub use Rattle.std.proofs.lemmas.Slice.Eq.{bytes_eq-Decides}
+pub use Rattle.std.proofs.lemmas.Str.{IsCharBoundary-after_ascii, IsCharBoundary-before_ascii, IsUtf8-append}
+pub use Rattle.std.proofs.lemmas.Str.{IsUtf8-drop, IsUtf8-encode, IsUtf8-take}
+pub use Rattle.std.specs.Char.{IsScalar, digit_value}
+pub use Rattle.std.specs.Global.{Global}
+pub use Rattle.std.specs.Str.{IsUtf8}
+pub use Rattle.text_kernels.specs.Scans.{is_plain, skip_plain_of}
+pub use Rattle.cel_tokens.specs.AsWritten.{DigitsAt, FindsWhatStands, HasToken, IsLongestToken, IsTextWord, IsToken}
+pub use Rattle.cel_tokens.specs.AsWritten.{NothingElseStands, OpensText, StandsAtFront}
+pub use Rattle.cel_tokens.specs.AsWritten.DigitsAt.{behind_sign, here}
+pub use Rattle.cel_tokens.specs.AsWritten.IsToken.{a_mark, a_name, a_raw_text, a_signed_int, a_text, an_int}
+pub use Rattle.cel_tokens.specs.AsWritten.OpensText.{by_prefix, by_quote}
+pub use Rattle.cel_tokens.specs.Bytes.{is_between, is_blank, is_digit_of, is_letter, is_line_end, is_name_byte}
+pub use Rattle.cel_tokens.specs.Bytes.{opens_comment, stays_in_comment}
+pub use Rattle.cel_tokens.specs.Escapes.{AreDigits, EscapeNames}
+pub use Rattle.cel_tokens.specs.Escapes.EscapeNames.{back_quote, backslash, backspace, bell, carriage_return}
+pub use Rattle.cel_tokens.specs.Escapes.EscapeNames.{double_quote, eight_hex, form_feed, four_hex, line_feed, octal}
+pub use Rattle.cel_tokens.specs.Escapes.EscapeNames.{question_mark, single_quote, tab, two_hex, vertical_tab}
+pub use Rattle.cel_tokens.specs.Lexed.{Lexed, before_digits, front_int, front_mark, front_plain, front_text}
+pub use Rattle.cel_tokens.specs.Lexed.{front_word, int_front, sign_may_follow, signed_int_begins}
+pub use Rattle.cel_tokens.specs.Gaps.{IsGap, IsLineOver, Skips}
+pub use Rattle.cel_tokens.specs.Gaps.Skips.{blank, comment, none}
+pub use Rattle.cel_tokens.specs.Ints.{digit_begins, fits64, hex_begins, int_at, int_of, number, spelled}
+pub use Rattle.cel_tokens.specs.Laws.{IntFits}
+pub use Rattle.cel_tokens.specs.Lexis.{TokensReturns, TokenBegins, Cuts, IsTokens, Lexes, TakesMemory, Tokens, lexeme}
+pub use Rattle.cel_tokens.specs.Lexis.TokenBegins.{a_word}
+pub use Rattle.cel_tokens.specs.Lexis.Cuts.{nothing, over, space, token, too_many, wide_int, wrong_text}
+pub use Rattle.cel_tokens.specs.Lexis.Lexes.{read, too_long}
+pub use Rattle.cel_tokens.specs.Lexis.TakesMemory.{behind_space, for_text, for_word}
+pub use Rattle.cel_tokens.specs.Limits.{text_limit, token_limit}
+pub use Rattle.cel_tokens.specs.Longest.{AllPass, IsDecimal, IsName, Takes}
+pub use Rattle.cel_tokens.specs.Marks.{mark_at, mark_of, of_one, of_two, one_byte, two_bytes}
+pub use Rattle.cel_tokens.specs.Shown.{EndsText, IsQuoted}
+pub use Rattle.cel_tokens.specs.SignedInts.{EndsOperand, FollowsSign, IsInt, Spells}
+pub use Rattle.cel_tokens.specs.SignedInts.EndsOperand.{brace, bracket, identifier, paren}
+pub use Rattle.cel_tokens.specs.SignedInts.Spells.{decimal, hex}
+pub use Rattle.cel_tokens.specs.Steps.{CutsTo, EndsAs, IsTextRefused, refusal_of}
+pub use Rattle.cel_tokens.specs.TextLiterals.{LiteralMeans}
+pub use Rattle.cel_tokens.specs.TextLiterals.LiteralMeans.{closing, one_piece}
+pub use Rattle.cel_tokens.specs.Texts.{code_point, digits, escaped, is_code_point, is_quote, is_raw_prefix, numeric}
+pub use Rattle.cel_tokens.specs.Texts.{opening, opening_len, piece, simple}
+pub use Rattle.cel_tokens.specs.Token.{Token, Word, int, mark, mark_word, name, token_view, text, word_of}
+pub use Rattle.cel_tokens.specs.declared.kind.Kind.{Kind}
+pub use Rattle.cel_tokens.specs.declared.mark.Mark.{Mark}
+pub use Rattle.cel_tokens.specs.declared.mark.Mark.TheVariants.{CloseBrace, CloseBracket, CloseParen, Minus}
+pub use Rattle.cel_tokens.specs.declared.read_error.ReadError.{ReadError}
+pub use Rattle.cel_tokens.specs.declared.read_error.ReadError.TheVariants.{Memory, UnknownCharacter}
+pub use Rattle.cel_tokens.specs.declared.read_error.ReadError.TheVariants.{InvalidTextLiteral, IntOutOfRange}
+pub use Rattle.cel_tokens.specs.declared.read_error.ReadError.TheVariants.{UnexpectedToken, TooManyOpen, TextTooLong}
+pub use Rattle.cel_tokens.specs.declared.token.Token.{Token as CodeToken}
+unfoldable pub use Rattle.cel_tokens.specs.Bytes.{between, run}
+unfoldable pub use Rattle.cel_tokens.specs.Lexed.{front}
+unfoldable pub use Rattle.cel_tokens.specs.Ints.{number_from}
+unfoldable pub use Rattle.cel_tokens.specs.Texts.{content, escape}

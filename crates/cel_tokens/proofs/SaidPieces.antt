@@ -1,5 +1,5 @@
 -- What is computed of a text literal is what its pieces say.
-use Rattle.cel_tokens.proofs.Prelude.{◌≡◌, ℕ, suc, zero, ◌+◌, ◌-◌, ◌<◌, ◌≤◌, List, [], ◌∷◌, ◌++◌, length, drop, refl, sym, ◌∙◌, ap, subst, arith, Bool, true, false, Option, Some, None, ◌≢◌, ◌==◌, option_and_then, IfSome, cases_lt, nat_tests, append-nil, append_assoc, length-drop, content, piece, Says, closing, one_piece}
+use Rattle.cel_tokens.proofs.Prelude.{◌≡◌, ℕ, suc, zero, ◌+◌, ◌-◌, ◌<◌, ◌≤◌, List, [], ◌∷◌, ◌++◌, length, drop, refl, sym, ◌∙◌, ap, subst, arith, Bool, true, false, Option, Some, None, ◌≢◌, ◌==◌, option_and_then, IfSome, cases_lt, nat_tests, append-nil, append_assoc, length-drop, content, piece, LiteralMeans, closing, one_piece}
 use mathlib.Core.Logic.{inl, inr}
 use Rattle.cel_tokens.proofs.Contents.{ended, closes, goes_on, skipped, more_at}
 
@@ -10,7 +10,7 @@ low raw b bs x e = subst (λ (o : Option (ℕ × List ℕ)). IfSome o (λ x. 1 �
 
 -- ---- what the pieces say is computed
 
-some_left : {raw : Bool} {quote n : ℕ} {ys said : List ℕ} → Says raw quote ys n said → 0 < length ys
+some_left : {raw : Bool} {quote n : ℕ} {ys said : List ℕ} → LiteralMeans raw quote ys n said → 0 < length ys
 some_left h0 = grind arith
 
 behind : (k b : ℕ) (bs : List ℕ) → 1 ≤ k → drop (k - 1) bs ≡ drop k (b ∷ bs)
@@ -22,7 +22,7 @@ literal k xs = Some (k, xs)
 answer : (k m : ℕ) (xs ys : List ℕ) → k ≡ m → xs ≡ ys → literal k xs ≡ literal m ys
 answer k m xs ys e f = λ i. literal (e i) (f i)
 
-pub computed : {raw : Bool} {quote n : ℕ} {ys said : List ℕ} → Says raw quote ys n said → (m : ℕ) (so_far : List ℕ) → content raw quote 0 m so_far ys ≡ Some (m + n, so_far ++ said)
+pub computed : {raw : Bool} {quote n : ℕ} {ys said : List ℕ} → LiteralMeans raw quote ys n said → (m : ℕ) (so_far : List ℕ) → content raw quote 0 m so_far ys ≡ Some (m + n, so_far ++ said)
 computed {raw} {quote} (closing {rest = rest}) m so_far = closes raw quote m quote so_far rest refl ∙ answer (m + 1) (m + 1) so_far (so_far ++ []) refl (sym (append-nil so_far))
 computed {raw} {quote} (one_piece {b = b} {n = n} {bs = bs} {said = said} x d e s) m so_far =
     let l = low raw b bs x e in
@@ -43,7 +43,7 @@ run_off raw quote (suc skip) n said (b ∷ bs) h = run_off raw quote skip (n + 1
 
 -- pieces from here on, after so many bytes and what they said
 abbrev Found : Bool → ℕ → ℕ → List ℕ → List ℕ → ℕ × List ℕ → Type 0
-Found raw quote m so_far bytes y = (n : ℕ) × (said : List ℕ) × Says raw quote bytes n said × (m + n ≡ y.0) × (so_far ++ said ≡ y.1)
+Found raw quote m so_far bytes y = (n : ℕ) × (said : List ℕ) × LiteralMeans raw quote bytes n said × (m + n ≡ y.0) × (so_far ++ said ≡ y.1)
 
 abbrev Finds : ℕ → Bool → ℕ → Type 0
 Finds fuel raw quote =
@@ -61,46 +61,49 @@ no_quote_here b quote e = grind (arith, nat_tests)
 at_closing : (raw : Bool) (quote m b : ℕ) (so_far bs : List ℕ) (y : ℕ × List ℕ) → b ≡ quote → content raw quote 0 m so_far (b ∷ bs) ≡ Some y → Found raw quote m so_far (b ∷ bs) y
 at_closing raw quote m b so_far bs y q e =
     let p : (m + 1, so_far) ≡ y = some_same (m + 1, so_far) y (sym (closes raw quote m b so_far bs q) ∙ e) in
-    (1, [], subst (λ (k : ℕ). Says raw k (b ∷ bs) 1 []) q closing, ap (λ (z : ℕ × List ℕ). z.0) p, append-nil so_far ∙ ap (λ (z : ℕ × List ℕ). z.1) p)
+    (1, [], subst (λ (k : ℕ). LiteralMeans raw k (b ∷ bs) 1 []) q closing, ap (λ (z : ℕ × List ℕ). z.0) p, append-nil so_far ∙ ap (λ (z : ℕ × List ℕ). z.1) p)
 
-at_piece : (fuel : ℕ) (raw : Bool) (quote m b : ℕ) (so_far bs : List ℕ) (y x : ℕ × List ℕ) → Finds fuel raw quote → length bs ≤ fuel → b ≢ quote → piece raw (b ∷ bs) ≡ Some x → x.0 - 1 ≤ length bs → content raw quote (x.0 - 1) (m + 1) (so_far ++ x.1) bs ≡ Some y → Found raw quote m so_far (b ∷ bs) y
-at_piece fuel raw quote m b so_far bs y x more l d e h c =
-    let k = x.0 - 1 in
-    let s = low raw b bs x e in
-    let n = length-drop k bs in
-    let f = more (m + 1 + k) (so_far ++ x.1) (drop k bs) y (omega (arith, n, l)) (sym (skipped raw quote k (m + 1) (so_far ++ x.1) bs h) ∙ c) in
-    let sum = f.3 in
-    (x.0 + f.0, x.1 ++ f.1, one_piece x d e (subst (λ (zs : List ℕ). Says raw quote zs f.0 f.1) (behind x.0 b bs s) f.2), omega (arith, s, sum), sym (append_assoc so_far x.1 f.1) ∙ f.4)
+-- from a byte on, where pieces are found in every shorter rest
+module _ (fuel : ℕ) (raw : Bool) (quote : ℕ) (more : Finds fuel raw quote) (m b : ℕ) (so_far bs : List ℕ) (y : ℕ × List ℕ) (l : length bs ≤ fuel) where
+  at_piece : (x : ℕ × List ℕ) → b ≢ quote → piece raw (b ∷ bs) ≡ Some x → x.0 - 1 ≤ length bs → content raw quote (x.0 - 1) (m + 1) (so_far ++ x.1) bs ≡ Some y
+      → Found raw quote m so_far (b ∷ bs) y
+  at_piece x d e h c =
+      let k = x.0 - 1 in
+      let s = low raw b bs x e in
+      let n = length-drop k bs in
+      let f = more (m + 1 + k) (so_far ++ x.1) (drop k bs) y (omega (arith, n, l)) (sym (skipped raw quote k (m + 1) (so_far ++ x.1) bs h) ∙ c) in
+      let sum = f.3 in
+      (x.0 + f.0, x.1 ++ f.1, one_piece x d e (subst (λ (zs : List ℕ). LiteralMeans raw quote zs f.0 f.1) (behind x.0 b bs s) f.2), omega (arith, s, sum), sym (append_assoc so_far x.1 f.1) ∙ f.4)
 
-by_length : (fuel : ℕ) (raw : Bool) (quote m b : ℕ) (so_far bs : List ℕ) (y x : ℕ × List ℕ) → Finds fuel raw quote → length bs ≤ fuel → b ≢ quote
-    → piece raw (b ∷ bs) ≡ Some x → content raw quote (x.0 - 1) (m + 1) (so_far ++ x.1) bs ≡ Some y → Found raw quote m so_far (b ∷ bs) y
-by_length fuel raw quote m b so_far bs y x more l d e c =
-    elim (cases_lt (length bs) (x.0 - 1)) [ inl h ↦ none_some _ y (run_off raw quote (x.0 - 1) (m + 1) (so_far ++ x.1) bs h) c | inr h ↦ at_piece fuel raw quote m b so_far bs y x more l d e h c ]
+  by_length : (x : ℕ × List ℕ) → b ≢ quote → piece raw (b ∷ bs) ≡ Some x → content raw quote (x.0 - 1) (m + 1) (so_far ++ x.1) bs ≡ Some y
+      → Found raw quote m so_far (b ∷ bs) y
+  by_length x d e c =
+      elim (cases_lt (length bs) (x.0 - 1)) [ inl h ↦ none_some _ y (run_off raw quote (x.0 - 1) (m + 1) (so_far ++ x.1) bs h) c | inr h ↦ at_piece x d e h c ]
 
-by_piece : (fuel : ℕ) (raw : Bool) (quote m b : ℕ) (so_far bs : List ℕ) (y : ℕ × List ℕ) → Finds fuel raw quote → length bs ≤ fuel → b ≢ quote → (o : Option (ℕ × List ℕ)) → piece raw (b ∷ bs) ≡ o → option_and_then (λ x. content raw quote (x.0 - 1) (m + 1) (so_far ++ x.1) bs) o ≡ Some y → Found raw quote m so_far (b ∷ bs) y
-by_piece fuel raw quote m b so_far bs y more l d None e c = none_some None y refl c
-by_piece fuel raw quote m b so_far bs y more l d (Some x) e c = by_length fuel raw quote m b so_far bs y x more l d e c
+  by_piece : b ≢ quote → (o : Option (ℕ × List ℕ)) → piece raw (b ∷ bs) ≡ o → option_and_then (λ x. content raw quote (x.0 - 1) (m + 1) (so_far ++ x.1) bs) o ≡ Some y
+      → Found raw quote m so_far (b ∷ bs) y
+  by_piece d None e c = none_some None y refl c
+  by_piece d (Some x) e c = by_length x d e c
 
-by_quote : (fuel : ℕ) (raw : Bool) (quote m b : ℕ) (so_far bs : List ℕ) (y : ℕ × List ℕ) → Finds fuel raw quote → length bs ≤ fuel → (t : Bool)
-    → (b == quote) ≡ t → content raw quote 0 m so_far (b ∷ bs) ≡ Some y → Found raw quote m so_far (b ∷ bs) y
-by_quote fuel raw quote m b so_far bs y more l true t c = at_closing raw quote m b so_far bs y (grind (arith, nat_tests)) c
-by_quote fuel raw quote m b so_far bs y more l false t c =
-    let d = no_quote_here b quote t in
-    by_piece fuel raw quote m b so_far bs y more l d (piece raw (b ∷ bs)) refl (sym (goes_on raw quote m b so_far bs d) ∙ c)
+  by_quote : (t : Bool) → (b == quote) ≡ t → content raw quote 0 m so_far (b ∷ bs) ≡ Some y → Found raw quote m so_far (b ∷ bs) y
+  by_quote true t c = at_closing raw quote m b so_far bs y (grind (arith, nat_tests)) c
+  by_quote false t c =
+      let d = no_quote_here b quote t in
+      by_piece d (piece raw (b ∷ bs)) refl (sym (goes_on raw quote m b so_far bs d) ∙ c)
 
 finds : (fuel : ℕ) (raw : Bool) (quote : ℕ) → Finds fuel raw quote
 finds fuel raw quote m so_far [] y l c = none_some _ y (ended raw quote 0 m so_far) c
 finds zero raw quote m so_far (b ∷ bs) y l c = absurd (omega arith)
-finds (suc fuel) raw quote m so_far (b ∷ bs) y l c = by_quote fuel raw quote m b so_far bs y (finds fuel raw quote) (omega arith) (b == quote) refl c
+finds (suc fuel) raw quote m so_far (b ∷ bs) y l c = by_quote fuel raw quote (finds fuel raw quote) m b so_far bs y (omega arith) (b == quote) refl c
 
-said : (raw : Bool) (quote : ℕ) (bytes : List ℕ) (n : ℕ) (value : List ℕ) → content raw quote 0 0 [] bytes ≡ Some (n, value) → Says raw quote bytes n value
+said : (raw : Bool) (quote : ℕ) (bytes : List ℕ) (n : ℕ) (value : List ℕ) → content raw quote 0 0 [] bytes ≡ Some (n, value) → LiteralMeans raw quote bytes n value
 said raw quote bytes n value c =
     let f = finds (length bytes) raw quote 0 [] bytes (n, value) (omega arith) c in
     let e : f.0 ≡ n = omega (arith, f.3) in
-    subst (λ (k : ℕ). Says raw quote bytes k value) e (subst (λ (xs : List ℕ). Says raw quote bytes f.0 xs) f.4 f.2)
+    subst (λ (k : ℕ). LiteralMeans raw quote bytes k value) e (subst (λ (xs : List ℕ). LiteralMeans raw quote bytes f.0 xs) f.4 f.2)
 
-back : (raw : Bool) (quote : ℕ) (bytes : List ℕ) (n : ℕ) (value : List ℕ) → Says raw quote bytes n value → content raw quote 0 0 [] bytes ≡ Some (n, value)
+back : (raw : Bool) (quote : ℕ) (bytes : List ℕ) (n : ℕ) (value : List ℕ) → LiteralMeans raw quote bytes n value → content raw quote 0 0 [] bytes ≡ Some (n, value)
 back raw quote bytes n value s = computed s 0 [] ∙ answer (0 + n) n ([] ++ value) value (omega arith) refl
 
-pub says_its_pieces : (raw : Bool) (quote : ℕ) (bytes : List ℕ) (n : ℕ) (value : List ℕ) → (content raw quote 0 0 [] bytes ≡ Some (n, value) → Says raw quote bytes n value) × (Says raw quote bytes n value → content raw quote 0 0 [] bytes ≡ Some (n, value))
+pub says_its_pieces : (raw : Bool) (quote : ℕ) (bytes : List ℕ) (n : ℕ) (value : List ℕ) → (content raw quote 0 0 [] bytes ≡ Some (n, value) → LiteralMeans raw quote bytes n value) × (LiteralMeans raw quote bytes n value → content raw quote 0 0 [] bytes ≡ Some (n, value))
 says_its_pieces raw quote bytes n value = (said raw quote bytes n value, back raw quote bytes n value)

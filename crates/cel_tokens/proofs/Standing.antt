@@ -1,7 +1,7 @@
 -- What is found at the front of a text stands there.
 use Rattle.cel_tokens.proofs.Prelude.{◌≡◌, ℕ, suc, ◌+◌, ◌≤◌, List, [], ◌∷◌, take, drop, refl, sym, ap, subst, arith, Bool, true, false, Option, Some, None, if◌then◌else◌, ℤ, pos, neg_ℤ, cases_lt, take-append-drop, Word, int, text, between, opening, opening_len, content, is_quote, int_at, fits64, digit_begins, front, front_text, front_int, int_front, before_digits, IsGap, IsInt, HasToken, OpensText, IsTextWord, DigitsAt, StandsAtFront, FindsWhatStands, an_int, here, behind_sign, by_quote, by_prefix}
 use mathlib.Core.Logic.{inl, inr}
-use Rattle.cel_tokens.specs.Front as front
+use Rattle.cel_tokens.specs.Lexed as front
 use Rattle.cel_tokens.proofs.Fronts.{front_nil, front_space}
 use Rattle.cel_tokens.proofs.LongestGap.{is_longest_gap}
 use Rattle.cel_tokens.proofs.NegatedInts.{int_is}
@@ -43,11 +43,20 @@ text_stands : (signed raw : Bool) (quote b : ℕ) (bs : List ℕ) (o : Option (�
     → front signed (b ∷ bs) ≡ front_text (opening_len raw) o → StandsAtFront signed (b ∷ bs) (front_text (opening_len raw) o)
 text_stands signed raw quote b bs o p c g e = grind (arith, opens_text, no_text, says_its_pieces, word_stands, text_token)
 
-int_stands : (signed t : Bool) (bytes : List ℕ) (before n value : ℕ) (z : ℤ) → fits64 z ≡ t → opening bytes ≡ None → bare bytes → DigitsAt bytes before
-    → IsInt (drop before bytes) n value → HasToken signed bytes (before + n) (int z) → front signed bytes ≡ int_front before n (if t then Some z else None)
+-- an int begins a text: no gap and no text literal does, and its digits are found
+record BeginsInt (bytes : List ℕ) (before n value : ℕ) : Type 0 where
+  no_text : opening bytes ≡ None
+  no_gap : bare bytes
+  digits : DigitsAt bytes before
+  int : IsInt (drop before bytes) n value
+
+int_stands : (signed t : Bool) (bytes : List ℕ) (before n value : ℕ) (z : ℤ) → fits64 z ≡ t → BeginsInt bytes before n value
+    → HasToken signed bytes (before + n) (int z) → front signed bytes ≡ int_front before n (if t then Some z else None)
     → StandsAtFront signed bytes (int_front before n (if t then Some z else None))
-int_stands signed true bytes before n value z f o g d i h e = word_stands signed bytes (before + n) (int z) e g (λ t. absurd (opens_none t o)) h
-int_stands signed false bytes before n value z f o g d i h e = (n, value, z, g, d, i, longest_wide signed bytes before n value (int z) e i h, (grind arith))
+int_stands signed true bytes before n value z f begins h e =
+    word_stands signed bytes (before + n) (int z) e begins.no_gap (λ t. absurd (opens_none t begins.no_text)) h
+int_stands signed false bytes before n value z f begins h e =
+    (n, value, z, begins.no_gap, begins.digits, begins.int, longest_wide signed bytes before n value (int z) e begins.int h, (grind arith))
 
 -- the int that a byte begins as its sign
 abbrev Signed : List ℕ → Bool → ℕ → Type 0
@@ -68,10 +77,11 @@ signed_stands bs o d g e =
     let r : rest ≡ drop gap bs = ap (λ k. drop k (45 ∷ bs)) q in
     let f = is_longest_gap bs in
     let h = signed_token bs gap n v (f.0, f.1, subst (λ xs. IsInt xs n v) r i) in
-    int_stands true (fits64 (neg_ℤ (pos v))) (45 ∷ bs) (gap + 1) n v (neg_ℤ (pos v)) refl o g (subst (DigitsAt (45 ∷ bs)) (sym p) (behind_sign f.0 f.1)) i
+    int_stands true (fits64 (neg_ℤ (pos v))) (45 ∷ bs) (gap + 1) n v (neg_ℤ (pos v)) refl
+    (record { no_text = o; no_gap = g; digits = subst (DigitsAt (45 ∷ bs)) (sym p) (behind_sign f.0 f.1); int = i })
     (subst (λ k. HasToken true (45 ∷ bs) (k + n) (int (neg_ℤ (pos v)))) (sym p) h) e
 
-stands : (signed : Bool) (b : ℕ) (bs : List ℕ) (x : front.Front) → Found signed b bs x → front signed (b ∷ bs) ≡ x → between false (b ∷ bs) ≤ 0
+stands : (signed : Bool) (b : ℕ) (bs : List ℕ) (x : front.Lexed) → Found signed b bs x → front signed (b ∷ bs) ≡ x → between false (b ∷ bs) ≤ 0
     → bare (b ∷ bs) → StandsAtFront signed (b ∷ bs) x
 stands signed b bs x (case.a_gap n l q) e h g = absurd (omega (arith, l, q, h))
 stands signed b bs x (case.a_text raw quote o) e h g = text_stands signed raw quote b bs _ (grind arith) refl g e
@@ -79,7 +89,8 @@ stands signed b bs x (case.a_name o l) e h g = word_stands signed (b ∷ bs) _ _
 stands signed b bs x (case.an_int o d) e h g =
     let i = int_is (b ∷ bs) d in
     let q : 0 + (int_at (b ∷ bs)).0 ≡ (int_at (b ∷ bs)).0 = omega arith in
-    int_stands signed (fits64 (pos (int_at (b ∷ bs)).1)) (b ∷ bs) 0 (int_at (b ∷ bs)).0 (int_at (b ∷ bs)).1 (pos (int_at (b ∷ bs)).1) refl o g here i
+    int_stands signed (fits64 (pos (int_at (b ∷ bs)).1)) (b ∷ bs) 0 (int_at (b ∷ bs)).0 (int_at (b ∷ bs)).1 (pos (int_at (b ∷ bs)).1) refl
+    (record { no_text = o; no_gap = g; digits = here; int = i })
     (rw q (i.0, an_int i.1)) e
 stands signed b bs x (case.a_signed_int o p q d) e h g =
     subst (λ s. Signed bs s b) (sym q) (subst (Signed bs true) (sym p) (signed_stands bs)) o d g e

@@ -6,27 +6,27 @@ use Rattle.cel_tokens.specs.declared.mark.Mark.{Mark}
 use Rattle.cel_tokens.specs.Token.{Word, name, int, text, mark}
 use Rattle.cel_tokens.specs.Marks.{mark_of}
 use Rattle.cel_tokens.specs.Texts.{is_quote, is_raw_prefix}
-use Rattle.cel_tokens.specs.TextLiterals.{Says}
-use Rattle.cel_tokens.specs.Front as front
-use Rattle.cel_tokens.specs.Front.{front}
+use Rattle.cel_tokens.specs.TextLiterals.{LiteralMeans}
+use Rattle.cel_tokens.specs.Lexed as front
+use Rattle.cel_tokens.specs.Lexed.{front}
 use Rattle.cel_tokens.specs.Longest.{IsName}
 use Rattle.cel_tokens.specs.Gaps.{Skips, IsGap}
 use Rattle.cel_tokens.specs.SignedInts.{Spells, IsInt}
 use Rattle.cel_tokens.specs.Laws.{IntFits}
 
--- these bytes are a token of this word: a name; an int, of any size; where a minus (45) may be a sign, a minus, blanks and
--- comments if any, and an int, the number negated; an operator or a bracket; a quote, pieces and that quote again; and
--- the same behind r or R
+-- these bytes are a token of this word: a name; an int, of any size; where a minus (45) may be a sign, a minus, blanks
+-- and comments if any, and an int, the number negated; an operator or a bracket; a quote, pieces and that quote again;
+-- and the same behind r or R
 pub data IsToken : (signed : Bool) → List ℕ → Word → Type 0 where
   a_name : {signed : Bool} {bytes : List ℕ} → IsName bytes → IsToken signed bytes (name bytes)
   an_int : {signed : Bool} {bytes : List ℕ} {value : ℕ} → Spells bytes value → IsToken signed bytes (int (pos value))
   a_signed_int : {bytes digits : List ℕ} {value : ℕ} → Skips bytes digits → Spells digits value
       → IsToken true (45 ∷ bytes) (int (neg_ℤ (pos value)))
   a_mark : {signed : Bool} {bytes : List ℕ} {m : Mark} → mark_of bytes ≡ Some m → IsToken signed bytes (mark m)
-  a_text : {signed : Bool} {quote : ℕ} {bytes said : List ℕ} → is_quote quote ≡ true → Says false quote bytes (length bytes) said
+  a_text : {signed : Bool} {quote : ℕ} {bytes said : List ℕ} → is_quote quote ≡ true → LiteralMeans false quote bytes (length bytes) said
       → IsToken signed (quote ∷ bytes) (text said)
   a_raw_text : {signed : Bool} {prefix quote : ℕ} {bytes said : List ℕ} → is_raw_prefix prefix ≡ true → is_quote quote ≡ true
-      → Says true quote bytes (length bytes) said → IsToken signed (prefix ∷ quote ∷ bytes) (text said)
+      → LiteralMeans true quote bytes (length bytes) said → IsToken signed (prefix ∷ quote ∷ bytes) (text said)
 
 -- the first n of these bytes are a token of this word
 abbrev pub HasToken : Bool → List ℕ → ℕ → Word → Type 0
@@ -53,10 +53,11 @@ pub data DigitsAt : List ℕ → ℕ → Type 0 where
   here : {bytes : List ℕ} → DigitsAt bytes 0
   behind_sign : {bytes : List ℕ} {gap : ℕ} → gap ≤ length bytes → Skips bytes (drop gap bytes) → DigitsAt (45 ∷ bytes) (1 + gap)
 
--- this stands at the front of the bytes: their end; the longest stretch of blanks and comments; or, where there is none, a
--- word of the longest token there, a text literal where one is opened, and an int of 64 bits; a text literal that is opened
--- and is none; an int as the longest token, its digits `before` bytes on, that 64 bits do not hold; or no token
-abbrev pub StandsAtFront : (signed : Bool) → List ℕ → front.Front → Type 0
+-- this stands at the front of the bytes: their end; the longest stretch of blanks and comments; or, where there is
+-- none, a word of the longest token there, a text literal where one is opened, and an int of 64 bits; a text literal
+-- that is opened and is none; an int as the longest token, its digits `before` bytes on, that 64 bits do not hold; or
+-- no token
+abbrev pub StandsAtFront : (signed : Bool) → List ℕ → front.Lexed → Type 0
 StandsAtFront signed bytes front.over = bytes ≡ []
 StandsAtFront signed bytes (front.space n) = (1 ≤ n) × IsGap bytes n
 StandsAtFront signed bytes (front.word n w) = IsGap bytes 0 × IsLongestToken signed bytes n w × (OpensText bytes → IsTextWord w) × IntFits w
@@ -74,4 +75,4 @@ FindsWhatStands = (signed : Bool) (bytes : List ℕ) → StandsAtFront signed by
 
 -- and nothing else does
 abbrev pub NothingElseStands : Type 0
-NothingElseStands = (signed : Bool) (bytes : List ℕ) (x : front.Front) → StandsAtFront signed bytes x → front signed bytes ≡ x
+NothingElseStands = (signed : Bool) (bytes : List ℕ) (x : front.Lexed) → StandsAtFront signed bytes x → front signed bytes ≡ x

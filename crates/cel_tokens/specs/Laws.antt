@@ -1,22 +1,23 @@
 -- The laws of the tokens.
 use Rattle.std.specs.Prelude.{◌≡◌, ◌≤◌, ◌↔◌, ℕ, List, length, All, Result, Ok, FitsSigned}
 use Rattle.std.specs.Int.{w64}
-use Rattle.cel_tokens.specs.Token.{Word, Lexeme, name, int, text, mark}
+use Rattle.cel_tokens.specs.Limits.{text_limit, token_limit}
+use Rattle.cel_tokens.specs.Token.{Word, Token, name, int, text, mark}
 use Rattle.cel_tokens.specs.Lexis.{Lexes, IsTokens}
 use Rattle.cel_tokens.specs.declared.read_error.ReadError.{ReadError}
 
 -- a text ends in one way: in its tokens, or in one refusal
 abbrev pub HasOneEnd : Type 0
-HasOneEnd = (source : List ℕ) (r s : Result (List Lexeme) ReadError) → Lexes source r → Lexes source s → r ≡ s
+HasOneEnd = (source : List ℕ) (r s : Result (List Token) ReadError) → Lexes source r → Lexes source s → r ≡ s
 
 -- it ends in tokens exactly where it has these tokens and both are within the limits
 abbrev pub EndsInItsTokens : Type 0
-EndsInItsTokens = (source : List ℕ) (lexemes : List Lexeme)
-    → Lexes source (Ok lexemes) ↔ (IsTokens source lexemes × (length source ≤ 65536) × (length lexemes ≤ 4096))
+EndsInItsTokens = (source : List ℕ) (lexemes : List Token)
+    → Lexes source (Ok lexemes) ↔ (IsTokens source lexemes × (length source ≤ text_limit) × (length lexemes ≤ token_limit))
 
 -- a text has one list of tokens
 abbrev pub HasOneReading : Type 0
-HasOneReading = (source : List ℕ) (xs ys : List Lexeme) → IsTokens source xs → IsTokens source ys → xs ≡ ys
+HasOneReading = (source : List ℕ) (xs ys : List Token) → IsTokens source xs → IsTokens source ys → xs ≡ ys
 
 -- an int of 64 bits signed, or no int
 abbrev pub IntFits : Word → Type 0
@@ -27,4 +28,4 @@ IntFits (mark m) = Unit {0}
 
 -- each int of a text's tokens has 64 bits
 abbrev pub HasIntsThatFit : Type 0
-HasIntsThatFit = (source : List ℕ) (lexemes : List Lexeme) → Lexes source (Ok lexemes) → All (λ l. IntFits l.word) lexemes
+HasIntsThatFit = (source : List ℕ) (lexemes : List Token) → Lexes source (Ok lexemes) → All (λ l. IntFits l.word) lexemes

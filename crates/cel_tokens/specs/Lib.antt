@@ -1,11 +1,13 @@
+pub mod Limits
 pub mod Token
+pub mod ErrorCodes
 pub mod Bytes
 pub mod Marks
 pub mod Ints
 pub mod Texts
 pub mod TextLiterals
 pub mod Pieces
-pub mod Front
+pub mod Lexed
 pub mod Shown
 pub mod Lexis
 pub mod Steps

@@ -3,8 +3,8 @@ use Rattle.std.specs.Prelude.{◌≡◌, ◌≤◌, ◌⊎◌, ℕ, List, [], �
 use Rattle.cel_tokens.specs.Token.{Word}
 use Rattle.cel_tokens.specs.Bytes.{is_letter, is_name_byte, is_digit_of}
 use Rattle.cel_tokens.specs.Texts.{opening}
-use Rattle.cel_tokens.specs.Front as front
-use Rattle.cel_tokens.specs.Front.{front}
+use Rattle.cel_tokens.specs.Lexed as front
+use Rattle.cel_tokens.specs.Lexed.{front}
 
 -- each of the bytes passes
 abbrev pub AllPass : (ℕ → Bool) → List ℕ → Type 0

@@ -3,21 +3,21 @@ use Rattle.std.specs.Prelude.{◌≡◌, ℕ, ◌-◌, ◌≤◌, List, ◌++◌
 use Rattle.std.specs.Str.{IsUtf8}
 use Rattle.cel_tokens.specs.Token.{word_of}
 use Rattle.cel_tokens.specs.Texts.{is_quote, opening_len}
-use Rattle.cel_tokens.specs.Front as front
-use Rattle.cel_tokens.specs.declared.front.Front.{Front}
-use Rattle.cel_tokens.specs.declared.front.Front.TheVariants.{Over, Space, Word, WrongText, WideInt, Nothing}
+use Rattle.cel_tokens.specs.Lexed as front
+use Rattle.cel_tokens.specs.declared.lexed.Lexed.{Lexed}
+use Rattle.cel_tokens.specs.declared.lexed.Lexed.TheVariants.{Over, Space, Word, WrongText, WideInt, Nothing}
 
 -- what the code finds at the front of these bytes: its words as plain data, its lengths in bytes as they are
-abbrev pub shown : List ℕ → Front → front.Front
-shown bytes Over = front.over
-shown bytes (Space n) = front.space n
-shown bytes (Word n kind) = front.word n (word_of (take n bytes) kind)
-shown bytes WrongText = front.wrong_text
-shown bytes (WideInt n) = front.wide_int n
-shown bytes Nothing = front.nothing
+abbrev pub lexed_view : List ℕ → Lexed → front.Lexed
+lexed_view bytes Over = front.over
+lexed_view bytes (Space n) = front.space n
+lexed_view bytes (Word n kind) = front.word n (word_of (take n bytes) kind)
+lexed_view bytes WrongText = front.wrong_text
+lexed_view bytes (WideInt n) = front.wide_int n
+lexed_view bytes Nothing = front.nothing
 
 -- what is found is within a text of this length, and takes some of it
-abbrev pub IsWithin : ℕ → Front → Type 0
+abbrev pub IsWithin : ℕ → Lexed → Type 0
 IsWithin len Over = Unit {0}
 IsWithin len (Space n) = (1 ≤ n) × (n ≤ len)
 IsWithin len (Word n kind) = (1 ≤ n) × (n ≤ len)

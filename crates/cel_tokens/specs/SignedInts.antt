@@ -4,8 +4,8 @@ use Rattle.cel_tokens.specs.declared.mark.Mark.TheVariants.{Minus, CloseParen, C
 use Rattle.cel_tokens.specs.Token.{Word, name, int, text, mark}
 use Rattle.cel_tokens.specs.Bytes.{is_digit_of}
 use Rattle.cel_tokens.specs.Ints.{number}
-use Rattle.cel_tokens.specs.Front as front
-use Rattle.cel_tokens.specs.Front.{front, sign_may_follow}
+use Rattle.cel_tokens.specs.Lexed as front
+use Rattle.cel_tokens.specs.Lexed.{front, sign_may_follow}
 use Rattle.cel_tokens.specs.Longest.{AllPass, IsDecimal}
 use Rattle.cel_tokens.specs.Gaps.{Skips}
 

@@ -36,7 +36,8 @@ digits base count bytes =
 abbrev pub code_point : ℕ → Option ℕ
 code_point n = if is_code_point n then Some n else None
 
--- the code point that `count` digits at the front spell in this base, where they do; len: how many bytes the escape takes with them
+-- the code point that `count` digits at the front spell in this base, where they do; len: how many bytes the escape
+-- takes with them
 abbrev pub numeric : ℕ → ℕ → ℕ → List ℕ → Option (ℕ × ℕ)
 numeric base count len bytes = option_map (λ n. (n, len)) (option_and_then code_point (digits base count bytes))
 
@@ -64,7 +65,8 @@ escape (b ∷ bs) =
     else (if nat_lt 47 b && nat_lt b 52 then numeric 8 3 3 (b ∷ bs)
     else simple b)))
 
--- an escape, where it is one: how many bytes it takes with its backslash, and its code point in UTF-8 (RFC 3629, section 3)
+-- an escape, where it is one: how many bytes it takes with its backslash, and its code point in UTF-8 (RFC 3629,
+-- section 3)
 abbrev pub escaped : Option (ℕ × ℕ) → Option (ℕ × List ℕ)
 escaped None = None
 escaped (Some x) = Some (x.1 + 1, encode_utf8 x.0)

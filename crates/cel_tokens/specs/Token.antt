@@ -4,7 +4,7 @@ use Rattle.cel_tokens.specs.Marks.{mark_of}
 use Rattle.cel_tokens.specs.declared.mark.Mark.{Mark}
 use Rattle.cel_tokens.specs.declared.kind.Kind.{Kind}
 use Rattle.cel_tokens.specs.declared.kind.Kind.TheVariants.{Name, Int, Text, Mark as OfMark}
-use Rattle.cel_tokens.specs.declared.token.Token.{Token}
+use Rattle.cel_tokens.specs.declared.token.Token.{Token as CodeToken}
 
 -- a name, by its bytes; an int; a text, by its bytes in UTF-8 with the escapes resolved; an operator or a bracket
 pub data Word : Type 0 where
@@ -14,7 +14,7 @@ pub data Word : Type 0 where
   mark : Mark → Word
 
 -- a word and the bytes of the text that it takes, from the place to before the end
-pub record Lexeme : Type 0 where
+pub record Token : Type 0 where
   pub place : ℕ
   pub end : ℕ
   pub word : Word
@@ -32,8 +32,8 @@ word_of bytes (Text s) = text (string_bytes s)
 word_of bytes OfMark = mark_word (mark_of bytes)
 
 -- what the code's token stands for in this text
-abbrev pub seen : List ℕ → Token → Lexeme
-seen source t = record {
+abbrev pub token_view : List ℕ → CodeToken → Token
+token_view source t = record {
   place = t.place;
   end = t.end;
   word = word_of (take (t.end - t.place) (drop t.place source)) t.kind;

@@ -3,24 +3,20 @@
 ghost use Rattle.std.specs.Prelude.{◌≡◌, ◌≤◌, ◌<◌, length, List, ℕ, take, Err, IfOk, OnOk, ◌+◌, ◌++◌, ◌∷◌, []};
 ghost use Rattle.std.specs.Str.{IsUtf8};
 ghost use Rattle.cel_tokens.specs.Token.{word_of};
-ghost use Rattle.cel_tokens.specs.Front as fronts;
-ghost use Rattle.cel_tokens.specs.Lexis.{Answers};
-ghost use Rattle.cel_tokens.specs.declared.read_error.ReadError.TheVariants.{P6};
-ghost use Rattle.cel_tokens.specs.Steps.{Steps, CutsTo, refusal_of};
+ghost use Rattle.cel_tokens.specs.Lexed as fronts;
+ghost use Rattle.cel_tokens.specs.Lexis.{TokensReturns};
+ghost use Rattle.cel_tokens.specs.declared.read_error.ReadError.TheVariants.{TextTooLong};
+ghost use Rattle.cel_tokens.specs.Steps.{CutsOn, CutsTo, refusal_of};
+ghost use Rattle.cel_tokens.specs.Limits.{text_limit};
 
 use crate::bytes::tail;
-use crate::front::{Front, front_of};
 use crate::kind::Kind;
+use crate::lexed::{Lexed, front_of};
+use crate::limits::{TEXT_LIMIT, TOKEN_LIMIT};
 use crate::mark::{Mark, mark_of};
 use crate::read_error::ReadError;
 use crate::token::Token;
 use std::alloc::{AllocError, Global};
-
-/// The most bytes of a text.
-const MOST_BYTES: usize = 65_536;
-
-/// The most tokens of a text.
-const MOST_TOKENS: usize = 4_096;
 
 /// Whether a minus after this token, of these bytes, may be the sign of an int.
 fn sign_may_follow(bytes: &[u8], kind: &Kind) -> bool
@@ -40,8 +36,8 @@ fn sign_may_follow(bytes: &[u8], kind: &Kind) -> bool
 fn refusal(count: usize, at: usize, cause: ReadError) -> ReadError
     ensures { result ≡ refusal_of count at cause }
 {
-    if count >= MOST_TOKENS {
-        ReadError::P6(at)
+    if count >= TOKEN_LIMIT {
+        ReadError::TextTooLong(at)
     } else {
         cause
     }
@@ -57,7 +53,7 @@ fn add(
     kind: Kind,
 ) -> Result<(usize, bool), AllocError>
     requires within { len ≤ length rest.now }
-    requires short { at + len ≤ 65536 }
+    requires short { at + len ≤ text_limit }
     ensures next { IfOk result (λ x. x.0 ≡ at + len) }
     ensures sign { IfOk result (λ x. x.1 ≡ fronts.sign_may_follow (word_of (take len rest.now) kind)) }
     ensures added { OnOk result (out.new.items ≡ out.old.items ++ (record { place = at; end = at + len; kind = kind }) ∷ []) }
@@ -81,21 +77,25 @@ fn step(
     signed: bool,
 ) -> Result<Option<(usize, bool)>, ReadError>
     requires text { IsUtf8 bytes.now }
-    requires short { length bytes.now ≤ 65536 }
+    requires short { length bytes.now ≤ text_limit }
     requires place { at ≤ length bytes.now }
-    ensures { Steps bytes.now signed at out.old.items out.new.items result }
+    ensures { CutsOn bytes.now signed at out.old.items out.new.items result }
 {
     let alloc = *out.allocator();
     let rest = tail(bytes, at);
     match front_of(alloc, rest, signed)? {
-        Front::Over => Ok(None),
-        Front::Space(len) => Ok(Some((at + len, signed))),
-        Front::Nothing => Err(ReadError::P1(at)),
-        Front::WrongText => Err(refusal(out.len(), at, ReadError::P2(at))),
-        Front::WideInt(before) => Err(refusal(out.len(), at, ReadError::P3(at + before))),
-        Front::Word(len, kind) => {
-            if out.len() >= MOST_TOKENS {
-                return Err(ReadError::P6(at));
+        Lexed::Over => Ok(None),
+        Lexed::Space(len) => Ok(Some((at + len, signed))),
+        Lexed::Nothing => Err(ReadError::UnknownCharacter(at)),
+        Lexed::WrongText => Err(refusal(out.len(), at, ReadError::InvalidTextLiteral(at))),
+        Lexed::WideInt(before) => Err(refusal(
+            out.len(),
+            at,
+            ReadError::IntOutOfRange(at + before),
+        )),
+        Lexed::Word(len, kind) => {
+            if out.len() >= TOKEN_LIMIT {
+                return Err(ReadError::TextTooLong(at));
             }
             let (next, sign) = add(out, rest, at, len, kind)?;
             Ok(Some((next, sign)))
@@ -106,7 +106,7 @@ fn step(
 /// The tokens of the text.
 fn cut(alloc: Global, bytes: &[u8]) -> Result<Vec<Token>, ReadError>
     requires text { IsUtf8 bytes.now }
-    requires short { length bytes.now ≤ 65536 }
+    requires short { length bytes.now ≤ text_limit }
     ensures { CutsTo bytes.now result }
 {
     let mut out = Vec::new(alloc);
@@ -124,16 +124,17 @@ fn cut(alloc: Global, bytes: &[u8]) -> Result<Vec<Token>, ReadError>
     }
 }
 
-/// The tokens of the text. Else the error says the first cause from the left why it has none: P1,
-/// P2 or P3 at its place, or P6 at the 4,097th token; a text above 65,536 bytes is P6 at byte
-/// 65,536 before it is read. (cel-spec, lexis)
+/// The tokens of the text. Else the error says the first cause from the left why it has none:
+/// `UnknownCharacter`, `InvalidTextLiteral` or `IntOutOfRange` at its place, or `TextTooLong` at
+/// the 4,097th token; a text above 65,536 bytes is `TextTooLong` at byte 65,536 before it is read.
+/// (cel-spec, lexis)
 pub fn tokens(alloc: Global, text: &str) -> Result<Vec<Token>, ReadError>
-    ensures answers { Answers text.now result }
-    ensures long { 65536 < length text.now → result ≡ Err (P6 65536) }
+    ensures answers { TokensReturns text.now result }
+    ensures long { text_limit < length text.now → result ≡ Err (TextTooLong text_limit) }
 {
     let bytes = text.as_bytes();
-    if bytes.len() > MOST_BYTES {
-        return Err(ReadError::P6(MOST_BYTES));
+    if bytes.len() > TEXT_LIMIT {
+        return Err(ReadError::TextTooLong(TEXT_LIMIT));
     }
     cut(alloc, bytes)
 }

@@ -5,10 +5,11 @@
 mod bytes;
 mod cut;
 mod escape;
-mod front;
 mod int;
 mod kind;
 mod laws;
+mod lexed;
+mod limits;
 mod literal;
 mod mark;
 mod read_error;
@@ -21,6 +22,7 @@ pub use laws::{
     escapes, gaps, ints_that_fit, longest, one_reading, pieces_of_a_text, signed_ints,
     tokens_as_written,
 };
+pub use limits::{TEXT_LIMIT, TOKEN_LIMIT};
 pub use mark::{Mark, mark_of};
 pub use read_error::ReadError;
 pub use token::Token;

@@ -4,6 +4,7 @@ ghost use Rattle.std.specs.Prelude.{◌≡◌, ◌≤◌, ◌++◌, List, ℕ, [
 ghost use Rattle.std.specs.Str.{IsUtf8};
 ghost use Rattle.cel_tokens.specs.Texts as texts;
 ghost use Rattle.cel_tokens.specs.Pieces.{said_by};
+ghost use Rattle.cel_tokens.specs.Limits.{text_limit};
 
 use crate::bytes::{is_line_end, tail};
 use crate::escape::escape;
@@ -38,7 +39,7 @@ fn piece_at(bytes: &[u8], raw: bool) -> Option<Piece>
 
 /// How many bytes the piece takes.
 fn piece_len(piece: Piece) -> usize
-    requires { (said_by piece).0 ≤ 65536 }
+    requires { (said_by piece).0 ≤ text_limit }
     ensures { result ≡ (said_by piece).0 }
 {
     match piece {
@@ -76,7 +77,7 @@ pub fn content(
     quote: u8,
 ) -> Result<Option<(usize, String)>, AllocError>
     requires text { IsUtf8 bytes.now }
-    requires short { length bytes.now ≤ 65536 }
+    requires short { length bytes.now ≤ text_limit }
     requires quoted { texts.is_quote quote ≡ true }
     ensures value { IfOk result (λ o. option_map (λ x. (x.0, string_bytes x.1)) o ≡ texts.content raw quote 0 0 [] bytes.now) }
     ensures within { IfOk result (λ o. IfSome o (λ x. x.0 ≤ length bytes.now)) }

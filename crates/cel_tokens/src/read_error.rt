@@ -1,4 +1,4 @@
-//! Why a text is no expression.
+//! Why a text is not an expression.
 
 ghost use Rattle.std.specs.Prelude.{◌≡◌};
 ghost use Rattle.cel_tokens.specs.declared.read_error.ReadError.TheVariants.{Memory};
@@ -6,30 +6,69 @@ ghost use Rattle.cel_tokens.specs.declared.read_error.ReadError.TheVariants.{Mem
 use std::alloc::{AllocError, AllocFailed};
 use thiserror::Error;
 
-/// Why a text is no expression. Each place is in bytes from the text's start.
+/// Why a text is not an expression. The number of a variant is a place in the text: a byte, counted
+/// from 0.
 #[derive(Clone, Copy, Debug, PartialEq, Eq, Error)]
 pub enum ReadError {
-    /// Nothing that begins here is a token.
+    /// No token begins at this byte.
     #[error("no token begins at byte {0}")]
-    P1(usize),
-    /// The text literal that begins here is not ended on its line, or has a wrong escape.
+    UnknownCharacter(usize),
+    /// The text literal that begins at this byte does not end on its line, or has an invalid
+    /// escape.
     #[error("the text literal at byte {0} is not ended, or has a wrong escape")]
-    P2(usize),
-    /// The int whose digits begin here is outside 64 bits signed.
+    InvalidTextLiteral(usize),
+    /// The int whose digits begin at this byte is outside 64 bits signed.
     #[error("the int at byte {0} is outside 64 bits")]
-    P3(usize),
-    /// No expression goes on with this token; or the text, here at its end, is no whole one.
+    IntOutOfRange(usize),
+    /// The grammar does not allow the token at this byte, or the text ends at this byte too early.
     #[error("no expression has what stands at byte {0}")]
-    P4(usize),
-    /// More than 100 brackets and conditions are open.
+    UnexpectedToken(usize),
+    /// The bracket or `?` at this byte would be the 101st that is open.
     #[error("more than 100 brackets and conditions are open at byte {0}")]
-    P5(usize),
-    /// The text has more than 65,536 bytes, or this token is the 4,097th.
+    TooManyOpen(usize),
+    /// The text has more than 65,536 bytes (the byte is then 65,536), or the token at this byte is
+    /// the 4,097th.
     #[error("the text is too long at byte {0}")]
-    P6(usize),
-    /// There is no memory for what was read.
+    TextTooLong(usize),
+    /// An allocation failed.
     #[error("out of memory")]
     Memory,
+}
+
+impl ReadError {
+    ghost use Rattle.std.specs.Prelude.{◌≤◌, length};
+    ghost use Rattle.cel_tokens.specs.ErrorCodes.{read_error_code, read_error_place};
+
+    /// The error's code: `P1` to `P6`, or `memory`.
+    pub fn code(&self) -> &'static str
+        ensures text { result.now ≡ read_error_code self.now }
+        ensures length { length result.now ≤ 6 }
+    {
+        match self {
+            ReadError::UnknownCharacter(_) => "P1",
+            ReadError::InvalidTextLiteral(_) => "P2",
+            ReadError::IntOutOfRange(_) => "P3",
+            ReadError::UnexpectedToken(_) => "P4",
+            ReadError::TooManyOpen(_) => "P5",
+            ReadError::TextTooLong(_) => "P6",
+            ReadError::Memory => "memory",
+        }
+    }
+
+    /// The byte of the text at which it is refused, counted from 0.
+    pub fn place(&self) -> Option<usize>
+        ensures { result ≡ read_error_place self.now }
+    {
+        match *self {
+            ReadError::UnknownCharacter(place)
+            | ReadError::InvalidTextLiteral(place)
+            | ReadError::IntOutOfRange(place)
+            | ReadError::UnexpectedToken(place)
+            | ReadError::TooManyOpen(place)
+            | ReadError::TextTooLong(place) => Some(place),
+            ReadError::Memory => None,
+        }
+    }
 }
 
 impl From<AllocError> for ReadError {

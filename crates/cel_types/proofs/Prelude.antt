@@ -1,9 +1,68 @@
 -- The names that these proofs cite of the library, of the crates below and of the definitions here. Declares nothing.
-pub use Rattle.std.proofs.{Common.Bool, Common.Contains, Common.Err, Common.IfErr, Common.IfOk, Common.IfSome, Common.List, Common.None, Common.Ok, Common.Option, Common.Result, Common.Some, Common.ℕ, Common.ℤ, Common.[], Common.ap, Common.arith, Common.cond, Common.drop, Common.false, Common.if◌then◌else◌, Common.inl, Common.inr, Common.int_div, Common.int_rem, Common.is_some, Common.length, Common.map, Common.refl, Common.rules, Common.subst, Common.suc, Common.sym, Common.true, Common.◌&&◌, Common.◌<◌, Common.◌∙◌, Common.◌∷◌, Common.◌≡◌, Common.◌⊎◌, lemmas.List.Elements.All-contains, lemmas.List.Elements.All-from_recursion, lemmas.List.Folds.list_any_at}
-pub use Rattle.std.specs.{Bool.⊤, List.AllByRecursion, List.list_all, List.list_any}
-pub use Rattle.cel_macros.specs.{Arithmetic.fits, Arithmetic.int_or_error, Arithmetic.is_zero, Arithmetic.on_ints, Arithmetic.quotient, Arithmetic.remainder, Arithmetic.sum_of, Comparison.member_of, Comparison.on_values, CoreTree.CoreEntries, CoreTree.CoreTree, CoreTree.CoreTrees, CoreTree.binary, CoreTree.call, CoreTree.call_or_has, CoreTree.fold, CoreTree.fold_map, CoreTree.has, CoreTree.index, CoreTree.list, CoreTree.method, CoreTree.method_or_fold, CoreTree.method_or_fold_map, CoreTree.more_core_entries, CoreTree.more_cores, CoreTree.name, CoreTree.no_core_entries, CoreTree.no_cores, CoreTree.one_core, CoreTree.select, CoreTree.selection, CoreTree.ternary, CoreTree.unary, CoreView.core_entries, CoreView.core_view, CoreView.cores, CoreViewLaws.view_call, CoreViewLaws.view_map, CoreViewLaws.view_method, Environment.Environment, Environment.bind, Environment.lookup, Expanding.core_pair, Functions.Dyn, Functions.Function, Functions.Size, Functions.String, Functions.TextTest, Functions.method_of, Functions.text_test_of, Literals.entries_in, Literals.list_literal, Literals.list_or_error, Literals.literal_of, Literals.map_literal, Literals.map_or_error, Literals.values_in, Logic.Truth, Logic.of_truth, Logic.ternary_of, Macros.field_name, Macros.macro_name, Macros.map_over_range, Macros.name_of, Macros.over_range, Macros.range_of, Meaning.binary_of, Meaning.called, Meaning.selected, Meaning.unary_of, declared.core_tree.Core.Core, declared.macros.Macro.Macro, declared.macros.Macro.TheVariants.All, declared.macros.Macro.TheVariants.Exists, declared.macros.Macro.TheVariants.ExistsOne, declared.macros.Macro.TheVariants.Filter, declared.macros.Macro.TheVariants.Map}
-unfoldable pub use Rattle.cel_macros.specs.{CoreTree.expanded, CoreTree.expanded_entries, CoreTree.expanded_operand, CoreTree.expanded_trees, CoreTree.plain_entries, CoreTree.plain_tree, CoreTree.plain_trees, Environment.is_root, Environment.name_value, Functions.function_named, Functions.test_named, Macros.is_has, Macros.is_map, Macros.is_variables, Macros.macro_named, Meaning.entry_meanings, Meaning.meaning, Meaning.meanings, Meaning.operand_meaning}
-pub use Rattle.cel_reader.specs.{Tree.Entries, Tree.Tree, Tree.Trees, Tree.more_entries, Tree.more_trees, Tree.no_entries, Tree.no_trees, Tree.tree_list, declared.operator.BinaryOperator.BinaryOperator, declared.operator.UnaryOperator.UnaryOperator}
-pub use Rattle.value_store.specs.{Value.Value, Value.ValueOrError, Value.error, Value.int, Value.value}
-pub use Rattle.cel_types.specs.{CoreTyping.call_typing, CoreTyping.method_typing, Declarations.declaration, Declarations.scope_of, Declarations.types_of, Iterations.scope_within, Relation.Fault, Relation.FaultsAreFirst, Relation.FirstFault, Relation.Has, Relation.Have, Relation.OneTypeOrFault, Relation.TypesAreRows, Relation.at_node, Relation.behind, Relation.by_row, Relation.cause, Relation.here, Relation.in_part, Relation.in_scope, Relation.keys_and_values, Relation.next_part, Relation.no_parts, Relation.parts_of, Scope.Scope, Scope.type_or_fault, Scope.within, Soundness.Fits, Soundness.FitsScope, Soundness.IsSound, TypeRows.HasTextKeys, TypeRows.IsRow, TypeRows.MayAgree, TypeRows.MayBe, TypeRows.MayBeOne, TypeRows.MayBothBeOne, TypeRows.a_choice, TypeRows.a_dyn, TypeRows.a_field, TypeRows.a_filter, TypeRows.a_filtered_transform, TypeRows.a_has, TypeRows.a_key, TypeRows.a_list, TypeRows.a_literal, TypeRows.a_logic, TypeRows.a_map, TypeRows.a_member, TypeRows.a_name, TypeRows.a_negation, TypeRows.a_not, TypeRows.a_quantifier, TypeRows.a_size, TypeRows.a_size_method, TypeRows.a_string, TypeRows.a_sum, TypeRows.a_test, TypeRows.a_transform, TypeRows.a_variable, TypeRows.an_arithmetic, TypeRows.an_entry, TypeRows.an_equality, TypeRows.an_item, TypeRows.an_order, TypeRows.dynamic, TypeRows.known, TypeRows.next_key, TypeRows.no_keys, TypeTable.binary_row, TypeTable.field_row, TypeTable.function_row, TypeTable.has_row, TypeTable.index_row, TypeTable.is_range, TypeTable.is_text_key, TypeTable.literal_type, TypeTable.macro_row, TypeTable.map_literal_row, TypeTable.map_row, TypeTable.member_row, TypeTable.method_row, TypeTable.order_row, TypeTable.sum_row, TypeTable.ternary_row, TypeTable.test_row, TypeTable.unary_row, Types.MisplacedVariables, Types.NoOverload, Types.TypeFault, Types.Typing, Types.UnknownName, Types.agree, Types.allowed, Types.both_allowed, Types.fault_of, Types.known_of, Types.refused, Types.row, Types.same_type, Types.typed, Types.typing_of, Types.with_type, Types.with_types, Typing.HasFault, Typing.HasType, Typing.call_type, Typing.fold_map_type, Typing.fold_type, Typing.selected_type, declared.cel_type.CelType.CelType, declared.type_error.TypeError.TypeError}
-unfoldable pub use Rattle.cel_types.specs.{CoreTyping.core_entry_typings, CoreTyping.core_key_typings, CoreTyping.core_typing, CoreTyping.core_typings, Scope.name_type, Scope.variable_type, Typing.entry_typings, Typing.key_typings, Typing.operand_typing, Typing.typing, Typing.typings}
+pub use Rattle.std.proofs.Common.{Bool, Contains, Err, IfErr, IfOk, IfSome, List, None, Ok, Option, Result, Some, ℕ}
+pub use Rattle.std.proofs.Common.{ℤ, [], ap, arith, cond, drop, false, if◌then◌else◌, inl, inr, int_div, int_rem}
+pub use Rattle.std.proofs.Common.{is_some, length, map, refl, rules, subst, suc, sym, true, ◌&&◌, ◌<◌, ◌∙◌, ◌∷◌, ◌≡◌}
+pub use Rattle.std.proofs.Common.{IsSome, ◌⊎◌}
+pub use Rattle.std.proofs.lemmas.List.Elements.{All-contains, All-from_recursion}
+pub use Rattle.std.proofs.lemmas.List.Folds.{list_any_at}
+pub use Rattle.std.specs.Bool.{⊤}
+pub use Rattle.std.specs.List.{AllByRecursion, list_all, list_any}
+pub use Rattle.cel_macros.specs.Arithmetic.{fits, int_or_error, is_zero, on_ints, quotient, remainder, sum_of}
+pub use Rattle.cel_macros.specs.Callee.{Callee, callee_name, function_in, test_in}
+pub use Rattle.cel_macros.specs.Comparison.{member_of, on_values}
+pub use Rattle.cel_macros.specs.CoreTree.{CoreEntries, Core, Cores, binary, call, call_or_has, fold, fold_map, has}
+pub use Rattle.cel_macros.specs.CoreTree.{index, list, method, method_or_fold, method_or_fold_map, more_core_entries}
+pub use Rattle.cel_macros.specs.CoreTree.{more_cores, name, no_core_entries, no_cores, one_core, select, selection}
+pub use Rattle.cel_macros.specs.CoreTree.{ternary, unary}
+pub use Rattle.cel_macros.specs.CoreView.{core_entries, core_view, cores}
+pub use Rattle.cel_macros.specs.CoreViewLaws.{view_call, view_map, view_method}
+pub use Rattle.cel_macros.specs.Environment.{Environment, bind, lookup}
+pub use Rattle.cel_macros.specs.Expanding.{core_pair}
+pub use Rattle.cel_macros.specs.Functions.{method_of, text_test_of}
+pub use Rattle.cel_macros.specs.declared.function.Function.{Function}
+pub use Rattle.cel_macros.specs.declared.function.Function.TheVariants.{Dyn, Size, String}
+pub use Rattle.cel_macros.specs.declared.text_test.TextTest.{TextTest}
+pub use Rattle.cel_macros.specs.Literals.{entries_in, list_literal, list_or_error, literal_of, map_literal}
+pub use Rattle.cel_macros.specs.Literals.{map_or_error, values_in}
+pub use Rattle.cel_macros.specs.Logic.{Truth, of_truth, ternary_of}
+pub use Rattle.cel_macros.specs.Macros.{field_name, macro_name, map_over_range, name_of, over_range, range_of}
+pub use Rattle.cel_macros.specs.Meaning.{binary_of, called, selected, unary_of}
+pub use Rattle.cel_macros.specs.declared.core_tree.Core.{Core as CodeCore}
+pub use Rattle.cel_macros.specs.declared.macros.Macro.{Macro}
+pub use Rattle.cel_macros.specs.declared.macros.Macro.TheVariants.{All, Exists, ExistsOne, Filter, Map}
+unfoldable pub use Rattle.cel_macros.specs.CoreTree.{expanded, expanded_entries, expanded_operand, expanded_trees}
+unfoldable pub use Rattle.cel_macros.specs.CoreTree.{plain_entries, plain_tree, plain_trees}
+unfoldable pub use Rattle.cel_macros.specs.Environment.{is_root, name_value}
+unfoldable pub use Rattle.cel_macros.specs.Functions.{function_named, test_named}
+unfoldable pub use Rattle.cel_macros.specs.Macros.{is_has, is_map, is_variables, macro_named}
+unfoldable pub use Rattle.cel_macros.specs.Meaning.{entry_meanings, meaning, meanings, operand_meaning}
+pub use Rattle.cel_reader.specs.Tree.{TreeEntries, Tree, Trees, more_entries, more_trees, no_entries, no_trees, tree_list}
+pub use Rattle.cel_reader.specs.declared.operator.BinaryOperator.{BinaryOperator}
+pub use Rattle.cel_reader.specs.declared.operator.UnaryOperator.{UnaryOperator}
+pub use Rattle.value_store.specs.Value.{Value, ValueOrError, error, int, value}
+pub use Rattle.cel_types.specs.CoreTyping.{call_typing, method_typing}
+pub use Rattle.cel_types.specs.Declarations.{declaration, scope_of, types_of}
+pub use Rattle.cel_types.specs.Iterations.{scope_within}
+pub use Rattle.cel_types.specs.Relation.{Fault, FaultsAreFirst, FirstFault, Has, Have, OneTypeOrFault, TypesAreRows}
+pub use Rattle.cel_types.specs.Relation.{at_node, behind, by_row, cause, here, in_part, in_scope, keys_and_values}
+pub use Rattle.cel_types.specs.Relation.{next_part, no_parts, parts_of}
+pub use Rattle.cel_types.specs.Scope.{Scope, type_or_fault, within}
+pub use Rattle.cel_types.specs.Soundness.{FitsType, FitsScope, IsSound}
+pub use Rattle.cel_types.specs.TypeRows.{HasTextKeys, IsRow, MayAgree, MayBe, MayBeOne, MayBothBeOne, a_choice, a_dyn}
+pub use Rattle.cel_types.specs.TypeRows.{a_field, a_filter, a_filtered_transform, a_has, a_key, a_list, a_literal}
+pub use Rattle.cel_types.specs.TypeRows.{a_logic, a_map, a_member, a_name, a_negation, a_not, a_quantifier, a_size}
+pub use Rattle.cel_types.specs.TypeRows.{a_size_method, a_string, a_sum, a_test, a_transform, a_variable}
+pub use Rattle.cel_types.specs.TypeRows.{an_arithmetic, an_entry, an_equality, an_item, an_order, dynamic, known}
+pub use Rattle.cel_types.specs.TypeRows.{next_key, no_keys}
+pub use Rattle.cel_types.specs.TypeTable.{binary_row, field_row, function_row, has_row, index_row, is_range}
+pub use Rattle.cel_types.specs.TypeTable.{is_text_key, literal_type, macro_row, map_literal_row, map_row, member_row}
+pub use Rattle.cel_types.specs.TypeTable.{method_row, order_row, sum_row, ternary_row, test_row, unary_row}
+pub use Rattle.cel_types.specs.Types.{MisplacedVariables, NoOverload, TypeFault, Typing, UnknownName, agree, allowed}
+pub use Rattle.cel_types.specs.Types.{both_allowed, fault_of, known_of, refused, row, same_type, typed, typing_of}
+pub use Rattle.cel_types.specs.Types.{with_type, with_types}
+pub use Rattle.cel_types.specs.Typing.{HasFault, HasType, call_type, fold_map_type, fold_type, selected_type}
+pub use Rattle.cel_types.specs.declared.cel_type.CelType.{CelType}
+pub use Rattle.cel_types.specs.declared.type_error.TypeError.{TypeError}
+unfoldable pub use Rattle.cel_types.specs.CoreTyping.{core_entry_typings, core_key_typings, core_typing, core_typings}
+unfoldable pub use Rattle.cel_types.specs.Scope.{name_type, variable_type}
+unfoldable pub use Rattle.cel_types.specs.Typing.{entry_typings, key_typings, operand_typing, typing, typings}

@@ -1,5 +1,5 @@
 -- The type of an expression, or its fault, is the one that the rows of the table give it.
-use Rattle.cel_types.proofs.Prelude.{◌≡◌, ◌⊎◌, inl, inr, ℕ, Bool, ◌&&◌, List, [], ◌∷◌, Option, Some, None, is_some, map, refl, sym, ap, ◌∙◌, subst, if◌then◌else◌, arith, ⊤, list_all, Tree, Trees, Entries, no_trees, more_trees, no_entries, more_entries, tree_list, Macro, Function, function_named, macro_named, is_map, is_has, is_variables, CelType, TypeFault, NoOverload, Typing, typed, refused, allowed, with_type, with_types, Scope, within, is_text_key, map_literal_row, selected_type, call_type, fold_type, fold_map_type, typing, typings, operand_typing, entry_typings, key_typings, IsRow, keys_and_values, in_scope, parts_of, Has, by_row, Have, no_parts, next_part, cause, Fault, in_part, at_node, FirstFault, here, behind, TypesAreRows, FaultsAreFirst, OneTypeOrFault}
+use Rattle.cel_types.proofs.Prelude.{◌≡◌, ◌⊎◌, inl, inr, ℕ, Bool, ◌&&◌, List, [], ◌∷◌, Option, Some, None, is_some, map, refl, sym, ap, ◌∙◌, subst, if◌then◌else◌, arith, ⊤, list_all, Tree, Trees, TreeEntries, no_trees, more_trees, no_entries, more_entries, tree_list, Macro, Function, function_named, macro_named, is_map, is_has, is_variables, CelType, TypeFault, NoOverload, Typing, typed, refused, allowed, with_type, with_types, Scope, within, is_text_key, map_literal_row, selected_type, call_type, fold_type, fold_map_type, typing, typings, operand_typing, entry_typings, key_typings, IsRow, keys_and_values, in_scope, parts_of, Has, by_row, Have, no_parts, next_part, cause, Fault, in_part, at_node, FirstFault, here, behind, TypesAreRows, FaultsAreFirst, OneTypeOrFault}
 use Rattle.cel_reader.specs.Tree as tree
 use Rattle.cel_types.specs.declared.cel_type.CelType.TheVariants as type
 use Rattle.cel_types.proofs.RowTyped.{on_one, select_node, fold_node, fold_map_node, text_keys, node, row_typed}
@@ -27,7 +27,7 @@ over_trees (more_trees a more) s last = λ j. with_type (typing a s) (λ t. over
 keyed : (x : Typing) (g : CelType → Bool → Typing) → with_type x (λ t. g t (is_text_key x)) ≡ with_type x (λ t. g t (allowed (type.String ∷ []) t))
 keyed x g = grind arith
 
-over_entries : (es : Entries) (s : Scope) (f : Bool → Typing)
+over_entries : (es : TreeEntries) (s : Scope) (f : Bool → Typing)
     → with_types (entry_typings es s) (f (list_all is_text_key (key_typings es s))) ≡ over_parts (in_scope s (keys_and_values es)) (λ ts. f (text_keys ts))
 unfolding typing
 over_entries no_entries s f = refl
@@ -172,7 +172,7 @@ mutual
   all_given no_trees s = tt
   all_given (more_trees a more) s = (given a s, all_given more s)
 
-  entries_given : (es : Entries) (s : Scope) → AllGiven (in_scope s (keys_and_values es))
+  entries_given : (es : TreeEntries) (s : Scope) → AllGiven (in_scope s (keys_and_values es))
   entries_given no_entries s = tt
   entries_given (more_entries k v more) s = (given k s, (given v s, entries_given more s))
 

@@ -1,14 +1,14 @@
 -- What an accepted expression means has its type, or is the error.
-use Rattle.cel_types.proofs.Prelude.{arith, Bool, List, [], ◌∷◌, list_all, no_trees, more_trees, ValueOrError, error, Environment, bind, name_value, values_in, entries_in, list_literal, map_literal, function_named, test_named, macro_named, is_map, is_has, is_variables, name_of, field_name, range_of, selected, meaning, meanings, entry_meanings, operand_meaning, Typing, typed, refused, NoOverload, row, Scope, name_type, within, selected_type, typing, typings, entry_typings, key_typings, operand_typing, is_text_key, Fits, FitsScope, IsSound, ℕ}
+use Rattle.cel_types.proofs.Prelude.{arith, Bool, List, [], ◌∷◌, list_all, no_trees, more_trees, ValueOrError, error, Environment, bind, name_value, values_in, entries_in, list_literal, map_literal, function_named, test_named, macro_named, is_map, is_has, is_variables, name_of, field_name, range_of, selected, meaning, meanings, entry_meanings, operand_meaning, Typing, typed, refused, NoOverload, row, Scope, name_type, within, selected_type, typing, typings, entry_typings, key_typings, operand_typing, is_text_key, FitsType, FitsScope, IsSound, ℕ}
 use Rattle.cel_reader.specs.Tree as tree
 use Rattle.cel_types.specs.declared.cel_type.CelType.TheVariants as type
 use Rattle.cel_types.proofs.TypedRows.{row_fits, with_types_fit, list_fits, map_fits, literal_fits, unary_fits, binary_fits, ternary_fits, index_fits, method_fits, text_test_fits, call_fits, fold_fits, fold_map_fits}
 
-name_fits : (n : List ℕ) (items : List (List ℕ)) (x : ValueOrError) → Fits (name_type n items) x
+name_fits : (n : List ℕ) (items : List (List ℕ)) (x : ValueOrError) → FitsType (name_type n items) x
 unfolding name_type
 name_fits n items x = grind arith
 
-select_fits : (b : Bool) (f : List ℕ) (a : Typing) (s : Scope) (x : ValueOrError) (env : Environment) → FitsScope s env → Fits (selected_type b f a s) (selected b f x env)
+select_fits : (b : Bool) (f : List ℕ) (a : Typing) (s : Scope) (x : ValueOrError) (env : Environment) → FitsScope s env → FitsType (selected_type b f a s) (selected b f x env)
 select_fits b f a s x env h = grind arith
 
 pub is_sound : IsSound

@@ -1,7 +1,8 @@
 -- An expression of the core that has a type is the expansion of its plain tree.
-use Rattle.cel_types.proofs.Prelude.{arith, ◌≡◌, ℕ, Bool, false, List, [], ◌∷◌, Some, refl, sym, ap, subst, ◌∙◌, ⊤, list_all, Macro, function_named, test_named, macro_name, macro_named, is_map, is_has, is_variables, field_name, CoreTree, CoreTrees, CoreEntries, no_cores, more_cores, no_core_entries, more_core_entries, name, select, has, index, call, method, unary, binary, ternary, list, fold, fold_map, one_core, plain_tree, plain_trees, plain_entries, selection, call_or_has, method_or_fold, expanded, expanded_operand, expanded_trees, expanded_entries, CelType, TypeFault, Typing, typed, refused, NoOverload, with_type, with_types, Scope, name_type, within, field_row, has_row, index_row, unary_row, binary_row, ternary_row, function_row, method_row, test_row, macro_row, map_row, is_text_key, map_literal_row, typing, core_typing, core_typings, core_entry_typings, core_key_typings}
+use Rattle.cel_types.proofs.Prelude.{arith, ◌≡◌, ℕ, false, List, [], ◌∷◌, Some, refl, sym, ap, subst, ◌∙◌, ⊤, IsSome, list_all, Callee, callee_name, function_in, test_in, Macro, macro_name, macro_named, is_map, is_has, is_variables, field_name, Core, Cores, CoreEntries, no_cores, more_cores, no_core_entries, more_core_entries, name, select, has, index, call, method, unary, binary, ternary, list, fold, fold_map, one_core, plain_tree, plain_trees, plain_entries, selection, call_or_has, method_or_fold, expanded, expanded_operand, expanded_trees, expanded_entries, CelType, TypeFault, Typing, typed, refused, NoOverload, with_type, with_types, Scope, name_type, within, field_row, has_row, index_row, unary_row, binary_row, ternary_row, function_row, method_row, test_row, macro_row, map_row, is_text_key, map_literal_row, typing, core_typing, core_typings, core_entry_typings, core_key_typings}
 use Rattle.cel_macros.specs.CoreTree.{map}
 use Rattle.cel_types.specs.declared.cel_type.CelType.TheVariants as type
+use Rattle.cel_macros.proofs.Callees.{function_again, not_has, test_again}
 use Rattle.cel_types.proofs.CoreTypes.{expansion_typed}
 
 -- ---- where a node has a type its parts have
@@ -33,14 +34,19 @@ never_typed (x ∷ xs) y h = never_typed xs y (tail_typed x xs (refused y) h)
 -- ---- what has a type is written as no other form
 
 -- it is not the name `variables`
-no_variables : (a : CoreTree) (s : Scope) → IsTyped (core_typing a s) → is_variables (plain_tree a) ≡ false
+no_variables : (a : Core) (s : Scope) → IsTyped (core_typing a s) → is_variables (plain_tree a) ≡ false
 unfolding plain_tree core_typing is_variables name_type
 no_variables a s h = grind arith
 
--- `has` is no function
-no_has : (n : List ℕ) (x : Typing) (b : Bool) → is_has n ≡ b → IsTyped (with_type x (function_row (function_named n))) → b ≡ false
-unfolding is_has function_named
-no_has n x b e h = grind arith
+-- what it names is a function or a test
+is_function : (c : Callee) (x : Typing) → IsTyped (with_type x (function_row (function_in c))) → IsSome (function_in c)
+is_function c x h = grind arith
+
+is_method : (c : Callee) (x : Typing) → IsTyped (with_type x (method_row (function_in c))) → IsSome (function_in c)
+is_method c x h = grind arith
+
+is_test : (c : Callee) (x y : Typing) → IsTyped (with_type x (λ a. with_type y (test_row (test_in c) a))) → IsSome (test_in c)
+is_test c x y h = grind arith
 
 macro_again : (m : Macro) → macro_named (macro_name m) ≡ Some m
 unfolding macro_named
@@ -51,7 +57,7 @@ macro_again m = grind arith
 mutual
   unfolding expanded plain_tree core_typing is_has is_map is_variables
 
-  pub typed_expands : (c : CoreTree) (s : Scope) → IsTyped (core_typing c s) → expanded (plain_tree c) ≡ c
+  pub typed_expands : (c : Core) (s : Scope) → IsTyped (core_typing c s) → expanded (plain_tree c) ≡ c
   typed_expands (select a f) s h =
       let of = first_typed (core_typing a s) field_row h in
       λ j. selection (no_variables a s of j) f (typed_expands a s of j)
@@ -62,18 +68,20 @@ mutual
   typed_expands (ternary c a b) s h = λ j. ternary (typed_expands c s (first_typed (core_typing c s) _ h) j) (typed_expands a s (second_typed (core_typing c s) (core_typing a s) _ h) j) (typed_expands b s (third_typed (core_typing c s) (core_typing a s) (core_typing b s) ternary_row h) j)
   typed_expands (list items) s h = ap list (trees_expand items s (typed type.List) h)
   typed_expands (map es) s h = ap map (entries_expand es s (map_literal_row (list_all is_text_key (core_key_typings es s))) h)
-  typed_expands (call n no_cores) s h = absurd h
-  typed_expands (call n (more_cores a no_cores)) s h =
-      λ j. call_or_has (no_has n (core_typing a s) (is_has n) refl h j) (field_name (plain_tree a)) n (expanded_operand (plain_tree a)) (typed_expands a s (first_typed (core_typing a s) (function_row (function_named n)) h) j)
-  typed_expands (call n (more_cores a (more_cores b more))) s h = absurd (never_typed (core_typings (more_cores a (more_cores b more)) s) NoOverload h)
-  typed_expands (method a n no_cores) s h = ap (λ t. method t n no_cores) (typed_expands a s (first_typed (core_typing a s) (method_row (function_named n)) h))
-  typed_expands (method a n (more_cores b no_cores)) s h = λ j. method (typed_expands a s (first_typed (core_typing a s) _ h) j) n (one_core (typed_expands b s (second_typed (core_typing a s) (core_typing b s) (test_row (test_named n)) h) j))
-  typed_expands (method a n (more_cores b (more_cores d more))) s h = absurd (never_typed (core_typing a s ∷ core_typings (more_cores b (more_cores d more)) s) NoOverload h)
+  typed_expands (call c no_cores) s h = absurd h
+  typed_expands (call c (more_cores a no_cores)) s h =
+      let known = is_function c (core_typing a s) h in
+      (λ j. call_or_has (not_has c known j) (field_name (plain_tree a)) (callee_name c) (expanded_operand (plain_tree a)) (typed_expands a s (first_typed (core_typing a s) (function_row (function_in c)) h) j))
+      ∙ ap (λ d. call d (one_core a)) (function_again c known)
+  typed_expands (call c (more_cores a (more_cores b more))) s h = absurd (never_typed (core_typings (more_cores a (more_cores b more)) s) NoOverload h)
+  typed_expands (method a c no_cores) s h = λ j. method (typed_expands a s (first_typed (core_typing a s) (method_row (function_in c)) h) j) (function_again c (is_method c (core_typing a s) h) j) no_cores
+  typed_expands (method a c (more_cores b no_cores)) s h = λ j. method (typed_expands a s (first_typed (core_typing a s) _ h) j) (test_again c (is_test c (core_typing a s) (core_typing b s) h) j) (one_core (typed_expands b s (second_typed (core_typing a s) (core_typing b s) (test_row (test_in c)) h) j))
+  typed_expands (method a c (more_cores b (more_cores d more))) s h = absurd (never_typed (core_typing a s ∷ core_typings (more_cores b (more_cores d more)) s) NoOverload h)
   typed_expands (fold m n r p) s h = λ j. method_or_fold (macro_again m j) (Some n) (macro_name m) (typed_expands r s (first_typed (core_typing r s) _ h) j) (name n) (typed_expands p (within n s) (second_typed (core_typing r s) (core_typing p (within n s)) (macro_row m) h) j)
   typed_expands (fold_map n r p t) s h = λ j. fold_map n (typed_expands r s (first_typed (core_typing r s) _ h) j) (typed_expands p (within n s) (second_typed (core_typing r s) (core_typing p (within n s)) _ h) j) (typed_expands t (within n s) (third_typed (core_typing r s) (core_typing p (within n s)) (core_typing t (within n s)) map_row h) j)
   typed_expands _ s h = refl
 
-  trees_expand : (ts : CoreTrees) (s : Scope) (last : Typing) → IsTyped (with_types (core_typings ts s) last) → expanded_trees (plain_trees ts) ≡ ts
+  trees_expand : (ts : Cores) (s : Scope) (last : Typing) → IsTyped (with_types (core_typings ts s) last) → expanded_trees (plain_trees ts) ≡ ts
   trees_expand no_cores s last h = refl
   trees_expand (more_cores a more) s last h = λ j. more_cores (typed_expands a s (head_typed (core_typing a s) (core_typings more s) last h) j) (trees_expand more s last (tail_typed (core_typing a s) (core_typings more s) last h) j)
 
@@ -85,8 +93,8 @@ mutual
 
 -- ---- its type
 
-pub typed_is_expanded : (c : CoreTree) (s : Scope) (t : CelType) → core_typing c s ≡ typed t → c ≡ expanded (plain_tree c)
+pub typed_is_expanded : (c : Core) (s : Scope) (t : CelType) → core_typing c s ≡ typed t → c ≡ expanded (plain_tree c)
 typed_is_expanded c s t is = sym (typed_expands c s (subst IsTyped (sym is) tt))
 
-pub plain_typed : (c : CoreTree) (s : Scope) (t : CelType) → core_typing c s ≡ typed t → typing (plain_tree c) s ≡ typed t
+pub plain_typed : (c : Core) (s : Scope) (t : CelType) → core_typing c s ≡ typed t → typing (plain_tree c) s ≡ typed t
 plain_typed c s t is = sym (expansion_typed (plain_tree c) s) ∙ ap (λ d. core_typing d s) (sym (typed_is_expanded c s t is)) ∙ is

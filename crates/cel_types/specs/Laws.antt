@@ -1,7 +1,7 @@
 -- What is proved of types beside their soundness.
 use Rattle.std.specs.Prelude.{◌≡◌}
 use Rattle.cel_reader.specs.Tree.{Tree}
-use Rattle.cel_macros.specs.CoreTree.{CoreTree, expanded, plain_tree}
+use Rattle.cel_macros.specs.CoreTree.{Core, expanded, plain_tree}
 use Rattle.cel_types.specs.declared.cel_type.CelType.{CelType}
 use Rattle.cel_types.specs.Types.{typed}
 use Rattle.cel_types.specs.Scope.{Scope}
@@ -14,4 +14,4 @@ TypesStay = (e : Tree) (s : Scope) → core_typing (expanded e) s ≡ typing e s
 
 -- an expression of the core that has a type is the expansion of its plain tree
 abbrev pub TypedIsExpanded : Type 0
-TypedIsExpanded = (c : CoreTree) (s : Scope) (t : CelType) → core_typing c s ≡ typed t → c ≡ expanded (plain_tree c)
+TypedIsExpanded = (c : Core) (s : Scope) (t : CelType) → core_typing c s ≡ typed t → c ≡ expanded (plain_tree c)

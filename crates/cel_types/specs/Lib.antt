@@ -1,4 +1,5 @@
 pub mod Types
+pub mod ErrorCodes
 pub mod Scope
 pub mod TypeTable
 pub mod Typing

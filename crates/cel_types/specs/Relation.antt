@@ -1,7 +1,7 @@
 -- Which type an expression has, or which fault, as relations over the rows of the table of types.
 use Rattle.std.specs.Prelude.{◌≡◌, ◌↔◌, ◌⊎◌, List, [], ◌∷◌, map, is_some, if◌then◌else◌}
 use Rattle.cel_reader.specs.Tree as tree
-use Rattle.cel_reader.specs.Tree.{Tree, Entries, no_trees, more_trees, no_entries, more_entries, tree_list}
+use Rattle.cel_reader.specs.Tree.{Tree, TreeEntries, no_trees, more_trees, no_entries, more_entries, tree_list}
 use Rattle.cel_macros.specs.Macros.{macro_named, is_map, is_has, is_variables}
 use Rattle.cel_types.specs.declared.cel_type.CelType.{CelType}
 use Rattle.cel_types.specs.Types.{TypeFault, UnknownName, NoOverload, MisplacedVariables}
@@ -10,7 +10,7 @@ use Rattle.cel_types.specs.Typing.{HasType, HasFault}
 use Rattle.cel_types.specs.TypeRows.{IsRow}
 
 -- the keys and the values of a map literal, in the order in which they stand
-abbrev pub keys_and_values : Entries → List Tree
+abbrev pub keys_and_values : TreeEntries → List Tree
 keys_and_values no_entries = []
 keys_and_values (more_entries k v more) = k ∷ v ∷ keys_and_values more
 
@@ -18,8 +18,9 @@ keys_and_values (more_entries k v more) = k ∷ v ∷ keys_and_values more
 abbrev pub in_scope : Scope → List Tree → List (Scope × Tree)
 in_scope s es = map (λ e. (s, e)) es
 
--- The parts of an expression from left to right, each with its scope. What stands before the dot of `variables.v` is none; of `has(a.f)`
--- the part is a; and of a macro they are its range and, with its iteration name in scope, what is behind that name.
+-- The parts of an expression from left to right, each with its scope. What stands before the dot of `variables.v` is
+-- none; of `has(a.f)` the part is a; and of a macro they are its range and, with its iteration name in scope, what is
+-- behind that name.
 abbrev pub parts_of : Scope → Tree → List (Scope × Tree)
 parts_of s (tree.literal l) = []
 parts_of s (tree.name n) = []
@@ -49,7 +50,8 @@ mutual
     next_part : {s : Scope} {e : Tree} {t : CelType} {more : List (Scope × Tree)} {ts : List CelType} → Has s e t → Have more ts
         → Have ((s, e) ∷ more) (t ∷ ts)
 
--- what is wrong where no row takes the types of the parts: the use of `variables`, a name that is not known, or else the operands
+-- what is wrong where no row takes the types of the parts: the use of `variables`, a name that is not known, or else
+-- the operands
 abbrev pub cause : Tree → TypeFault
 cause (tree.name n) = if is_variables (tree.name n) then MisplacedVariables else UnknownName
 cause (tree.select a f) = if is_variables a then MisplacedVariables else NoOverload

@@ -24,15 +24,15 @@ abbrev pub fits_type : CelType → Value → Bool
 fits_type t v = same_type t type.Dyn || same_type t (type_of v)
 
 -- the error fits every type, and a value one that it has; of what is refused nothing is said
-abbrev pub Fits : Typing → ValueOrError → Type 0
-Fits (typed t) error = ⊤
-Fits (typed t) (value v) = fits_type t v ≡ true
-Fits (refused y) x = ⊤
+abbrev pub FitsType : Typing → ValueOrError → Type 0
+FitsType (typed t) error = ⊤
+FitsType (typed t) (value v) = fits_type t v ≡ true
+FitsType (refused y) x = ⊤
 
 -- each variable that may be used has its type or is the error
 abbrev pub FitsScope : Scope → Environment → Type 0
-FitsScope s env = (v : List ℕ) → Fits (variable_type v s.variables) (variable_value v env.variables)
+FitsScope s env = (v : List ℕ) → FitsType (variable_type v s.variables) (variable_value v env.variables)
 
 -- where the variables have their types, what an expression means has its type, or is the error
 abbrev pub IsSound : Type 0
-IsSound = (e : Tree) (s : Scope) (env : Environment) → FitsScope s env → Fits (typing e s) (meaning e env)
+IsSound = (e : Tree) (s : Scope) (env : Environment) → FitsScope s env → FitsType (typing e s) (meaning e env)

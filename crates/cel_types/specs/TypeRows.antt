@@ -1,12 +1,15 @@
--- The table of types as a relation over the types of an expression's parts: for each of its rows a case, or more where it has more forms.
+-- The table of types as a relation over the types of an expression's parts: for each of its rows a case, or more where
+-- it has more forms.
 use Rattle.std.specs.Prelude.{◌≡◌, ℕ, true, false, List, [], ◌∷◌, Contains, Some, if◌then◌else◌}
 use Rattle.cel_reader.specs.Tree as tree
-use Rattle.cel_reader.specs.Tree.{Tree, Literal, Trees, Entries, no_trees, more_trees}
+use Rattle.cel_reader.specs.Tree.{Tree, Literal, Trees, TreeEntries, no_trees, more_trees}
 use Rattle.cel_reader.specs.declared.operator.BinaryOperator.{BinaryOperator}
 use Rattle.cel_reader.specs.declared.operator.BinaryOperator.TheVariants as binary
 use Rattle.cel_reader.specs.declared.operator.UnaryOperator.TheVariants as unary
 use Rattle.cel_macros.specs.Environment.{lookup}
-use Rattle.cel_macros.specs.Functions.{Size, String, Dyn, TextTest, function_named, test_named}
+use Rattle.cel_macros.specs.Functions.{function_named, test_named}
+use Rattle.cel_macros.specs.declared.function.Function.{TheVariants.Size, TheVariants.String, TheVariants.Dyn}
+use Rattle.cel_macros.specs.declared.text_test.TextTest.{TextTest}
 use Rattle.cel_macros.specs.declared.macros.Macro.{Macro, TheVariants.All, TheVariants.Exists, TheVariants.ExistsOne, TheVariants.Filter, TheVariants.Map}
 use Rattle.cel_macros.specs.Macros.{macro_named, is_map, is_has, is_variables}
 use Rattle.cel_types.specs.declared.cel_type.CelType.{CelType}
@@ -88,7 +91,7 @@ pub data IsRow (s : Scope) : Tree → List CelType → CelType → Type 0 where
   -- [a, b] of anything is a list
   a_list : {items : Trees} {ts : List CelType} → IsRow s (tree.list items) ts type.List
   -- {k: v} is a map, where its keys are strings
-  a_map : {es : Entries} {ts : List CelType} → HasTextKeys ts → IsRow s (tree.map es) ts type.Map
+  a_map : {es : TreeEntries} {ts : List CelType} → HasTextKeys ts → IsRow s (tree.map es) ts type.Map
   -- size(a) of a string, a list or a map is an int
   a_size : {n : List ℕ} {a : Tree} {x : CelType} → function_named n ≡ Some Size → MayBeOne (type.String ∷ type.List ∷ type.Map ∷ []) x
       → IsRow s (tree.call n (more_trees a no_trees)) (x ∷ []) type.Int

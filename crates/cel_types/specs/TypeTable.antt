@@ -5,7 +5,8 @@ use Rattle.cel_reader.specs.declared.operator.BinaryOperator.{BinaryOperator}
 use Rattle.cel_reader.specs.declared.operator.BinaryOperator.TheVariants as binary
 use Rattle.cel_reader.specs.declared.operator.UnaryOperator.{UnaryOperator}
 use Rattle.cel_reader.specs.declared.operator.UnaryOperator.TheVariants as unary
-use Rattle.cel_macros.specs.Functions.{Function, Size, String, Dyn, TextTest}
+use Rattle.cel_macros.specs.declared.function.Function.{Function, TheVariants.Size, TheVariants.String, TheVariants.Dyn}
+use Rattle.cel_macros.specs.declared.text_test.TextTest.{TextTest}
 use Rattle.cel_macros.specs.declared.macros.Macro.{Macro, TheVariants.All, TheVariants.Exists, TheVariants.ExistsOne, TheVariants.Filter, TheVariants.Map}
 use Rattle.cel_types.specs.declared.cel_type.CelType.{CelType}
 use Rattle.cel_types.specs.declared.cel_type.CelType.TheVariants as type

@@ -3,7 +3,7 @@ use Rattle.std.specs.Prelude.{Bool, true, false, ◌&&◌, ◌||◌, List, [], �
 use Rattle.std.specs.List.{list_any}
 use Rattle.cel_types.specs.declared.cel_type.CelType.{CelType}
 use Rattle.cel_types.specs.declared.cel_type.CelType.TheVariants as type
-use Rattle.cel_types.specs.declared.type_error.TypeError.{TypeError, TheVariants.Y1, TheVariants.Y2, TheVariants.Y3}
+use Rattle.cel_types.specs.declared.type_error.TypeError.{TypeError, TheVariants.UnknownIdentifier, TheVariants.NoMatchingOverload, TheVariants.MisusedVariables}
 
 -- what can be wrong: a name that is not known, operands that no row of the table takes, or a wrong use of `variables`
 pub data TypeFault : Type 0 where
@@ -59,9 +59,9 @@ with_types (x ∷ xs) last = with_type x (λ t. with_types xs last)
 
 -- the fault that each refusal of the code stands for
 abbrev pub fault_of : TypeError → TypeFault
-fault_of Y1 = UnknownName
-fault_of Y2 = NoOverload
-fault_of Y3 = MisplacedVariables
+fault_of UnknownIdentifier = UnknownName
+fault_of NoMatchingOverload = NoOverload
+fault_of MisusedVariables = MisplacedVariables
 
 -- an answer of the code as a type or a fault
 abbrev pub typing_of : Result CelType TypeError → Typing

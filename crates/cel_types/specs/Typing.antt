@@ -2,8 +2,9 @@
 use Rattle.std.specs.Prelude.{◌≡◌, ℕ, Bool, true, false, List, [], ◌∷◌, Option, Some, None}
 use Rattle.std.specs.List.{list_all}
 use Rattle.cel_reader.specs.Tree as tree
-use Rattle.cel_reader.specs.Tree.{Tree, Trees, Entries, no_trees, more_trees, no_entries, more_entries}
-use Rattle.cel_macros.specs.Functions.{Function, function_named, test_named}
+use Rattle.cel_reader.specs.Tree.{Tree, Trees, TreeEntries, no_trees, more_trees, no_entries, more_entries}
+use Rattle.cel_macros.specs.Functions.{function_named, test_named}
+use Rattle.cel_macros.specs.declared.function.Function.{Function}
 use Rattle.cel_macros.specs.declared.macros.Macro.{Macro}
 use Rattle.cel_macros.specs.Macros.{macro_named, is_map, is_has, is_variables, name_of, field_name}
 use Rattle.cel_types.specs.declared.cel_type.CelType.{CelType}
@@ -72,12 +73,12 @@ unfoldable mutual
   typings (more_trees a more) s = typing a s ∷ typings more s
 
   -- keys and values in their order
-  pub entry_typings : Entries → Scope → List Typing
+  pub entry_typings : TreeEntries → Scope → List Typing
   entry_typings no_entries s = []
   entry_typings (more_entries k v more) s = typing k s ∷ typing v s ∷ entry_typings more s
 
   -- each key so
-  pub key_typings : Entries → Scope → List Typing
+  pub key_typings : TreeEntries → Scope → List Typing
   key_typings no_entries s = []
   key_typings (more_entries k v more) s = typing k s ∷ key_typings more s
 

@@ -4,6 +4,7 @@ ghost use Rattle.std.specs.Prelude.{◌≡◌, IfErr, IfOk};
 ghost use Rattle.std.specs.Prelude as list;
 ghost use Rattle.std.specs.List.{list_all};
 ghost use Rattle.cel_reader.specs.Tree.{Tree};
+ghost use Rattle.cel_macros.specs.Callee.{callee_view};
 ghost use Rattle.cel_macros.specs.CoreTree.{expanded, plain_tree};
 ghost use Rattle.cel_macros.specs.CoreView.{core_view, cores, core_entries};
 ghost use Rattle.cel_macros.specs.Environment.{Environment};
@@ -12,7 +13,7 @@ ghost use Rattle.cel_macros.specs.Meaning.{meaning};
 ghost use Rattle.cel_types.specs.CoreTyping.{core_typing, core_typings, core_entry_typings, core_key_typings, call_typing, method_typing};
 ghost use Rattle.cel_types.specs.Declarations.{declaration, scope_of};
 ghost use Rattle.cel_types.specs.Iterations.{scope_within};
-ghost use Rattle.cel_types.specs.Soundness.{Fits, FitsScope};
+ghost use Rattle.cel_types.specs.Soundness.{FitsType, FitsScope};
 ghost use Rattle.cel_types.specs.TypeTable.{is_text_key, map_literal_row};
 ghost use Rattle.cel_types.specs.Types.{fault_of, typing_of, with_types};
 ghost use Rattle.cel_types.specs.Typing.{typing, HasFault, HasType};
@@ -24,7 +25,7 @@ use crate::rows;
 use crate::scope::Scope;
 use crate::type_error::TypeError;
 use crate::variable::Variable;
-use cel_macros::Core;
+use cel_macros::{Callee, Core};
 
 /// What is wrong with the first of these that has no type, and else the answer that was given.
 #[cycle(typing)]
@@ -67,20 +68,25 @@ fn entries_type(
 #[cycle(typing)]
 #[tactic(auto, using(crate::proofs::Arguments::call_of_none, crate::proofs::Arguments::call_of_many))]
 fn call_type(
-    name: &str,
+    callee: &Callee,
     arguments: &[Core],
     names: &Iterations,
     variables: &[Variable],
 ) -> Result<CelType, TypeError>
-    ensures { typing_of result ≡ call_typing name.now (cores (list.map core_view arguments.now)) (scope_within names.now variables.now) }
+    ensures { typing_of result ≡ call_typing (callee_view callee.now) (cores (list.map core_view arguments.now)) (scope_within names.now variables.now) }
 {
     match arguments {
-        [] => Err(TypeError::Y2),
+        [] => Err(TypeError::NoMatchingOverload),
         [operand] => {
             let found = core_type(operand, names, variables)?;
-            rows::function(name, found)
+            rows::function(callee, found)
         }
-        _ => parts_type(arguments, names, variables, Err(TypeError::Y2)),
+        _ => parts_type(
+            arguments,
+            names,
+            variables,
+            Err(TypeError::NoMatchingOverload),
+        ),
     }
 }
 
@@ -89,20 +95,25 @@ fn call_type(
 #[tactic(auto, using(crate::proofs::Arguments::method_of_many))]
 fn method_type(
     of: CelType,
-    name: &str,
+    callee: &Callee,
     arguments: &[Core],
     names: &Iterations,
     variables: &[Variable],
 ) -> Result<CelType, TypeError>
-    ensures { typing_of result ≡ method_typing name.now of (cores (list.map core_view arguments.now)) (scope_within names.now variables.now) }
+    ensures { typing_of result ≡ method_typing (callee_view callee.now) of (cores (list.map core_view arguments.now)) (scope_within names.now variables.now) }
 {
     match arguments {
-        [] => rows::method(name, of),
+        [] => rows::method(callee, of),
         [argument] => {
             let found = core_type(argument, names, variables)?;
-            rows::text_test(name, of, found)
+            rows::text_test(callee, of, found)
         }
-        _ => parts_type(arguments, names, variables, Err(TypeError::Y2)),
+        _ => parts_type(
+            arguments,
+            names,
+            variables,
+            Err(TypeError::NoMatchingOverload),
+        ),
     }
 }
 
@@ -129,12 +140,12 @@ fn core_type(core: &Core, names: &Iterations, variables: &[Variable]) -> Result<
             let second = core_type(at, names, variables)?;
             rows::index(first, second)
         }
-        Core::Call(name, arguments) => {
-            call_type(name.as_str(), arguments.as_slice(), names, variables)
+        Core::Call(callee, arguments) => {
+            call_type(callee, arguments.as_slice(), names, variables)
         }
-        Core::Method(of, name, arguments) => {
+        Core::Method(of, callee, arguments) => {
             let found = core_type(of, names, variables)?;
-            method_type(found, name.as_str(), arguments.as_slice(), names, variables)
+            method_type(found, callee, arguments.as_slice(), names, variables)
         }
         Core::Unary(operator, operand) => {
             let found = core_type(operand, names, variables)?;
@@ -177,14 +188,14 @@ fn outer_type(core: &Core, variables: &[Variable]) -> Result<CelType, TypeError>
 }
 
 /// The type of the expression, as the table of types has it. Else the error says what is wrong with
-/// the first part without a row, parts from left to right before their node: Y1 for an unknown name,
-/// Y2 for operands that nothing takes, Y3 for `variables` before no variable of the scope. It takes
-/// no memory.
+/// the first part without a row, parts from left to right before their node: `UnknownIdentifier`
+/// for an unknown name, `NoMatchingOverload` for operands that nothing takes, `MisusedVariables`
+/// for `variables` before no variable of the scope. It takes no memory.
 ///
 /// An expression of any shape that has a type is what its plain tree expands to, and that tree has
-/// this type; what it means in an environment that fits the scope has the type too, or is the error.
-/// The error is said of the plain tree too where the expression is an expansion: written by hand it
-/// can be refused where its plain tree reads as a macro or a variable.
+/// this type; what it means in an environment that fits the scope has the type too, or is the
+/// error. The error is said of the plain tree too where the expression is an expansion: written by
+/// hand it can be refused where its plain tree reads as a macro or a variable.
 ///
 /// The host's stack holds one frame for each level of the tree, as for the expansion of macros.
 /// (cel-spec, Gradual Type Checking)
@@ -194,7 +205,7 @@ pub fn check(core: &Core, scope: &Scope) -> Result<CelType, TypeError>
     ensures expansion { IfOk result (λ t. core_view core.now ≡ expanded (plain_tree (core_view core.now))) }
     ensures has_type { IfOk result (HasType (scope_of scope.now) (plain_tree (core_view core.now))) }
     ensures has_fault { (e : Tree) → core_view core.now ≡ expanded e → IfErr result (λ y. HasFault (scope_of scope.now) e (fault_of y)) }
-    ensures sound { (env : Environment) → FitsScope (scope_of scope.now) env → Fits (typing_of result) (meaning (plain_tree (core_view core.now)) env) }
+    ensures sound { (env : Environment) → FitsScope (scope_of scope.now) env → FitsType (typing_of result) (meaning (plain_tree (core_view core.now)) env) }
 {
     outer_type(core, scope.variables())
 }

@@ -49,12 +49,12 @@ pub(crate) fn name_type(name: &str, names: &Iterations) -> Result<CelType, TypeE
     ensures { typing_of result ≡ specs.name_type name.now (names_of names.now) }
 {
     if "variables" == name {
-        return Err(TypeError::Y3);
+        return Err(TypeError::MisusedVariables);
     }
     if is_known(name, names) {
         return Ok(CelType::Dyn);
     }
-    Err(TypeError::Y1)
+    Err(TypeError::UnknownIdentifier)
 }
 
 /// The type of the first variable of this name.
@@ -76,6 +76,6 @@ pub(crate) fn variable_type(name: &str, variables: &[Variable]) -> Result<CelTyp
 {
     match type_named(name, variables) {
         Some(found) => Ok(found),
-        None => Err(TypeError::Y3),
+        None => Err(TypeError::MisusedVariables),
     }
 }

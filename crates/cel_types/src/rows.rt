@@ -1,9 +1,9 @@
 //! The rows of the table of types.
 
-ghost use Rattle.std.specs.Prelude.{◌≡◌, ◌&&◌, [], ◌∷◌, cond, is_some};
+ghost use Rattle.std.specs.Prelude.{◌≡◌, ◌&&◌, [], ◌∷◌, cond};
 ghost use Rattle.std.specs.List.{list_any};
 ghost use Rattle.cel_reader.specs.Tree.{literal_view};
-ghost use Rattle.cel_macros.specs.Functions.{function_named, test_named};
+ghost use Rattle.cel_macros.specs.Callee.{callee_view, function_in, test_in};
 ghost use Rattle.cel_types.specs.declared.cel_type.CelType.TheVariants as kind;
 ghost use Rattle.cel_types.specs.TypeTable as table;
 ghost use Rattle.cel_types.specs.Types as types;
@@ -11,7 +11,7 @@ ghost use Rattle.cel_types.specs.Types.{typing_of};
 
 use crate::cel_type::CelType;
 use crate::type_error::TypeError;
-use cel_macros::Macro;
+use cel_macros::{Callee, Function, Macro, TextTest};
 use cel_reader::{BinaryOperator, Literal, UnaryOperator};
 
 /// Whether two types are the same.
@@ -56,7 +56,7 @@ fn row(holds: bool, t: CelType) -> Result<CelType, TypeError>
     if holds {
         return Ok(t);
     }
-    Err(TypeError::Y2)
+    Err(TypeError::NoMatchingOverload)
 }
 
 /// The type of a literal.
@@ -93,7 +93,7 @@ pub(crate) fn index(of: CelType, at: CelType) -> Result<CelType, TypeError>
         CelType::List => row(allows(&[CelType::Int], at), CelType::Dyn),
         CelType::Map => row(allows(&[CelType::String], at), CelType::Dyn),
         CelType::Dyn => row(allows(&[CelType::Int, CelType::String], at), CelType::Dyn),
-        _ => Err(TypeError::Y2),
+        _ => Err(TypeError::NoMatchingOverload),
     }
 }
 
@@ -135,7 +135,7 @@ fn member(x: CelType, of: CelType) -> Result<CelType, TypeError>
     match of {
         CelType::List | CelType::Dyn => Ok(CelType::Bool),
         CelType::Map => row(allows(&[CelType::String], x), CelType::Bool),
-        _ => Err(TypeError::Y2),
+        _ => Err(TypeError::NoMatchingOverload),
     }
 }
 
@@ -219,45 +219,40 @@ fn size(t: CelType) -> Result<CelType, TypeError>
 }
 
 /// The type of a function of one operand.
-#[tactic(auto, unfolding(cel_macros::specs::Functions::function_named))]
-pub(crate) fn function(name: &str, t: CelType) -> Result<CelType, TypeError>
-    ensures { typing_of result ≡ table.function_row (function_named name.now) t }
+pub(crate) fn function(callee: &Callee, t: CelType) -> Result<CelType, TypeError>
+    ensures { typing_of result ≡ table.function_row (function_in (callee_view callee.now)) t }
 {
-    match name {
-        "size" => size(t),
-        "string" => row(allows(&[CelType::Int, CelType::String], t), CelType::String),
-        "dyn" => Ok(CelType::Dyn),
-        _ => Err(TypeError::Y2),
+    match callee {
+        Callee::Function(Function::Size) => size(t),
+        Callee::Function(Function::String) => {
+            row(allows(&[CelType::Int, CelType::String], t), CelType::String)
+        }
+        Callee::Function(Function::Dyn) => Ok(CelType::Dyn),
+        Callee::Test(_) | Callee::Unknown(_) => Err(TypeError::NoMatchingOverload),
     }
 }
 
 /// The type of a method without arguments.
-#[tactic(auto, unfolding(cel_macros::specs::Functions::function_named))]
-pub(crate) fn method(name: &str, t: CelType) -> Result<CelType, TypeError>
-    ensures { typing_of result ≡ table.method_row (function_named name.now) t }
+pub(crate) fn method(callee: &Callee, t: CelType) -> Result<CelType, TypeError>
+    ensures { typing_of result ≡ table.method_row (function_in (callee_view callee.now)) t }
 {
-    match name {
-        "size" => size(t),
-        _ => Err(TypeError::Y2),
+    match callee {
+        Callee::Function(Function::Size) => size(t),
+        Callee::Function(Function::String | Function::Dyn) | Callee::Test(_) | Callee::Unknown(_) =>
+            Err(TypeError::NoMatchingOverload),
     }
-}
-
-/// Whether a method of this name tests a text for a part.
-#[tactic(auto, unfolding(cel_macros::specs::Functions::test_named))]
-fn is_test(name: &str) -> bool
-    ensures { result ≡ is_some (test_named name.now) }
-{
-    "startsWith" == name || "endsWith" == name || "contains" == name
 }
 
 /// The type of a test of a text for a part.
-pub(crate) fn text_test(name: &str, a: CelType, b: CelType) -> Result<CelType, TypeError>
-    ensures { typing_of result ≡ table.test_row (test_named name.now) a b }
+pub(crate) fn text_test(callee: &Callee, a: CelType, b: CelType) -> Result<CelType, TypeError>
+    ensures { typing_of result ≡ table.test_row (test_in (callee_view callee.now)) a b }
 {
-    if is_test(name) {
-        return row(allows_both(&[CelType::String], a, b), CelType::Bool);
+    match callee {
+        Callee::Test(TextTest::StartsWith | TextTest::EndsWith | TextTest::Contains) => {
+            row(allows_both(&[CelType::String], a, b), CelType::Bool)
+        }
+        Callee::Function(_) | Callee::Unknown(_) => Err(TypeError::NoMatchingOverload),
     }
-    Err(TypeError::Y2)
 }
 
 /// Whether a macro takes a predicate or transform of this type.

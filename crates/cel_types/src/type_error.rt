@@ -2,16 +2,33 @@
 
 use thiserror::Error;
 
-/// What is wrong with the first part of an expression that has no type.
+/// Why an expression has no type: what is wrong with its first part without one.
 #[derive(Clone, Copy, Debug, PartialEq, Eq, Error)]
 pub enum TypeError {
-    /// A name that is no root's and no iteration name.
+    /// A name is neither that of a root nor an iteration name.
     #[error("a name is unknown")]
-    Y1,
+    UnknownIdentifier,
     /// No operator, function, method or macro takes operands of these types.
     #[error("nothing takes operands of these types")]
-    Y2,
-    /// The name `variables` other than before the name of a variable in scope.
+    NoMatchingOverload,
+    /// `variables` is used other than as `variables.name`, with the name of a variable in scope.
     #[error("`variables` stands before no variable in scope")]
-    Y3,
+    MisusedVariables,
+}
+
+impl TypeError {
+    ghost use Rattle.std.specs.Prelude.{◌≡◌, ◌≤◌, length};
+    ghost use Rattle.cel_types.specs.ErrorCodes.{type_error_code};
+
+    /// The error's code: `Y1` to `Y3`.
+    pub fn code(&self) -> &'static str
+        ensures text { result.now ≡ type_error_code self.now }
+        ensures length { length result.now ≤ 6 }
+    {
+        match self {
+            TypeError::UnknownIdentifier => "Y1",
+            TypeError::NoMatchingOverload => "Y2",
+            TypeError::MisusedVariables => "Y3",
+        }
+    }
 }

@@ -1,5 +1,5 @@
 -- What the type checker takes has code: its calls are known ones, and its variables are those of the scope.
-use Rattle.codegen.proofs.Prelude.{◌≡◌, ℕ, Bool, true, false, ◌||◌, List, [], ◌∷◌, Option, Some, sym, ap, ◌∙◌, subst, arith, if◌then◌else◌, refl, map-map, bytes_eq, IsSome, map as each, list_any, CoreTree, CoreTrees, CoreEntries, no_cores, more_cores, no_core_entries, more_core_entries, plain_tree, name, variable, select, has, index, call, method, unary, binary, ternary, list, fold, fold_map, plain_trees, plain_entries, expanded, expanded_trees, expanded_entries, expanded_operand, selection, call_or_has, method_or_fold, one_core, literal, lookup, function_named, test_named, is_variables, macro_name, macro_named, is_has, is_map, field_name, CelType, core_typing, core_typings, core_entry_typings, Declaration, depths_of, scope_of, Scope, name_type, type_or_fault, variable_type, within, field_row, has_row, index_row, unary_row, binary_row, ternary_row, test_row, macro_row, map_row, Typing, typed, refused, with_type, with_types, Variable, IsAccepted, AreAccepted, AreEntriesAccepted, names, nestings, TypedIsAccepted, Macro}
+use Rattle.codegen.proofs.Prelude.{Size, ◌≡◌, ℕ, Bool, true, false, ◌||◌, List, [], ◌∷◌, Option, Some, sym, ap, ◌∙◌, subst, arith, if◌then◌else◌, refl, map-map, bytes_eq, IsSome, map as each, list_any, Core, Cores, CoreEntries, no_cores, more_cores, no_core_entries, more_core_entries, plain_tree, name, variable, select, has, index, call, method, unary, binary, ternary, list, fold, fold_map, plain_trees, plain_entries, expanded, expanded_trees, expanded_entries, expanded_operand, selection, call_or_has, method_or_fold, one_core, literal, lookup, is_variables, macro_name, macro_named, is_map, field_name, CelType, core_typing, core_typings, core_entry_typings, Declaration, depths_of, scope_of, Scope, name_type, type_or_fault, variable_type, within, field_row, has_row, index_row, unary_row, binary_row, ternary_row, test_row, macro_row, map_row, Typing, typed, refused, with_type, with_types, Variable, IsAccepted, AreAccepted, AreEntriesAccepted, names, nestings, TypedIsAccepted, Macro, Callee, callee_name, Function, function_again, function_in, not_has, test_again, test_in, is_has}
 use Rattle.cel_macros.specs.CoreTree.{map}
 
 abbrev pub IsTyped : Typing → Type 0
@@ -37,14 +37,14 @@ known_variable v (x ∷ variables) h =
     known_by (bytes_eq x.0 v) x.1 (lookup v variables) (list_any (λ m. bytes_eq m v) (each (λ y. y.0) variables)) (known_variable v variables) h
 
 -- the name `variables` has no type
-not_variables : (a : CoreTree) (s : Scope) → IsTyped (core_typing a s) → is_variables (plain_tree a) ≡ false
+not_variables : (a : Core) (s : Scope) → IsTyped (core_typing a s) → is_variables (plain_tree a) ≡ false
 unfolding plain_tree core_typing is_variables name_type
 not_variables a s h = grind arith
 
 mutual
   unfolding core_typing IsAccepted
 
-  pub accepted : (e : CoreTree) (s : Scope) (vs : List (List ℕ)) → each (λ x. x.0) s.variables ≡ vs → IsTyped (core_typing e s) → IsAccepted e vs
+  pub accepted : (e : Core) (s : Scope) (vs : List (List ℕ)) → each (λ x. x.0) s.variables ≡ vs → IsTyped (core_typing e s) → IsAccepted e vs
   accepted (variable x) s vs v h = subst (λ (ns : List (List ℕ)). list_any (λ m. bytes_eq m x) ns ≡ true) v (known_variable x s.variables h)
   accepted (select a f) s vs v h = let of = first_typed (core_typing a s) field_row h in (not_variables a s of, accepted a s vs v of)
   accepted (has a f) s vs v h = accepted a s vs v (first_typed (core_typing a s) has_row h)
@@ -56,7 +56,7 @@ mutual
   accepted (method a n (more_cores b no_cores)) s vs v h = (
     grind arith,
     accepted a s vs v (first_typed (core_typing a s) _ h),
-    accepted b s vs v (second_typed (core_typing a s) (core_typing b s) (test_row (test_named n)) h),
+    accepted b s vs v (second_typed (core_typing a s) (core_typing b s) (test_row (test_in n)) h),
   )
   accepted (method a n (more_cores b (more_cores x more))) s vs v h = none_typed (core_typing a s ∷ core_typings (more_cores b (more_cores x more)) s) _ h
   accepted (unary op a) s vs v h = accepted a s vs v (first_typed (core_typing a s) (unary_row op) h)
@@ -79,7 +79,7 @@ mutual
   )
   accepted _ s vs v h = tt
 
-  are_accepted : (es : CoreTrees) (s : Scope) (vs : List (List ℕ)) → each (λ x. x.0) s.variables ≡ vs → (last : Typing)
+  are_accepted : (es : Cores) (s : Scope) (vs : List (List ℕ)) → each (λ x. x.0) s.variables ≡ vs → (last : Typing)
       → IsTyped (with_types (core_typings es s) last) → AreAccepted es vs
   are_accepted no_cores s vs v last h = tt
   are_accepted (more_cores a more) s vs v last h = (
@@ -106,29 +106,31 @@ names_declared scope ds e =
 
 -- ---- what the type checker takes is what its plain tree expands to
 
--- the name of each macro is its own, and no function's is `has`
+-- the name of each macro is its own
 macro_again : (m : Macro) → macro_named (macro_name m) ≡ Some m
 unfolding macro_named
 macro_again m = grind arith
 
-not_has : (n : List ℕ) (b : Bool) → is_has n ≡ b → IsSome (function_named n) → b ≡ false
-unfolding is_has function_named
-not_has n b e some = grind arith
+some_size : (o : Option Function) → o ≡ Some Size → IsSome o
+some_size o e = subst IsSome (sym e) refl
 
 mutual
   unfolding IsAccepted expanded plain_tree is_has is_map is_variables
 
-  pub expanded_again : (e : CoreTree) (vs : List (List ℕ)) → IsAccepted e vs → expanded (plain_tree e) ≡ e
+  pub expanded_again : (e : Core) (vs : List (List ℕ)) → IsAccepted e vs → expanded (plain_tree e) ≡ e
   expanded_again (literal l) vs h = refl
   expanded_again (name n) vs h = refl
   expanded_again (variable v) vs h = refl
   expanded_again (select a f) vs h = λ i. selection (h.0 i) f (expanded_again a vs h.1 i)
-  expanded_again (has a f) vs h = ap (λ (x : CoreTree). has x f) (expanded_again a vs h)
+  expanded_again (has a f) vs h = ap (λ (x : Core). has x f) (expanded_again a vs h)
   expanded_again (index a k) vs h = λ i. index (expanded_again a vs h.0 i) (expanded_again k vs h.1 i)
   expanded_again (call n (more_cores a no_cores)) vs h =
-      λ i. call_or_has (not_has n (is_has n) refl h.0 i) (field_name (plain_tree a)) n (expanded_operand (plain_tree a)) (expanded_again a vs h.1 i)
-  expanded_again (method a n no_cores) vs h = ap (λ (x : CoreTree). method x n no_cores) (expanded_again a vs h.1)
-  expanded_again (method a n (more_cores b no_cores)) vs h = λ i. method (expanded_again a vs h.1 i) n (one_core (expanded_again b vs h.2 i))
+      (λ i. call_or_has (not_has n h.0 i) (field_name (plain_tree a)) (callee_name n) (expanded_operand (plain_tree a)) (expanded_again a vs h.1 i))
+      ∙ ap (λ (x : Callee). call x (one_core a)) (function_again n h.0)
+  expanded_again (method a n no_cores) vs h =
+      λ i. method (expanded_again a vs h.1 i) (function_again n (some_size (function_in n) h.0) i) no_cores
+  expanded_again (method a n (more_cores b no_cores)) vs h =
+      λ i. method (expanded_again a vs h.1 i) (test_again n h.0 i) (one_core (expanded_again b vs h.2 i))
   expanded_again (unary op a) vs h = ap (unary op) (expanded_again a vs h)
   expanded_again (binary op a b) vs h = λ i. binary op (expanded_again a vs h.0 i) (expanded_again b vs h.1 i)
   expanded_again (ternary c a b) vs h = λ i. ternary (expanded_again c vs h.0 i) (expanded_again a vs h.1 i) (expanded_again b vs h.2 i)
@@ -139,7 +141,7 @@ mutual
   expanded_again (fold_map n r p t) vs h = λ i. fold_map n (expanded_again r vs h.0 i) (expanded_again p vs h.1 i) (expanded_again t vs h.2 i)
   expanded_again _ vs h = absurd h
 
-  each_again : (es : CoreTrees) (vs : List (List ℕ)) → AreAccepted es vs → expanded_trees (plain_trees es) ≡ es
+  each_again : (es : Cores) (vs : List (List ℕ)) → AreAccepted es vs → expanded_trees (plain_trees es) ≡ es
   each_again no_cores vs h = refl
   each_again (more_cores a more) vs h = λ i. more_cores (expanded_again a vs h.0 i) (each_again more vs h.1 i)
 

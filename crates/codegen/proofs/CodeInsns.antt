@@ -1,14 +1,14 @@
 -- The code of an expression that an image has room for can be spelled: the numbers of its instructions are in range.
-use Rattle.codegen.proofs.Prelude.{◌≡◌, ℕ, ◌+◌, ◌*◌, ◌^◌, ◌<◌, ◌≤◌, List, [], ◌∷◌, ◌++◌, length, Option, Some, arith, unwrap_or, option_map, AllByRecursion, Insn, Register, R1, IsWellFormedLiteral, BinaryOperator, UnaryOperator, CoreTree, CoreTrees, CoreEntries, no_cores, more_cores, no_core_entries, more_core_entries, plain_entries, plain_tree, plain_trees, lookup, Function, function_named, TextTest, nodes, nodes_of, entries_nodes, need, needs, entries_need, saturated, Declaration, AreInsns, size, kept_size, operand_code, operands_code, Kept, Path, with_name, Leaf, MayBeNear, absorbing_insns, difference_insns, divided_insns, entry_insns, equal_insns, field_insns, has_insns, index_insns, insns_append, item_insns, less_insns, list_insns, macro_insns, map_insns, map_where_insns, member_insns, name_insns, name_near, negation_insns, not_insns, not_less_insns, operand_insns, operands_insns, product_insns, size_insns, string_insns, sum_insns, ternary_insns, test_insns, unequal_insns, binary_code, binary_tail, code_of, entries_code, function_code, items_code, leaf_of, left_size, method_function_code, no_code, routine_named, test_code, unary_code, variable_code, field_leaf, kept_or, address_of, literal_code, literal_leaf, place_of, EntriesHaveLiterals, HasLiterals, HaveLiterals, routines_of}
+use Rattle.codegen.proofs.Prelude.{◌≡◌, ℕ, ◌+◌, ◌*◌, ◌^◌, ◌<◌, ◌≤◌, List, [], ◌∷◌, ◌++◌, length, Option, Some, arith, unwrap_or, option_map, AllByRecursion, Insn, Register, R1, IsWellFormedLiteral, BinaryOperator, UnaryOperator, Core, Cores, CoreEntries, no_cores, more_cores, no_core_entries, more_core_entries, plain_entries, plain_tree, plain_trees, lookup, Function, TextTest, nodes, nodes_of, entries_nodes, need, needs, entries_need, saturated, Declaration, AreInsns, size, kept_size, operand_code, operands_code, FrameUse, RootField, with_name, SimpleOperand, MayBeNear, absorbing_insns, difference_insns, divided_insns, entry_insns, equal_insns, field_insns, has_insns, index_insns, insns_append, item_insns, less_insns, list_insns, macro_insns, map_insns, map_where_insns, member_insns, name_insns, name_near, negation_insns, not_insns, not_less_insns, operand_insns, operands_insns, product_insns, size_insns, string_insns, sum_insns, ternary_insns, test_insns, unequal_insns, binary_code, binary_tail, code_of, entries_code, function_code, items_code, leaf_of, left_size, method_function_code, no_code, routine_named, test_code, unary_code, variable_code, field_leaf, kept_or, address_of, literal_code, literal_leaf, place_of, EntriesHaveLiterals, HasLiterals, HaveLiterals, routines_of, frame_words, word_limit, short_size, slot_reach, memo_limit, call_reach, part_slots_per_node, node_limit, function_in}
 use Rattle.cel_reader.specs.Tree as tree
 use Rattle.cel_macros.specs.CoreTree as core
 use Rattle.codegen.proofs.Lengths.{short_code}
 
 -- iteration names stand in words of the frame
-abbrev pub AreWithin : Kept → Type 0
-AreWithin words = (n : List ℕ) (k : ℕ) → lookup n words.items ≡ Some k → k < 64
+abbrev pub AreWithin : FrameUse → Type 0
+AreWithin words = (n : List ℕ) (k : ℕ) → lookup n words.items ≡ Some k → k < frame_words
 
-within_more : (n : List ℕ) (j : ℕ) (words : Kept) → j < 64 → AreWithin words → AreWithin (with_name n j words)
+within_more : (n : List ℕ) (j : ℕ) (words : FrameUse) → j < frame_words → AreWithin words → AreWithin (with_name n j words)
 within_more n j words low rest m i e = grind (arith, rest m i)
 
 pub address_small : (texts : List (List ℕ)) (t : List ℕ) → address_of texts t < 2 ^ 64
@@ -23,18 +23,18 @@ literal_insns texts l h = grind arith
 literal_near : (l : tree.Literal) → MayBeNear (literal_leaf l)
 literal_near l = grind arith
 
-field_near : (path : Option Path) (a : CoreTree) (f : List ℕ) → MayBeNear (field_leaf path a f)
+field_near : (path : Option RootField) (a : Core) (f : List ℕ) → MayBeNear (field_leaf path a f)
 field_near path a f = grind arith
 
-leaf_near : (e : CoreTree) (ws : Kept) → AreWithin ws → MayBeNear (leaf_of e ws)
+leaf_near : (e : Core) (ws : FrameUse) → AreWithin ws → MayBeNear (leaf_of e ws)
 leaf_near e ws words = grind (arith, literal_near, name_near, field_near)
 
-kept_insns : (l : Option Leaf) (code : List Insn) → MayBeNear l → AreInsns code → AreInsns (kept_or l code)
+kept_insns : (l : Option SimpleOperand) (code : List Insn) → MayBeNear l → AreInsns code → AreInsns (kept_or l code)
 kept_insns l code near insns = grind arith
 
 -- ---- one operand
 
-module _ (l : Option Leaf) (part : List Insn) (near : MayBeNear l) (a : AreInsns part) where
+module _ (l : Option SimpleOperand) (part : List Insn) (near : MayBeNear l) (a : AreInsns part) where
   one_insns : (r : Register) (tail : List Insn) → AreInsns tail → AreInsns (operand_code l part r ++ tail)
   one_insns r tail b = insns_append (operand_code l part r) tail (operand_insns l part r near a) b
 
@@ -49,11 +49,11 @@ module _ (l : Option Leaf) (part : List Insn) (near : MayBeNear l) (a : AreInsns
 
 -- ---- two operands
 
-module _ (l : Option Leaf) (left : List Insn) (m : Option Leaf) (right : List Insn) (k : ℕ) (low : k < 60) (near : MayBeNear l) (a : AreInsns left) (near_right : MayBeNear m) (b : AreInsns right) where
+module _ (l : Option SimpleOperand) (left : List Insn) (m : Option SimpleOperand) (right : List Insn) (k : ℕ) (low : k < word_limit) (near : MayBeNear l) (a : AreInsns left) (near_right : MayBeNear m) (b : AreInsns right) where
   two_insns : (r q : Register) (tail : List Insn) → AreInsns tail → AreInsns (operands_code l left m right k r q ++ tail)
   two_insns r q tail d = insns_append (operands_code l left m right k r q) tail (operands_insns l left m right k r q (omega arith) near a near_right b) d
 
-  binary_insns : (op : BinaryOperator) → size right ≤ 32700 → AreInsns (binary_code op l left m right k)
+  binary_insns : (op : BinaryOperator) → size right ≤ short_size → AreInsns (binary_code op l left m right k)
   unfolding binary_tail
   binary_insns op short = grind (arith, absorbing_insns, two_insns, less_insns, not_less_insns, equal_insns, unequal_insns, member_insns, sum_insns, difference_insns, product_insns, divided_insns)
 
@@ -64,39 +64,39 @@ module _ (l : Option Leaf) (left : List Insn) (m : Option Leaf) (right : List In
 
 -- calls reach each routine, and each memo stands in the scratch region
 abbrev pub AreNear : List (List ℕ × ℕ) → Type 0
-AreNear routines = (n : List ℕ) (found : ℕ × ℕ) → routine_named n routines ≡ Some found → (found.0 < 512) × (found.1 ≤ 0x7fff_ff00)
+AreNear routines = (n : List ℕ) (found : ℕ × ℕ) → routine_named n routines ≡ Some found → (found.0 < memo_limit) × (found.1 ≤ slot_reach)
 
 -- so many slots that calls reach what begins there
 abbrev pub AreLow : List ℕ → Type 0
-AreLow slots = AllByRecursion (λ slot. slot ≤ 0x7fff_ff00) slots
+AreLow slots = AllByRecursion (λ slot. slot ≤ slot_reach) slots
 
 pub near_named : (ds : List Declaration) (slots : List ℕ) → AreLow slots → (n : List ℕ) (found : ℕ × ℕ)
-    → routine_named n (routines_of ds slots) ≡ Some found → (found.0 < length slots) × (found.1 ≤ 0x7fff_ff00)
+    → routine_named n (routines_of ds slots) ≡ Some found → (found.0 < length slots) × (found.1 ≤ slot_reach)
 near_named [] slots low n found e = absurd (cc)
 near_named (d ∷ ds) [] low n found e = absurd (cc)
 near_named (d ∷ ds) (s ∷ slots) low n found e = grind (arith, near_named ds slots low.1 n)
 
-variable_insns : (found : Option (ℕ × ℕ)) (p : ℕ) → p + 6 ≤ 0x8000_0000 → ((at : ℕ × ℕ) → found ≡ Some at → (at.0 < 512) × (at.1 ≤ 0x7fff_ff00)) → AreInsns (variable_code found p)
+variable_insns : (found : Option (ℕ × ℕ)) (p : ℕ) → p + 6 ≤ call_reach → ((at : ℕ × ℕ) → found ≡ Some at → (at.0 < memo_limit) × (at.1 ≤ slot_reach)) → AreInsns (variable_code found p)
 variable_insns found p low near = grind arith
 
 -- a right operand begins close behind the left one's code
-kept_at_most : (l : Option Leaf) (left : List Insn) → kept_size l left ≤ size left + 1
+kept_at_most : (l : Option SimpleOperand) (left : List Insn) → kept_size l left ≤ size left + 1
 kept_at_most l left = grind arith
 
-left_at_most : (op : BinaryOperator) (l : Option Leaf) (left : List Insn) → left_size op l left ≤ size left + 2
+left_at_most : (op : BinaryOperator) (l : Option SimpleOperand) (left : List Insn) → left_size op l left ≤ size left + 2
 left_at_most op l left = grind arith
 
 -- what the numbers of a construct's instructions follow from, beside those of its parts
 ruleset parts = (kept_at_most, left_at_most, short_code, leaf_near)
 
 module _ (ts : List (List ℕ)) (rs : List (List ℕ × ℕ)) (near : AreNear rs) where
-  abbrev code : CoreTree → Kept → ℕ → ℕ → List Insn
+  abbrev code : Core → FrameUse → ℕ → ℕ → List Insn
   code e ws k p = code_of e ts rs ws k p
 
   mutual
     unfolding code_of need nodes plain_tree
 
-    pub code_insns : (e : CoreTree) (ws : Kept) (k p : ℕ) → AreWithin ws → k + need e ≤ 60 → nodes e ≤ 512 → p + 63 * nodes e ≤ 0x8000_0000
+    pub code_insns : (e : Core) (ws : FrameUse) (k p : ℕ) → AreWithin ws → k + need e ≤ word_limit → nodes e ≤ node_limit → p + part_slots_per_node * nodes e ≤ call_reach
         → HasLiterals (plain_tree e) → AreInsns (code_of e ts rs ws k p)
     code_insns (core.literal l) ws k p words room few inside h = literal_insns ts l h
     code_insns (core.name n) ws k p words room few inside h = name_insns n ws.items (words n)
@@ -107,9 +107,9 @@ module _ (ts : List (List ℕ)) (rs : List (List ℕ × ℕ)) (near : AreNear rs
         one_insns (leaf_of a ws) (code a ws k p) (leaf_near a ws words) (code_insns a ws k p words room (omega arith) (omega arith) h.0) R1 _ (has_insns (address_of ts f) (length f) (address_small ts f))
     code_insns (core.index a b) ws k p words room few inside h = grind (arith, parts, two_insns, index_insns, code_insns a ws k p, code_insns b ws (k + 1))
     code_insns (core.call n (more_cores a no_cores)) ws k p words room few inside h =
-        function_insns (leaf_of a ws) (code a ws k p) (leaf_near a ws words) (code_insns a ws k p words room (omega arith) (omega arith) h.0) (function_named n)
+        function_insns (leaf_of a ws) (code a ws k p) (leaf_near a ws words) (code_insns a ws k p words room (omega arith) (omega arith) h.0) (function_in n)
     code_insns (core.method a n no_cores) ws k p words room few inside h =
-        method_insns (leaf_of a ws) (code a ws k p) (leaf_near a ws words) (code_insns a ws k p words (omega arith) (omega arith) (omega arith) h.0) (function_named n)
+        method_insns (leaf_of a ws) (code a ws k p) (leaf_near a ws words) (code_insns a ws k p words (omega arith) (omega arith) (omega arith) h.0) (function_in n)
     code_insns (core.method a n (more_cores b no_cores)) ws k p words room few inside h = grind (arith, parts, tested_insns, code_insns a ws k p, code_insns b ws (k + 1))
     code_insns (core.unary op a) ws k p words room few inside h =
         unary_insns (leaf_of a ws) (code a ws k p) (leaf_near a ws words) (code_insns a ws k p words room (omega arith) (omega arith) h) op
@@ -136,14 +136,14 @@ module _ (ts : List (List ℕ)) (rs : List (List ℕ × ℕ)) (near : AreNear rs
         map_where_insns k (code r ws k p) (code e ws1 (k + 5) q) (code t ws1 (k + 5) u) (omega arith) (omega arith) (code_insns r ws k p words (omega arith) (omega arith) (omega arith) h.0) (code_insns e ws1 (k + 5) q inner (omega arith) (omega arith) (omega arith) h.1.1.0) (code_insns t ws1 (k + 5) u inner (omega arith) (omega arith) (omega arith) h.1.1.1.0)
     code_insns _ ws k p words room few inside h = no_insns
 
-    items_insns : (items : CoreTrees) (ws : Kept) (k p : ℕ) → AreWithin ws → k + 1 + needs items ≤ 60 → nodes_of items ≤ 512
-        → p + 63 * nodes_of items ≤ 0x8000_0000 → HaveLiterals (plain_trees items) → AreInsns (items_code items ts rs ws k p)
+    items_insns : (items : Cores) (ws : FrameUse) (k p : ℕ) → AreWithin ws → k + 1 + needs items ≤ word_limit → nodes_of items ≤ node_limit
+        → p + part_slots_per_node * nodes_of items ≤ call_reach → HaveLiterals (plain_trees items) → AreInsns (items_code items ts rs ws k p)
     items_insns no_cores ws k p words room few inside h = tt
     items_insns (more_cores a more) ws k p words room few inside h =
         grind (arith, short_code, insns_append, item_insns, code_insns a ws (k + 1) p, items_insns more ws k)
 
-    entries_insns : (es : CoreEntries) (ws : Kept) (k p : ℕ) → AreWithin ws → k + entries_need es ≤ 60 → entries_nodes es ≤ 512
-        → p + 63 * entries_nodes es ≤ 0x8000_0000 → EntriesHaveLiterals (plain_entries es) → AreInsns (entries_code es ts rs ws k p)
+    entries_insns : (es : CoreEntries) (ws : FrameUse) (k p : ℕ) → AreWithin ws → k + entries_need es ≤ word_limit → entries_nodes es ≤ node_limit
+        → p + part_slots_per_node * entries_nodes es ≤ call_reach → EntriesHaveLiterals (plain_entries es) → AreInsns (entries_code es ts rs ws k p)
     entries_insns no_core_entries ws k p words room few inside h = tt
     entries_insns (more_core_entries key v more) ws k p words room few inside h =
         grind (arith, short_code, insns_append, entry_insns, code_insns key ws (k + 1) p, code_insns v ws (k + 2), entries_insns more ws k)

@@ -1,5 +1,5 @@
 -- The code of expressions as an emitter makes it.
-use Rattle.codegen.proofs.Prelude.{◌≡◌, ℕ, ◌+◌, ◌≤◌, Bool, true, List, [], ◌∷◌, ◌++◌, length, append-nil, refl, sym, ap, ◌∙◌, arith, ◌*◌, false, length-append, suc, subst, and_from, le-leb, nat_le, saturated, if◌then◌else◌, map as each, pos, All, zip, length-map, map-append, Contents, CoreTree, CoreTrees, CoreEntries, no_cores, more_cores, no_core_entries, more_core_entries, variable, select, has, index, call, method, unary, binary, ternary, list, fold, fold_map, plain_tree, Roots, lookup, meaning, deepest, deepest_of, depth_or_none, entries_deepest, need, depth, nodes, Declaration, depths_of, declared, nothing_kept, Kept, IsScope, Variable, scope_setting, Returns, first_use, wider_gives, scope_begins, scope_grows, routine_named, texts_of, whole_code, routine_code, Computes, Ready, TextsStand, environment_in, names, nestings, routines, scope_context, variable_of, with_texts, IsDeep, cost, spent_by, AreShallow, AreTaken, EmitsRoutine, ExpressionGives, FramesAreEnough, HasConstants, IsExpression, VariableIsTaken, VariableJoins, RoutineGives, RoutineIsPassed, Emitted, with_piece, HasLiterals, routines_of, ints, Insn, skip, size, AreInsns, Stands, slots, size-append, size-cons, stands_first, stands_rest, done, looser, to_place, jump, passed, code_at, has_room, with_counted, with_expression, with_variable, Value, memo_tail, insns_append, memo_insns, routine_returns, EmitsExpression, EmitsVariable, HasRoutines, Running, Suits, caller_context, context, cost_in, meaning_in, next_routine, next_variable, setting}
+use Rattle.codegen.proofs.Prelude.{◌≡◌, ℕ, ◌+◌, ◌≤◌, Bool, true, List, [], ◌∷◌, ◌++◌, length, append-nil, refl, sym, ap, ◌∙◌, arith, ◌*◌, false, length-append, suc, subst, and_from, le-leb, nat_le, saturated, if◌then◌else◌, map as each, pos, All, zip, length-map, map-append, Image, Core, Cores, CoreEntries, no_cores, more_cores, no_core_entries, more_core_entries, variable, select, has, index, call, method, unary, binary, ternary, list, fold, fold_map, plain_tree, Roots, lookup, meaning, deepest, deepest_of, depth_or_none, entries_deepest, need, depth, nodes, Declaration, depths_of, declared, nothing_kept, FrameUse, IsScope, Variable, scope_setting, Returns, first_use, wider_gives, scope_begins, scope_grows, routine_named, texts_of, whole_code, routine_code, Computes, Ready, TextsStand, environment_in, names, nestings, routines, scope_context, variable_of, with_texts, IsDeep, cost, spent_by, AreShallow, AreTaken, EmitsRoutine, ExpressionGives, FramesAreEnough, HasConstants, IsEmittable, VariableIsTaken, VariableJoins, RoutineGives, RoutineIsPassed, Emitted, with_piece, HasLiterals, routines_of, ints, Insn, ja, size, AreInsns, IsCodeAt, slots, size-append, size-cons, stands_first, stands_rest, done, looser, to_place, jump, passed, code_at, has_room, with_counted, with_expression, with_variable, Value, memo_tail, insns_append, memo_insns, routine_returns, EmitsExpression, EmitsVariable, HasRoutines, Running, Suits, caller_context, context, cost_in, meaning_in, next_routine, next_variable, setting, variable_depth_limit, record_limit, memo_limit, word_limit, slot_reach, code_limit, node_limit, call_reach, part_slots_per_node, steps_per_visit, charge_per_unit}
 use Rattle.cel_macros.specs.CoreTree.{map}
 use Rattle.codegen.proofs.Accepted.{names_declared, typed_accepted}
 use Rattle.codegen.proofs.Lent.{texts_stand}
@@ -39,7 +39,7 @@ routines_found slots ds first rest scope later whole taken n h =
 
 -- ---- no expression names a deeper variable than there is
 
-shallow_named : (n : List ℕ) (ds : List Declaration) → AreShallow ds → depth_or_none (lookup n (depths_of ds)) ≤ 6
+shallow_named : (n : List ℕ) (ds : List Declaration) → AreShallow ds → depth_or_none (lookup n (depths_of ds)) ≤ variable_depth_limit
 shallow_named n [] h = omega arith
 shallow_named n (d ∷ ds) h = grind (arith, shallow_named n ds)
 
@@ -47,7 +47,7 @@ module _ (ds : List Declaration) (shallow : AreShallow ds) where
   mutual
     unfolding deepest
 
-    deepest_within : (e : CoreTree) → deepest e (depths_of ds) ≤ 6
+    deepest_within : (e : Core) → deepest e (depths_of ds) ≤ variable_depth_limit
     deepest_within (variable v) = shallow_named v ds shallow
     deepest_within (select a f) = deepest_within a
     deepest_within (has a f) = deepest_within a
@@ -63,41 +63,39 @@ module _ (ds : List Declaration) (shallow : AreShallow ds) where
     deepest_within (fold_map n r p t) = let first = deepest_within r in let second = deepest_within p in let third = deepest_within t in omega arith
     deepest_within _ = omega arith
 
-    each_within : (es : CoreTrees) → deepest_of es (depths_of ds) ≤ 6
+    each_within : (es : Cores) → deepest_of es (depths_of ds) ≤ variable_depth_limit
     each_within no_cores = omega arith
     each_within (more_cores a more) = let first = deepest_within a in let rest = each_within more in omega arith
 
-    entries_within : (es : CoreEntries) → entries_deepest es (depths_of ds) ≤ 6
+    entries_within : (es : CoreEntries) → entries_deepest es (depths_of ds) ≤ variable_depth_limit
     entries_within no_core_entries = omega arith
     entries_within (more_core_entries k v more) = let first = deepest_within k in let second = deepest_within v in let rest = entries_within more in omega arith
 
 -- ---- what is ready
 
-module _ (image : Contents) (deep : Bool) (roots : Roots) (constants : List ℕ) (ds : List Declaration) (scope later : List Variable) (e : CoreTree) (is : IsExpression ds e) (depths : nestings scope ≡ depths_of ds) (may : IsDeep (plain_tree e) (environment_in roots [] scope) → deep ≡ true) (paid : List Variable) where
-  pub ready : (known : List (List ℕ)) → TextsStand constants known (texts_of e) → (frame : ℕ) → frame + deepest e (depths_of ds) ≤ 7
+module _ (image : Image) (deep : Bool) (roots : Roots) (constants : List ℕ) (ds : List Declaration) (scope later : List Variable) (e : Core) (is : IsEmittable ds e) (depths : nestings scope ≡ depths_of ds) (may : IsDeep (plain_tree e) (environment_in roots [] scope) → deep ≡ true) (paid : List Variable) where
+  pub ready : (known : List (List ℕ)) → TextsStand constants known (texts_of e) → (frame : ℕ) → frame + deepest e (depths_of ds) ≤ record_limit
       → Ready (scope_setting image deep paid) scope known (scope_context roots [] nothing_kept constants (scope ++ later)) frame 0 e (cost (plain_tree e) (environment_in roots [] scope)).is_deep
   ready known stand frame near = grind (arith, names_declared, typed_accepted, texts_stand)
 
 -- the texts that were taken stand among the constants
-pub known_stand : (constants : List ℕ) (texts : List (List ℕ)) (e : CoreTree) → HasConstants constants texts e
+pub known_stand : (constants : List ℕ) (texts : List (List ℕ)) (e : Core) → HasConstants constants texts e
     → TextsStand constants (with_texts texts (texts_of e)) (texts_of e)
 known_stand constants texts e holds = rw holds.constants_are (texts_stand texts (texts_of e) holds.more (rw holds.constants_are at holds.few))
 
 pub frames_are_enough : FramesAreEnough
 frames_are_enough ds e shallow = deepest_within ds shallow e
 
--- where code finds the routines of the scope's variables among these
-pub gives_among : (texts : List (List ℕ)) (slots : List ℕ) (ds : List Declaration) (rs : List (List ℕ × ℕ)) (e : CoreTree) (p : ℕ)
-    → IsExpression ds e
-    → (image : Contents) (deep : Bool) (roots : Roots) (constants : List ℕ) (scope later : List Variable) (frame : ℕ) → AreRoutines rs scope
-    → AreTaken slots ds scope later → frame + deepest e (depths_of ds) ≤ 7 → length scope ≤ 512 → HasConstants constants texts e
-    → IsScope image deep roots constants scope → let env = environment_in roots [] scope in (IsDeep (plain_tree e) env → deep ≡ true)
-    → Computes (scope_setting image deep scope) p (whole_code e (with_texts texts (texts_of e)) rs p)
-    (scope_context roots [] nothing_kept constants (scope ++ later)) frame 0 (meaning (plain_tree e) env) (cost (plain_tree e) env)
-gives_among texts slots ds rs e p is image deep roots constants scope later frame same taken near few holds scoped may =
-    let known = with_texts texts (texts_of e) in
-    whole_gives image deep roots constants scope later rs same known frame p e scoped few is.literals
-    (ready image deep roots constants ds scope later e is taken.depths_are may scope known (known_stand constants texts e holds) frame near)
+module _ (texts : List (List ℕ)) (slots : List ℕ) (ds : List Declaration) (rs : List (List ℕ × ℕ)) (e : Core) (p : ℕ) (is : IsEmittable ds e) (image : Image) (deep : Bool) (roots : Roots) (constants : List ℕ) (scope later : List Variable) (frame : ℕ) where
+  -- where code finds the routines of the scope's variables among these
+  pub gives_among : AreRoutines rs scope → AreTaken slots ds scope later → frame + deepest e (depths_of ds) ≤ record_limit → length scope ≤ memo_limit → HasConstants constants texts e
+      → IsScope image deep roots constants scope → let env = environment_in roots [] scope in (IsDeep (plain_tree e) env → deep ≡ true)
+      → Computes (scope_setting image deep scope) p (whole_code e (with_texts texts (texts_of e)) rs p)
+      (scope_context roots [] nothing_kept constants (scope ++ later)) frame 0 (meaning (plain_tree e) env) (cost (plain_tree e) env)
+  gives_among same taken near few holds scoped may =
+      let known = with_texts texts (texts_of e) in
+      whole_gives image deep roots constants scope later rs same known frame p e scoped few is.literals
+      (ready image deep roots constants ds scope later e is taken.depths_are may scope known (known_stand constants texts e holds) frame near)
 
 pub expression_gives : ExpressionGives
 expression_gives texts slots ds e p is image deep roots constants scope later frame taken =
@@ -123,7 +121,7 @@ variable_joins texts slots ds e p is image deep roots constants scope later n ta
 pub variable_is_taken : VariableIsTaken
 variable_is_taken texts slots ds e p roots scope n t taken = grind (arith, append-nil, map-append)
 
-pub emits_routine : (old : Emitted) (ds : List Declaration) (e : CoreTree) → need e ≤ 60 → HasLiterals (plain_tree e) → EmitsRoutine old ds e
+pub emits_routine : (old : Emitted) (ds : List Declaration) (e : Core) → need e ≤ word_limit → HasLiterals (plain_tree e) → EmitsRoutine old ds e
 emits_routine old ds e fits literals t typed =
     let slot = length old.code + 1 in (
       variable_joins old.constants old.routines ds e slot (record { cel_type = t; has_type = typed; literals = literals; fits = fits }),
@@ -136,18 +134,18 @@ emits_routine old ds e fits literals t typed =
 
 pub routine_is_passed : RoutineIsPassed
 routine_is_passed s p piece b stands =
-    jump s p (p + size (passed piece)) b (pos (size piece)) (stands_first s.image.code p (skip (size piece)) piece stands)
-    (omega (arith, ints, size-cons (skip (size piece)) piece)) (done s (p + size (passed piece)) b _ refl)
+    jump s p (p + size (passed piece)) b (pos (size piece)) (stands_first s.image.code p (ja (size piece)) piece stands)
+    (omega (arith, ints, size-cons (ja (size piece)) piece)) (done s (p + size (passed piece)) b _ refl)
 
-pub low_each : (slots : List ℕ) → All (λ slot. slot ≤ 0x7fff_ff00) slots → AreLow slots
+pub low_each : (slots : List ℕ) → All (λ slot. slot ≤ slot_reach) slots → AreLow slots
 low_each [] h = tt
 low_each (s ∷ slots) h = (h 0 0 (omega arith), low_each slots (λ k d inside. h (suc k) d (omega arith)))
 
 -- where there is room
-room_is : (e : Emitted) → e.nodes ≤ 512 → length e.code ≤ 0x7fff_0000 → has_room e ≡ true
-room_is e few near = and_from (nat_le e.nodes 512) (nat_le (length e.code) 0x7fff_0000) (le-leb e.nodes 512 few) (le-leb (length e.code) 0x7fff_0000 near)
+room_is : (e : Emitted) → e.nodes ≤ node_limit → length e.code ≤ code_limit → has_room e ≡ true
+room_is e few near = and_from (nat_le e.nodes node_limit) (nat_le (length e.code) code_limit) (le-leb e.nodes node_limit few) (le-leb (length e.code) code_limit near)
 
-module _ (old : Emitted) (ds : List Declaration) (e : CoreTree) (few : 2 * length old.routines ≤ old.nodes) (low : AreLow old.routines) (fits : need e ≤ 60) (literals : HasLiterals (plain_tree e)) where
+module _ (old : Emitted) (ds : List Declaration) (e : Core) (few : 2 * length old.routines ≤ old.nodes) (low : AreLow old.routines) (fits : need e ≤ word_limit) (literals : HasLiterals (plain_tree e)) where
   abbrev known : List (List ℕ)
   known = with_texts old.constants (texts_of e)
 
@@ -155,7 +153,7 @@ module _ (old : Emitted) (ds : List Declaration) (e : CoreTree) (few : 2 * lengt
   table = routines_of ds old.routines
 
   module _ (first : List Declaration) (r : Running) (suits : Suits old.routines known first e r) where
-    is_expression : IsExpression first e
+    is_expression : IsEmittable first e
     is_expression = record { cel_type = suits.cel_type; has_type = suits.has_type; literals = literals; fits = fits }
 
     has_constants : HasConstants r.constants old.constants e
@@ -164,20 +162,20 @@ module _ (old : Emitted) (ds : List Declaration) (e : CoreTree) (few : 2 * lengt
     all_taken : length (r.scope ++ r.later) ≡ length old.routines
     all_taken = sym (length-map (r.scope ++ r.later) (λ (v : Variable). v.routine)) ∙ ap length suits.taken.slots_are
 
-    scope_few : old.nodes ≤ 512 → length r.scope ≤ 512
+    scope_few : old.nodes ≤ node_limit → length r.scope ≤ memo_limit
     scope_few most = grind (arith, all_taken, length-append)
 
   -- ---- its instructions
 
-  near : old.nodes ≤ 512 → AreNear table
+  near : old.nodes ≤ node_limit → AreNear table
   near most name found is = grind (arith, near_named)
 
-  piece_spells : (p : ℕ) → p + 6 + 63 * nodes e ≤ 0x8000_0000 → nodes e ≤ 512 → old.nodes ≤ 512 → AreInsns (whole_code e known table p)
+  piece_spells : (p : ℕ) → p + 6 + part_slots_per_node * nodes e ≤ call_reach → nodes e ≤ node_limit → old.nodes ≤ node_limit → AreInsns (whole_code e known table p)
   piece_spells p here short most = whole_insns known table (near most) e p fits short here literals
 
   -- the code with all declarations, where the type checker takes the expression with the first of them
-  computed : (first rest : List Declaration) (r : Running) (p frame : ℕ) → old.nodes ≤ 512 → ds ≡ first ++ rest → Suits old.routines known first e r
-      → HasRoutines r r.scope → frame + deepest e (depths_of first) ≤ 7
+  computed : (first rest : List Declaration) (r : Running) (p frame : ℕ) → old.nodes ≤ node_limit → ds ≡ first ++ rest → Suits old.routines known first e r
+      → HasRoutines r r.scope → frame + deepest e (depths_of first) ≤ record_limit
       → Computes (setting r) p (whole_code e known table p) (context r) frame 0 (meaning_in r e) (cost_in r e)
   computed first rest r p frame most whole suits scoped near =
       gives_among old.constants old.routines first table e p (is_expression first r suits) r.image r.is_deep r.roots r.constants r.scope r.later frame
@@ -193,7 +191,7 @@ module _ (old : Emitted) (ds : List Declaration) (e : CoreTree) (few : 2 * lengt
 
   -- ---- a variable
 
-  module _ (shallow : depth e (depths_of ds) ≤ 6) where
+  module _ (shallow : depth e (depths_of ds) ≤ variable_depth_limit) where
     abbrev slot : ℕ
     slot = next_routine old
 
@@ -203,22 +201,22 @@ module _ (old : Emitted) (ds : List Declaration) (e : CoreTree) (few : 2 * lengt
     abbrev routine : List Insn
     routine = routine_code e known table (length old.routines) slot
 
-    joined_scope : (r : Running) (name : List ℕ) → old.nodes ≤ 512 → Suits old.routines known ds e r → HasRoutines r (r.scope ++ r.later)
-        → Stands r.image.code (length old.code) (passed routine) → HasRoutines r ((r.scope ++ r.later) ++ next_variable old body r.roots r.scope name e ∷ [])
+    joined_scope : (r : Running) (name : List ℕ) → old.nodes ≤ node_limit → Suits old.routines known ds e r → HasRoutines r (r.scope ++ r.later)
+        → IsCodeAt r.image.code (length old.code) (passed routine) → HasRoutines r ((r.scope ++ r.later) ++ next_variable old body r.roots r.scope name e ∷ [])
     joined_scope r name most suits scoped stands =
         subst (λ (rs : List (List ℕ × ℕ)). HasRoutines r ((r.scope ++ r.later) ++ next_variable old (whole_code e known rs slot) r.roots r.scope name e ∷ [])) (sym (routines_are old.routines ds r.scope r.later suits.taken))
-        (variable_joins old.constants old.routines ds e slot (is_expression ds r suits) r.image r.is_deep r.roots r.constants r.scope r.later name suits.taken shallow (scope_few ds r suits most) (has_constants ds r suits) scoped suits.may (stands_rest r.image.code (length old.code) (skip (size routine)) routine stands))
+        (variable_joins old.constants old.routines ds e slot (is_expression ds r suits) r.image r.is_deep r.roots r.constants r.scope r.later name suits.taken shallow (scope_few ds r suits most) (has_constants ds r suits) scoped suits.may (stands_rest r.image.code (length old.code) (ja (size routine)) routine stands))
 
     -- the routine's steps are within 128 a visit
-    returned : (first rest : List Declaration) (r : Running) (name : List ℕ) (items : List (List ℕ × Value)) (words : Kept) (frame base : ℕ) → old.nodes ≤ 512
-        → ds ≡ first ++ rest → Suits old.routines known first e r → HasRoutines r r.scope → frame + depth e (depths_of first) ≤ 7 → base ≤ 60
-        → Stands r.image.code (length old.code) (passed routine)
-        → Returns (setting r) slot (length old.routines) (caller_context r items words name e) frame base (meaning_in r e) (128 * (cost_in r e).visits) (16 * spent_by (cost_in r e))
+    returned : (first rest : List Declaration) (r : Running) (name : List ℕ) (items : List (List ℕ × Value)) (words : FrameUse) (frame base : ℕ) → old.nodes ≤ node_limit
+        → ds ≡ first ++ rest → Suits old.routines known first e r → HasRoutines r r.scope → frame + depth e (depths_of first) ≤ record_limit → base ≤ word_limit
+        → IsCodeAt r.image.code (length old.code) (passed routine)
+        → Returns (setting r) slot (length old.routines) (caller_context r items words name e) frame base (meaning_in r e) (steps_per_visit * (cost_in r e).visits) (charge_per_unit * spent_by (cost_in r e))
     returned first rest r name items words frame base most whole suits scoped near low stands =
         let v = next_variable old body r.roots r.scope name e in
         let all = all_taken first r suits in
-        let behind = stands_rest r.image.code (length old.code) (skip (size routine)) routine stands in
-        let here = subst (λ (i : ℕ). Stands r.image.code slot (body ++ memo_tail i)) (sym all) behind in
+        let behind = stands_rest r.image.code (length old.code) (ja (size routine)) routine stands in
+        let here = subst (λ (i : ℕ). IsCodeAt r.image.code slot (body ++ memo_tail i)) (sym all) behind in
         let gives = computed first rest r slot (frame + 1) most whole suits scoped (omega (arith, near)) in
         let some = visited (plain_tree e) (environment_in r.roots [] r.scope) in
         rw (← all) (λ q b ready. looser (setting r) _ _ (omega (arith, some)) (omega arith) (routine_returns r.image r.is_deep (each first_use r.scope) r.roots r.constants (r.scope ++ r.later) v words items frame base here gives (omega (arith, all, few, most)) low (omega (arith, near)) q b ready))
@@ -226,11 +224,11 @@ module _ (old : Emitted) (ds : List Declaration) (e : CoreTree) (few : 2 * lengt
     variable_by : (here : Bool) → has_room (with_counted old e (1 + nodes e)) ≡ here
         → EmitsVariable old (if here then record (with_piece (with_counted old e (1 + nodes e)) (passed (code_at (with_counted old e (1 + nodes e)) ds e slot ++ memo_tail (length old.routines)))) { routines = old.routines ++ slot ∷ [] } else with_counted old e (1 + nodes e)) ds e
     variable_by true room short inside =
-        let within : saturated (old.nodes + (1 + nodes e)) ≤ 512 = omega (arith, short) in
-        let most : old.nodes ≤ 512 = omega (arith, within) in
+        let within : saturated (old.nodes + (1 + nodes e)) ≤ node_limit = omega (arith, short) in
+        let most : old.nodes ≤ node_limit = omega (arith, within) in
         let long = whole_short e known table slot in
         let whole = size-append body (memo_tail (length old.routines)) in
-        let first = size-cons (skip (size routine)) routine in
+        let first = size-cons (ja (size routine)) routine in
         record {
           piece = passed routine;
           body = body;

@@ -1,5 +1,5 @@
 -- Code takes at most 63 slots for each node, and 8 less.
-use Rattle.codegen.proofs.Prelude.{◌≡◌, ℕ, ◌+◌, ◌*◌, ◌≤◌, List, [], ◌∷◌, ◌++◌, length, arith, Option, Some, None, append_assoc, to_z-of_z, slot_count, Insn, size, size-append, size-cons, map_where_turn, macro_code, exists_one_turn, filter_turn, map_where_code, Register, R0, R1, R2, R6, ℤ, BinaryOperator, UnaryOperator, CoreTree, CoreTrees, CoreEntries, no_cores, more_cores, no_core_entries, more_core_entries, Macro, Function, Size, String, function_named, TextTest, test_named, nodes, nodes_of, entries_nodes, Kept, with_name, product_tail, negation_tail, kept_size, operand_code, operands_code, leaf_code, code_of, items_code, entries_code, binary_code, binary_tail, leaf_of, unary_code, function_code, method_function_code, routine_named, test_code, variable_code, kept_or, fold_code, Leaf, leaf_size, fold_size, loop_size, address_of, literal_code, no_ref, not_tail, yes_ref, absorbing_code, name_leaf, field_tail, has_tail, index_tail, size_tail, string_tail, test_tail}
+use Rattle.codegen.proofs.Prelude.{◌≡◌, ℕ, ◌+◌, ◌*◌, ◌≤◌, List, [], ◌∷◌, ◌++◌, length, arith, Option, Some, None, append_assoc, to_z-of_z, slot_count, Insn, size, size-append, size-cons, map_where_turn, macro_code, exists_one_turn, filter_turn, map_where_code, Register, R0, R1, R2, R6, ℤ, BinaryOperator, UnaryOperator, Core, Cores, CoreEntries, no_cores, more_cores, no_core_entries, more_core_entries, Macro, Function, Size, String, TextTest, nodes, nodes_of, entries_nodes, FrameUse, with_name, product_tail, negation_tail, kept_size, operand_code, operands_code, leaf_code, code_of, items_code, entries_code, binary_code, binary_tail, leaf_of, unary_code, function_code, method_function_code, routine_named, test_code, variable_code, kept_or, fold_code, SimpleOperand, leaf_size, fold_size, loop_size, address_of, literal_code, no_ref, not_tail, yes_ref, absorbing_code, name_leaf, field_tail, has_tail, index_tail, size_tail, string_tail, test_tail, turn_slot_limit, part_slots_per_node, function_in, test_in}
 use Rattle.cel_reader.specs.Tree as tree
 use Rattle.cel_reader.specs.declared.operator.BinaryOperator.TheVariants as binary
 use Rattle.cel_reader.specs.declared.operator.UnaryOperator.TheVariants as unary
@@ -24,25 +24,25 @@ pub size_by_length : (piece : List Insn) → size piece ≤ 2 * length piece
 size_by_length [] = omega arith
 size_by_length (i ∷ piece) = let e = size-cons i piece in let h = two_at_most i in let more = size_by_length piece in omega (arith, e, h, more)
 
-pub turn_near : (part tail : List Insn) → size part + size tail ≤ 32300 → size (part ++ tail) ≤ 32300
+pub turn_near : (part tail : List Insn) → size part + size tail ≤ turn_slot_limit → size (part ++ tail) ≤ turn_slot_limit
 turn_near part tail h = let e = size-append part tail in omega (arith, e, h)
 
 pub size_map_where : (transform : List Insn) (k : ℕ) → size (map_where_turn transform k) ≡ size transform + 8
 size_map_where t k = grind (arith, size-cons, size-append)
 
 -- an operand takes at most a slot more than its code, and two operands three more than theirs
-size_operand : (l : Option Leaf) (a : List Insn) (r : Register) → size (operand_code l a r) ≤ size a + 1
+size_operand : (l : Option SimpleOperand) (a : List Insn) (r : Register) → size (operand_code l a r) ≤ size a + 1
 size_operand l a r = grind (arith, leaf_size, size_append)
 
-size_operands : (l : Option Leaf) (a : List Insn) (m : Option Leaf) (b : List Insn) (k : ℕ) (r q : Register) → size (operands_code l a m b k r q) ≤ size a + size b + 3
+size_operands : (l : Option SimpleOperand) (a : List Insn) (m : Option SimpleOperand) (b : List Insn) (k : ℕ) (r q : Register) → size (operands_code l a m b k r q) ≤ size a + size b + 3
 size_operands l a m b k r q = grind (arith, size-append, size-cons, leaf_size)
 
 -- a part in a register, and a tail
-one_short : (l : Option Leaf) (a : List Insn) (r : Register) (tail : List Insn) (n : ℕ) → size a + 8 ≤ 63 * n → size tail ≤ 40 → size (operand_code l a r ++ tail) + 8 ≤ 63 * (1 + n)
+one_short : (l : Option SimpleOperand) (a : List Insn) (r : Register) (tail : List Insn) (n : ℕ) → size a + 8 ≤ part_slots_per_node * n → size tail ≤ 40 → size (operand_code l a r ++ tail) + 8 ≤ part_slots_per_node * (1 + n)
 one_short l a r tail n ha ht = grind (arith, size_append, size_operand)
 
 -- tails are short
-unary_code_short : (op : UnaryOperator) (l : Option Leaf) (a : List Insn) (n : ℕ) → size a + 8 ≤ 63 * n → size (unary_code op l a) + 8 ≤ 63 * (1 + n)
+unary_code_short : (op : UnaryOperator) (l : Option SimpleOperand) (a : List Insn) (n : ℕ) → size a + 8 ≤ part_slots_per_node * n → size (unary_code op l a) + 8 ≤ part_slots_per_node * (1 + n)
 unfolding negation_tail
 unary_code_short unary.Not l a n ha = one_short l a R1 not_tail n ha (omega arith)
 unary_code_short unary.Negate l a n ha = one_short l a R6 negation_tail n ha (omega arith)
@@ -51,61 +51,61 @@ binary_short : (op : BinaryOperator) → size (binary_tail op) ≤ 25
 unfolding binary_tail product_tail
 binary_short op = grind arith
 
-two_short : (l : Option Leaf) (a : List Insn) (m : Option Leaf) (b : List Insn) (k : ℕ) (r q : Register) (tail : List Insn) (n i : ℕ)
-    → size a + 8 ≤ 63 * n → size b + 8 ≤ 63 * i → size tail ≤ 25 → size (operands_code l a m b k r q ++ tail) + 8 ≤ 63 * (1 + n + i)
+two_short : (l : Option SimpleOperand) (a : List Insn) (m : Option SimpleOperand) (b : List Insn) (k : ℕ) (r q : Register) (tail : List Insn) (n i : ℕ)
+    → size a + 8 ≤ part_slots_per_node * n → size b + 8 ≤ part_slots_per_node * i → size tail ≤ 25 → size (operands_code l a m b k r q ++ tail) + 8 ≤ part_slots_per_node * (1 + n + i)
 two_short l a m b k r q tail n i ha hb ht = grind (arith, size_append, size_operands)
 
-absorbing_short : (d o : ℤ) (a b : List Insn) (k n m : ℕ) → size a + 8 ≤ 63 * n → size b + 8 ≤ 63 * m → size (absorbing_code d o a b k) + 8 ≤ 63 * (1 + n + m)
+absorbing_short : (d o : ℤ) (a b : List Insn) (k n m : ℕ) → size a + 8 ≤ part_slots_per_node * n → size b + 8 ≤ part_slots_per_node * m → size (absorbing_code d o a b k) + 8 ≤ part_slots_per_node * (1 + n + m)
 absorbing_short d o a b k n m ha hb = grind (arith, size-append, size-cons)
 
-binary_code_short : (op : BinaryOperator) (l : Option Leaf) (a : List Insn) (m : Option Leaf) (b : List Insn) (k n i : ℕ) → size a + 8 ≤ 63 * n
-    → size b + 8 ≤ 63 * i → size (binary_code op l a m b k) + 8 ≤ 63 * (1 + n + i)
+binary_code_short : (op : BinaryOperator) (l : Option SimpleOperand) (a : List Insn) (m : Option SimpleOperand) (b : List Insn) (k n i : ℕ) → size a + 8 ≤ part_slots_per_node * n
+    → size b + 8 ≤ part_slots_per_node * i → size (binary_code op l a m b k) + 8 ≤ part_slots_per_node * (1 + n + i)
 binary_code_short binary.Or l a m b k n i ha hb = absorbing_short yes_ref no_ref a b k n i ha hb
 binary_code_short binary.And l a m b k n i ha hb = absorbing_short no_ref yes_ref a b k n i ha hb
 binary_code_short op l a m b k n i ha hb = two_short l a m b k _ _ _ n i ha hb (binary_short op)
 
-function_short : (f : Option Function) (l : Option Leaf) (a : List Insn) (n : ℕ) → size a + 8 ≤ 63 * n → size (function_code f l a) + 8 ≤ 63 * (1 + n)
+function_short : (f : Option Function) (l : Option SimpleOperand) (a : List Insn) (n : ℕ) → size a + 8 ≤ part_slots_per_node * n → size (function_code f l a) + 8 ≤ part_slots_per_node * (1 + n)
 function_short (Some Size) l a n ha = one_short l a R1 size_tail n ha (omega arith)
 function_short (Some String) l a n ha = one_short l a R6 string_tail n ha (omega arith)
 function_short _ l a n ha = omega arith
 
-method_short : (f : Option Function) (l : Option Leaf) (a : List Insn) (n : ℕ) → size a + 8 ≤ 63 * n → size (method_function_code f l a) + 8 ≤ 63 * (1 + n)
+method_short : (f : Option Function) (l : Option SimpleOperand) (a : List Insn) (n : ℕ) → size a + 8 ≤ part_slots_per_node * n → size (method_function_code f l a) + 8 ≤ part_slots_per_node * (1 + n)
 method_short (Some Size) l a n ha = one_short l a R1 size_tail n ha (omega arith)
 method_short _ l a n ha = omega arith
 
-test_short : (t : Option TextTest) (l : Option Leaf) (a : List Insn) (m : Option Leaf) (b : List Insn) (k n i : ℕ) → size a + 8 ≤ 63 * n
-    → size b + 8 ≤ 63 * i → size (test_code t l a m b k) + 8 ≤ 63 * (1 + n + i)
+test_short : (t : Option TextTest) (l : Option SimpleOperand) (a : List Insn) (m : Option SimpleOperand) (b : List Insn) (k n i : ℕ) → size a + 8 ≤ part_slots_per_node * n
+    → size b + 8 ≤ part_slots_per_node * i → size (test_code t l a m b k) + 8 ≤ part_slots_per_node * (1 + n + i)
 test_short (Some t) l a m b k n i ha hb = two_short l a m b k R1 R2 (test_tail t) n i ha hb (omega arith)
 test_short None l a m b k n i ha hb = omega arith
 
-fold_short : (k : ℕ) (range first turn : List Insn) (n m : ℕ) → size range + 8 ≤ 63 * n → size first ≤ 1 → size turn ≤ 63 * m + 10
-    → size (fold_code k range first turn) + 20 ≤ 63 * (1 + n + m)
+fold_short : (k : ℕ) (range first turn : List Insn) (n m : ℕ) → size range + 8 ≤ part_slots_per_node * n → size first ≤ 1 → size turn ≤ part_slots_per_node * m + 10
+    → size (fold_code k range first turn) + 20 ≤ part_slots_per_node * (1 + n + m)
 fold_short k range first turn n m hr hf ht = grind (arith, fold_size, loop_size)
 
-macro_short : (m : Macro) (k : ℕ) (r p : List Insn) (n q : ℕ) → size r + 8 ≤ 63 * n → size p + 8 ≤ 63 * q → size (macro_code m k r p) + 8 ≤ 63 * (1 + n + q)
+macro_short : (m : Macro) (k : ℕ) (r p : List Insn) (n q : ℕ) → size r + 8 ≤ part_slots_per_node * n → size p + 8 ≤ part_slots_per_node * q → size (macro_code m k r p) + 8 ≤ part_slots_per_node * (1 + n + q)
 unfolding exists_one_turn filter_turn
 macro_short m k r p n q hr hp = grind (arith, fold_short, size-append)
 
-map_short : (k : ℕ) (r p t : List Insn) (n q m : ℕ) → size r + 8 ≤ 63 * n → size p + 8 ≤ 63 * q → size t + 8 ≤ 63 * m → size (map_where_code k r p t) + 8 ≤ 63 * (1 + n + q + m)
+map_short : (k : ℕ) (r p t : List Insn) (n q m : ℕ) → size r + 8 ≤ part_slots_per_node * n → size p + 8 ≤ part_slots_per_node * q → size t + 8 ≤ part_slots_per_node * m → size (map_where_code k r p t) + 8 ≤ part_slots_per_node * (1 + n + q + m)
 map_short k r p t n q m hr hp ht = grind (arith, size_append, size_map_where, fold_short)
 
-leaf_short : (l : Leaf) → size (leaf_code l) + 8 ≤ 63
+leaf_short : (l : SimpleOperand) → size (leaf_code l) + 8 ≤ part_slots_per_node
 leaf_short l = let e = leaf_size l R0 in omega (arith, e)
 
-kept_short : (l : Option Leaf) (code : List Insn) (n : ℕ) → size code + 8 ≤ 63 * (1 + n) → size (kept_or l code) + 8 ≤ 63 * (1 + n)
+kept_short : (l : Option SimpleOperand) (code : List Insn) (n : ℕ) → size code + 8 ≤ part_slots_per_node * (1 + n) → size (kept_or l code) + 8 ≤ part_slots_per_node * (1 + n)
 kept_short l code n h = grind arith
 
-literal_short : (ts : List (List ℕ)) (l : tree.Literal) → size (literal_code ts l) + 8 ≤ 63
+literal_short : (ts : List (List ℕ)) (l : tree.Literal) → size (literal_code ts l) + 8 ≤ part_slots_per_node
 literal_short ts l = grind arith
 
-variable_short : (found : Option (ℕ × ℕ)) (p : ℕ) → size (variable_code found p) + 8 ≤ 63
+variable_short : (found : Option (ℕ × ℕ)) (p : ℕ) → size (variable_code found p) + 8 ≤ part_slots_per_node
 variable_short found p = grind arith
 
 module _ (ts : List (List ℕ)) (rs : List (List ℕ × ℕ)) where
   mutual
     unfolding code_of nodes
 
-    code_short : (e : CoreTree) (ws : Kept) (k p : ℕ) → size (code_of e ts rs ws k p) + 8 ≤ 63 * nodes e
+    code_short : (e : Core) (ws : FrameUse) (k p : ℕ) → size (code_of e ts rs ws k p) + 8 ≤ part_slots_per_node * nodes e
     code_short (core.literal l) ws k p = literal_short ts l
     code_short (core.name n) ws k p = leaf_short (name_leaf n ws.items)
     code_short (core.variable v) ws k p = variable_short (routine_named v rs) p
@@ -113,10 +113,10 @@ module _ (ts : List (List ℕ)) (rs : List (List ℕ × ℕ)) where
         kept_short (leaf_of (core.select a f) ws) _ (nodes a) (one_short (leaf_of a ws) _ R1 (field_tail (address_of ts f) (length f)) (nodes a) (code_short a ws k p) (omega arith))
     code_short (core.has a f) ws k p = one_short (leaf_of a ws) _ R1 (has_tail (address_of ts f) (length f)) (nodes a) (code_short a ws k p) (omega arith)
     code_short (core.index a b) ws k p = two_short (leaf_of a ws) _ (leaf_of b ws) _ k R1 R2 index_tail (nodes a) (nodes b) (code_short a ws k p) (code_short b ws (k + 1) _) (omega arith)
-    code_short (core.call n (more_cores a no_cores)) ws k p = let h = function_short (function_named n) (leaf_of a ws) _ (nodes a) (code_short a ws k p) in omega (arith, h)
-    code_short (core.method a n no_cores) ws k p = let h = method_short (function_named n) (leaf_of a ws) _ (nodes a) (code_short a ws k p) in omega (arith, h)
+    code_short (core.call n (more_cores a no_cores)) ws k p = let h = function_short (function_in n) (leaf_of a ws) _ (nodes a) (code_short a ws k p) in omega (arith, h)
+    code_short (core.method a n no_cores) ws k p = let h = method_short (function_in n) (leaf_of a ws) _ (nodes a) (code_short a ws k p) in omega (arith, h)
     code_short (core.method a n (more_cores b no_cores)) ws k p =
-        let h = test_short (test_named n) (leaf_of a ws) _ (leaf_of b ws) _ k (nodes a) (nodes b) (code_short a ws k p) (code_short b ws (k + 1) (p + kept_size (leaf_of a ws) (code_of a ts rs ws k p))) in
+        let h = test_short (test_in n) (leaf_of a ws) _ (leaf_of b ws) _ k (nodes a) (nodes b) (code_short a ws k p) (code_short b ws (k + 1) (p + kept_size (leaf_of a ws) (code_of a ts rs ws k p))) in
         omega (arith, h)
     code_short (core.unary op a) ws k p = unary_code_short op (leaf_of a ws) _ (nodes a) (code_short a ws k p)
     code_short (core.binary op a b) ws k p = binary_code_short op (leaf_of a ws) _ (leaf_of b ws) _ k (nodes a) (nodes b) (code_short a ws k p) (code_short b ws (k + 1) _)
@@ -128,15 +128,15 @@ module _ (ts : List (List ℕ)) (rs : List (List ℕ × ℕ)) where
         map_short k _ _ _ (nodes r) (nodes e) (nodes t) (code_short r ws k p) (code_short e (with_name n (k + 4) ws) (k + 5) _) (code_short t (with_name n (k + 4) ws) (k + 5) _)
     code_short _ ws k p = omega arith
 
-    items_short : (es : CoreTrees) (ws : Kept) (k p : ℕ) → size (items_code es ts rs ws k p) ≤ 63 * nodes_of es
+    items_short : (es : Cores) (ws : FrameUse) (k p : ℕ) → size (items_code es ts rs ws k p) ≤ part_slots_per_node * nodes_of es
     items_short no_cores ws k p = omega arith
     items_short (more_cores a more) ws k p = grind (arith, size-append, code_short a ws (k + 1) p, items_short more ws k)
 
-    entries_short : (es : CoreEntries) (ws : Kept) (k p : ℕ) → size (entries_code es ts rs ws k p) ≤ 63 * entries_nodes es
+    entries_short : (es : CoreEntries) (ws : FrameUse) (k p : ℕ) → size (entries_code es ts rs ws k p) ≤ part_slots_per_node * entries_nodes es
     entries_short no_core_entries ws k p = omega arith
     entries_short (more_core_entries key v more) ws k p =
         grind (arith, size-append, size-cons, code_short key ws (k + 1) p, code_short v ws (k + 2), entries_short more ws k)
 
 -- so code of what an image has room for is near enough for jumps
-pub short_code : (e : CoreTree) (ts : List (List ℕ)) (rs : List (List ℕ × ℕ)) (ws : Kept) (k p : ℕ) → size (code_of e ts rs ws k p) + 8 ≤ 63 * nodes e
+pub short_code : (e : Core) (ts : List (List ℕ)) (rs : List (List ℕ × ℕ)) (ws : FrameUse) (k p : ℕ) → size (code_of e ts rs ws k p) + 8 ≤ part_slots_per_node * nodes e
 short_code e ts rs ws k p = code_short ts rs e ws k p

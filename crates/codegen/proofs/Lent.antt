@@ -1,5 +1,5 @@
 -- A text among the constants is lent by its address and length.
-use Rattle.codegen.proofs.Prelude.{◌≡◌, ℕ, ◌+◌, Bool, true, false, ◌||◌, List, [], ◌∷◌, ◌++◌, length, Option, Some, bytes_eq, refl, sym, ap, ◌∙◌, append_assoc, append-nil, if◌then◌else◌, ◌≤◌, take, drop, arith, length-append, option_map, list_any, AllByRecursion, bytes_decides, joined, place_of, with_text, with_texts, drop-drop, drop_at, take_at, list_any-append, constants_of, start_memory, bytes_at, HasText, address_of, TextsStand, TextsStay}
+use Rattle.codegen.proofs.Prelude.{◌≡◌, ℕ, ◌+◌, Bool, true, false, ◌||◌, List, [], ◌∷◌, ◌++◌, length, Option, Some, bytes_eq, refl, sym, ap, ◌∙◌, append_assoc, append-nil, if◌then◌else◌, ◌≤◌, take, drop, arith, length-append, option_map, list_any, AllByRecursion, bytes_decides, joined, place_of, with_text, with_texts, drop-drop, drop_at, take_at, list_any-append, constants_of, start_memory, bytes_at, HasText, address_of, TextsStand, TextsStay, constants_limit}
 
 -- ---- the texts that were taken are among the texts, whatever is taken later
 
@@ -57,13 +57,13 @@ unfolding constants_of start_memory
 lent_by t constants n is within = grind arith
 
 -- where the constants begin with all texts, each of them stands where code looks for it
-has_text : (t : List ℕ) (texts : List (List ℕ)) (rest : List ℕ) → IsAmong texts t → length (joined texts) ≤ 1048576
+has_text : (t : List ℕ) (texts : List (List ℕ)) (rest : List ℕ) → IsAmong texts t → length (joined texts) ≤ constants_limit
     → HasText (joined texts ++ rest) (address_of texts t) t
 has_text t texts rest among small =
     let p = placed t texts rest among in
     grind (arith, lent_by t (joined texts ++ rest) p.n p.is, length-append (joined texts) rest)
 
-all_stand : (texts : List (List ℕ)) (rest : List ℕ) → length (joined texts) ≤ 1048576 → (used : List (List ℕ)) → AllByRecursion (IsAmong texts) used
+all_stand : (texts : List (List ℕ)) (rest : List ℕ) → length (joined texts) ≤ constants_limit → (used : List (List ℕ)) → AllByRecursion (IsAmong texts) used
     → TextsStand (joined texts ++ rest) texts used
 all_stand texts rest small [] among = tt
 all_stand texts rest small (t ∷ used) among = (has_text t texts rest among.0 small, all_stand texts rest small used among.1)

@@ -4,10 +4,11 @@ pub mod Lent
 pub mod Walks
 pub mod Accepted
 pub mod Parts
-pub mod Macros
+pub mod Folds
 pub mod Computed
 pub mod Layer
 pub mod CodeInsns
 pub mod Finished
 pub mod Whole
 pub mod Prelude
+pub mod Subexpressions

@@ -1,22 +1,172 @@
 -- The names that these proofs cite of the library, of the crates below and of the definitions here. Declares nothing.
-pub use Rattle.std.proofs.{Common.All, Common.Bool, Common.IfOk, Common.IfSome, Common.IsSome, Common.List, Common.None, Common.Option, Common.Result, Common.Some, Common.le-leb, Common.nat_le, Common.ℕ, Common.ℤ, Common.[], Common.add-one, Common.ap, Common.append-nil, Common.append_assoc, Common.arith, Common.bytes_eq, Common.codes, Common.drop, Common.drop-cons, Common.false, Common.get_or, Common.if◌then◌else◌, Common.leb-false, Common.leb-true, Common.length, Common.length-append, Common.map, Common.min, Common.option_map, Common.pos, Common.refl, Common.rules, Common.slice_get, Common.string_bytes, Common.string_eq, Common.subst, Common.suc, Common.sym, Common.take, Common.true, Common.unwrap_or, Common.zero, Common.◌&&◌, Common.◌*◌, Common.◌++◌, Common.◌+◌, Common.◌-◌, Common.◌<◌, Common.◌^◌, Common.◌||◌, Common.◌∙◌, Common.◌∷◌, Common.◌≡◌, Common.◌≤◌, lemmas.Bool.and_from, lemmas.Int.ints, lemmas.Int.to_z-of_z, lemmas.List.drop-drop, lemmas.List.drop_at, lemmas.List.length-map, lemmas.List.map-append, lemmas.List.take-map, lemmas.List.take_all, lemmas.List.take_at, lemmas.List.Folds.list_any-append, lemmas.Simd.map-map, lemmas.Slice.Eq.bytes_eq-Decides, lemmas.Str.IsUtf8-string_bytes, lemmas.Str.is_utf8-from_IsUtf8}
-pub use Rattle.std.specs.{Borrow.Bor, Cmp.Lexicographic.bytes_decides, List.AllByRecursion, List.list_any, List.zip, declared.alloc.AllocError.AllocError, declared.alloc.Global.Global, declared.vec.Vec.Vec}
-pub use Rattle.bpf_machine.specs.{Operands.is_frame_pointer}
-pub use Rattle.cel_macros.proofs.{Folds.fold_maps_mean, Folds.folds_mean}
-pub use Rattle.cel_macros.specs.{Arithmetic.difference_of, Arithmetic.negation_of, Arithmetic.product_of, Arithmetic.quotient_of, Arithmetic.remainder_of, Arithmetic.sum_of, Comparison.equal_of, Comparison.greater_equal_of, Comparison.greater_of, Comparison.less_equal_of, Comparison.less_of, Comparison.member_of, Comparison.unequal_of, CoreTree.CoreEntries, CoreTree.CoreTree, CoreTree.CoreTrees, CoreTree.binary, CoreTree.call, CoreTree.call_or_has, CoreTree.fold, CoreTree.fold_map, CoreTree.has, CoreTree.index, CoreTree.list, CoreTree.literal, CoreTree.method, CoreTree.method_or_fold, CoreTree.method_or_fold_map, CoreTree.more_core_entries, CoreTree.more_cores, CoreTree.name, CoreTree.no_core_entries, CoreTree.no_cores, CoreTree.one_core, CoreTree.select, CoreTree.selection, CoreTree.ternary, CoreTree.unary, CoreTree.variable, CoreView.core_entries, CoreView.core_view, CoreView.cores, CoreViewLaws.view_map, Environment.Environment, Environment.Roots, Environment.bind, Environment.lookup, Expanding.core_pair, FoldMeaning.folded, FoldMeaning.folded_map, Functions.Dyn, Functions.Function, Functions.Size, Functions.String, Functions.TextTest, Functions.function_of, Functions.method_of, Functions.string_of, Functions.text_test_of, Literals.list_literal, Literals.literal_of, Literals.map_literal, Logic.No, Logic.Truth, Logic.Yes, Logic.and_of, Logic.chosen, Logic.not_of, Logic.or_of, Logic.ternary_of, Logic.truth, Macros.field_name, Macros.macro_name, Macros.map_over_range, Macros.name_of, Macros.over_range, Macros.range_of, Meaning.binary_of, Meaning.called, Meaning.selected, Meaning.unary_of, Selection.field_of, Selection.has_of, Selection.index_of, declared.core_tree.Core.Core, declared.macros.Macro.Macro}
-unfoldable pub use Rattle.cel_macros.specs.{CoreTree.expanded, CoreTree.expanded_entries, CoreTree.expanded_operand, CoreTree.expanded_trees, CoreTree.plain_entries, CoreTree.plain_tree, CoreTree.plain_trees, Environment.name_value, Environment.variable_value, Functions.function_named, Functions.test_named, Macros.is_has, Macros.is_map, Macros.is_variables, Macros.macro_named, Meaning.entry_meanings, Meaning.meaning, Meaning.meanings, Meaning.operand_meaning}
-pub use Rattle.cel_measures.specs.{Measures.depth, Measures.depth_or_none, Saturated.saturated}
-unfoldable pub use Rattle.cel_measures.specs.{Measures.deepest, Measures.deepest_of, Measures.entries_deepest, Measures.entries_need, Measures.entries_nodes, Measures.need, Measures.needs, Measures.nodes, Measures.nodes_of}
-pub use Rattle.cel_reader.specs.{Tree.Entries, Tree.Tree, Tree.Trees, Tree.more_entries, Tree.more_trees, Tree.no_entries, Tree.no_trees, WellFormed.IsWellFormedLiteral, declared.operator.BinaryOperator.BinaryOperator, declared.operator.UnaryOperator.UnaryOperator}
-pub use Rattle.cel_types.specs.{Declarations.Declaration, Declarations.declaration, Declarations.declared, Declarations.depths_of, Declarations.scope_of, Scope.Scope, Scope.type_or_fault, Scope.within, TypeTable.binary_row, TypeTable.field_row, TypeTable.has_row, TypeTable.index_row, TypeTable.macro_row, TypeTable.map_row, TypeTable.ternary_row, TypeTable.test_row, TypeTable.unary_row, Types.Typing, Types.refused, Types.typed, Types.with_type, Types.with_types, declared.cel_type.CelType.CelType}
-unfoldable pub use Rattle.cel_types.specs.{CoreTyping.core_entry_typings, CoreTyping.core_typing, CoreTyping.core_typings, Scope.name_type, Scope.variable_type}
-pub use Rattle.codegen_base.proofs.{Additions.difference_gives, Additions.sum_gives, Comparison.comparison_gives, Insns.MayBeNear, Insns.absorbing_insns, Insns.difference_insns, Insns.divided_insns, Insns.entry_insns, Insns.equal_insns, Insns.field_insns, Insns.has_insns, Insns.index_insns, Insns.insns_append, Insns.item_insns, Insns.leaf_insns, Insns.less_insns, Insns.list_insns, Insns.macro_insns, Insns.map_insns, Insns.map_where_insns, Insns.member_insns, Insns.memo_insns, Insns.name_insns, Insns.name_near, Insns.negation_insns, Insns.not_insns, Insns.not_less_insns, Insns.operand_insns, Insns.operands_insns, Insns.product_insns, Insns.size_insns, Insns.string_insns, Insns.sum_insns, Insns.ternary_insns, Insns.test_insns, Insns.unequal_insns, Later.later_gives, Later.wider_gives, Leaves.leaf_gives, Leaves.leaves_give, Leaves.leaves_name, Lists.list_gives, Loaded.leaf_size, Logic.logic_gives, Loops.fold_size, Loops.loop_size, Macros.All.macro_gives, Macros.Budgets.gives_within, Macros.MapsWhere.map_where_gives, Maps.map_gives, Multiplications.products_give, Negation.negation_gives, Operators.one_gives, Operators.two_gives, Paths.paths_give, Pieces.size-append, Pieces.size-cons, Pieces.stands_first, Pieces.stands_rest, Returns.routine_returns, Runs.done, Runs.looser, Runs.to_place, Scopes.scope_begins, Scopes.scope_gives, Scopes.scope_grows, Selection.selection_gives, Steps.jump}
-pub use Rattle.codegen_base.specs.{Body.Body, Code.Aggregates.entry_code, Code.Aggregates.item_code, Code.Calls.kept_size, Code.Calls.operand_code, Code.Calls.operands_code, Code.Folds.macro_code, Code.Folds.map_where_code, Code.Folds.map_where_turn, Code.Leaves.leaf_code, Code.Logic.absorbing_code, Code.Logic.no_ref, Code.Logic.not_tail, Code.Logic.ternary_code, Code.Logic.yes_ref, Code.Names.name_leaf, Code.Selection.field_tail, Code.Selection.has_tail, Code.Selection.index_tail, Code.Selection.size_tail, Code.Selection.string_tail, Code.Selection.test_tail, Contexts.Context, Contexts.Gives, Engine.Setting, Gives.Aggregates.Builds, Gives.Aggregates.EntriesGive, Gives.Aggregates.ItemsGive, Gives.Logic.AbsorbingGives, Gives.Macros.IsItem, Gives.Macros.each_spent, Gives.Macros.each_visits, Gives.Macros.items_spent, Gives.Macros.items_visits, Gives.Paths.kept_path_code, Gives.Selection.HasText, Gives.Selection.text_length, Helpers.joined_length, Instructions.skip, Instructions.store, Loops.fold_code, Loops.loop_code, Loops.range_tail, Loops.with_item, Operators.AreApart, Operators.Combines, Operators.Converts, Operators.IsLeafIn, Operators.IsLeafOf, Paths.Kept, Paths.Path, Paths.nothing_kept, Paths.with_name, Paths.with_path, Pieces.AreInsns, Pieces.Stands, Pieces.insn_slots, Pieces.size, Pieces.slots, Pieces.spellings, Scopes.IsScope, Scopes.Returns, Scopes.Variable, Scopes.first_use, Scopes.place_named, Scopes.scope_setting, Variables.memo_tail, declared.leaf.Leaf.Leaf, declared.leaf.Leaf.TheVariants.Word}
-unfoldable pub use Rattle.codegen_base.specs.{Code.Arithmetic.negation_tail, Code.Arithmetic.product_tail, Code.Folds.exists_one_turn, Code.Folds.filter_turn, Code.Names.root_reference}
-unfoldable pub use Rattle.guest_memory.specs.{Access.constants_of, Memory.start_memory}
-pub use Rattle.helper_table.specs.{Calls.bytes_at}
-pub use Rattle.insn_codec.specs.{Spelling.slot_count, Spelling.spelling, declared.insn.Insn.Insn, declared.insn.Insn.TheVariants.LoadWide, declared.register.Register.Register, declared.register.Register.TheVariants.R0, declared.register.Register.TheVariants.R1, declared.register.Register.TheVariants.R2, declared.register.Register.TheVariants.R6, declared.register.Register.TheVariants.R7}
-pub use Rattle.loader.specs.{Contents.Contents}
-pub use Rattle.value_store.specs.{Size.items_size, Size.result_size, Size.size_of, Value.Items, Value.Value, Value.ValueOrError, Value.boolean, Value.int, Value.item, Value.list_of, Value.no_items, Value.null, Value.text, Value.value}
-pub use Rattle.codegen.specs.{Added.code_at, Added.has_room, Added.passed, Added.with_counted, Added.with_expression, Added.with_variable, Code.Expressions.binary_code, Code.Expressions.field_leaf, Code.Expressions.function_code, Code.Expressions.kept_or, Code.Expressions.leaf_of, Code.Expressions.left_size, Code.Expressions.method_function_code, Code.Expressions.no_code, Code.Expressions.routine_named, Code.Expressions.test_code, Code.Expressions.unary_code, Code.Expressions.variable_code, Code.Literals.address_of, Code.Literals.literal_code, Code.Literals.literal_leaf, Code.Whole.code_with, Code.Whole.front_of, Code.Whole.keeping_code, Code.Whole.path_or, Code.Whole.plain_code, Code.Whole.routine_code, Code.Whole.shorter, Computes.Computes, Computes.ComputesPart, Computes.Ready, Computes.TextsStand, Computes.environment_in, Computes.names, Computes.nestings, Computes.routines, Computes.scope_context, Computes.variable_of, Constants.joined, Constants.place_of, Constants.with_text, Constants.with_texts, Cost.Cost, Cost.IsDeep, Cost.call_cost, Cost.each_item, Cost.items_cost, Cost.kept, Cost.kept_by, Cost.literal_cost, Cost.macro_cost, Cost.map_cost, Cost.name_or_text, Cost.node, Cost.nothing, Cost.one_item, Cost.selection_cost, Cost.spent_by, Cost.◌and◌, Emission.EmitsExpression, Emission.EmitsVariable, Emission.HasRoutines, Emission.Running, Emission.Suits, Emission.caller_context, Emission.context, Emission.cost_in, Emission.meaning_in, Emission.next_routine, Emission.next_variable, Emission.setting, Emitted.Emitted, Emitted.slot_spellings, Emitted.with_piece, FrameWords.path_view, FrameWords.words_of, FrameWords.words_step, HasLiterals.EntriesHaveLiterals, HasLiterals.HasLiterals, HasLiterals.HaveLiterals, Laws.CodeGives, Laws.RoutineGives, Laws.RoutineIsPassed, Laws.TextsStay, Laws.TypedIsAccepted, Layer.AreShallow, Layer.AreTaken, Layer.EmitsRoutine, Layer.ExpressionGives, Layer.FramesAreEnough, Layer.HasConstants, Layer.IsExpression, Layer.VariableIsTaken, Layer.VariableJoins, Surroundings.routines_of, Surroundings.routines_within, Surroundings.texts_within, declared.frame_words.FrameWords.FrameWords, declared.frame_words.FrameWords.TheFolds.fold-roll-FrameWords, declared.frame_words.FrameWords.TheVariants.rolls-Within}
-unfoldable pub use Rattle.codegen.specs.{Accepted.AreAccepted, Accepted.AreEntriesAccepted, Accepted.IsAccepted, Code.Expressions.binary_tail, Code.Expressions.code_of, Code.Expressions.entries_code, Code.Expressions.items_code, Code.Expressions.texts_of, Code.Expressions.texts_of_each, Code.Expressions.texts_of_entries, Code.Whole.first_path, Code.Whole.whole_code, Cost.cost, Cost.costs, Cost.entry_costs, Cost.operand_cost}
+pub use Rattle.std.proofs.Common.{All, Bool, IfOk, IfSome, IsSome, List, None, Option, Result, Some, le-leb, nat_le}
+pub use Rattle.std.proofs.Common.{ℕ, ℤ, [], add-one, ap, append-nil, append_assoc, arith, bytes_eq, codes, drop}
+pub use Rattle.std.proofs.Common.{drop-cons, false, get_or, if◌then◌else◌, leb-false, leb-true, length, length-append}
+pub use Rattle.std.proofs.Common.{map, min, option_map, pos, refl, rules, slice_get, string_bytes, string_eq, subst}
+pub use Rattle.std.proofs.Common.{suc, sym, take, true, unwrap_or, zero, ◌&&◌, ◌*◌, ◌++◌, ◌+◌, ◌-◌, ◌<◌, ◌^◌, ◌||◌}
+pub use Rattle.std.proofs.Common.{◌∙◌, ◌∷◌, ◌≡◌, ◌≤◌}
+pub use Rattle.std.proofs.lemmas.Bool.{and_from}
+pub use Rattle.std.proofs.lemmas.Int.{ints, to_z-of_z}
+pub use Rattle.std.proofs.lemmas.List.{drop-drop, drop_at, length-map, map-append, take-map, take_all, take_at}
+pub use Rattle.std.proofs.lemmas.List.Folds.{list_any-append}
+pub use Rattle.std.proofs.lemmas.Simd.{map-map}
+pub use Rattle.std.proofs.lemmas.Slice.Eq.{bytes_eq-Decides}
+pub use Rattle.std.proofs.lemmas.Str.{IsUtf8-string_bytes, is_utf8-from_IsUtf8}
+pub use Rattle.std.specs.Borrow.{Bor}
+pub use Rattle.std.specs.Cmp.Lexicographic.{bytes_decides}
+pub use Rattle.std.specs.List.{AllByRecursion, list_any, zip}
+pub use Rattle.std.specs.declared.alloc.AllocError.{AllocError}
+pub use Rattle.std.specs.declared.alloc.Global.{Global}
+pub use Rattle.std.specs.declared.vec.Vec.{Vec}
+pub use Rattle.bpf_machine.specs.Limits.{record_limit}
+pub use Rattle.bpf_machine.specs.Operands.{is_frame_pointer}
+pub use Rattle.cel_macros.proofs.Callees.{function_again, function_stays, not_has, test_again, test_stays}
+pub use Rattle.cel_macros.proofs.Folds.{fold_maps_mean, folds_mean}
+pub use Rattle.cel_macros.specs.Arithmetic.{difference_of, negation_of, product_of, quotient_of, remainder_of, sum_of}
+pub use Rattle.cel_macros.specs.Callee.{Callee, callee_name, callee_view, function_in, test_in}
+pub use Rattle.cel_macros.specs.Comparison.{equal_of, greater_equal_of, greater_of, less_equal_of, less_of, member_of}
+pub use Rattle.cel_macros.specs.Comparison.{unequal_of}
+pub use Rattle.cel_macros.specs.CoreTree.{CoreEntries, Core, Cores, binary, call, call_or_has, fold, fold_map, has}
+pub use Rattle.cel_macros.specs.CoreTree.{index, list, literal, method, method_or_fold, method_or_fold_map}
+pub use Rattle.cel_macros.specs.CoreTree.{more_core_entries, more_cores, name, no_core_entries, no_cores, one_core}
+pub use Rattle.cel_macros.specs.CoreTree.{select, selection, ternary, unary, variable}
+pub use Rattle.cel_macros.specs.CoreView.{core_entries, core_view, cores}
+pub use Rattle.cel_macros.specs.CoreViewLaws.{view_map}
+pub use Rattle.cel_macros.specs.Environment.{Environment, Roots, bind, lookup}
+pub use Rattle.cel_macros.specs.Expanding.{core_pair}
+pub use Rattle.cel_macros.specs.FoldMeaning.{folded, folded_map}
+pub use Rattle.cel_macros.specs.Functions.{function_of, method_of, string_of}
+pub use Rattle.cel_macros.specs.declared.function.Function.{Function}
+pub use Rattle.cel_macros.specs.declared.function.Function.TheVariants.{Dyn, Size, String}
+pub use Rattle.cel_macros.specs.declared.text_test.TextTest.{TextTest}
+pub use Rattle.cel_macros.specs.Functions.{text_test_of}
+pub use Rattle.cel_macros.specs.Literals.{list_literal, literal_of, map_literal}
+pub use Rattle.cel_macros.specs.Logic.{No, Truth, Yes, and_of, chosen, not_of, or_of, ternary_of, truth}
+pub use Rattle.cel_macros.specs.Macros.{field_name, macro_name, map_over_range, name_of, over_range, range_of}
+pub use Rattle.cel_macros.specs.Meaning.{binary_of, called, selected, unary_of}
+pub use Rattle.cel_macros.specs.Selection.{field_of, has_of, index_of}
+pub use Rattle.cel_macros.specs.declared.core_tree.Core.{Core as CodeCore}
+pub use Rattle.cel_macros.specs.declared.macros.Macro.{Macro}
+unfoldable pub use Rattle.cel_macros.specs.Callee.{callee_named}
+unfoldable pub use Rattle.cel_macros.specs.CoreTree.{expanded, expanded_entries, expanded_operand, expanded_trees}
+unfoldable pub use Rattle.cel_macros.specs.CoreTree.{plain_entries, plain_tree, plain_trees}
+unfoldable pub use Rattle.cel_macros.specs.Environment.{name_value, variable_value}
+unfoldable pub use Rattle.cel_macros.specs.Functions.{function_named, test_named}
+unfoldable pub use Rattle.cel_macros.specs.Macros.{is_has, is_map, is_variables, macro_named}
+unfoldable pub use Rattle.cel_macros.specs.Meaning.{entry_meanings, meaning, meanings, operand_meaning}
+pub use Rattle.cel_measures.specs.Measures.{depth, depth_or_none}
+pub use Rattle.cel_measures.specs.Saturated.{saturated}
+unfoldable pub use Rattle.cel_measures.specs.Measures.{deepest, deepest_of, entries_deepest, entries_need}
+unfoldable pub use Rattle.cel_measures.specs.Measures.{entries_nodes, need, needs, nodes, nodes_of}
+pub use Rattle.cel_reader.specs.Tree.{TreeEntries, Tree, Trees, more_entries, more_trees, no_entries, no_trees}
+pub use Rattle.cel_reader.specs.WellFormed.{IsWellFormedLiteral}
+pub use Rattle.cel_reader.specs.declared.operator.BinaryOperator.{BinaryOperator}
+pub use Rattle.cel_reader.specs.declared.operator.UnaryOperator.{UnaryOperator}
+pub use Rattle.cel_types.specs.Declarations.{Declaration, declaration, declared, depths_of, scope_of}
+pub use Rattle.cel_types.specs.Scope.{Scope, type_or_fault, within}
+pub use Rattle.cel_types.specs.TypeTable.{binary_row, field_row, has_row, index_row, macro_row, map_row, ternary_row}
+pub use Rattle.cel_types.specs.TypeTable.{test_row, unary_row}
+pub use Rattle.cel_types.specs.Types.{Typing, refused, typed, with_type, with_types}
+pub use Rattle.cel_types.specs.declared.cel_type.CelType.{CelType}
+unfoldable pub use Rattle.cel_types.specs.CoreTyping.{core_entry_typings, core_typing, core_typings}
+unfoldable pub use Rattle.cel_types.specs.Scope.{name_type, variable_type}
+pub use Rattle.expression_code.proofs.Additions.{difference_gives, sum_gives}
+pub use Rattle.expression_code.proofs.Comparison.{comparison_gives}
+pub use Rattle.expression_code.proofs.Insns.{MayBeNear, absorbing_insns, difference_insns, divided_insns, entry_insns}
+pub use Rattle.expression_code.proofs.Insns.{equal_insns, field_insns, has_insns, index_insns, insns_append, item_insns}
+pub use Rattle.expression_code.proofs.Insns.{leaf_insns, less_insns, list_insns, macro_insns, map_insns, map_where_insns}
+pub use Rattle.expression_code.proofs.Insns.{member_insns, memo_insns, name_insns, name_near, negation_insns, not_insns}
+pub use Rattle.expression_code.proofs.Insns.{not_less_insns, operand_insns, operands_insns, product_insns, size_insns}
+pub use Rattle.expression_code.proofs.Insns.{string_insns, sum_insns, ternary_insns, test_insns, unequal_insns}
+pub use Rattle.expression_code.proofs.Later.{later_gives, wider_gives}
+pub use Rattle.expression_code.proofs.Leaves.{leaf_gives, leaves_give, leaves_name}
+pub use Rattle.expression_code.proofs.Lists.{list_gives}
+pub use Rattle.expression_code.proofs.Loaded.{leaf_size}
+pub use Rattle.expression_code.proofs.Logic.{logic_gives}
+pub use Rattle.expression_code.proofs.Loops.{fold_size, loop_size}
+pub use Rattle.expression_code.proofs.Folds.All.{macro_gives}
+pub use Rattle.expression_code.proofs.Folds.Budgets.{gives_within}
+pub use Rattle.expression_code.proofs.Folds.MapsWhere.{map_where_gives}
+pub use Rattle.expression_code.proofs.Maps.{map_gives}
+pub use Rattle.expression_code.proofs.Multiplications.{products_give}
+pub use Rattle.expression_code.proofs.Negation.{negation_gives}
+pub use Rattle.expression_code.proofs.Operators.{one_gives, two_gives}
+pub use Rattle.expression_code.proofs.Paths.{paths_give}
+pub use Rattle.expression_code.proofs.Pieces.{size-append, size-cons, stands_first, stands_rest}
+pub use Rattle.expression_code.proofs.Returns.{routine_returns}
+pub use Rattle.expression_code.proofs.Runs.{done, looser, to_place}
+pub use Rattle.expression_code.proofs.Scopes.{scope_begins, scope_gives, scope_grows}
+pub use Rattle.expression_code.proofs.Selection.{selection_gives}
+pub use Rattle.expression_code.proofs.Steps.{jump}
+pub use Rattle.expression_code.specs.CpuState.{CpuState}
+pub use Rattle.expression_code.specs.Code.Aggregates.{entry_code, item_code}
+pub use Rattle.expression_code.specs.Code.Calls.{kept_size, operand_code, operands_code}
+pub use Rattle.expression_code.specs.Code.Folds.{macro_code, map_where_code, map_where_turn}
+pub use Rattle.expression_code.specs.Code.Leaves.{leaf_code}
+pub use Rattle.expression_code.specs.Code.Logic.{absorbing_code, no_ref, not_tail, ternary_code, yes_ref}
+pub use Rattle.expression_code.specs.Code.Names.{name_leaf}
+pub use Rattle.expression_code.specs.Code.Selection.{field_tail, has_tail, index_tail, size_tail, string_tail, test_tail}
+pub use Rattle.expression_code.specs.Contexts.{Context, Evaluates}
+pub use Rattle.expression_code.specs.Engine.{RunContext}
+pub use Rattle.expression_code.specs.Gives.Aggregates.{Builds, EntriesGive, ItemsGive}
+pub use Rattle.expression_code.specs.Gives.Logic.{AbsorbingGives}
+pub use Rattle.expression_code.specs.Gives.Folds.{IsItem, each_spent, each_visits, items_spent, items_visits}
+pub use Rattle.expression_code.specs.Gives.Paths.{kept_path_code}
+pub use Rattle.expression_code.specs.Gives.Selection.{HasText, text_length}
+pub use Rattle.expression_code.specs.Helpers.{joined_length}
+pub use Rattle.expression_code.specs.Instructions.{ja, store}
+pub use Rattle.expression_code.specs.Limits.{call_reach, charge_per_unit, code_limit, fold_limit, frame_words, memo_limit, node_limit, part_charge_per_unit, part_slots_per_node, part_steps_per_visit, short_size, slot_reach, steps_per_visit, turn_slot_limit, variable_depth_limit, word_limit}
+pub use Rattle.expression_code.specs.Loops.{fold_code, loop_code, range_tail, with_item}
+pub use Rattle.expression_code.specs.Operators.{AreApart, Combines, Converts, IsLeafIn, IsLeafOf}
+pub use Rattle.expression_code.specs.Paths.{FrameUse, RootField, nothing_kept, with_name, with_path}
+pub use Rattle.expression_code.specs.Pieces.{AreInsns, IsCodeAt, insn_slots, size, slots, spellings}
+pub use Rattle.expression_code.specs.Scopes.{IsScope, Returns, Variable, first_use, place_named, scope_setting}
+pub use Rattle.expression_code.specs.Variables.{memo_tail}
+pub use Rattle.expression_code.specs.declared.simple_operand.SimpleOperand.{SimpleOperand}
+pub use Rattle.expression_code.specs.declared.simple_operand.SimpleOperand.TheVariants.{Word}
+unfoldable pub use Rattle.expression_code.specs.Code.Arithmetic.{negation_tail, product_tail}
+unfoldable pub use Rattle.expression_code.specs.Code.Folds.{exists_one_turn, filter_turn}
+unfoldable pub use Rattle.expression_code.specs.Code.Names.{root_reference}
+unfoldable pub use Rattle.guest_memory.specs.Access.{constants_of}
+unfoldable pub use Rattle.guest_memory.specs.Memory.{start_memory}
+pub use Rattle.helper_table.specs.Calls.{bytes_at}
+pub use Rattle.insn_codec.specs.Spelling.{slot_count, spelling}
+pub use Rattle.insn_codec.specs.declared.insn.Insn.{Insn}
+pub use Rattle.insn_codec.specs.declared.insn.Insn.TheVariants.{LoadWide}
+pub use Rattle.insn_codec.specs.declared.register.Register.{Register}
+pub use Rattle.insn_codec.specs.declared.register.Register.TheVariants.{R0, R1, R2, R6, R7}
+pub use Rattle.loader.specs.Contents.{Image}
+pub use Rattle.loader.specs.Limits.{constants_limit}
+pub use Rattle.value_store.specs.Size.{items_size, result_size, size_of}
+pub use Rattle.value_store.specs.Value.{Items, Value, ValueOrError, boolean, int, item, list_of, no_items, null, text}
+pub use Rattle.value_store.specs.Value.{value}
+pub use Rattle.codegen.specs.Added.{code_at, has_room, passed, with_counted, with_expression, with_variable}
+pub use Rattle.codegen.specs.Code.Expressions.{binary_code, field_leaf, function_code, kept_or, leaf_of, left_size}
+pub use Rattle.codegen.specs.Code.Expressions.{method_function_code, no_code, routine_named, test_code, unary_code}
+pub use Rattle.codegen.specs.Code.Expressions.{variable_code}
+pub use Rattle.codegen.specs.Code.Literals.{address_of, literal_code, literal_leaf}
+pub use Rattle.codegen.specs.Code.Whole.{code_with, front_of, keeping_code, path_or, plain_code, routine_code}
+pub use Rattle.codegen.specs.Code.Whole.{shorter}
+pub use Rattle.codegen.specs.Computes.{Computes, ComputesPart, Ready, TextsStand, environment_in, names, nestings}
+pub use Rattle.codegen.specs.Computes.{routines, scope_context, variable_of}
+pub use Rattle.codegen.specs.Constants.{joined, place_of, with_text, with_texts}
+pub use Rattle.codegen.specs.Cost.{Cost, IsDeep, call_cost, each_item, items_cost, kept, kept_by, literal_cost}
+pub use Rattle.codegen.specs.Cost.{macro_cost, map_cost, name_or_text, node, nothing, one_item, selection_cost}
+pub use Rattle.codegen.specs.Cost.{spent_by, ◌and◌}
+pub use Rattle.codegen.specs.Emission.{EmitsExpression, EmitsVariable, HasRoutines, Running, Suits, caller_context}
+pub use Rattle.codegen.specs.Emission.{context, cost_in, meaning_in, next_routine, next_variable, setting}
+pub use Rattle.codegen.specs.Emitted.{Emitted, slot_spellings, with_piece}
+pub use Rattle.codegen.specs.FrameWords.{path_view, words_of, words_step}
+pub use Rattle.codegen.specs.HasLiterals.{EntriesHaveLiterals, HasLiterals, HaveLiterals}
+pub use Rattle.codegen.specs.Laws.{CodeGives, RoutineGives, RoutineIsPassed, TextsStay, TypedIsAccepted}
+pub use Rattle.codegen.specs.Layer.{AreShallow, AreTaken, EmitsRoutine, ExpressionGives, FramesAreEnough}
+pub use Rattle.codegen.specs.Layer.{HasConstants, IsEmittable, VariableIsTaken, VariableJoins}
+pub use Rattle.codegen.specs.NameTable.{routines_of, routines_within, texts_within}
+pub use Rattle.codegen.specs.declared.frame_words.FrameWords.{FrameWords}
+pub use Rattle.codegen.specs.declared.frame_words.FrameWords.TheFolds.{fold-roll-FrameWords}
+pub use Rattle.codegen.specs.declared.frame_words.FrameWords.TheVariants.{rolls-Within}
+unfoldable pub use Rattle.codegen.specs.Accepted.{AreAccepted, AreEntriesAccepted, IsAccepted}
+unfoldable pub use Rattle.codegen.specs.Code.Expressions.{binary_tail, code_of, entries_code, items_code, texts_of}
+unfoldable pub use Rattle.codegen.specs.Code.Expressions.{texts_of_each, texts_of_entries}
+unfoldable pub use Rattle.codegen.specs.Code.Whole.{first_path, whole_code}
+unfoldable pub use Rattle.codegen.specs.Cost.{cost, costs, entry_costs, operand_cost}

@@ -1,5 +1,5 @@
 -- The code of a whole expression gives what the expression means, whether a path is kept or not.
-use Rattle.codegen.proofs.Prelude.{◌≡◌, ℕ, ◌+◌, ◌*◌, ◌^◌, ◌<◌, ◌≤◌, Bool, List, [], ◌∷◌, ◌++◌, length, Option, Some, None, refl, ap, arith, Insn, R0, R1, Contents, CoreTree, plain_tree, Environment, Roots, meaning, need, nodes, name_leaf, field_tail, Context, Setting, kept_path_code, HasText, store, Path, nothing_kept, with_path, AreInsns, size, IsScope, Variable, scope_setting, field_insns, insns_append, leaf_insns, name_near, paths_give, texts_of, texts_of_each, address_of, code_with, first_path, front_of, keeping_code, path_or, plain_code, shorter, whole_code, Computes, Ready, TextsStand, environment_in, scope_context, cost, HasLiterals, gives_within}
+use Rattle.codegen.proofs.Prelude.{◌≡◌, ℕ, ◌+◌, ◌*◌, ◌^◌, ◌<◌, ◌≤◌, Bool, List, [], ◌∷◌, ◌++◌, length, Option, Some, None, refl, ap, arith, Insn, R0, R1, Image, Core, plain_tree, Environment, Roots, meaning, need, nodes, name_leaf, field_tail, Context, RunContext, kept_path_code, HasText, store, RootField, nothing_kept, with_path, AreInsns, size, IsScope, Variable, scope_setting, field_insns, insns_append, leaf_insns, name_near, paths_give, texts_of, texts_of_each, address_of, code_with, first_path, front_of, keeping_code, path_or, plain_code, shorter, whole_code, Computes, Ready, TextsStand, environment_in, scope_context, cost, HasLiterals, gives_within, word_limit, part_slots_per_node, call_reach, node_limit, memo_limit}
 use Rattle.cel_macros.specs.CoreTree as core
 use Rattle.codegen.proofs.Parts.{texts_back, texts_front}
 use Rattle.codegen.proofs.CodeInsns.{AreNear, address_small, code_insns}
@@ -8,15 +8,15 @@ use Rattle.codegen.proofs.Lengths.{short_code}
 
 -- ---- the path's field is one of the texts
 
-module _ (constants : List ℕ) (texts : List (List ℕ)) (path : Path) where
+module _ (constants : List ℕ) (texts : List (List ℕ)) (path : RootField) where
   abbrev Stands : Type 0
   Stands = HasText constants (address_of texts path.field) path.field
 
-  path_stands : (a : CoreTree) (f : List ℕ) (other : Option Path) → path_or a f other ≡ Some path → (other ≡ Some path → Stands)
+  path_stands : (a : Core) (f : List ℕ) (other : Option RootField) → path_or a f other ≡ Some path → (other ≡ Some path → Stands)
       → HasText constants (address_of texts f) f → Stands
   path_stands a f other is later here = grind arith
 
-  first_stands : (e : CoreTree) → first_path e ≡ Some path → TextsStand constants texts (texts_of e) → Stands
+  first_stands : (e : Core) → first_path e ≡ Some path → TextsStand constants texts (texts_of e) → Stands
   unfolding first_path texts_of
   first_stands (core.select a f) is stand =
       let below = texts_front constants texts (texts_of a) (f ∷ []) stand in
@@ -33,19 +33,19 @@ module _ (constants : List ℕ) (texts : List (List ℕ)) (path : Path) where
 
 -- ---- the frame has a word more for it
 
-front_is : (e : CoreTree) (path : Path) → front_of e ≡ Some path → (1 + need e ≤ 60) × (first_path e ≡ Some path)
+front_is : (e : Core) (path : RootField) → front_of e ≡ Some path → (1 + need e ≤ word_limit) × (first_path e ≡ Some path)
 front_is e path is = grind arith
 
 -- ---- which of both codes it is
 
-module _ (e : CoreTree) (ts : List (List ℕ)) (rs : List (List ℕ × ℕ)) (p : ℕ) where
+module _ (e : Core) (ts : List (List ℕ)) (rs : List (List ℕ × ℕ)) (p : ℕ) where
   pub whole_plain : None ≡ front_of e → plain_code e ts rs p ≡ whole_code e ts rs p
   unfolding whole_code
-  whole_plain front = ap (λ (o : Option Path). code_with o e ts rs p) front
+  whole_plain front = ap (λ (o : Option RootField). code_with o e ts rs p) front
 
-  pub whole_keeping : (path : Path) → Some path ≡ front_of e → shorter (plain_code e ts rs p) (keeping_code path e ts rs p) ≡ whole_code e ts rs p
+  pub whole_keeping : (path : RootField) → Some path ≡ front_of e → shorter (plain_code e ts rs p) (keeping_code path e ts rs p) ≡ whole_code e ts rs p
   unfolding whole_code
-  whole_keeping path front = ap (λ (o : Option Path). code_with o e ts rs p) front
+  whole_keeping path front = ap (λ (o : Option RootField). code_with o e ts rs p) front
 
 -- what holds of both holds of the shorter one
 shorter_has : (P : List Insn → Type 0) (first second : List Insn) → P first → P second → P (shorter first second)
@@ -53,8 +53,8 @@ shorter_has P first second h g = grind arith
 
 -- ---- its slots
 
-module _ (e : CoreTree) (ts : List (List ℕ)) (rs : List (List ℕ × ℕ)) (p : ℕ) where
-  with_short : (o : Option Path) → size (code_with o e ts rs p) ≤ size (plain_code e ts rs p)
+module _ (e : Core) (ts : List (List ℕ)) (rs : List (List ℕ × ℕ)) (p : ℕ) where
+  with_short : (o : Option RootField) → size (code_with o e ts rs p) ≤ size (plain_code e ts rs p)
   with_short o = grind arith
 
   -- code of a whole expression has at most the slots of the code that keeps nothing
@@ -63,20 +63,20 @@ module _ (e : CoreTree) (ts : List (List ℕ)) (rs : List (List ℕ × ℕ)) (p 
   whole_less = with_short (front_of e)
 
   -- code of a whole expression takes at most 63 slots for each node, and 8 less
-  pub whole_short : size (whole_code e ts rs p) + 8 ≤ 63 * nodes e
+  pub whole_short : size (whole_code e ts rs p) + 8 ≤ part_slots_per_node * nodes e
   unfolding whole_code
   whole_short = let plain = short_code e ts rs nothing_kept 0 p in let less = with_short (front_of e) in omega (arith, plain, less)
 
 -- ---- its instructions
 
-path_insns : (path : Path) (address : ℕ) (rest : List Insn) → address < 2 ^ 64 → AreInsns rest → AreInsns (kept_path_code path address rest)
+path_insns : (path : RootField) (address : ℕ) (rest : List Insn) → address < 2 ^ 64 → AreInsns rest → AreInsns (kept_path_code path address rest)
 path_insns path address rest small insns =
     let root = leaf_insns (name_leaf path.root []) R1 (name_near path.root [] (λ k is. absurd (cc))) in
     let tail = field_tail address (length path.field) in
     (root.0, insns_append tail (store 0 R0 ∷ rest) (field_insns address (length path.field) small) (omega arith, insns))
 
-module _ (ts : List (List ℕ)) (rs : List (List ℕ × ℕ)) (near : AreNear rs) (e : CoreTree) (p : ℕ)
-    (fits : need e ≤ 60) (few : nodes e ≤ 512) (inside : p + 6 + 63 * nodes e ≤ 0x8000_0000) (literals : HasLiterals (plain_tree e)) where
+module _ (ts : List (List ℕ)) (rs : List (List ℕ × ℕ)) (near : AreNear rs) (e : Core) (p : ℕ)
+    (fits : need e ≤ word_limit) (few : nodes e ≤ node_limit) (inside : p + 6 + part_slots_per_node * nodes e ≤ call_reach) (literals : HasLiterals (plain_tree e)) where
   plain_insns : AreInsns (plain_code e ts rs p)
   plain_insns = code_insns ts rs near e nothing_kept 0 p (λ n k is. absurd (cc)) (omega (arith, fits)) few (omega (arith, inside)) literals
 
@@ -87,9 +87,9 @@ module _ (ts : List (List ℕ)) (rs : List (List ℕ × ℕ)) (near : AreNear rs
 
 -- ---- what it gives
 
-module _ (image : Contents) (deep : Bool) (roots : Roots) (constants : List ℕ) (scope later : List Variable) (rs : List (List ℕ × ℕ))
-    (same : AreRoutines rs scope) (texts : List (List ℕ)) (depth p : ℕ) (e : CoreTree) (is : IsScope image deep roots constants scope) (few : length scope ≤ 512) (literals : HasLiterals (plain_tree e)) where
-  abbrev pub s : Setting
+module _ (image : Image) (deep : Bool) (roots : Roots) (constants : List ℕ) (scope later : List Variable) (rs : List (List ℕ × ℕ))
+    (same : AreRoutines rs scope) (texts : List (List ℕ)) (depth p : ℕ) (e : Core) (is : IsScope image deep roots constants scope) (few : length scope ≤ memo_limit) (literals : HasLiterals (plain_tree e)) where
+  abbrev pub s : RunContext
   s = scope_setting image deep scope
 
   abbrev pub c : Context
@@ -105,7 +105,7 @@ module _ (image : Contents) (deep : Bool) (roots : Roots) (constants : List ℕ)
     plain_gives : Meant (plain_code e texts rs p)
     plain_gives = all_gives image deep roots constants scope later rs same texts [] nothing_kept depth 0 p e is few literals ready
 
-    with_gives : (o : Option Path) → front_of e ≡ o → Meant (code_with o e texts rs p)
+    with_gives : (o : Option RootField) → front_of e ≡ o → Meant (code_with o e texts rs p)
     with_gives None front = plain_gives
     with_gives (Some path) front =
         let parts = front_is e path front in

@@ -1,25 +1,26 @@
 -- The forms of the expressions that have code: those that the type checker takes.
 use Rattle.std.specs.Prelude.{◌≡◌, ℕ, true, false, List, Some, IsSome, bytes_eq}
 use Rattle.std.specs.List.{list_any}
-use Rattle.cel_macros.specs.CoreTree.{CoreTree, CoreTrees, CoreEntries, no_cores, more_cores, no_core_entries, more_core_entries, map, fold, fold_map}
+use Rattle.cel_macros.specs.CoreTree.{Core, Cores, CoreEntries, no_cores, more_cores, no_core_entries, more_core_entries, map, fold, fold_map}
 use Rattle.cel_macros.specs.CoreTree.{plain_tree, literal, name, variable, select, has, index, call, method, unary, binary, ternary, list}
-use Rattle.cel_macros.specs.Functions.{Size, function_named, test_named}
+use Rattle.cel_macros.specs.Callee.{function_in, test_in}
+use Rattle.cel_macros.specs.declared.function.Function.{TheVariants.Size}
 use Rattle.cel_macros.specs.Macros.{is_variables}
 
 unfoldable mutual
   -- calls are of the functions, methods are sizes and tests of texts, variables have these names, and nothing is selected from `variables`
-  pub IsAccepted : CoreTree → List (List ℕ) → Type 0
+  pub IsAccepted : Core → List (List ℕ) → Type 0
   IsAccepted (literal l) vs = Unit {0}
   IsAccepted (name n) vs = Unit {0}
   IsAccepted (variable v) vs = list_any (λ m. bytes_eq m v) vs ≡ true
   IsAccepted (select a f) vs = (is_variables (plain_tree a) ≡ false) × IsAccepted a vs
   IsAccepted (has a f) vs = IsAccepted a vs
   IsAccepted (index a k) vs = IsAccepted a vs × IsAccepted k vs
-  IsAccepted (call n (more_cores a no_cores)) vs = IsSome (function_named n) × IsAccepted a vs
-  IsAccepted (call n _) vs = ⊥
-  IsAccepted (method a n no_cores) vs = (function_named n ≡ Some Size) × IsAccepted a vs
-  IsAccepted (method a n (more_cores b no_cores)) vs = IsSome (test_named n) × IsAccepted a vs × IsAccepted b vs
-  IsAccepted (method a n _) vs = ⊥
+  IsAccepted (call c (more_cores a no_cores)) vs = IsSome (function_in c) × IsAccepted a vs
+  IsAccepted (call c _) vs = ⊥
+  IsAccepted (method a c no_cores) vs = (function_in c ≡ Some Size) × IsAccepted a vs
+  IsAccepted (method a c (more_cores b no_cores)) vs = IsSome (test_in c) × IsAccepted a vs × IsAccepted b vs
+  IsAccepted (method a c _) vs = ⊥
   IsAccepted (unary op a) vs = IsAccepted a vs
   IsAccepted (binary op a b) vs = IsAccepted a vs × IsAccepted b vs
   IsAccepted (ternary c a b) vs = IsAccepted c vs × IsAccepted a vs × IsAccepted b vs
@@ -29,7 +30,7 @@ unfoldable mutual
   IsAccepted (fold_map n r p t) vs = IsAccepted r vs × IsAccepted p vs × IsAccepted t vs
 
   -- each of the expressions is so
-  pub AreAccepted : CoreTrees → List (List ℕ) → Type 0
+  pub AreAccepted : Cores → List (List ℕ) → Type 0
   AreAccepted no_cores vs = Unit {0}
   AreAccepted (more_cores a more) vs = IsAccepted a vs × AreAccepted more vs
 

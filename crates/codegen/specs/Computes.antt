@@ -2,9 +2,11 @@
 use Rattle.std.specs.Prelude.{◌≡◌, ◌≤◌, ℕ, ◌+◌, ◌-◌, ◌*◌, List, [], Bool, true}
 use Rattle.std.specs.Prelude.{map as each}
 use Rattle.std.specs.List.{AllByRecursion}
+use Rattle.bpf_machine.specs.Limits.{record_limit}
+use Rattle.expression_code.specs.Limits.{steps_per_visit, charge_per_unit, part_steps_per_visit, part_charge_per_unit, word_limit, budget_reserve}
 use Rattle.insn_codec.specs.declared.insn.Insn.{Insn}
 use Rattle.value_store.specs.Value.{Value, ValueOrError}
-use Rattle.cel_macros.specs.CoreTree.{CoreTree, plain_tree}
+use Rattle.cel_macros.specs.CoreTree.{Core, plain_tree}
 use Rattle.cel_macros.specs.Environment.{Environment, Roots}
 use Rattle.cel_macros.specs.Meaning.{meaning}
 use Rattle.cel_measures.specs.Measures.{deepest, depth as depth_of, need}
@@ -13,12 +15,12 @@ use Rattle.codegen.specs.Code.Expressions.{texts_of}
 use Rattle.codegen.specs.Code.Literals.{address_of}
 use Rattle.codegen.specs.Code.Whole.{whole_code}
 use Rattle.codegen.specs.Cost.{Cost, cost, spent_by}
-use Rattle.codegen_base.specs.Contexts.{Context, Gives}
-use Rattle.codegen_base.specs.Engine.{Setting}
-use Rattle.codegen_base.specs.Gives.Selection.{HasText}
-use Rattle.codegen_base.specs.Paths.{Kept}
-use Rattle.codegen_base.specs.Scopes.{Variable, bindings}
-use Rattle.codegen_base.specs.Variables.{used_context}
+use Rattle.expression_code.specs.Contexts.{Context, Evaluates}
+use Rattle.expression_code.specs.Engine.{RunContext}
+use Rattle.expression_code.specs.Gives.Selection.{HasText}
+use Rattle.expression_code.specs.Paths.{FrameUse}
+use Rattle.expression_code.specs.Scopes.{Variable, bindings}
+use Rattle.expression_code.specs.Variables.{used_context}
 
 -- each of these texts stands among the constants, where the code looks for it
 abbrev pub TextsStand : List ℕ → List (List ℕ) → List (List ℕ) → Type 0
@@ -26,15 +28,16 @@ TextsStand constants texts used = AllByRecursion (λ t. HasText constants (addre
 
 -- the piece gives the value or the error within 128 steps a visit and 16 times what is spent, less 8 of each: out of
 -- these 8 a list or a map pays for keeping the value
-abbrev pub Computes : Setting → ℕ → List Insn → Context → ℕ → ℕ → ValueOrError → Cost → Type 0
-Computes s p piece c depth k x t = Gives s p piece c depth k x (128 * t.visits - 8) (16 * spent_by t - 8)
+abbrev pub Computes : RunContext → ℕ → List Insn → Context → ℕ → ℕ → ValueOrError → Cost → Type 0
+Computes s p piece c depth k x t = Evaluates s p piece c depth k x (steps_per_visit * t.visits - budget_reserve) (charge_per_unit * spent_by t - budget_reserve)
 
 -- the same within 120 steps a visit and 15 times what is spent: the rest pays for a path that is kept before the piece
-abbrev pub ComputesPart : Setting → ℕ → List Insn → Context → ℕ → ℕ → ValueOrError → Cost → Type 0
-ComputesPart s p piece c depth k x t = Gives s p piece c depth k x (120 * t.visits - 8) (15 * spent_by t - 8)
+abbrev pub ComputesPart : RunContext → ℕ → List Insn → Context → ℕ → ℕ → ValueOrError → Cost → Type 0
+ComputesPart s p piece c depth k x t =
+    Evaluates s p piece c depth k x (part_steps_per_visit * t.visits - budget_reserve) (part_charge_per_unit * spent_by t - budget_reserve)
 
 -- what names stand for where a scope's variables may be used
-abbrev pub scope_context : Roots → List (List ℕ × Value) → Kept → List ℕ → List Variable → Context
+abbrev pub scope_context : Roots → List (List ℕ × Value) → FrameUse → List ℕ → List Variable → Context
 scope_context roots items words constants scope = used_context roots items words constants (bindings scope)
 
 -- the names of a scope's variables
@@ -52,11 +55,11 @@ nestings = each (λ v. (v.name, v.nesting))
 -- the machine and the frame are ready for the code: its variables are among those of the scope, and enough frames are
 -- left for them, there is room for its words, its texts stand among the constants, and where a list or map is to hold a
 -- value that is too deep the machine may stop for it
-pub record Ready (s : Setting) (scope : List Variable) (texts : List (List ℕ)) (c : Context)
-    (depth k : ℕ) (e : CoreTree) (deep : Bool) : Type 0 where
+pub record Ready (s : RunContext) (scope : List Variable) (texts : List (List ℕ)) (c : Context)
+    (depth k : ℕ) (e : Core) (deep : Bool) : Type 0 where
   pub accepted : IsAccepted e (names scope)
-  pub frames : depth + deepest e (nestings scope) ≤ 7
-  pub room : k + need e ≤ 60
+  pub frames : depth + deepest e (nestings scope) ≤ record_limit
+  pub room : k + need e ≤ word_limit
   pub texts_stand : TextsStand c.constants texts (texts_of e)
   pub may : deep ≡ true → s.is_deep ≡ true
 
@@ -65,17 +68,17 @@ abbrev pub environment_in : Roots → List (List ℕ × Value) → List Variable
 environment_in roots items scope = record { roots = roots; items = items; variables = bindings scope }
 
 -- the variable of this name and expression, which may use those of a scope; its routine, at slot p, has this code for its value
-abbrev pub variable_with : List Insn → Roots → List Variable → List ℕ → CoreTree → ℕ → Variable
+abbrev pub variable_with : List Insn → Roots → List Variable → List ℕ → Core → ℕ → Variable
 variable_with body roots scope name e p = record {
   name = name;
   value = meaning (plain_tree e) (environment_in roots [] scope);
   routine = p;
   body = body;
   nesting = depth_of e (nestings scope);
-  steps = 128 * (cost (plain_tree e) (environment_in roots [] scope)).visits - 8;
-  charge = 16 * spent_by (cost (plain_tree e) (environment_in roots [] scope)) - 8;
+  steps = steps_per_visit * (cost (plain_tree e) (environment_in roots [] scope)).visits - budget_reserve;
+  charge = charge_per_unit * spent_by (cost (plain_tree e) (environment_in roots [] scope)) - budget_reserve;
 }
 
 -- the same with the expression's code
-abbrev pub variable_of : Roots → List Variable → List (List ℕ) → List ℕ → CoreTree → ℕ → Variable
+abbrev pub variable_of : Roots → List Variable → List (List ℕ) → List ℕ → Core → ℕ → Variable
 variable_of roots scope texts name e p = variable_with (whole_code e texts (routines scope) p) roots scope name e p

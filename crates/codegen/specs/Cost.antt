@@ -2,7 +2,8 @@
 -- sides of a logical operator, of a ternary the branch that is chosen, and every item of a macro's range.
 use Rattle.std.specs.Prelude.{ℕ, ◌+◌, ◌*◌, length, nat_le, Bool, true, false, ◌||◌, List, [], ◌∷◌, Option, Some, None, ◌≡◌}
 use Rattle.cel_reader.specs.Tree as tree
-use Rattle.cel_reader.specs.Tree.{Tree, Trees, Entries, no_trees, more_trees, no_entries, more_entries}
+use Rattle.cel_reader.specs.Tree.{Tree, Trees, TreeEntries, no_trees, more_trees, no_entries, more_entries}
+use Rattle.helper_table.specs.Building.{depth_limit}
 use Rattle.value_store.specs.Value.{Value, ValueOrError, error, value}
 use Rattle.value_store.specs.Size.{result_size, result_depth}
 use Rattle.cel_macros.specs.declared.macros.Macro.{Macro, TheVariants.All, TheVariants.Exists, TheVariants.ExistsOne, TheVariants.Filter, TheVariants.Map}
@@ -41,7 +42,7 @@ one_item = record { visits = 1; sizes = 0; is_deep = false }
 
 -- what a list or map is to hold: a list or map has a depth of at most 255, and is deeper than all that it holds
 abbrev pub kept : ValueOrError → Cost
-kept x = record { visits = 0; sizes = 0; is_deep = nat_le 255 (result_depth x) }
+kept x = record { visits = 0; sizes = 0; is_deep = nat_le depth_limit (result_depth x) }
 
 -- what a literal costs beside its node: a text its text
 abbrev pub literal_cost : tree.Literal → Cost
@@ -128,7 +129,7 @@ unfoldable mutual
   costs (more_trees a more) env = cost a env and kept (meaning a env) and costs more env
 
   -- the keys and values of a map literal
-  pub entry_costs : Entries → Environment → Cost
+  pub entry_costs : TreeEntries → Environment → Cost
   entry_costs no_entries env = nothing
   entry_costs (more_entries k v more) env = cost k env and cost v env and kept (meaning v env) and entry_costs more env
 

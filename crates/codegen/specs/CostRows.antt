@@ -79,7 +79,8 @@ pub record CostRows : Type 0 where
   pub index_spent : spent_of (index (name "object") (str "spec")) five ≡ 62
   -- 1 / 0: three nodes, of which the error has a size of 1
   pub error_spent : spent_of (binary Divide (num 1) (num 0)) review ≡ 27
-  -- [1, 2].all(x, false): eight visits, of which the two items have no size of their own; results of 1, 3, 1, 1, 1 and 1
+  -- [1, 2].all(x, false): eight visits, of which the two items have no size of their own; results of 1, 3, 1, 1, 1 and
+  -- 1
   pub items_spent : spent_of (method (list_literal (num 1 ∷ num 2 ∷ [])) "all" (name "x" ∷ no ∷ [])) review ≡ 72
   -- [1, 2].map(x, x == 2, 'ab'): thirteen visits; results of 4, 3, 1 and 1, three of 1 for each item, and 3 for the one
   -- transform, with its text of 3

@@ -1,10 +1,13 @@
--- What the code does that an emitter has got for an expression or a variable. It is said of the piece that stands behind
--- the emitter's old code, in every image in which that piece stands at its slot, and whatever is taken later.
+-- What the code does that an emitter has got for an expression or a variable. It is said of the piece that stands
+-- behind the emitter's old code, in every image in which that piece stands at its slot, and whatever is taken later.
 use Rattle.std.specs.Prelude.{◌≡◌, ℕ, ◌+◌, ◌*◌, ◌≤◌, Bool, true, List, [], ◌∷◌, ◌++◌, length}
+use Rattle.bpf_machine.specs.Limits.{record_limit}
+use Rattle.expression_code.specs.Limits.{code_limit, slots_per_node, node_limit, word_limit, steps_per_visit, charge_per_unit}
 use Rattle.insn_codec.specs.declared.insn.Insn.{Insn}
-use Rattle.loader.specs.Contents.{Contents}
+use Rattle.loader.specs.Contents.{Image}
+use Rattle.loader.specs.Limits.{constants_limit}
 use Rattle.value_store.specs.Value.{Value, ValueOrError}
-use Rattle.cel_macros.specs.CoreTree.{CoreTree, plain_tree}
+use Rattle.cel_macros.specs.CoreTree.{Core, plain_tree}
 use Rattle.cel_macros.specs.Environment.{Roots}
 use Rattle.cel_macros.specs.Meaning.{meaning}
 use Rattle.cel_measures.specs.Measures.{deepest, depth, nodes}
@@ -12,13 +15,13 @@ use Rattle.cel_types.specs.CoreTyping.{core_typing}
 use Rattle.cel_types.specs.Declarations.{Declaration, declared, depths_of, scope_of}
 use Rattle.cel_types.specs.Types.{typed}
 use Rattle.cel_types.specs.declared.cel_type.CelType.{CelType}
-use Rattle.codegen_base.specs.Body.{Body}
-use Rattle.codegen_base.specs.Contexts.{Context}
-use Rattle.codegen_base.specs.Engine.{Comes, Setting}
-use Rattle.codegen_base.specs.Paths.{Kept, nothing_kept}
-use Rattle.codegen_base.specs.Pieces.{AreInsns, Stands, size, slots}
-use Rattle.codegen_base.specs.Scopes.{IsScope, Returns, Variable, bindings, scope_setting}
-use Rattle.codegen_base.specs.Variables.{used_context}
+use Rattle.expression_code.specs.CpuState.{CpuState}
+use Rattle.expression_code.specs.Contexts.{Context}
+use Rattle.expression_code.specs.Engine.{RunsTo, RunContext}
+use Rattle.expression_code.specs.Paths.{FrameUse, nothing_kept}
+use Rattle.expression_code.specs.Pieces.{AreInsns, IsCodeAt, size, slots}
+use Rattle.expression_code.specs.Scopes.{IsScope, Returns, Variable, bindings, scope_setting}
+use Rattle.expression_code.specs.Variables.{used_context}
 use Rattle.codegen.specs.Computes.{Computes, environment_in, scope_context, variable_with}
 use Rattle.codegen.specs.Constants.{joined, with_texts}
 use Rattle.codegen.specs.Cost.{Cost, IsDeep, cost, spent_by}
@@ -30,15 +33,15 @@ use Rattle.codegen.specs.Layer.{AreTaken}
 -- an image with its constants, whether a value may be too deep for it, the roots, and the variables: those that the
 -- expression may use, and later ones
 pub record Running : Type 0 where
-  pub image : Contents
+  pub image : Image
   pub constants : List ℕ
   pub is_deep : Bool
   pub roots : Roots
   pub scope : List Variable
   pub later : List Variable
 
--- it runs in the setting of the variables that the expression may use: the first uses of no others count
-abbrev pub setting : Running → Setting
+-- it runs in the run context of the variables that the expression may use: the first uses of no others count
+abbrev pub setting : Running → RunContext
 setting r = scope_setting r.image r.is_deep r.scope
 
 -- outside of every macro no iteration name is in force
@@ -46,11 +49,11 @@ abbrev pub context : Running → Context
 context r = scope_context r.roots [] nothing_kept r.constants (r.scope ++ r.later)
 
 -- what the expression means there
-abbrev pub meaning_in : Running → CoreTree → ValueOrError
+abbrev pub meaning_in : Running → Core → ValueOrError
 meaning_in r e = meaning (plain_tree e) (environment_in r.roots [] r.scope)
 
 -- what its evaluation costs there
-abbrev pub cost_in : Running → CoreTree → Cost
+abbrev pub cost_in : Running → Core → Cost
 cost_in r e = cost (plain_tree e) (environment_in r.roots [] r.scope)
 
 -- the routines of these variables stand in the image
@@ -61,11 +64,11 @@ HasRoutines r variables = IsScope r.image r.is_deep r.roots r.constants variable
 pub record AreConstants (constants : List ℕ) (texts : List (List ℕ)) : Type 0 where
   pub later : List (List ℕ)
   pub are : constants ≡ joined (with_texts texts later)
-  pub few : length constants ≤ 1048576
+  pub few : length constants ≤ constants_limit
 
--- it suits an expression that the type checker takes with these declarations: its variables are those that were taken, its
--- constants the texts that were taken, and where a value becomes too deep one may
-pub record Suits (slots : List ℕ) (texts : List (List ℕ)) (declarations : List Declaration) (e : CoreTree) (r : Running) : Type 0 where
+-- it suits an expression that the type checker takes with these declarations: its variables are those that were taken,
+-- its constants the texts that were taken, and where a value becomes too deep one may
+pub record Suits (slots : List ℕ) (texts : List (List ℕ)) (declarations : List Declaration) (e : Core) (r : Running) : Type 0 where
   pub cel_type : CelType
   pub has_type : core_typing e (scope_of declarations) ≡ typed cel_type
   pub taken : AreTaken slots declarations r.scope r.later
@@ -74,28 +77,28 @@ pub record Suits (slots : List ℕ) (texts : List (List ℕ)) (declarations : Li
 
 -- the code is so short that calls in a piece behind it reach all routines in it: in an image it always is
 abbrev pub IsNear : Emitted → Type 0
-IsNear e = length e.code ≤ 0x7fff_0000
+IsNear e = length e.code ≤ code_limit
 
 -- ---- an expression
 
--- behind the old code stands a piece of at most 128 slots for each node, which can be spelled; from the start of each frame
--- above which there are frames enough for its variables it gives what the expression means, within 128 steps a visit and 16
--- times what is spent, beside what those variables take that are first used in it, of the first ones with which the type
--- checker takes it; the nodes are counted, and no routine is added
-pub record EmitsPiece (old new : Emitted) (declarations : List Declaration) (e : CoreTree) : Type 0 where
+-- behind the old code stands a piece of at most 128 slots for each node, which can be spelled; from the start of each
+-- frame above which there are frames enough for its variables it gives what the expression means, within 128 steps a
+-- visit and 16 times what is spent, beside what those variables take that are first used in it, of the first ones with
+-- which the type checker takes it; the nodes are counted, and no routine is added
+pub record EmitsPiece (old new : Emitted) (declarations : List Declaration) (e : Core) : Type 0 where
   pub piece : List Insn
   pub behind : new.code ≡ old.code ++ slots piece
-  pub short : size piece ≤ 128 * nodes e
+  pub short : size piece ≤ slots_per_node * nodes e
   pub spells : (constants : List ℕ) → AreConstants constants new.constants → AreInsns piece
   pub gives : (first rest : List Declaration) (r : Running) (frame : ℕ) → declarations ≡ first ++ rest
-      → Suits old.routines new.constants first e r → HasRoutines r r.scope → frame + deepest e (depths_of first) ≤ 7
+      → Suits old.routines new.constants first e r → HasRoutines r r.scope → frame + deepest e (depths_of first) ≤ record_limit
       → Computes (setting r) (length old.code) piece (context r) frame 0 (meaning_in r e) (cost_in r e)
   pub counted : new.nodes ≡ old.nodes + nodes e
   pub kept : new.routines ≡ old.routines
 
 -- of at most 512 nodes in all
-abbrev pub EmitsExpression : Emitted → Emitted → List Declaration → CoreTree → Type 0
-EmitsExpression old new declarations e = old.nodes + nodes e ≤ 512 → IsNear old → EmitsPiece old new declarations e
+abbrev pub EmitsExpression : Emitted → Emitted → List Declaration → Core → Type 0
+EmitsExpression old new declarations e = old.nodes + nodes e ≤ node_limit → IsNear old → EmitsPiece old new declarations e
 
 -- ---- a variable
 
@@ -104,35 +107,35 @@ abbrev pub next_routine : Emitted → ℕ
 next_routine e = length e.code + 1
 
 -- what a caller sees that may use the earlier variables and this one, whatever iteration names are in force
-abbrev pub caller_context : Running → List (List ℕ × Value) → Kept → List ℕ → CoreTree → Context
+abbrev pub caller_context : Running → List (List ℕ × Value) → FrameUse → List ℕ → Core → Context
 caller_context r items words name e =
     used_context r.roots items words r.constants (bindings (r.scope ++ r.later) ++ (name, meaning_in r e) ∷ [])
 
 -- the variable of this name, whose routine has this code for its value
-abbrev pub next_variable : Emitted → List Insn → Roots → List Variable → List ℕ → CoreTree → Variable
+abbrev pub next_variable : Emitted → List Insn → Roots → List Variable → List ℕ → Core → Variable
 next_variable old body roots scope name e = variable_with body roots scope name e (next_routine old)
 
 -- behind the old code stands a piece of at most 128 slots for each node of the expression, and for 1 more, which can be
 -- spelled, and which straight code passes in one step; from its second slot on it is the routine of the next variable:
--- called where there are frames enough, it returns what the expression means, within 128 steps a visit and 16 times what is
--- spent, beside what those variables take that are first used in it, of the first ones with which the type checker takes it;
--- and with it the variables are a scope with this one more; the nodes are counted, and 1 more
-pub record EmitsPassedRoutine (old new : Emitted) (declarations : List Declaration) (e : CoreTree) : Type 0 where
+-- called where there are frames enough, it returns what the expression means, within 128 steps a visit and 16 times
+-- what is spent, beside what those variables take that are first used in it, of the first ones with which the type
+-- checker takes it; and with it the variables are a scope with this one more; the nodes are counted, and 1 more
+pub record EmitsPassedRoutine (old new : Emitted) (declarations : List Declaration) (e : Core) : Type 0 where
   pub piece : List Insn
   pub body : List Insn
   pub behind : new.code ≡ old.code ++ slots piece
-  pub short : size piece ≤ 128 * (1 + nodes e)
+  pub short : size piece ≤ slots_per_node * (1 + nodes e)
   pub spells : (constants : List ℕ) → AreConstants constants new.constants → AreInsns piece
-  pub passes : (s : Setting) (b : Body) → Stands s.image.code (length old.code) piece
-      → Comes s 1 0 (length old.code) b (length new.code) (λ last. last ≡ b)
+  pub passes : (s : RunContext) (b : CpuState) → IsCodeAt s.image.code (length old.code) piece
+      → RunsTo s 1 0 (length old.code) b (length new.code) (λ last. last ≡ b)
   pub returns : (first rest : List Declaration) (r : Running) (name : List ℕ) (items : List (List ℕ × Value))
-      (words : Kept) (frame base : ℕ) → declarations ≡ first ++ rest
+      (words : FrameUse) (frame base : ℕ) → declarations ≡ first ++ rest
       → Suits old.routines new.constants first e r → HasRoutines r r.scope
-      → frame + depth e (depths_of first) ≤ 7 → base ≤ 60 → Stands r.image.code (length old.code) piece
+      → frame + depth e (depths_of first) ≤ record_limit → base ≤ word_limit → IsCodeAt r.image.code (length old.code) piece
       → Returns (setting r) (next_routine old) (length old.routines) (caller_context r items words name e) frame base
-      (meaning_in r e) (128 * (cost_in r e).visits) (16 * spent_by (cost_in r e))
+      (meaning_in r e) (steps_per_visit * (cost_in r e).visits) (charge_per_unit * spent_by (cost_in r e))
   pub joins : (r : Running) (name : List ℕ) → Suits old.routines new.constants declarations e r → HasRoutines r (r.scope ++ r.later)
-      → Stands r.image.code (length old.code) piece
+      → IsCodeAt r.image.code (length old.code) piece
       → HasRoutines r ((r.scope ++ r.later) ++ next_variable old body r.roots r.scope name e ∷ [])
   pub taken : (roots : Roots) (scope : List Variable) (name : List ℕ) (t : CelType) → AreTaken old.routines declarations scope []
       → AreTaken new.routines (declarations ++ declared name t (depth e (depths_of declarations)) ∷ [])
@@ -140,5 +143,5 @@ pub record EmitsPassedRoutine (old new : Emitted) (declarations : List Declarati
   pub counted : new.nodes ≡ old.nodes + (1 + nodes e)
 
 -- of at most 512 nodes in all
-abbrev pub EmitsVariable : Emitted → Emitted → List Declaration → CoreTree → Type 0
-EmitsVariable old new declarations e = old.nodes + (1 + nodes e) ≤ 512 → IsNear old → EmitsPassedRoutine old new declarations e
+abbrev pub EmitsVariable : Emitted → Emitted → List Declaration → Core → Type 0
+EmitsVariable old new declarations e = old.nodes + (1 + nodes e) ≤ node_limit → IsNear old → EmitsPassedRoutine old new declarations e

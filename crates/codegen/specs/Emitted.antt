@@ -1,10 +1,13 @@
 -- What an emitter has taken.
 use Rattle.std.specs.Prelude.{ℕ, ◌+◌, List, [], ◌∷◌, ◌++◌, length, Option, Some, None, ◌*◌, ◌<◌, slice_set}
+use Rattle.expression_code.specs.Limits.{slots_per_node}
 use Rattle.insn_codec.specs.Spelling.{spelling}
 use Rattle.insn_codec.specs.declared.insn.Insn.{Insn}
 use Rattle.cel_measures.specs.Saturated.{saturated}
+use Rattle.insn_codec.specs.Limits.{slot_limit}
+use Rattle.loader.specs.Limits.{constants_limit}
 use Rattle.codegen.specs.Constants.{joined}
-use Rattle.codegen_base.specs.Pieces.{slots}
+use Rattle.expression_code.specs.Pieces.{slots}
 
 -- the instruction that begins at each slot of the code; the texts that the code names; the nodes for which it stands;
 -- and the slots at which the variables' routines begin, in their order
@@ -38,8 +41,8 @@ slot_spellings (None ∷ more) = slot_spellings more
 
 -- so many nodes that their code may pass the slots of an image: 128 for each, above 65,536
 abbrev pub IsTooLong : Emitted → Type 0
-IsTooLong e = 65536 < 128 * e.nodes
+IsTooLong e = slot_limit < slots_per_node * e.nodes
 
 -- more bytes of texts than an image's constants
 abbrev pub HasTooManyTexts : Emitted → Type 0
-HasTooManyTexts e = 1048576 < length (joined e.constants)
+HasTooManyTexts e = constants_limit < length (joined e.constants)

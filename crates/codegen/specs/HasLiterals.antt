@@ -1,6 +1,6 @@
 -- Expressions whose literals are values: ints of 64 bits signed, texts in UTF-8.
 use Rattle.cel_reader.specs.Tree as tree
-use Rattle.cel_reader.specs.Tree.{Tree, Trees, Entries, no_trees, more_trees, no_entries, more_entries}
+use Rattle.cel_reader.specs.Tree.{Tree, Trees, TreeEntries, no_trees, more_trees, no_entries, more_entries}
 use Rattle.cel_reader.specs.WellFormed.{IsWellFormedLiteral}
 
 abbrev mutual
@@ -24,6 +24,6 @@ abbrev mutual
   HaveLiterals (more_trees a more) = HasLiterals a × HaveLiterals more
 
   -- those of each key and each value are
-  pub EntriesHaveLiterals : Entries → Type 0
+  pub EntriesHaveLiterals : TreeEntries → Type 0
   EntriesHaveLiterals no_entries = Unit {0}
   EntriesHaveLiterals (more_entries k v more) = HasLiterals k × HasLiterals v × EntriesHaveLiterals more

@@ -1,10 +1,12 @@
 -- What is proved of the code of expressions as lists of instructions.
 use Rattle.std.specs.Prelude.{◌≡◌, ℕ, ◌+◌, ◌*◌, ◌≤◌, Bool, List, [], ◌∷◌, ◌++◌, length}
 use Rattle.std.specs.Prelude.{map as each}
+use Rattle.expression_code.specs.Limits.{part_slots_per_node, memo_limit, budget_reserve}
 use Rattle.insn_codec.specs.declared.insn.Insn.{Insn}
-use Rattle.loader.specs.Contents.{Contents}
+use Rattle.loader.specs.Contents.{Image}
+use Rattle.loader.specs.Limits.{constants_limit}
 use Rattle.value_store.specs.Value.{Value}
-use Rattle.cel_macros.specs.CoreTree.{CoreTree, plain_tree}
+use Rattle.cel_macros.specs.CoreTree.{Core, plain_tree}
 use Rattle.cel_macros.specs.Environment.{Roots}
 use Rattle.cel_macros.specs.Meaning.{meaning}
 use Rattle.cel_measures.specs.Measures.{nodes}
@@ -12,11 +14,11 @@ use Rattle.cel_types.specs.CoreTyping.{core_typing}
 use Rattle.cel_types.specs.Declarations.{Declaration, scope_of}
 use Rattle.cel_types.specs.Types.{typed}
 use Rattle.cel_types.specs.declared.cel_type.CelType.{CelType}
-use Rattle.codegen_base.specs.Body.{Body}
-use Rattle.codegen_base.specs.Engine.{Comes, Setting}
-use Rattle.codegen_base.specs.Paths.{Kept, nothing_kept}
-use Rattle.codegen_base.specs.Pieces.{Stands, size}
-use Rattle.codegen_base.specs.Scopes.{IsScope, Variable, scope_setting}
+use Rattle.expression_code.specs.CpuState.{CpuState}
+use Rattle.expression_code.specs.Engine.{RunsTo, RunContext}
+use Rattle.expression_code.specs.Paths.{FrameUse, nothing_kept}
+use Rattle.expression_code.specs.Pieces.{IsCodeAt, size}
+use Rattle.expression_code.specs.Scopes.{IsScope, Variable, scope_setting}
 use Rattle.codegen.specs.Accepted.{IsAccepted}
 use Rattle.codegen.specs.Added.{passed}
 use Rattle.codegen.specs.Computes.{Computes, Ready, TextsStand, environment_in, routines, scope_context, variable_of}
@@ -28,17 +30,17 @@ use Rattle.codegen.specs.Code.Whole.{plain_code, routine_code, whole_code}
 
 -- the code of a part takes at most 63 slots for each node, and 8 less, so that jumps in the code of 512 nodes fit 16 bits
 abbrev pub CodeIsShort : Type 0
-CodeIsShort = (e : CoreTree) (texts : List (List ℕ)) (routines : List (List ℕ × ℕ)) (words : Kept) (k p : ℕ)
-    → size (code_of e texts routines words k p) + 8 ≤ 63 * nodes e
+CodeIsShort = (e : Core) (texts : List (List ℕ)) (routines : List (List ℕ × ℕ)) (words : FrameUse) (k p : ℕ)
+    → size (code_of e texts routines words k p) + budget_reserve ≤ part_slots_per_node * nodes e
 
 -- the code of a whole expression has at most the slots of the code that keeps nothing
 abbrev pub WholeIsShort : Type 0
-WholeIsShort = (e : CoreTree) (texts : List (List ℕ)) (routines : List (List ℕ × ℕ)) (p : ℕ)
+WholeIsShort = (e : Core) (texts : List (List ℕ)) (routines : List (List ℕ × ℕ)) (p : ℕ)
     → size (whole_code e texts routines p) ≤ size (plain_code e texts routines p)
 
 -- what the type checker takes has code, in the scope that it is given
 abbrev pub TypedIsAccepted : Type 0
-TypedIsAccepted = (e : CoreTree) (declared : List Declaration) (t : CelType) → core_typing e (scope_of declared) ≡ typed t
+TypedIsAccepted = (e : Core) (declared : List Declaration) (t : CelType) → core_typing e (scope_of declared) ≡ typed t
     → IsAccepted e (each (λ d. d.name) declared)
 
 -- wherever it stands, the code of an expression, which may use the variables of a scope, leaves what the expression
@@ -47,9 +49,9 @@ TypedIsAccepted = (e : CoreTree) (declared : List Declaration) (t : CelType) →
 -- whose first uses do not count
 abbrev pub CodeGives : Type 0
 CodeGives =
-    (image : Contents) (deep : Bool) (roots : Roots) (constants : List ℕ) (scope later : List Variable) (texts : List (List ℕ))
-    (items : List (List ℕ × Value)) (words : Kept) (depth k p : ℕ) (e : CoreTree)
-    → IsScope image deep roots constants scope → length scope ≤ 512 → HasLiterals (plain_tree e)
+    (image : Image) (deep : Bool) (roots : Roots) (constants : List ℕ) (scope later : List Variable) (texts : List (List ℕ))
+    (items : List (List ℕ × Value)) (words : FrameUse) (depth k p : ℕ) (e : Core)
+    → IsScope image deep roots constants scope → length scope ≤ memo_limit → HasLiterals (plain_tree e)
     → let s = scope_setting image deep scope in let c = scope_context roots items words constants (scope ++ later) in
     let env = environment_in roots items scope in
     Ready s scope texts c depth k e (cost (plain_tree e) env).is_deep
@@ -58,20 +60,20 @@ CodeGives =
 -- where the routine of an expression stands, which may use the first variables of a scope, the scope grows by the expression's variable
 abbrev pub RoutineGives : Type 0
 RoutineGives =
-    (image : Contents) (deep : Bool) (roots : Roots) (constants : List ℕ) (scope later : List Variable) (texts : List (List ℕ))
-    (name : List ℕ) (p : ℕ) (e : CoreTree)
-    → IsScope image deep roots constants (scope ++ later) → length scope ≤ 512 → HasLiterals (plain_tree e)
+    (image : Image) (deep : Bool) (roots : Roots) (constants : List ℕ) (scope later : List Variable) (texts : List (List ℕ))
+    (name : List ℕ) (p : ℕ) (e : Core)
+    → IsScope image deep roots constants (scope ++ later) → length scope ≤ memo_limit → HasLiterals (plain_tree e)
     → let s = scope_setting image deep (scope ++ later) in let c = scope_context roots [] nothing_kept constants (scope ++ later) in
     Ready s scope texts c 1 0 e (cost (plain_tree e) (environment_in roots [] scope)).is_deep
-    → Stands image.code p (routine_code e texts (routines scope) (length (scope ++ later)) p)
+    → IsCodeAt image.code p (routine_code e texts (routines scope) (length (scope ++ later)) p)
     → IsScope image deep roots constants ((scope ++ later) ++ variable_of roots scope texts name e p ∷ [])
 
 -- the texts that an expression names, once they are taken, stand among the constants where its code looks for them, whatever is taken later
 abbrev pub TextsStay : Type 0
-TextsStay = (texts used later : List (List ℕ)) → length (joined (with_texts (with_texts texts used) later)) ≤ 1048576
+TextsStay = (texts used later : List (List ℕ)) → length (joined (with_texts (with_texts texts used) later)) ≤ constants_limit
     → TextsStand (joined (with_texts (with_texts texts used) later)) (with_texts texts used) used
 
 -- from the jump before a routine the machine comes to the slot behind it, in one step that changes nothing else
 abbrev pub RoutineIsPassed : Type 0
-RoutineIsPassed = (s : Setting) (p : ℕ) (piece : List Insn) (b : Body) → Stands s.image.code p (passed piece)
-    → Comes s 1 0 p b (p + size (passed piece)) (λ new. new ≡ b)
+RoutineIsPassed = (s : RunContext) (p : ℕ) (piece : List Insn) (b : CpuState) → IsCodeAt s.image.code p (passed piece)
+    → RunsTo s 1 0 p b (p + size (passed piece)) (λ new. new ≡ b)

@@ -3,8 +3,10 @@
 use Rattle.std.specs.Prelude.{◌≡◌, ℕ, ◌+◌, ◌≤◌, Bool, true, List, [], ◌∷◌, ◌++◌, length}
 use Rattle.std.specs.Prelude.{map as each}
 use Rattle.std.specs.List.{AllByRecursion}
-use Rattle.loader.specs.Contents.{Contents}
-use Rattle.cel_macros.specs.CoreTree.{CoreTree, plain_tree}
+use Rattle.bpf_machine.specs.Limits.{record_limit}
+use Rattle.expression_code.specs.Limits.{variable_depth_limit, word_limit, memo_limit}
+use Rattle.loader.specs.Contents.{Image}
+use Rattle.cel_macros.specs.CoreTree.{Core, plain_tree}
 use Rattle.cel_macros.specs.Environment.{Roots}
 use Rattle.cel_macros.specs.Meaning.{meaning}
 use Rattle.cel_measures.specs.Measures.{deepest, depth, need}
@@ -12,9 +14,10 @@ use Rattle.cel_types.specs.CoreTyping.{core_typing}
 use Rattle.cel_types.specs.Declarations.{Declaration, declared, depths_of, scope_of}
 use Rattle.cel_types.specs.Types.{typed}
 use Rattle.cel_types.specs.declared.cel_type.CelType.{CelType}
-use Rattle.codegen_base.specs.Pieces.{Stands}
-use Rattle.codegen_base.specs.Paths.{nothing_kept}
-use Rattle.codegen_base.specs.Scopes.{IsScope, Variable, scope_setting}
+use Rattle.expression_code.specs.Pieces.{IsCodeAt}
+use Rattle.expression_code.specs.Paths.{nothing_kept}
+use Rattle.expression_code.specs.Scopes.{IsScope, Variable, scope_setting}
+use Rattle.loader.specs.Limits.{constants_limit}
 use Rattle.codegen.specs.Code.Expressions.{texts_of}
 use Rattle.codegen.specs.Code.Whole.{routine_code, whole_code}
 use Rattle.codegen.specs.Computes.{Computes, environment_in, nestings, scope_context, variable_of}
@@ -22,37 +25,39 @@ use Rattle.codegen.specs.Constants.{joined, with_texts}
 use Rattle.codegen.specs.Cost.{IsDeep, cost}
 use Rattle.codegen.specs.Emitted.{Emitted}
 use Rattle.codegen.specs.HasLiterals.{HasLiterals}
-use Rattle.codegen.specs.Surroundings.{routines_of}
+use Rattle.codegen.specs.NameTable.{routines_of}
 
--- the variables that were taken: those of a scope, with their declarations, and later ones; the routine of each begins at its slot
+-- the variables that were taken: those of a scope, with their declarations, and later ones; the routine of each begins
+-- at its slot
 pub record AreTaken (slots : List ℕ) (declarations : List Declaration) (scope later : List Variable) : Type 0 where
   pub slots_are : each (λ v. v.routine) (scope ++ later) ≡ slots
   pub depths_are : nestings scope ≡ depths_of declarations
 
 -- no variable that was taken is deeper than 6
 abbrev pub AreShallow : List Declaration → Type 0
-AreShallow declarations = AllByRecursion (λ d. d.depth ≤ 6) declarations
+AreShallow declarations = AllByRecursion (λ d. d.depth ≤ variable_depth_limit) declarations
 
--- the type checker takes the expression with these declarations, its literals are values, and a frame has words enough for it
-pub record IsExpression (declarations : List Declaration) (e : CoreTree) : Type 0 where
+-- the type checker takes the expression with these declarations, its literals are values, and a frame has words enough
+-- for it
+pub record IsEmittable (declarations : List Declaration) (e : Core) : Type 0 where
   pub cel_type : CelType
   pub has_type : core_typing e (scope_of declarations) ≡ typed cel_type
   pub literals : HasLiterals (plain_tree e)
-  pub fits : need e ≤ 60
+  pub fits : need e ≤ word_limit
 
 -- the texts of the expression are taken, and more of them later; all are the constants
-pub record HasConstants (constants : List ℕ) (texts : List (List ℕ)) (e : CoreTree) : Type 0 where
+pub record HasConstants (constants : List ℕ) (texts : List (List ℕ)) (e : Core) : Type 0 where
   pub more : List (List ℕ)
   pub constants_are : constants ≡ joined (with_texts (with_texts texts (texts_of e)) more)
-  pub few : length constants ≤ 1048576
+  pub few : length constants ≤ constants_limit
 
 -- in each image in which it stands at slot p, and in each frame above which there are frames enough for its variables,
 -- the code of the expression gives what the expression means, within 128 steps a visit and 16 times what is spent,
 -- beside what those variables of its scope take that are first used in it
-abbrev pub GivesMeaning : List (List ℕ) → List ℕ → List Declaration → CoreTree → ℕ → Type 0
+abbrev pub GivesMeaning : List (List ℕ) → List ℕ → List Declaration → Core → ℕ → Type 0
 GivesMeaning texts slots declarations e p =
-    (image : Contents) (deep : Bool) (roots : Roots) (constants : List ℕ) (scope later : List Variable) (frame : ℕ)
-    → AreTaken slots declarations scope later → frame + deepest e (depths_of declarations) ≤ 7 → length scope ≤ 512
+    (image : Image) (deep : Bool) (roots : Roots) (constants : List ℕ) (scope later : List Variable) (frame : ℕ)
+    → AreTaken slots declarations scope later → frame + deepest e (depths_of declarations) ≤ record_limit → length scope ≤ memo_limit
     → HasConstants constants texts e
     → IsScope image deep roots constants scope
     → let tree = plain_tree e in let env = environment_in roots [] scope in (IsDeep tree env → deep ≡ true)
@@ -61,17 +66,18 @@ GivesMeaning texts slots declarations e p =
 
 -- in each image in which the expression's routine stands at slot p, as that of a variable that is no deeper than 6, the
 -- variables that were taken are a scope with this one more
-abbrev pub JoinsScope : List (List ℕ) → List ℕ → List Declaration → CoreTree → ℕ → Type 0
+abbrev pub JoinsScope : List (List ℕ) → List ℕ → List Declaration → Core → ℕ → Type 0
 JoinsScope texts slots declarations e p =
-    (image : Contents) (deep : Bool) (roots : Roots) (constants : List ℕ) (scope later : List Variable) (name : List ℕ)
-    → AreTaken slots declarations scope later → depth e (depths_of declarations) ≤ 6 → length scope ≤ 512 → HasConstants constants texts e
+    (image : Image) (deep : Bool) (roots : Roots) (constants : List ℕ) (scope later : List Variable) (name : List ℕ)
+    → AreTaken slots declarations scope later → depth e (depths_of declarations) ≤ variable_depth_limit → length scope ≤ memo_limit
+    → HasConstants constants texts e
     → IsScope image deep roots constants (scope ++ later)
     → (IsDeep (plain_tree e) (environment_in roots [] scope) → deep ≡ true)
-    → Stands image.code p (routine_code e (with_texts texts (texts_of e)) (routines_of declarations slots) (length slots) p)
+    → IsCodeAt image.code p (routine_code e (with_texts texts (texts_of e)) (routines_of declarations slots) (length slots) p)
     → IsScope image deep roots constants ((scope ++ later) ++ variable_of roots scope (with_texts texts (texts_of e)) name e p ∷ [])
 
 -- so it is one of those that were taken, with its declaration
-abbrev pub IsTakenBehind : List (List ℕ) → List ℕ → List Declaration → CoreTree → ℕ → Type 0
+abbrev pub IsTakenBehind : List (List ℕ) → List ℕ → List Declaration → Core → ℕ → Type 0
 IsTakenBehind texts slots declarations e p = (roots : Roots) (scope : List Variable) (name : List ℕ) (t : CelType)
     → AreTaken slots declarations scope []
     → AreTaken (slots ++ p ∷ []) (declarations ++ declared name t (depth e (depths_of declarations)) ∷ [])
@@ -79,31 +85,32 @@ IsTakenBehind texts slots declarations e p = (roots : Roots) (scope : List Varia
 
 -- so it is with each expression that the type checker takes
 abbrev pub ExpressionGives : Type 0
-ExpressionGives = (texts : List (List ℕ)) (slots : List ℕ) (declarations : List Declaration) (e : CoreTree) (p : ℕ)
-    → IsExpression declarations e → GivesMeaning texts slots declarations e p
+ExpressionGives = (texts : List (List ℕ)) (slots : List ℕ) (declarations : List Declaration) (e : Core) (p : ℕ)
+    → IsEmittable declarations e → GivesMeaning texts slots declarations e p
 
 -- where no variable is deeper than 6, the frames of a machine are enough for an expression in the first or second one
 abbrev pub FramesAreEnough : Type 0
-FramesAreEnough = (declarations : List Declaration) (e : CoreTree) → AreShallow declarations → deepest e (depths_of declarations) ≤ 6
+FramesAreEnough = (declarations : List Declaration) (e : Core) → AreShallow declarations
+    → deepest e (depths_of declarations) ≤ variable_depth_limit
 
 -- so it is with the routine of each such expression
 abbrev pub VariableJoins : Type 0
-VariableJoins = (texts : List (List ℕ)) (slots : List ℕ) (declarations : List Declaration) (e : CoreTree) (p : ℕ)
-    → IsExpression declarations e → JoinsScope texts slots declarations e p
+VariableJoins = (texts : List (List ℕ)) (slots : List ℕ) (declarations : List Declaration) (e : Core) (p : ℕ)
+    → IsEmittable declarations e → JoinsScope texts slots declarations e p
 
 -- and so it is with each expression and each name
 abbrev pub VariableIsTaken : Type 0
-VariableIsTaken = (texts : List (List ℕ)) (slots : List ℕ) (declarations : List Declaration) (e : CoreTree) (p : ℕ)
+VariableIsTaken = (texts : List (List ℕ)) (slots : List ℕ) (declarations : List Declaration) (e : Core) (p : ℕ)
     → IsTakenBehind texts slots declarations e p
 
 -- the expression's code, put behind the emitter's, gives its meaning, where the type checker takes it in the scope
-abbrev pub EmitsMeaning : Emitted → List Declaration → CoreTree → Type 0
+abbrev pub EmitsMeaning : Emitted → List Declaration → Core → Type 0
 EmitsMeaning emitter declarations e =
     (t : CelType) → core_typing e (scope_of declarations) ≡ typed t
     → GivesMeaning emitter.constants emitter.routines declarations e (length emitter.code)
 
 -- the expression's routine, put behind the emitter's code and a jump over it, is that of the next variable
-abbrev pub EmitsRoutine : Emitted → List Declaration → CoreTree → Type 0
+abbrev pub EmitsRoutine : Emitted → List Declaration → Core → Type 0
 EmitsRoutine emitter declarations e = (t : CelType) → core_typing e (scope_of declarations) ≡ typed t
     → JoinsScope emitter.constants emitter.routines declarations e (length emitter.code + 1)
     × IsTakenBehind emitter.constants emitter.routines declarations e (length emitter.code + 1)

@@ -2,9 +2,10 @@ pub mod Cost
 pub mod CostRows
 pub mod Constants
 pub mod Emitted
+pub mod ErrorCodes
 pub mod FrameWords
 pub mod Code
-pub mod Surroundings
+pub mod NameTable
 pub mod Accepted
 pub mod HasLiterals
 pub mod Computes

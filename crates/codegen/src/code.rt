@@ -1,5 +1,5 @@
-//! The code of each construct, from the code of its parts. Each function's error says that there is no
-//! memory for the code.
+//! The code of each construct, from the code of its parts. Each function's error says that there is
+//! no memory for the code.
 
 pub(crate) mod aggregates;
 pub(crate) mod arithmetic;

@@ -6,24 +6,46 @@ ghost use Rattle.codegen.specs.declared.code_error.CodeError.TheVariants.{Memory
 use std::alloc::AllocError;
 use thiserror::Error;
 
-/// Why an expression, or all that an emitter took, has no code.
+/// Why an expression, or all the expressions of an emitter together, have no code.
 #[derive(Clone, Copy, Debug, PartialEq, Eq, Error)]
 pub enum CodeError {
     /// The expression needs more than 60 words of the stack.
     #[error("the expression needs more than 60 words of the stack")]
-    G1,
-    /// The variable's depth is above 6.
+    NeedsTooManyWords,
+    /// The variable's depth is above 6. (1 more than the greatest depth of the variables that it
+    /// names)
     #[error("the variables that a variable names are nested more than six deep")]
-    G2,
-    /// The nodes, 128 slots for each, are more than an image of 65,536 slots has room for.
+    VariableTooDeep,
+    /// The expressions have more than 512 nodes, for each of which an image of 65,536 slots has
+    /// 128.
     #[error("the expressions have more than 512 nodes")]
-    G3,
-    /// The texts are more than an image of 1,048,576 bytes of constants has room for.
+    TooManyNodes,
+    /// The distinct texts have more than 1,048,576 bytes together, the most that the constants of
+    /// an image can have.
     #[error("the expressions have more than 1048576 bytes of texts")]
-    G4,
-    /// There is no memory for the code.
+    TooManyTextBytes,
+    /// An allocation failed.
     #[error("out of memory")]
     Memory,
+}
+
+impl CodeError {
+    ghost use Rattle.std.specs.Prelude.{◌≤◌, length};
+    ghost use Rattle.codegen.specs.ErrorCodes.{code_error_code};
+
+    /// The error's code: `G1` to `G4`, or `memory`.
+    pub fn code(&self) -> &'static str
+        ensures text { result.now ≡ code_error_code self.now }
+        ensures length { length result.now ≤ 6 }
+    {
+        match self {
+            CodeError::NeedsTooManyWords => "G1",
+            CodeError::VariableTooDeep => "G2",
+            CodeError::TooManyNodes => "G3",
+            CodeError::TooManyTextBytes => "G4",
+            CodeError::Memory => "memory",
+        }
+    }
 }
 
 impl From<AllocError> for CodeError {

@@ -13,7 +13,8 @@ use cel_macros::Core;
 use indexmap::IndexSet;
 use std::alloc::{AllocError, Global};
 
-/// Takes the text among the others, if it is not there. The error says that there is no memory for it.
+/// Takes the text among the others, if it is not there. The error says that there is no memory for
+/// it.
 #[tactic(auto, using(crate::proofs::Behind::text_taken))]
 fn take_text(alloc: Global, texts: &mut IndexSet<String>, text: &str) -> Result<(), AllocError>
     ensures ok { OnOk result (map string_bytes texts.new.keys ≡ specs.with_text (map string_bytes texts.old.keys) text.now) }
@@ -24,8 +25,8 @@ fn take_text(alloc: Global, texts: &mut IndexSet<String>, text: &str) -> Result<
     Ok(())
 }
 
-/// Takes these texts among the others, each if it is not there. The error says that there is no memory
-/// for all of them; those that were there are still in front.
+/// Takes these texts among the others, each if it is not there. The error says that there is no
+/// memory for all of them; those that were there are still in front.
 #[tactic(auto, using(crate::proofs::Behind::front_later))]
 fn take_each(alloc: Global, texts: &mut IndexSet<String>, used: &[String]) -> Result<(), AllocError>
     ensures ok { OnOk result (map string_bytes texts.new.keys ≡ specs.with_texts (map string_bytes texts.old.keys) (map string_bytes used.now)) }
@@ -37,9 +38,9 @@ fn take_each(alloc: Global, texts: &mut IndexSet<String>, used: &[String]) -> Re
     Ok(())
 }
 
-/// Takes the texts of the expression among the others, each if it is not there, in order of first use; its
-/// literals are values. The error says that there is no memory for all of them; those that were there are
-/// still in front.
+/// Takes the texts of the expression among the others, each if it is not there, in order of first
+/// use; its literals are values. The error says that there is no memory for all of them; those that
+/// were there are still in front.
 pub(crate) fn take_texts(
     alloc: Global,
     texts: &mut IndexSet<String>,

@@ -7,25 +7,25 @@ ghost use Rattle.cel_types.specs.Declarations.{depths_of};
 ghost use Rattle.codegen.specs.Added.{with_expression, with_variable};
 ghost use Rattle.codegen.specs.Emission.{EmitsExpression, EmitsVariable};
 ghost use Rattle.codegen.specs.Layer.{EmitsMeaning, EmitsRoutine};
+ghost use Rattle.expression_code.specs.Limits.{word_limit, variable_depth_limit};
 
 use crate::code_error::CodeError;
 use crate::emitter::{Addition, Emitter};
-use crate::whole_expression::MOST_WORDS;
 use cel_macros::Core;
 use cel_measures::{depth, need};
 use cel_types::Scope;
+use expression_code::limits::{VARIABLE_DEPTH_LIMIT, WORD_LIMIT};
 use std::alloc::Global;
 
-/// The greatest depth of a variable.
-const GREATEST_DEPTH: u64 = 6;
-
-/// Adds the expression's code to the emitter, its texts and its nodes. The variables of the scope are
-/// the first that the emitter took, in their order. Beyond 512 nodes, where `finish` answers `G3`, and behind
-/// 0x7fff_0000 slots, for which no image has room, texts and nodes alone are added.
+/// Adds the expression's code to the emitter, its texts and its nodes. The variables of the scope
+/// are the first that the emitter took, in their order. Beyond 512 nodes, where `finish` answers
+/// `TooManyNodes`, and behind 0x7fff_0000 slots, for which no image has room, texts and nodes alone
+/// are added.
 ///
 /// # Errors
 ///
-/// `G1` where it needs more than 60 words of the stack, and `Memory`; the emitter is then as before.
+/// `NeedsTooManyWords` if it needs more than 60 words of the stack, and `Memory`; the emitter is
+/// then as before.
 #[tactic(auto, using(crate::proofs::Layer::expression_gives, crate::proofs::Layer::emits_expression, crate::proofs::Layer::low_each))]
 pub fn expression(
     alloc: Global,
@@ -34,31 +34,32 @@ pub fn expression(
     emitter: &mut Emitter,
 ) -> Result<(), CodeError>
     ensures added { OnOk result (emitter.new ≡ with_expression emitter.old scope.now (core_view core.now)) }
-    ensures fits { OnOk result (measures.need (core_view core.now) ≤ 60) }
+    ensures fits { OnOk result (measures.need (core_view core.now) ≤ word_limit) }
     ensures gives { OnOk result (EmitsMeaning emitter.old scope.now (core_view core.now)) }
     ensures emits { OnOk result (EmitsExpression emitter.old emitter.new scope.now (core_view core.now)) }
     ensures refused { OnErr result (emitter.new ≡ emitter.old) }
-    ensures g1 { IsErrOf result CodeError.G1 ↔ (60 < measures.need (core_view core.now)) }
-    ensures g2 { result ≢ Err CodeError.G2 }
-    ensures g3 { result ≢ Err CodeError.G3 }
-    ensures g4 { result ≢ Err CodeError.G4 }
+    ensures g1 { IsErrOf result CodeError.NeedsTooManyWords ↔ (word_limit < measures.need (core_view core.now)) }
+    ensures g2 { result ≢ Err CodeError.VariableTooDeep }
+    ensures g3 { result ≢ Err CodeError.TooManyNodes }
+    ensures g4 { result ≢ Err CodeError.TooManyTextBytes }
 {
-    if need(core) > MOST_WORDS {
-        return Err(CodeError::G1);
+    if need(core) > WORD_LIMIT {
+        return Err(CodeError::NeedsTooManyWords);
     }
     emitter.add(alloc, Addition::Expression, core, scope.variables())?;
     Ok(())
 }
 
-/// Adds the next variable to the emitter: the routine of its expression with its memo, its texts, and 1
-/// more than its nodes. The variables of the scope are the first that the emitter took, in their order.
-/// Beyond 512 nodes, where `finish` answers `G3`, and behind 0x7fff_0000 slots, for which no image has room,
-/// texts and nodes alone are added.
+/// Adds the next variable to the emitter: the routine of its expression with its memo, its texts,
+/// and 1 more than its nodes. The variables of the scope are the first that the emitter took, in
+/// their order. Beyond 512 nodes, where `finish` answers `TooManyNodes`, and behind 0x7fff_0000
+/// slots, for which no image has room, texts and nodes alone are added.
 ///
 /// # Errors
 ///
-/// `G1` where the expression needs more than 60 words of the stack, then `G2` where the variable's depth
-/// is above 6, and `Memory`; the emitter is then as before.
+/// `NeedsTooManyWords` if the expression needs more than 60 words of the stack, then
+/// `VariableTooDeep` if the variable's depth is above 6, and `Memory`; the emitter is then as
+/// before.
 #[tactic(auto, using(crate::proofs::Layer::emits_variable, crate::proofs::Layer::low_each))]
 pub fn variable(
     alloc: Global,
@@ -67,21 +68,21 @@ pub fn variable(
     emitter: &mut Emitter,
 ) -> Result<(), CodeError>
     ensures added { OnOk result (emitter.new ≡ with_variable emitter.old scope.now (core_view core.now)) }
-    ensures fits { OnOk result (measures.need (core_view core.now) ≤ 60) }
-    ensures shallow { OnOk result (measures.depth (core_view core.now) (depths_of scope.now) ≤ 6) }
+    ensures fits { OnOk result (measures.need (core_view core.now) ≤ word_limit) }
+    ensures shallow { OnOk result (measures.depth (core_view core.now) (depths_of scope.now) ≤ variable_depth_limit) }
     ensures joins { OnOk result (EmitsRoutine emitter.old scope.now (core_view core.now)) }
     ensures emits { OnOk result (EmitsVariable emitter.old emitter.new scope.now (core_view core.now)) }
     ensures refused { OnErr result (emitter.new ≡ emitter.old) }
-    ensures g1 { IsErrOf result CodeError.G1 ↔ (60 < measures.need (core_view core.now)) }
-    ensures g2 { IsErrOf result CodeError.G2 ↔ ((measures.need (core_view core.now) ≤ 60) × (6 < measures.depth (core_view core.now) (depths_of scope.now))) }
-    ensures g3 { result ≢ Err CodeError.G3 }
-    ensures g4 { result ≢ Err CodeError.G4 }
+    ensures g1 { IsErrOf result CodeError.NeedsTooManyWords ↔ (word_limit < measures.need (core_view core.now)) }
+    ensures g2 { IsErrOf result CodeError.VariableTooDeep ↔ ((measures.need (core_view core.now) ≤ word_limit) × (variable_depth_limit < measures.depth (core_view core.now) (depths_of scope.now))) }
+    ensures g3 { result ≢ Err CodeError.TooManyNodes }
+    ensures g4 { result ≢ Err CodeError.TooManyTextBytes }
 {
-    if need(core) > MOST_WORDS {
-        return Err(CodeError::G1);
+    if need(core) > WORD_LIMIT {
+        return Err(CodeError::NeedsTooManyWords);
     }
-    if depth(core, scope) > GREATEST_DEPTH {
-        return Err(CodeError::G2);
+    if depth(core, scope) > VARIABLE_DEPTH_LIMIT {
+        return Err(CodeError::VariableTooDeep);
     }
     emitter.add(alloc, Addition::Variable, core, scope.variables())?;
     Ok(())

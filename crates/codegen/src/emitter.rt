@@ -13,31 +13,28 @@ ghost use Rattle.codegen.specs.Added.{code_at, with_addition, IsBehind};
 ghost use Rattle.codegen.specs.Constants.{joined as joined_texts};
 ghost use Rattle.codegen.specs.Emitted.{no_code, with_piece, with_insn_at, with_nodes, slot_spellings, IsTooLong, HasTooManyTexts};
 ghost use Rattle.codegen.specs.HasLiterals.{HasLiterals};
-ghost use Rattle.codegen_base.specs.Pieces.{slots, insn_slots, size};
+ghost use Rattle.expression_code.specs.Pieces.{slots, insn_slots, size};
+ghost use Rattle.expression_code.specs.Limits.{slot_reach, word_limit, node_limit, memo_limit, part_slots_per_node, code_limit};
 
 use crate::code::Code;
 use crate::code::routines::passed_routine;
 use crate::code_error::CodeError;
 use crate::constants::{byte_count, joined, take_texts};
-use crate::surroundings::Surroundings;
+use crate::name_table::NameTable;
 use crate::whole_expression::whole_code;
 use cel_macros::Core;
 use cel_measures::nodes;
 use cel_types::Variable;
+use expression_code::limits::NODE_LIMIT;
 use indexmap::IndexSet;
 use insn_codec::{Insn, encode};
+use loader::CONSTANTS_LIMIT;
 use std::alloc::{AllocError, Global};
 use std::marker::Model;
 
-/// The most nodes for which an image has room.
-const MOST_NODES: u64 = 512;
-
-/// The most slots behind which the code of an expression is put: a call in it still reaches every routine by
-/// an offset of 32 bits. No image has room for so many.
-const MOST_SLOTS: usize = 0x7fff_0000;
-
-/// The most bytes of constants that an image has.
-const MOST_CONSTANTS: u64 = 1_048_576;
+/// The most slots behind which the code of an expression is put: a call in it still reaches every
+/// routine by an offset of 32 bits. No image has room for so many.
+const CODE_LIMIT: usize = 0x7fff_0000;
 
 /// What an expression is added as.
 #[derive(Clone, Copy)]
@@ -63,12 +60,13 @@ pub struct Emitter {
 impl Model for Emitter {
     ghost use Rattle.std.specs.Prelude.{◌≤◌, ◌*◌, length, map, string_bytes, All};
     ghost use Rattle.codegen.specs.Emitted.{Emitted};
+    ghost use Rattle.expression_code.specs.Limits.{slot_reach};
 
     ghost Value = { Emitted };
 
     ghost view = { λ e. record { code = e.code.items; constants = map string_bytes e.constants.keys; nodes = e.nodes; routines = e.routines.items } };
 
-    ghost invariant = { λ e. All (λ slot. slot ≤ 0x7fff_ff00) e.routines.items × (2 * length e.routines.items ≤ e.nodes) };
+    ghost invariant = { λ e. All (λ slot. slot ≤ slot_reach) e.routines.items × (2 * length e.routines.items ≤ e.nodes) };
 }
 
 impl Emitter {
@@ -115,8 +113,8 @@ impl Emitter {
         self.nodes = self.nodes.saturating_add(n);
     }
 
-    /// Takes what is added: its texts and nodes, and its code behind the code where there is room. Its
-    /// literals are values. The error says that there is no memory for it.
+    /// Takes what is added: its texts and nodes, and its code behind the code where there is room.
+    /// Its literals are values. The error says that there is no memory for it.
     pub(crate) fn add(
         &mut self,
         alloc: Global,
@@ -124,9 +122,9 @@ impl Emitter {
         core: &Core,
         scope: &[Variable],
     ) -> Result<(), AllocError>
-        requires { need (core_view core.now) ≤ 60 }
+        requires { need (core_view core.now) ≤ word_limit }
         ensures few { 2 * length self.old.routines ≤ self.old.nodes }
-        ensures low { All (λ slot. slot ≤ 0x7fff_ff00) self.old.routines }
+        ensures low { All (λ slot. slot ≤ slot_reach) self.old.routines }
         ensures ok { OnOk result (self.new ≡ with_addition addition self.old (map declaration scope.now) (core_view core.now)) }
         ensures literals { OnOk result (HasLiterals (plain_tree (core_view core.now))) }
         ensures err { OnErr result (self.new ≡ self.old) }
@@ -139,8 +137,8 @@ impl Emitter {
         added
     }
 
-    /// Takes what is added. After an error texts, and a routine's slot, may be left behind those that were
-    /// there, and the nodes counted.
+    /// Takes what is added. After an error texts, and a routine's slot, may be left behind those
+    /// that were there, and the nodes counted.
     #[tactic(auto, using(crate::proofs::Behind::texts_front, crate::proofs::Behind::kept, crate::proofs::Behind::longer))]
     fn grow(
         &mut self,
@@ -149,7 +147,7 @@ impl Emitter {
         core: &Core,
         scope: &[Variable],
     ) -> Result<(), AllocError>
-        requires { need (core_view core.now) ≤ 60 }
+        requires { need (core_view core.now) ≤ word_limit }
         ensures ok { OnOk result (self.new ≡ with_addition addition self.old (map declaration scope.now) (core_view core.now)) }
         ensures literals { OnOk result (HasLiterals (plain_tree (core_view core.now))) }
         ensures err { OnErr result (IsBehind self.old self.new) }
@@ -179,14 +177,14 @@ impl Emitter {
 
     /// The expression's code at this slot. The error says that there is no memory for it.
     fn code_at(&self, alloc: Global, core: &Core, scope: &[Variable], slot: usize) -> Code
-        requires need { need (core_view core.now) ≤ 60 }
-        requires nodes { nodes (core_view core.now) ≤ 512 }
+        requires need { need (core_view core.now) ≤ word_limit }
+        requires nodes { nodes (core_view core.now) ≤ node_limit }
         requires slot { slot ≤ 0x7fff_0001 }
-        requires routines { length self.now.routines ≤ 512 }
+        requires routines { length self.now.routines ≤ memo_limit }
         ensures code { IfOk result (λ code. code.items ≡ code_at self.now (map declaration scope.now) (core_view core.now) slot) }
-        ensures short { IfOk result (λ code. size code.items + 8 ≤ 63 * nodes (core_view core.now)) }
+        ensures short { IfOk result (λ code. size code.items + 8 ≤ part_slots_per_node * nodes (core_view core.now)) }
     {
-        let around = Surroundings {
+        let around = NameTable {
             texts: self.constants.as_slice(),
             variables: scope,
             routines: self.routines.as_slice(),
@@ -222,22 +220,22 @@ impl Emitter {
         self.nodes = nodes;
     }
 
-    /// The code, ended by an exit, and the constants that it names, in bytes. G3 where there are too many
-    /// nodes, else G4 where there are too many bytes of texts.
+    /// The code, ended by an exit, and the constants that it names, in bytes. `TooManyNodes` if
+    /// there are too many nodes, else `TooManyTextBytes` if there are too many bytes of texts.
     pub fn finish(self) -> Result<(Vec<u8>, Vec<u8>), CodeError>
         ensures code { IfOk result (λ r. r.0.items ≡ slot_spellings self.code ++ spelling Exit) }
         ensures constants { IfOk result (λ r. r.1.items ≡ joined_texts self.constants) }
-        ensures g3 { IsErrOf result CodeError.G3 ↔ IsTooLong self }
-        ensures g4 { IsErrOf result CodeError.G4 ↔ ((IsTooLong self → ⊥) × HasTooManyTexts self) }
-        ensures g1 { result ≢ Err CodeError.G1 }
-        ensures g2 { result ≢ Err CodeError.G2 }
+        ensures g3 { IsErrOf result CodeError.TooManyNodes ↔ IsTooLong self }
+        ensures g4 { IsErrOf result CodeError.TooManyTextBytes ↔ ((IsTooLong self → ⊥) × HasTooManyTexts self) }
+        ensures g1 { result ≢ Err CodeError.NeedsTooManyWords }
+        ensures g2 { result ≢ Err CodeError.VariableTooDeep }
     {
         let texts = self.constants.as_slice();
-        if self.nodes > MOST_NODES {
-            return Err(CodeError::G3);
+        if self.nodes > NODE_LIMIT {
+            return Err(CodeError::TooManyNodes);
         }
-        if byte_count(texts) > MOST_CONSTANTS {
-            return Err(CodeError::G4);
+        if byte_count(texts) > CONSTANTS_LIMIT {
+            return Err(CodeError::TooManyTextBytes);
         }
         let alloc = *self.code.allocator();
         let mut code = spelled(alloc, &self.code)?;
@@ -249,10 +247,10 @@ impl Emitter {
 
 /// Whether an image has room for the code of so many nodes, behind so many slots.
 fn has_room(nodes: u64, slots: usize) -> bool
-    ensures room { result ≡ (nat_le nodes 512 && nat_le slots 0x7fff_0000) }
-    ensures few { OnTrue result ((nodes ≤ 512) × (slots ≤ 0x7fff_0000)) }
+    ensures room { result ≡ (nat_le nodes node_limit && nat_le slots code_limit) }
+    ensures few { OnTrue result ((nodes ≤ node_limit) × (slots ≤ code_limit)) }
 {
-    nodes <= MOST_NODES && slots <= MOST_SLOTS
+    nodes <= NODE_LIMIT && slots <= CODE_LIMIT
 }
 
 /// What begins at each slot of the piece. The error says that there is no memory for it.

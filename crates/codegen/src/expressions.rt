@@ -3,38 +3,40 @@
 
 ghost use Rattle.std.specs.Prelude.{◌≡◌, ◌≤◌, ◌+◌, ◌*◌, IfOk, IfSome};
 ghost use Rattle.std.specs.Prelude as list;
+ghost use Rattle.cel_macros.specs.Callee.{callee_view};
 ghost use Rattle.cel_macros.specs.CoreTree as core;
 ghost use Rattle.cel_macros.specs.CoreView.{core_view, cores, core_entries};
 ghost use Rattle.cel_macros.specs.Expanding.{core_pair};
 ghost use Rattle.cel_measures.specs.Measures.{nodes};
-ghost use Rattle.codegen_base.specs.Code.Calls.{kept_size as size_when_kept};
-ghost use Rattle.codegen_base.specs.Code.Leaves.{HasWord};
-ghost use Rattle.codegen_base.specs.Pieces.{size as size_of_piece};
+ghost use Rattle.expression_code.specs.Code.Leaves.{IsFrameWord};
+ghost use Rattle.expression_code.specs.Pieces.{size as size_of_piece};
 ghost use Rattle.codegen.specs.Code.Expressions as specs;
 ghost use Rattle.codegen.specs.FrameWords.{words_of, AreWords};
-ghost use Rattle.codegen.specs.Surroundings.{piece_of, HasRoom};
+ghost use Rattle.codegen.specs.NameTable.{behind_kept, piece_of, HasFrameRoom};
+ghost use Rattle.expression_code.specs.Limits.{part_slots_per_node};
 
 use crate::code::calls::{kept_size, operands as operands_code};
 use crate::code::{
     Code, aggregates, folds, literals, logic, names, operators, paths, selection, variables,
 };
+use crate::emit_position::EmitPosition;
 use crate::frame_words::FrameWords;
 use crate::instructions::size;
+use crate::iteration::Iteration;
 use crate::part::Part;
-use crate::spot::Spot;
-use cel_macros::{Core, Macro};
+use cel_macros::{Callee, Core, Macro};
 use cel_reader::BinaryOperator;
-use codegen_base::helpers;
-use codegen_base::instructions::call as call_helper;
-use codegen_base::leaf::Leaf;
+use expression_code::helpers;
+use expression_code::instructions::call as call_helper;
+use expression_code::simple_operand::SimpleOperand;
 use insn_codec::{Insn, Register};
 use std::alloc::{AllocError, Global};
 
-/// The leaf that an expression is.
-fn leaf_of(core: &Core, words: &FrameWords) -> Option<Leaf>
+/// The simple operand that an expression is.
+fn leaf_of(core: &Core, words: &FrameWords) -> Option<SimpleOperand>
     requires { AreWords (words_of words.now) }
     ensures leaf { result ≡ specs.leaf_of (core_view core.now) (words_of words.now) }
-    ensures word { IfSome result HasWord }
+    ensures word { IfSome result IsFrameWord }
 {
     match core {
         Core::Literal(literal) => literals::literal_leaf(literal),
@@ -47,24 +49,24 @@ fn leaf_of(core: &Core, words: &FrameWords) -> Option<Leaf>
 /// A part, and how many slots it takes.
 #[cycle(code)]
 #[tactic(auto, using(crate::proofs::Walks::near_code))]
-fn part(alloc: Global, core: &Core, spot: Spot) -> Result<(Vec<Insn>, usize), AllocError>
-    requires { HasRoom (core_view core.now) spot }
+fn part(alloc: Global, core: &Core, spot: EmitPosition) -> Result<(Vec<Insn>, usize), AllocError>
+    requires { HasFrameRoom (core_view core.now) spot }
     ensures code { IfOk result (λ part. part.0.items ≡ piece_of (core_view core.now) spot.entry) }
     ensures slots { IfOk result (λ part. part.1 ≡ size_of_piece part.0.items) }
-    ensures short { IfOk result (λ part. part.1 + 8 ≤ 63 * nodes (core_view core.now)) }
+    ensures short { IfOk result (λ part. part.1 + 8 ≤ part_slots_per_node * nodes (core_view core.now)) }
 {
     let code = code_of(alloc, core, spot)?;
     let slots = size(&code);
     Ok((code, slots))
 }
 
-/// An operand, which may be a leaf.
+/// An operand, which may be a simple operand.
 #[cycle(code)]
-fn operand(alloc: Global, core: &Core, spot: Spot) -> Result<Part, AllocError>
-    requires { HasRoom (core_view core.now) spot }
+fn operand(alloc: Global, core: &Core, spot: EmitPosition) -> Result<Part, AllocError>
+    requires { HasFrameRoom (core_view core.now) spot }
     ensures leaf { IfOk result (λ part. part.leaf ≡ specs.leaf_of (core_view core.now) (words_of spot.entry.words.now)) }
     ensures code { IfOk result (λ part. part.code.items ≡ piece_of (core_view core.now) spot.entry) }
-    ensures short { IfOk result (λ part. size_of_piece part.code.items + 8 ≤ 63 * nodes (core_view core.now)) }
+    ensures short { IfOk result (λ part. size_of_piece part.code.items + 8 ≤ part_slots_per_node * nodes (core_view core.now)) }
 {
     let leaf = leaf_of(core, spot.words);
     let (code, _) = part(alloc, core, spot)?;
@@ -77,16 +79,16 @@ fn operands(
     alloc: Global,
     left: &Core,
     right: &Core,
-    spot: Spot,
+    spot: EmitPosition,
 ) -> Result<(Part, Part), AllocError>
-    requires { HasRoom (core.index (core_view left.now) (core_view right.now)) spot }
+    requires { HasFrameRoom (core.index (core_view left.now) (core_view right.now)) spot }
     ensures left { IfOk result (λ parts. parts.0.leaf ≡ specs.leaf_of (core_view left.now) (words_of spot.entry.words.now)) }
     ensures left_code { IfOk result (λ parts. parts.0.code.items ≡ piece_of (core_view left.now) spot.entry) }
     ensures right { IfOk result (λ parts. parts.1.leaf ≡ specs.leaf_of (core_view right.now) (words_of spot.entry.words.now)) }
-    ensures right_code { IfOk result (λ parts. parts.1.code.items ≡ piece_of (core_view right.now) (record spot.entry { word = spot.entry.word + 1; slot = spot.entry.slot + size_when_kept parts.0.leaf parts.0.code.items })) }
+    ensures right_code { IfOk result (λ parts. parts.1.code.items ≡ piece_of (core_view right.now) (behind_kept spot.entry parts.0.leaf parts.0.code.items)) }
 {
     let first = operand(alloc, left, spot)?;
-    let behind = Spot {
+    let behind = EmitPosition {
         word: spot.word + 1,
         slot: spot.slot + kept_size(&first),
         ..spot
@@ -95,10 +97,10 @@ fn operands(
     Ok((first, second))
 }
 
-/// A field: a leaf where it is kept.
+/// A field: a simple operand where it is kept.
 #[cycle(code)]
-fn select(alloc: Global, of: &Core, field: &str, spot: Spot) -> Code
-    requires { HasRoom (core.select (core_view of.now) field.now) spot }
+fn select(alloc: Global, of: &Core, field: &str, spot: EmitPosition) -> Code
+    requires { HasFrameRoom (core.select (core_view of.now) field.now) spot }
     ensures { IfOk result (λ code. code.items ≡ piece_of (core.select (core_view of.now) field.now) spot.entry) }
 {
     match paths::field_leaf(of, field, spot.words) {
@@ -112,24 +114,30 @@ fn select(alloc: Global, of: &Core, field: &str, spot: Spot) -> Code
 
 /// An index.
 #[cycle(code)]
-fn index(alloc: Global, of: &Core, at: &Core, spot: Spot) -> Code
-    requires { HasRoom (core.index (core_view of.now) (core_view at.now)) spot }
+fn index(alloc: Global, of: &Core, at: &Core, spot: EmitPosition) -> Code
+    requires { HasFrameRoom (core.index (core_view of.now) (core_view at.now)) spot }
     ensures { IfOk result (λ code. code.items ≡ piece_of (core.index (core_view of.now) (core_view at.now)) spot.entry) }
 {
     let (left, right) = operands(alloc, of, at, spot)?;
-    let mut code = operands_code(alloc, &left, &right, spot.word, Register::R1, Register::R2)?;
+    let mut code = operands_code(
+        alloc,
+        &left,
+        &right,
+        spot.word,
+        (Register::R1, Register::R2),
+    )?;
     code.push(call_helper(helpers::INDEX))?;
     Ok(code)
 }
 
 /// An operator of two operands.
 #[cycle(code)]
-fn binary(alloc: Global, op: BinaryOperator, left: &Core, right: &Core, spot: Spot) -> Code
-    requires { HasRoom (core.binary op (core_view left.now) (core_view right.now)) spot }
+fn binary(alloc: Global, op: BinaryOperator, left: &Core, right: &Core, spot: EmitPosition) -> Code
+    requires { HasFrameRoom (core.binary op (core_view left.now) (core_view right.now)) spot }
     ensures { IfOk result (λ code. code.items ≡ piece_of (core.binary op (core_view left.now) (core_view right.now)) spot.entry) }
 {
     let first = operand(alloc, left, spot)?;
-    let behind = Spot {
+    let behind = EmitPosition {
         word: spot.word + 1,
         slot: spot.slot + operators::left_size(op, &first),
         ..spot
@@ -140,62 +148,62 @@ fn binary(alloc: Global, op: BinaryOperator, left: &Core, right: &Core, spot: Sp
 
 /// A list.
 #[cycle(code)]
-fn list(alloc: Global, parts: &[Core], spot: Spot) -> Code
-    requires { HasRoom (core.list (cores (list.map core_view parts.now))) spot }
+fn list(alloc: Global, parts: &[Core], spot: EmitPosition) -> Code
+    requires { HasFrameRoom (core.list (cores (list.map core_view parts.now))) spot }
     ensures { IfOk result (λ code. code.items ≡ piece_of (core.list (cores (list.map core_view parts.now))) spot.entry) }
 {
     let mut items = Vec::new(alloc);
-    let mut slot = spot.slot + 2;
+    let mut slot = spot.slot + aggregates::HEAD_SLOTS;
     for item in parts {
-        let place = Spot {
+        let place = EmitPosition {
             word: spot.word + 1,
             slot,
             ..spot
         };
         let (code, slots) = part(alloc, item, place)?;
         aggregates::add_item(&mut items, &code, spot.word)?;
-        slot += slots + 4;
+        slot += slots + aggregates::PUSH_SLOTS;
     }
     aggregates::list(alloc, &items, spot.word)
 }
 
 /// A map.
 #[cycle(code)]
-fn map(alloc: Global, pairs: &[(Core, Core)], spot: Spot) -> Code
-    requires { HasRoom (core.map (core_entries (list.map core_pair pairs.now))) spot }
+fn map(alloc: Global, pairs: &[(Core, Core)], spot: EmitPosition) -> Code
+    requires { HasFrameRoom (core.map (core_entries (list.map core_pair pairs.now))) spot }
     ensures { IfOk result (λ code. code.items ≡ piece_of (core.map (core_entries (list.map core_pair pairs.now))) spot.entry) }
 {
     let mut entries = Vec::new(alloc);
-    let mut slot = spot.slot + 2;
+    let mut slot = spot.slot + aggregates::HEAD_SLOTS;
     for (key, value) in pairs {
-        let place = Spot {
+        let place = EmitPosition {
             word: spot.word + 1,
             slot,
             ..spot
         };
         let (first, slots) = part(alloc, key, place)?;
-        let behind = Spot {
+        let behind = EmitPosition {
             word: spot.word + 2,
-            slot: slot + slots + 1,
+            slot: slot + slots + aggregates::KEY_SLOTS,
             ..spot
         };
         let (second, slots) = part(alloc, value, behind)?;
         aggregates::add_entry(&mut entries, &first, &second, spot.word)?;
-        slot = behind.slot + slots + 5;
+        slot = behind.slot + slots + aggregates::PUT_SLOTS;
     }
     aggregates::map(alloc, &entries, spot.word)
 }
 
 /// A call.
 #[cycle(code)]
-fn call(alloc: Global, name: &str, arguments: &[Core], spot: Spot) -> Code
-    requires { HasRoom (core.call name.now (cores (list.map core_view arguments.now))) spot }
-    ensures { IfOk result (λ code. code.items ≡ piece_of (core.call name.now (cores (list.map core_view arguments.now))) spot.entry) }
+fn call(alloc: Global, callee: &Callee, arguments: &[Core], spot: EmitPosition) -> Code
+    requires { HasFrameRoom (core.call (callee_view callee.now) (cores (list.map core_view arguments.now))) spot }
+    ensures { IfOk result (λ code. code.items ≡ piece_of (core.call (callee_view callee.now) (cores (list.map core_view arguments.now))) spot.entry) }
 {
     match arguments {
         [argument] => {
             let of = operand(alloc, argument, spot)?;
-            names::function(alloc, name, &of)
+            names::function(alloc, callee, &of)
         }
         _ => names::nothing(alloc),
     }
@@ -203,18 +211,18 @@ fn call(alloc: Global, name: &str, arguments: &[Core], spot: Spot) -> Code
 
 /// A method.
 #[cycle(code)]
-fn method(alloc: Global, of: &Core, name: &str, arguments: &[Core], spot: Spot) -> Code
-    requires { HasRoom (core.method (core_view of.now) name.now (cores (list.map core_view arguments.now))) spot }
-    ensures { IfOk result (λ code. code.items ≡ piece_of (core.method (core_view of.now) name.now (cores (list.map core_view arguments.now))) spot.entry) }
+fn method(alloc: Global, of: &Core, callee: &Callee, arguments: &[Core], spot: EmitPosition) -> Code
+    requires { HasFrameRoom (core.method (core_view of.now) (callee_view callee.now) (cores (list.map core_view arguments.now))) spot }
+    ensures { IfOk result (λ code. code.items ≡ piece_of (core.method (core_view of.now) (callee_view callee.now) (cores (list.map core_view arguments.now))) spot.entry) }
 {
     match arguments {
         [] => {
             let of = operand(alloc, of, spot)?;
-            names::method(alloc, name, &of)
+            names::method(alloc, callee, &of)
         }
         [argument] => {
             let (left, right) = operands(alloc, of, argument, spot)?;
-            names::test(alloc, name, &left, &right, spot.word)
+            names::test(alloc, callee, &left, &right, spot.word)
         }
         _ => names::nothing(alloc),
     }
@@ -222,18 +230,18 @@ fn method(alloc: Global, of: &Core, name: &str, arguments: &[Core], spot: Spot) 
 
 /// A conditional.
 #[cycle(code)]
-fn ternary(alloc: Global, test: &Core, yes: &Core, no: &Core, spot: Spot) -> Code
-    requires { HasRoom (core.ternary (core_view test.now) (core_view yes.now) (core_view no.now)) spot }
+fn ternary(alloc: Global, test: &Core, yes: &Core, no: &Core, spot: EmitPosition) -> Code
+    requires { HasFrameRoom (core.ternary (core_view test.now) (core_view yes.now) (core_view no.now)) spot }
     ensures { IfOk result (λ code. code.items ≡ piece_of (core.ternary (core_view test.now) (core_view yes.now) (core_view no.now)) spot.entry) }
 {
     let (condition, slots) = part(alloc, test, spot)?;
-    let behind_condition = Spot {
-        slot: spot.slot + slots + 2,
+    let behind_condition = EmitPosition {
+        slot: spot.slot + slots + logic::CONDITION_SLOTS,
         ..spot
     };
     let (first, slots) = part(alloc, yes, behind_condition)?;
-    let behind_first = Spot {
-        slot: behind_condition.slot + slots + 1,
+    let behind_first = EmitPosition {
+        slot: behind_condition.slot + slots + logic::BRANCH_SLOTS,
         ..spot
     };
     let (second, _) = part(alloc, no, behind_first)?;
@@ -242,16 +250,16 @@ fn ternary(alloc: Global, test: &Core, yes: &Core, no: &Core, spot: Spot) -> Cod
 
 /// A macro with one part.
 #[cycle(code)]
-fn fold(alloc: Global, found: Macro, name: &str, range: &Core, body: &Core, spot: Spot) -> Code
-    requires { HasRoom (core.fold found name.now (core_view range.now) (core_view body.now)) spot }
-    ensures { IfOk result (λ code. code.items ≡ piece_of (core.fold found name.now (core_view range.now) (core_view body.now)) spot.entry) }
+fn fold(alloc: Global, found: Macro, over: Iteration, body: &Core, spot: EmitPosition) -> Code
+    requires { HasFrameRoom (core.fold found over.name.now (core_view over.range.now) (core_view body.now)) spot }
+    ensures { IfOk result (λ code. code.items ≡ piece_of (core.fold found over.entry.name.now (core_view over.entry.range.now) (core_view body.now)) spot.entry) }
 {
-    let (items, slots) = part(alloc, range, spot)?;
-    let within = FrameWords::Within(name, spot.word + 4, &*spot.words);
-    let inside = Spot {
+    let (items, slots) = part(alloc, over.range, spot)?;
+    let within = FrameWords::Within(over.name, spot.word + folds::ITEM, &*spot.words);
+    let inside = EmitPosition {
         words: &within,
-        word: spot.word + 5,
-        slot: spot.slot + slots + 17,
+        word: spot.word + folds::LOOP_WORDS,
+        slot: spot.slot + slots + folds::SLOTS_BEFORE_TURN,
         ..spot
     };
     let (turn, _) = part(alloc, body, inside)?;
@@ -260,32 +268,32 @@ fn fold(alloc: Global, found: Macro, name: &str, range: &Core, body: &Core, spot
 
 /// `map` with a predicate and a transform.
 #[cycle(code)]
-fn fold_map(alloc: Global, name: &str, range: &Core, test: &Core, body: &Core, spot: Spot) -> Code
-    requires { HasRoom (core.fold_map name.now (core_view range.now) (core_view test.now) (core_view body.now)) spot }
-    ensures { IfOk result (λ code. code.items ≡ piece_of (core.fold_map name.now (core_view range.now) (core_view test.now) (core_view body.now)) spot.entry) }
+fn fold_map(alloc: Global, over: Iteration, test: &Core, body: &Core, spot: EmitPosition) -> Code
+    requires { HasFrameRoom (core.fold_map over.name.now (core_view over.range.now) (core_view test.now) (core_view body.now)) spot }
+    ensures { IfOk result (λ code. code.items ≡ piece_of (core.fold_map over.entry.name.now (core_view over.entry.range.now) (core_view test.now) (core_view body.now)) spot.entry) }
 {
-    let (items, slots) = part(alloc, range, spot)?;
-    let within = FrameWords::Within(name, spot.word + 4, &*spot.words);
-    let inside = Spot {
+    let (items, slots) = part(alloc, over.range, spot)?;
+    let within = FrameWords::Within(over.name, spot.word + folds::ITEM, &*spot.words);
+    let inside = EmitPosition {
         words: &within,
-        word: spot.word + 5,
-        slot: spot.slot + slots + 17,
+        word: spot.word + folds::LOOP_WORDS,
+        slot: spot.slot + slots + folds::SLOTS_BEFORE_TURN,
         ..spot
     };
     let (first, slots) = part(alloc, test, inside)?;
-    let behind = Spot {
-        slot: inside.slot + slots + 2,
+    let behind = EmitPosition {
+        slot: inside.slot + slots + folds::PREDICATE_SLOTS,
         ..inside
     };
     let (turn, _) = part(alloc, body, behind)?;
     folds::map_where(alloc, &items, &first, &turn, spot.word)
 }
 
-/// The code of the expression at the spot. Within the macros around it the words of the frame hold their
-/// items. The error says that there is no memory for it.
+/// The code of the expression at the position. Within the macros around it the words of the frame
+/// hold their items. The error says that there is no memory for it.
 #[cycle(code)]
-pub(crate) fn code_of(alloc: Global, core: &Core, spot: Spot) -> Code
-    requires { HasRoom (core_view core.now) spot }
+pub(crate) fn code_of(alloc: Global, core: &Core, spot: EmitPosition) -> Code
+    requires { HasFrameRoom (core_view core.now) spot }
     ensures { IfOk result (λ code. code.items ≡ piece_of (core_view core.now) spot.entry) }
 {
     match core {
@@ -303,12 +311,16 @@ pub(crate) fn code_of(alloc: Global, core: &Core, spot: Spot) -> Code
         }
         Core::Index(of, at) => index(alloc, of, at, spot),
         Core::Binary(op, left, right) => binary(alloc, *op, left, right, spot),
-        Core::Call(name, arguments) => call(alloc, name, arguments, spot),
-        Core::Method(of, name, arguments) => method(alloc, of, name, arguments, spot),
+        Core::Call(callee, arguments) => call(alloc, callee, arguments, spot),
+        Core::Method(of, callee, arguments) => method(alloc, of, callee, arguments, spot),
         Core::Ternary(test, yes, no) => ternary(alloc, test, yes, no, spot),
         Core::List(parts) => list(alloc, parts, spot),
         Core::Map(pairs) => map(alloc, pairs, spot),
-        Core::Fold(found, name, range, body) => fold(alloc, *found, name, range, body, spot),
-        Core::FoldMap(name, range, test, body) => fold_map(alloc, name, range, test, body, spot),
+        Core::Fold(found, name, range, body) => {
+            fold(alloc, *found, Iteration { name, range }, body, spot)
+        }
+        Core::FoldMap(name, range, test, body) => {
+            fold_map(alloc, Iteration { name, range }, test, body, spot)
+        }
     }
 }

@@ -2,8 +2,8 @@
 
 use crate::path::Path;
 
-/// The words of the frame that hold the items of the macros around an expression, the innermost first, or
-/// outside of every macro the value of a field of a root.
+/// The words of the frame that hold the items of the macros around an expression, the innermost
+/// first, or outside of every macro the value of a field of a root.
 #[derive(Drop)]
 pub(crate) enum FrameWords<'a> {
     /// Outside of every macro.

@@ -1,19 +1,21 @@
 //! Instructions in short words.
 
 ghost use Rattle.std.specs.Prelude.{◌≡◌, ◌<◌, ◌≤◌, ◌+◌};
-ghost use Rattle.codegen_base.specs.Instructions as specs;
-ghost use Rattle.codegen_base.specs.Words.{word_offset as offset_of_word};
-ghost use Rattle.codegen_base.specs.Pieces.{size as size_of_piece};
-ghost use Rattle.codegen_base.specs.Code.Leaves.{leaf_insn, HasWord};
+ghost use Rattle.expression_code.specs.Instructions as specs;
+ghost use Rattle.expression_code.specs.Words.{word_offset as offset_of_word};
+ghost use Rattle.expression_code.specs.Pieces.{size as size_of_piece};
+ghost use Rattle.expression_code.specs.Code.Leaves.{leaf_insn, IsFrameWord};
+ghost use Rattle.insn_codec.specs.Limits.{slot_limit};
+ghost use Rattle.expression_code.specs.Limits.{frame_words, jump_limit};
 
-use codegen_base::instructions::put;
-use codegen_base::leaf::Leaf;
+use expression_code::instructions::mov_imm;
+use expression_code::simple_operand::SimpleOperand;
 use insn_codec::{AluOp, Comparison, Insn, Operand, Register, Size, Width};
 
 /// How many slots the instructions take.
 #[tactic(auto, using(crate::proofs::Lengths::size_cons))]
 pub(crate) fn size(piece: &[Insn]) -> usize
-    requires { size_of_piece piece.now < 65536 }
+    requires { size_of_piece piece.now < slot_limit }
     ensures { result ≡ size_of_piece piece.now }
 {
     let mut total: usize = 0;
@@ -25,7 +27,7 @@ pub(crate) fn size(piece: &[Insn]) -> usize
 
 /// Where word k of the frame begins, counted from the frame pointer.
 fn word_offset(k: usize) -> i16
-    requires { k < 64 }
+    requires { k < frame_words }
     ensures { result ≡ offset_of_word k }
 {
     -1 - (8 * k + 7) as i16
@@ -33,7 +35,7 @@ fn word_offset(k: usize) -> i16
 
 /// The register gets word k of the frame.
 pub(crate) fn load(register: Register, k: usize) -> Insn
-    requires { k < 64 }
+    requires { k < frame_words }
     ensures { result ≡ specs.load register k }
 {
     Insn::Load {
@@ -44,20 +46,20 @@ pub(crate) fn load(register: Register, k: usize) -> Insn
     }
 }
 
-/// The register gets what the leaf names.
-pub(crate) fn leaf_into(leaf: Leaf, register: Register) -> Insn
-    requires { HasWord leaf }
+/// The register gets what the simple operand names.
+pub(crate) fn leaf_into(leaf: SimpleOperand, register: Register) -> Insn
+    requires { IsFrameWord leaf }
     ensures { result ≡ leaf_insn leaf register }
 {
     match leaf {
-        Leaf::Reference(n) => put(register, n),
-        Leaf::Word(k) => load(register, k),
+        SimpleOperand::Reference(n) => mov_imm(register, n),
+        SimpleOperand::Word(k) => load(register, k),
     }
 }
 
 /// Word k of the frame gets the register.
 pub(crate) fn store(k: usize, register: Register) -> Insn
-    requires { k < 64 }
+    requires { k < frame_words }
     ensures { result ≡ specs.store k register }
 {
     Insn::Store {
@@ -81,9 +83,14 @@ pub(crate) fn compute(op: AluOp, dst: Register, src: Register) -> Insn
 }
 
 /// A jump over so many slots where the registers compare so.
-pub(crate) fn skip_where(comparison: Comparison, dst: Register, src: Register, slots: usize) -> Insn
-    requires { slots < 32768 }
-    ensures { result ≡ specs.skip_where comparison dst src slots }
+pub(crate) fn jump_if_reg(
+    comparison: Comparison,
+    dst: Register,
+    src: Register,
+    slots: usize,
+) -> Insn
+    requires { slots < jump_limit }
+    ensures { result ≡ specs.jump_if_reg comparison dst src slots }
 {
     Insn::Branch {
         comparison,
@@ -95,9 +102,9 @@ pub(crate) fn skip_where(comparison: Comparison, dst: Register, src: Register, s
 }
 
 /// A jump over so many slots.
-pub(crate) fn skip(slots: usize) -> Insn
-    requires { slots < 32768 }
-    ensures { result ≡ specs.skip slots }
+pub(crate) fn ja(slots: usize) -> Insn
+    requires { slots < jump_limit }
+    ensures { result ≡ specs.ja slots }
 {
     Insn::Jump {
         offset: slots as i16,
@@ -106,7 +113,7 @@ pub(crate) fn skip(slots: usize) -> Insn
 
 /// A jump to the instruction so many slots before this one where the registers compare so.
 pub(crate) fn back_where(comparison: Comparison, dst: Register, src: Register, slots: usize) -> Insn
-    requires { slots < 32768 }
+    requires { slots < jump_limit }
     ensures { result ≡ specs.back_where comparison dst src slots }
 {
     Insn::Branch {

@@ -9,8 +9,8 @@ pub fn costs_stand()
     ensures { CostRows }
 {}
 
-/// The code of an expression is so short that jumps in it fit 16 bits. That of a whole one is as short as
-/// where no field is kept, or shorter.
+/// The code of an expression is so short that jumps in it fit 16 bits. That of a whole one is as
+/// short as where no field is kept, or shorter.
 #[tactic(auto, using(crate::proofs::Lengths::short_code, crate::proofs::Whole::whole_less))]
 pub fn code_is_short()
     ensures parts { CodeIsShort }
@@ -23,8 +23,8 @@ pub fn typed_has_code()
     ensures { TypedIsAccepted }
 {}
 
-/// In each scope the code of an expression gives what the expression means, within its bounds on steps
-/// and charge.
+/// In each scope the code of an expression gives what the expression means, within its bounds on
+/// steps and charge.
 #[tactic(auto, using(crate::proofs::Computed::code_gives))]
 pub fn code_gives()
     ensures { CodeGives }
@@ -35,7 +35,8 @@ pub fn routine_gives()
     ensures { RoutineGives }
 {}
 
-/// The texts of an expression, once taken, stand where its code looks for them, whatever is taken later.
+/// The texts of an expression, once taken, stand where its code looks for them, whatever is taken
+/// later.
 #[tactic(auto, using(crate::proofs::Lent::texts_stand))]
 pub fn texts_stay()
     ensures { TextsStay }
@@ -47,16 +48,17 @@ pub fn routine_is_passed()
     ensures { RoutineIsPassed }
 {}
 
-/// The code of an expression, as an emitter makes it, gives what the expression means, within its bounds
-/// on steps and charge, for all that the type checker takes in a scope of the variables that the emitter
-/// took first.
+/// The code of an expression, as an emitter makes it, gives what the expression means, within its
+/// bounds on steps and charge, for all that the type checker takes in a scope of the variables that
+/// the emitter took first.
 #[tactic(auto, using(crate::proofs::Layer::expression_gives, crate::proofs::Layer::frames_are_enough))]
 pub fn expression_gives()
     ensures gives { ExpressionGives }
     ensures frames { FramesAreEnough }
 {}
 
-/// The variables that an emitter took grow by each that it takes, whose routine stands in the image.
+/// The variables that an emitter took grow by each that it takes, whose routine stands in the
+/// image.
 pub fn variables_join()
     ensures joins { VariableJoins }
     ensures taken { VariableIsTaken }

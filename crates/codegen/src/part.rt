@@ -2,17 +2,17 @@
 
 ghost use Rattle.std.proofs.Props.{props};
 ghost use Rattle.std.specs.Prelude.{IfSome};
-ghost use Rattle.codegen_base.specs.Code.Leaves.{HasWord};
+ghost use Rattle.expression_code.specs.Code.Leaves.{IsFrameWord};
 
-use codegen_base::leaf::Leaf;
+use expression_code::simple_operand::SimpleOperand;
 use insn_codec::Insn;
 
 /// A part of an expression, which another one is made of.
 #[derive(Drop)]
 pub(crate) struct Part {
-    /// The leaf that it is.
-    pub(crate) leaf: Option<Leaf>,
+    /// The simple operand that it is.
+    pub(crate) leaf: Option<SimpleOperand>,
     /// Its code, which leaves its value in R0.
     pub(crate) code: Vec<Insn>,
-    ghost word: { IfSome leaf HasWord } by { Prim.hlevel props },
+    ghost word: { IfSome leaf IsFrameWord } by { Prim.hlevel props },
 }

@@ -31,8 +31,8 @@ fn int_fits(n: i64)
     let _ = n;
 }
 
-/// Puts the literal, where it is a text, behind the others. An int is of 64 bits, and a text is UTF-8, as
-/// their types have it.
+/// Puts the literal, where it is a text, behind the others. An int is of 64 bits, and a text is
+/// UTF-8, as their types have it.
 #[tactic(auto, using(crate::proofs::Behind::texts_fit))]
 fn add_literal(alloc: Global, literal: &Literal, texts: &mut Vec<String>) -> Result<(), AllocError>
     ensures texts { OnOk result (list.map string_bytes texts.new.items ≡ list.map string_bytes texts.old.items ++ literal_texts (literal_view literal.now)) }
@@ -77,8 +77,8 @@ fn add_entries(
     Ok(())
 }
 
-/// Puts the texts that the code of the expression names behind the others, in order of first use; its
-/// literals are values. The error says that there is no memory for the texts.
+/// Puts the texts that the code of the expression names behind the others, in order of first use;
+/// its literals are values. The error says that there is no memory for the texts.
 #[cycle(texts)]
 #[tactic(auto, unfolding(crate::specs::Code::Expressions::texts_of, cel_macros::specs::CoreTree::plain_tree))]
 pub(crate) fn add_texts(

@@ -3,48 +3,51 @@
 ghost use Rattle.std.specs.Prelude.{◌≡◌, ◌<◌, ◌≤◌, ◌+◌, ◌*◌, option_map, IfOk};
 ghost use Rattle.cel_macros.specs.CoreView.{core_view};
 ghost use Rattle.cel_measures.specs.Measures as measures;
-ghost use Rattle.codegen_base.specs.Pieces.{size as size_of_piece};
+ghost use Rattle.expression_code.specs.Pieces.{size as size_of_piece};
 ghost use Rattle.codegen.specs.Code.Whole as specs;
 ghost use Rattle.codegen.specs.FrameWords.{path_view};
-ghost use Rattle.codegen.specs.Surroundings.{routines_within, texts_within};
+ghost use Rattle.codegen.specs.NameTable.{routines_within, texts_within};
+ghost use Rattle.expression_code.specs.Limits.{word_limit, node_limit, part_slots_per_node};
+ghost use Rattle.insn_codec.specs.Limits.{slot_limit};
 
 use crate::code::Code;
 use crate::code::paths::{first_path, walk};
+use crate::emit_position::EmitPosition;
 use crate::expressions::code_of;
 use crate::frame_words::FrameWords;
 use crate::instructions::{size, store};
+use crate::name_table::NameTable;
 use crate::path::Path;
-use crate::spot::Spot;
-use crate::surroundings::Surroundings;
 use cel_macros::Core;
 use cel_measures::need;
+use expression_code::limits::WORD_LIMIT;
 use insn_codec::{Insn, Register};
 use std::alloc::Global;
 
-/// The most words of its frame that an expression's code may need.
-pub(crate) const MOST_WORDS: u64 = 60;
+/// The slots of the code of a path and of the store that keeps it.
+const KEPT_PATH_SLOTS: usize = 6;
 
 /// The path that the expression may keep: there is a word of the frame more for it.
 fn front_of(core: &Core) -> Option<Path<'_>>
-    requires { measures.need (core_view core.now) ≤ 60 }
+    requires { measures.need (core_view core.now) ≤ word_limit }
     ensures { option_map path_view result ≡ specs.front_of (core_view core.now) }
 {
     match first_path(core) {
-        Some(path) if 1 + need(core) <= MOST_WORDS => Some(path),
+        Some(path) if 1 + need(core) <= WORD_LIMIT => Some(path),
         _ => None,
     }
 }
 
 /// The expression's code at this slot that keeps nothing.
 #[tactic(auto, using(crate::proofs::Lengths::short_code))]
-fn plain_code(alloc: Global, core: &Core, around: &Surroundings, slot: usize) -> Code
-    requires need { measures.need (core_view core.now) ≤ 60 }
-    requires nodes { measures.nodes (core_view core.now) ≤ 512 }
+fn plain_code(alloc: Global, core: &Core, around: &NameTable, slot: usize) -> Code
+    requires need { measures.need (core_view core.now) ≤ word_limit }
+    requires nodes { measures.nodes (core_view core.now) ≤ node_limit }
     requires slot { slot ≤ 0x7fff_0001 }
     ensures code { IfOk result (λ code. code.items ≡ specs.plain_code (core_view core.now) (texts_within around.now) (routines_within around.now) slot) }
-    ensures short { IfOk result (λ code. size_of_piece code.items + 8 ≤ 63 * measures.nodes (core_view core.now)) }
+    ensures short { IfOk result (λ code. size_of_piece code.items + 8 ≤ part_slots_per_node * measures.nodes (core_view core.now)) }
 {
-    let spot = Spot {
+    let spot = EmitPosition {
         around,
         words: &FrameWords::Outside,
         word: 0,
@@ -55,21 +58,21 @@ fn plain_code(alloc: Global, core: &Core, around: &Surroundings, slot: usize) ->
 
 /// The expression's code at this slot, behind the path's and a store that keeps it in word 0.
 #[tactic(auto, using(crate::proofs::Lengths::short_code))]
-fn keeping_code(alloc: Global, path: Path, core: &Core, around: &Surroundings, slot: usize) -> Code
-    requires need { 1 + measures.need (core_view core.now) ≤ 60 }
-    requires nodes { measures.nodes (core_view core.now) ≤ 512 }
+fn keeping_code(alloc: Global, path: Path, core: &Core, around: &NameTable, slot: usize) -> Code
+    requires need { 1 + measures.need (core_view core.now) ≤ word_limit }
+    requires nodes { measures.nodes (core_view core.now) ≤ node_limit }
     requires slot { slot ≤ 0x7fff_0001 }
     ensures code { IfOk result (λ code. code.items ≡ specs.keeping_code (path_view path.entry) (core_view core.now) (texts_within around.now) (routines_within around.now) slot) }
-    ensures short { IfOk result (λ code. size_of_piece code.items < 65536) }
+    ensures short { IfOk result (λ code. size_of_piece code.items < slot_limit) }
 {
     let mut code = walk(alloc, around.texts, path)?;
     code.push(store(0, Register::R0))?;
     let words = FrameWords::Keeping(path);
-    let spot = Spot {
+    let spot = EmitPosition {
         around,
         words: &words,
         word: 1,
-        slot: slot + 6,
+        slot: slot + KEPT_PATH_SLOTS,
     };
     let rest = code_of(alloc, core, spot)?;
     code.extend_from_slice(&rest)?;
@@ -78,8 +81,8 @@ fn keeping_code(alloc: Global, path: Path, core: &Core, around: &Surroundings, s
 
 /// The shorter of two pieces, the first one where both are as long.
 fn shorter(first: Vec<Insn>, second: Vec<Insn>) -> Vec<Insn>
-    requires first { size_of_piece first.items < 65536 }
-    requires second { size_of_piece second.items < 65536 }
+    requires first { size_of_piece first.items < slot_limit }
+    requires second { size_of_piece second.items < slot_limit }
     ensures { result.items ≡ specs.shorter first.items second.items }
 {
     if size(&first) <= size(&second) {
@@ -89,14 +92,14 @@ fn shorter(first: Vec<Insn>, second: Vec<Insn>) -> Vec<Insn>
     }
 }
 
-/// The code of a whole expression at this slot, from the start of a frame: it keeps a path where that is
-/// shorter. The error says that there is no memory for it.
-pub(crate) fn whole_code(alloc: Global, core: &Core, around: &Surroundings, slot: usize) -> Code
-    requires need { measures.need (core_view core.now) ≤ 60 }
-    requires nodes { measures.nodes (core_view core.now) ≤ 512 }
+/// The code of a whole expression at this slot, from the start of a frame: it keeps a path where
+/// that is shorter. The error says that there is no memory for it.
+pub(crate) fn whole_code(alloc: Global, core: &Core, around: &NameTable, slot: usize) -> Code
+    requires need { measures.need (core_view core.now) ≤ word_limit }
+    requires nodes { measures.nodes (core_view core.now) ≤ node_limit }
     requires slot { slot ≤ 0x7fff_0001 }
     ensures code { IfOk result (λ code. code.items ≡ specs.whole_code (core_view core.now) (texts_within around.now) (routines_within around.now) slot) }
-    ensures short { IfOk result (λ code. size_of_piece code.items + 8 ≤ 63 * measures.nodes (core_view core.now)) }
+    ensures short { IfOk result (λ code. size_of_piece code.items + 8 ≤ part_slots_per_node * measures.nodes (core_view core.now)) }
 {
     let plain = plain_code(alloc, core, around, slot)?;
     match front_of(core) {

@@ -1,15 +1,15 @@
 -- Commands that stand for one another.
-use Rattle.debugger.proofs.Prelude.{◌≡◌, ℕ, ◌<◌, Bool, true, false, List, [], ◌∷◌, ◌++◌, length, length-take, take, nat_le, codes, refl, sym, ap, ◌∙◌, inl, inr, arith, cases_lt, nat_tests, take_all, length_push, take-append_seam, slice_get_past, State, state_after, Fits, capped_command, command_of, World, answer_of, may_be_refused, answer_to, Answers, Command}
+use Rattle.debugger.proofs.Prelude.{◌≡◌, ℕ, ◌<◌, Bool, true, false, List, [], ◌∷◌, ◌++◌, length, length-take, take, nat_le, codes, refl, sym, ap, ◌∙◌, inl, inr, arith, cases_lt, nat_tests, take_all, length_push, take-append_seam, slice_get_past, State, state_after, FitsWords, capped_command, command_of, SessionState, answer_of, may_be_refused, answer_to, AnswersLine, Command}
 
 -- a line whose command was obeyed
-pub answers_granted : (s : State) (w next : World) (line : List ℕ) (c : Command) (text : List ℕ) → Fits (state_after w.place s) c
-    → c ≡ capped_command (command_of line) → (answer_of s w c).next ≡ next → (answer_of s w c).text ≡ text → Answers s w line next text
+pub answers_granted : (s : State) (w next : SessionState) (line : List ℕ) (c : Command) (text : List ℕ) → FitsWords (state_after w.place s) c
+    → c ≡ capped_command (command_of line) → (answer_of s w c).next ≡ next → (answer_of s w c).text ≡ text → AnswersLine s w line next text
 unfolding answer_to answer_of
 answers_granted s w next line c text fits asked n t = grind (arith, nat_tests, nat_le, slice_get_past)
 
 -- a line at which memory was refused
-pub answers_refused : (s : State) (w next : World) (line : List ℕ) (c : Command) (text : List ℕ) → Fits (state_after w.place s) c
-    → c ≡ capped_command (command_of line) → may_be_refused s w c ≡ true → w ≡ next → codes "? memory\n" ≡ text → Answers s w line next text
+pub answers_refused : (s : State) (w next : SessionState) (line : List ℕ) (c : Command) (text : List ℕ) → FitsWords (state_after w.place s) c
+    → c ≡ capped_command (command_of line) → may_be_refused s w c ≡ true → w ≡ next → codes "? memory\n" ≡ text → AnswersLine s w line next text
 unfolding answer_to may_be_refused
 answers_refused s w next line c text fits asked may n t = grind (arith, nat_tests, nat_le, slice_get_past)
 
@@ -26,11 +26,11 @@ command_of-take line =
       | inr short ↦ ap command_of (take_all 65 line (omega (arith, short)))
     ]
 
-answer_to-take : (s : State) (w : World) (line : List ℕ) (mark : Bool) → answer_to s w (take 65 line, mark) ≡ answer_to s w (line, mark)
+answer_to-take : (s : State) (w : SessionState) (line : List ℕ) (mark : Bool) → answer_to s w (take 65 line, mark) ≡ answer_to s w (line, mark)
 unfolding answer_to
 answer_to-take s w line mark = grind (arith, nat_tests, command_of-take)
 
-pub answers_whole : (s : State) (w next : World) (line text : List ℕ) → Answers s w (take 65 line) next text → Answers s w line next text
+pub answers_whole : (s : State) (w next : SessionState) (line text : List ℕ) → AnswersLine s w (take 65 line) next text → AnswersLine s w line next text
 answers_whole s w next line text a = grind (arith, nat_tests, answer_to-take)
 
 pub keep_short : (xs : List ℕ) (b : ℕ) → length xs < 65 → xs ++ b ∷ [] ≡ take 65 (xs ++ b ∷ [])

@@ -1,7 +1,5 @@
-mod Bytes
 mod Texts
 mod Asked
-pub mod Cut
 mod Quit
 mod Addresses
 mod Words

@@ -38,10 +38,26 @@ lines_one (suc count) a old new (b ∷ bs) some few enough is =
     let none : length (drop 16 (b ∷ bs)) ≡ 0 = omega (arith, length-drop 16 (b ∷ bs), few) in
     is ∙ ap (λ (t : List ℕ). old ++ t) (lines_none count (a + 16) (memory_line a (b ∷ bs)) (drop 16 (b ∷ bs)) none ∙ ap (λ (t : List ℕ). memory_line a t ++ memory_lines count (a + 16) (drop 16 (b ∷ bs))) (sym whole))
 
+-- the line of the first 16 bytes is written, and the others begin at `next`
+pub record IsFirstLine (a next : ℕ) (old mid bytes rest : List ℕ) : Type 0 where
+  pub front : List ℕ
+  pub many : 16 < length bytes
+  pub fits : a < 2 ^ 64
+  pub wraps : next ≡ (a + 16) % 2 ^ 64
+  pub front_is : front ≡ take 16 bytes
+  pub rest_is : rest ≡ drop 16 bytes
+  pub line : mid ≡ old ++ memory_line a front
+
 -- a line, and those after it
-pub lines_first : (count a next : ℕ) (old mid new bytes front rest : List ℕ) → 16 < length bytes → length bytes ≤ 16 * count → a < 2 ^ 64 → next ≡ (a + 16) % 2 ^ 64
-    → front ≡ take 16 bytes → rest ≡ drop 16 bytes → mid ≡ old ++ memory_line a front
+pub lines_first : (count a next : ℕ) (old mid new bytes rest : List ℕ) → IsFirstLine a next old mid bytes rest → length bytes ≤ 16 * count
     → ((k : ℕ) → length rest ≤ 16 * k → new ≡ mid ++ memory_lines k next rest) → new ≡ old ++ memory_lines count a bytes
 unfolding memory_lines
-lines_first count a next old mid new bytes front rest many enough fits wraps first left one more =
+lines_first count a next old mid new bytes rest is_first enough more =
+    let front = is_first.front in
+    let many = is_first.many in
+    let fits = is_first.fits in
+    let wraps = is_first.wraps in
+    let first = is_first.front_is in
+    let left = is_first.rest_is in
+    let one = is_first.line in
     grind (arith, nat_tests, append_assoc, length-drop, cases_lt, wrapped_lines)

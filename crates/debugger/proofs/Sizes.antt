@@ -1,5 +1,5 @@
 -- The sizes that every state of a run has.
-use Rattle.debugger.proofs.Prelude.{◌≡◌, ℕ, zero, suc, ◌/◌, Bool, length, Option, Some, Result, Ok, Err, ℤ, refl, ap, arith, length-append, length-drop, nat_lt, if◌then◌else◌, nat_tests, length-take-le, write_of, Memory, start_memory, low_bytes, CallEnd, Insn, Jump, JumpLong, Call, CallLocal, Exit, Load, LoadSigned, StoreImm, Store, Atomic, AtomicOp, Register, SignedSize, Width, Contents, load_row, load_signed_row, load_wide_row, loaded, loaded_signed, store_row, stored, alu_row, byte_swap_row, neg_row, sign_extend_row, atomic_row, exchanged, taken_and_stored, taken_by, where_stores, fetched, answered, call_row, branch_row, call_local_row, called, exit_row, jump_row, newest, returned, jumped, next_slot, stopped_by, State, start_state, by_status, executed, next_state, stepped, state_after, Frame, Status, Running, HasRegions, IsSized, StaysSized}
+use Rattle.debugger.proofs.Prelude.{◌≡◌, ℕ, zero, suc, ◌/◌, Bool, length, Option, Some, Result, Ok, Err, ℤ, refl, ap, arith, length-append, length-drop, nat_lt, if◌then◌else◌, nat_tests, length-take-le, write_of, Memory, start_memory, low_bytes, CallEnd, Insn, Jump, JumpLong, Call, CallLocal, Exit, Load, LoadSigned, StoreImm, Store, Atomic, AtomicOp, Register, SignedSize, Width, Image, load_row, load_signed_row, load_wide_row, loaded, loaded_signed, store_row, stored, alu_row, byte_swap_row, neg_row, sign_extend_row, atomic_row, exchanged, taken_and_stored, taken_by, where_stores, fetched, answered, call_row, branch_row, call_local_row, called, exit_row, jump_row, newest, returned, jumped, next_slot, stopped_by, State, start_state, by_status, executed, next_state, stepped, state_after, Frame, Status, Running, HasRegions, IsSized, StaysSized}
 use Rattle.std.proofs.lemmas.List.{length-take}
 use Rattle.guest_memory.specs.declared.fault.Fault as fault
 use Rattle.guest_memory.specs.declared.size.Size as memory
@@ -79,7 +79,7 @@ module _ (s : State) (is : IsSized s) where
 
 -- ---- runs
 
-start_sized : (image : Contents) (values : store.Contents) → IsSized (start_state image values)
+start_sized : (image : Image) (values : store.Contents) → IsSized (start_state image values)
 unfolding start_state start_memory
 start_sized image values = grind arith
 
@@ -88,5 +88,5 @@ unfolding state_after
 run_sized s is zero = is
 run_sized s is (suc k) = next_sized (state_after k s) (run_sized s is k)
 
-pub stays_sized : (image : Contents) (values : store.Contents) → StaysSized (start_state image values)
+pub stays_sized : (image : Image) (values : store.Contents) → StaysSized (start_state image values)
 stays_sized image values = run_sized (start_state image values) (start_sized image values)

@@ -1,6 +1,6 @@
 -- Answers are whole lines.
-use Rattle.debugger.proofs.Prelude.{◌≡◌, ℕ, zero, suc, ◌+◌, ℤ, pos, negsuc, List, [], ◌∷◌, ◌++◌, decimal, length, take, drop, Option, refl, sym, ap, subst, ◌∙◌, append_assoc, codes, arith, signed_decimal, ◌*◌, nat_eq, nat_lt, slice_index, Memory, statement_slots, statement_text, slot_count, State, move_line, register_line, register_lines, registers_text, status_text, word_text, Status, Answer, World, answer_of, answer_to, break_text, clear_text, is_refused, says, command_of, Frame, ValueOrError, digits_of_bytes, frame_line, frame_lines, frames_text, memory_line, memory_lines, memory_text, saved_text, value_line, value_text, listing_at, listing_line, listing_lines, outside_line, statement_at, AnswersInLines, message_lines, verdict_line, verdict_lines, verdict_word, word_line, word_lines, cut, Command, nat_tests, fold_push}
-use Rattle.debugger.proofs.Cut.{Whole, whole-append}
+use Rattle.debugger.proofs.Prelude.{◌≡◌, ℕ, zero, suc, ◌+◌, ℤ, pos, negsuc, List, [], ◌∷◌, ◌++◌, decimal, length, take, drop, Option, refl, sym, ap, subst, ◌∙◌, append_assoc, codes, arith, signed_decimal, ◌*◌, nat_eq, nat_lt, slice_index, Memory, statement_slots, statement_text, slot_count, State, move_line, register_line, register_lines, registers_text, status_text, word_text, Status, Answer, SessionState, answer_of, answer_to, break_text, clear_text, is_refused, says, command_of, Frame, ValueOrError, digits_of_bytes, frame_line, frame_lines, frames_text, memory_line, memory_lines, memory_text, saved_text, value_line, value_text, listing_at, listing_line, listing_lines, outside_line, statement_at, AnswersInLines, message_lines, verdict_line, verdict_lines, verdict_word, word_line, word_lines, cut, Command, nat_tests, fold_push}
+use Rattle.streams.proofs.Cut.{Whole, whole-append}
 use Rattle.debugger.proofs.Quit.{either}
 
 -- a text that a line feed ends
@@ -113,7 +113,7 @@ verdict_whole version m =
 abbrev Lined : Answer → Type 0
 Lined a = Whole a.text
 
-answer_of-whole : (s : State) (w : World) (c : Command) → Lined (answer_of s w c)
+answer_of-whole : (s : State) (w : SessionState) (c : Command) → Lined (answer_of s w c)
 unfolding answer_of registers_text cut
 answer_of-whole s w c =
     grind (arith, nat_tests, at_whole, break_whole, bytes_whole, clear_whole, frames_whole, lines_whole, move_whole, stored_whole, verdict_whole)

@@ -1,5 +1,5 @@
 -- The lines of commands, and how they are read.
-use Rattle.debugger.proofs.Prelude.{◌≡◌, ◌≢◌, ℕ, suc, ◌+◌, ◌-◌, ◌*◌, ◌/◌, ◌%◌, ◌^◌, ◌<◌, ◌≤◌, Bool, true, false, ◌&&◌, List, [], ◌∷◌, ◌++◌, length, length-append, length-drop, drop, Option, Some, None, decimal, nat_eq, nat_le, nat_lt, codes, refl, sym, ap, ◌∙◌, inl, inr, subst, arith, append_assoc, append-nil, add-one, ◌⊎◌, slice_index, if◌then◌else◌, bytes_eq, pow-le-pow_right, pow-suc, and_parts, nat_tests, decimal_digit, decimal_step_wide, decimal_by_steps_wide, take-append-drop, bytes_eq-Decides, hex_digits, begins_with, command_of, form_of, hex_value, is_digit, is_hex_digit, leads_with_zero, move_form_of, number_of, numbered, numbered_form_of, read_address, read_digits, shown_form_of, Asks, CommandsHaveLines, IsLine, IsNumbered, Command, ValueAt, MemoryAt, Unknown}
+use Rattle.debugger.proofs.Prelude.{◌≡◌, ◌≢◌, ℕ, suc, ◌+◌, ◌-◌, ◌*◌, ◌/◌, ◌%◌, ◌^◌, ◌<◌, ◌≤◌, Bool, true, false, ◌&&◌, List, [], ◌∷◌, ◌++◌, length, length-append, length-drop, drop, Option, Some, None, decimal, nat_eq, nat_le, nat_lt, codes, refl, sym, ap, ◌∙◌, inl, inr, subst, arith, append_assoc, append-nil, add-one, ◌⊎◌, slice_index, if◌then◌else◌, bytes_eq, pow-le-pow_right, pow-suc, and_parts, nat_tests, decimal_digit, decimal_step_wide, decimal_by_steps_wide, take-append-drop, bytes_eq-Decides, hex_digits, begins_with, command_of, form_of, hex_value, is_digit, is_hex_digit, leads_with_zero, move_form_of, number_of, numbered, numbered_form_of, read_address, read_digits, shown_form_of, AsksFor, CommandsHaveLines, IsLine, IsNumbered, Command, ValueAt, MemoryAt, Unknown}
 use Rattle.debugger.proofs.Addresses.{address_ended, address_read, below_digit, digit_is, hex_digits-more}
 
 -- a number and one more digit
@@ -19,22 +19,31 @@ below_all k n low small = grind (arith, pow-le-pow_right)
 abbrev Writes : List ℕ → ℕ → Type 0
 Writes ds n = (ds ≡ decimal n) × (n < 10 ^ 64)
 
-written_by : (c : ℕ) (ds : List ℕ) (k m n : ℕ) (digit : Bool) → is_digit c ≡ digit → 0 < m → m < 10 ^ k → k + length (c ∷ ds) ≤ 64
+-- a number of at most `k` digits that is not 0, before so many more
+record IsLeading (k m count : ℕ) : Type 0 where
+  some : 0 < m
+  small : m < 10 ^ k
+  long : k + count ≤ 64
+
+written_by : (c : ℕ) (ds : List ℕ) (k m n : ℕ) (digit : Bool) → is_digit c ≡ digit → IsLeading k m (length (c ∷ ds))
     → ((more : 0 < m * 10 + (c - 48)) → m * 10 + (c - 48) < 10 ^ (k + 1) → read_digits (m * 10 + (c - 48)) ds ≡ Some n → Writes (decimal (m * 10 + (c - 48)) ++ ds) n)
     → (if digit then read_digits (m * 10 + (c - 48)) ds else None) ≡ Some n → Writes (decimal m ++ c ∷ ds) n
-written_by c ds k m n true is some small long rest read =
+written_by c ds k m n true is leads rest read =
+    let some = leads.some in
+    let small = leads.small in
+    let long = leads.long in
     let more = below_more k m c small is in
     let one = decimal-more m c some (below_all (k + 1) (m * 10 + (c - 48)) (omega (arith, long)) more) is in
     let all = rest (omega (arith, some)) more read in
     (sym (append_assoc (decimal m) (c ∷ []) ds) ∙ ap (λ (front : List ℕ). front ++ ds) (sym one) ∙ all.0, all.1)
-written_by c ds k m n false is some small long rest read = cc
+written_by c ds k m n false is leads rest read = cc
 
 digits_written : (ds : List ℕ) (k m n : ℕ) → 0 < m → m < 10 ^ k → k + length ds ≤ 64 → read_digits m ds ≡ Some n → Writes (decimal m ++ ds) n
 digits_written [] k m n some small long read =
     let same : m ≡ n = cc in
     (append-nil (decimal m) ∙ ap decimal same, subst (λ (j : ℕ). j < 10 ^ 64) same (below_all k m (omega (arith, long)) small))
 digits_written (c ∷ ds) k m n some small long read =
-    written_by c ds k m n (is_digit c) refl some small long (λ more below rest. digits_written ds (k + 1) (m * 10 + (c - 48)) n more below (omega (arith, long)) rest) read
+    written_by c ds k m n (is_digit c) refl (record { some = some; small = small; long = long }) (λ more below rest. digits_written ds (k + 1) (m * 10 + (c - 48)) n more below (omega (arith, long)) rest) read
 
 -- the first digit
 first_written : (c : ℕ) (ds : List ℕ) (n : ℕ) (digit zero_first : Bool) → is_digit c ≡ digit → nat_eq c 48 ≡ zero_first → nat_lt 1 (length (c ∷ ds)) && zero_first ≡ false → length (c ∷ ds) ≤ 64 → (if digit then read_digits (0 * 10 + (c - 48)) ds else None) ≡ Some n → Writes (c ∷ ds) n
@@ -141,11 +150,22 @@ found_word line word c form same_word = grind (arith, bytes_eq-Decides)
 abbrev Begun : List ℕ → ℕ → ℕ → List ℕ → Type 0
 Begun line d a rest = line ≡ codes "m 0x" ++ (hex_digits d a ++ rest)
 
+-- a line of at most 64 bytes that began with at most 16 digits of an address
+record BeginsAddress (line : List ℕ) (d a : ℕ) (rest : List ℕ) : Type 0 where
+  short : length line ≤ 64
+  few : d ≤ 16
+  fits : a < 16 ^ d
+  begun : Begun line d a rest
+
 -- a number behind an address
-found_count : (line : List ℕ) (d a c : ℕ) (cs : List ℕ) → length line ≤ 64 → d ≤ 16 → a < 16 ^ d → Begun line d a (c ∷ cs)
-    → nat_eq c 32 && nat_lt 0 d ≡ true → (o : Option ℕ) → number_of cs ≡ o → Found line (numbered (MemoryAt a) o)
-found_count line d a c cs short few fits begun ends None read = inl refl
-found_count line d a c cs short few fits begun ends (Some n) read =
+found_count : (line : List ℕ) (d a c : ℕ) (cs : List ℕ) → BeginsAddress line d a (c ∷ cs) → nat_eq c 32 && nat_lt 0 d ≡ true → (o : Option ℕ) → number_of cs ≡ o
+    → Found line (numbered (MemoryAt a) o)
+found_count line d a c cs begins ends None read = inl refl
+found_count line d a c cs begins ends (Some n) read =
+    let short = begins.short in
+    let few = begins.few in
+    let fits = begins.fits in
+    let begun = begins.begun in
     let space : c ≡ 32 = grind (arith, nat_tests) in
     let some : 0 < d = grind (arith, nat_tests) in
     let long : length line ≡ length (codes "m 0x") + (length (hex_digits d a) + length (c ∷ cs)) =
@@ -164,7 +184,7 @@ found_count line d a c cs short few fits begun ends (Some n) read =
 found_address : (line : List ℕ) (d a : ℕ) (rest : List ℕ) → length line ≤ 64 → d ≤ 16 → a < 16 ^ d → Begun line d a rest → Found line (read_address d a rest)
 found_address line d a [] short few fits begun = inl refl
 found_address line d a (c ∷ cs) short few fits begun =
-    by_test line _ _ _ (λ ends. found_count line d a c cs short few fits begun ends _ refl)
+    by_test line _ _ _ (λ ends. found_count line d a c cs (record { short = short; few = few; fits = fits; begun = begun }) ends _ refl)
     (by_test line _ _ _ (λ goes.
     let tests = and_parts (is_hex_digit c) (nat_lt d 16) goes in
     let more : d < 16 = grind (arith, nat_tests, tests.1) in
@@ -189,11 +209,11 @@ form_found : (line : List ℕ) → length line ≤ 64 → Found line (form_of li
 unfolding form_of
 form_found line short = grind (arith, nat_tests, by_test, found_word, numbered_found)
 
-short_by : (line : List ℕ) (b : Bool) → nat_le (length line) 64 ≡ b → (if b then form_of line else Unknown) ≢ Unknown → Asks line (if b then form_of line else Unknown)
+short_by : (line : List ℕ) (b : Bool) → nat_le (length line) 64 ≡ b → (if b then form_of line else Unknown) ≢ Unknown → AsksFor line (if b then form_of line else Unknown)
 short_by line b is known = grind (arith, nat_tests, form_found)
 
 -- what a line is read as, it asks for
-asks_for : (line : List ℕ) → command_of line ≢ Unknown → Asks line (command_of line)
+asks_for : (line : List ℕ) → command_of line ≢ Unknown → AsksFor line (command_of line)
 unfolding command_of
 asks_for line known = short_by line (nat_le (length line) 64) refl known
 
@@ -202,17 +222,17 @@ reads_form : (c : Command) (line : List ℕ) → IsLine c line → form_of line 
 unfolding form_of numbered_form_of move_form_of shown_form_of
 reads_form c line l = grind (arith, number_read, address_read, codes, decimal, address_ended)
 
-reads_asked : (line : List ℕ) (c : Command) → Asks line c → command_of line ≡ c
+reads_asked : (line : List ℕ) (c : Command) → AsksFor line c → command_of line ≡ c
 unfolding command_of
 reads_asked line c a = grind (arith, nat_tests, reads_form)
 
-known_of : (line : List ℕ) (c : Command) → Asks line c → c ≢ Unknown
+known_of : (line : List ℕ) (c : Command) → AsksFor line c → c ≢ Unknown
 known_of line c a is = grind arith
 
 pub commands_have_lines : CommandsHaveLines
 commands_have_lines = record {
   known = λ line c known. (
-    λ read. subst (Asks line) read (asks_for line (λ none. known (sym read ∙ none))),
+    λ read. subst (AsksFor line) read (asks_for line (λ none. known (sym read ∙ none))),
     reads_asked line c,
   );
   unknown = λ line. (

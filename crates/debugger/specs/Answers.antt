@@ -4,6 +4,8 @@ use Rattle.bpf_machine.specs.State.{State}
 use Rattle.bpf_machine.specs.Trace.{state_after}
 use Rattle.bpf_machine.specs.Text.{move_text, registers_text}
 use Rattle.history.specs.Search.{first_stop, last_stop}
+use Rattle.insn_codec.specs.Limits.{slot_limit}
+use Rattle.debugger.specs.Limits.{move_limit, place_limit}
 use Rattle.debugger.specs.Breakpoints.{has_breakpoint, with_breakpoint, without_breakpoint}
 use Rattle.debugger.specs.Commands.{command_of}
 use Rattle.debugger.specs.Inspection.{frames_text, memory_text, shown_bytes, value_at, value_text}
@@ -14,31 +16,31 @@ use Rattle.debugger.specs.declared.command.Command.TheVariants.{SetBreakpoint, C
 use Rattle.debugger.specs.declared.command.Command.TheVariants.{ReverseContinue, Registers, ValueAt, MemoryAt, Frames, Listing, Verdict}
 
 -- what a session knows between two lines: the step that is shown, the slots with a breakpoint, and whether it has ended
-pub record World : Type 0 where
+pub record SessionState : Type 0 where
   pub place : ℕ
   pub breakpoints : List ℕ
   pub ended : Bool
 
--- the world after a line, and what was written
+-- the session state after a line, and what was written
 pub record Answer : Type 0 where
-  pub next : World
+  pub next : SessionState
   pub text : List ℕ
 
--- the world at step k, with these breakpoints
-abbrev pub world_at : List ℕ → ℕ → Bool → World
-world_at slots k ended = record { place = k; breakpoints = slots; ended = ended }
+-- the session state at step k, with these breakpoints
+abbrev pub session_state_at : List ℕ → ℕ → Bool → SessionState
+session_state_at slots k ended = record { place = k; breakpoints = slots; ended = ended }
 
 -- whether a program can have a slot with this number: at most 65,535
 abbrev pub is_slot : ℕ → Bool
-is_slot n = nat_le n 65535
+is_slot n = nat_le n (slot_limit - 1)
 
 -- whether a command takes so many steps: from 1 to 1,000,000
 abbrev pub in_range : ℕ → Bool
-in_range n = nat_le 1 n && nat_le n 1000000
+in_range n = nat_le 1 n && nat_le n move_limit
 
 -- whether a command may go n steps on from step k: n is in range, and step 1,000,000,000 is not passed
 abbrev pub can_go_on : ℕ → ℕ → Bool
-can_go_on k n = in_range n && nat_le (k + n) 1000000000
+can_go_on k n = in_range n && nat_le (k + n) place_limit
 
 -- whether it may go n steps back from step k: n is in range, and step 0 is not passed
 abbrev pub can_go_back : ℕ → ℕ → Bool
@@ -46,22 +48,22 @@ can_go_back k n = in_range n && nat_le n k
 
 -- whether step k may be shown: it is at most 1,000,000,000
 abbrev pub can_go_to : ℕ → Bool
-can_go_to k = nat_le k 1000000000
+can_go_to k = nat_le k place_limit
 
--- an answer that leaves the world
-abbrev pub says : World → List ℕ → Answer
+-- an answer that leaves the session state
+abbrev pub says : SessionState → List ℕ → Answer
 says w text = record { next = w; text = text }
 
--- an answer that leaves the world but for its breakpoints, which are these
-abbrev pub sets_breakpoints : World → List ℕ → List ℕ → Answer
+-- an answer that leaves the session state but for its breakpoints, which are these
+abbrev pub sets_breakpoints : SessionState → List ℕ → List ℕ → Answer
 sets_breakpoints w slots text = record { next = record w { breakpoints = slots }; text = text }
 
 -- a move to step k of the run from s
-abbrev pub moves_to : State → World → ℕ → Answer
+abbrev pub moves_to : State → SessionState → ℕ → Answer
 moves_to s w k = record { next = record w { place = k }; text = move_text k (state_after k s) }
 
 -- the answer to a number that is out of range
-abbrev pub out_of_range : World → Answer
+abbrev pub out_of_range : SessionState → Answer
 out_of_range w = says w (codes "? range\n")
 
 -- the answer to a breakpoint that was set
@@ -72,8 +74,8 @@ break_text slot = codes "break " ++ (decimal slot ++ 10 ∷ [])
 unfoldable pub clear_text : ℕ → List ℕ
 clear_text slot = codes "clear " ++ (decimal slot ++ 10 ∷ [])
 
--- the world after a command, and its answer, in a session with the run from s
-unfoldable pub answer_of : State → World → Command → Answer
+-- the session state after a command, and its answer, in a session with the run from s
+unfoldable pub answer_of : State → SessionState → Command → Answer
 answer_of s w (SetBreakpoint n) = if is_slot n then sets_breakpoints w (with_breakpoint n w.breakpoints) (break_text n) else out_of_range w
 answer_of s w (ClearBreakpoint n) =
     if is_slot n then sets_breakpoints w (without_breakpoint n w.breakpoints) (clear_text n)
@@ -94,7 +96,7 @@ answer_of s w Unknown = says w (codes "? what\n")
 
 -- whether a command may need memory that is refused: a breakpoint that is new, a move that is in range, a value, a
 -- listing of code, and a verdict
-unfoldable pub may_be_refused : State → World → Command → Bool
+unfoldable pub may_be_refused : State → SessionState → Command → Bool
 may_be_refused s w (SetBreakpoint n) = is_slot n && not (has_breakpoint n w.breakpoints)
 may_be_refused s w (ClearBreakpoint n) = false
 may_be_refused s w (Forward n) = can_go_on w.place n
@@ -116,9 +118,9 @@ abbrev pub Line : Type 0
 Line = List ℕ × Bool
 
 -- whether the line is one that memory is refused at: elsewhere the mark means nothing
-abbrev pub is_refused : State → World → Line → Bool
+abbrev pub is_refused : State → SessionState → Line → Bool
 is_refused s w l = l.1 && may_be_refused s w (command_of l.0)
 
--- the world after a line, and its answer
-unfoldable pub answer_to : State → World → Line → Answer
+-- the session state after a line, and its answer
+unfoldable pub answer_to : State → SessionState → Line → Answer
 answer_to s w l = if is_refused s w l then says w (codes "? memory\n") else answer_of s w (command_of l.0)

@@ -39,11 +39,11 @@ IsLine Quit line = line ≡ codes "q"
 IsLine Unknown line = ⊥
 
 -- a line asks for the command whose line it is, where it has at most 64 bytes
-pub record Asks (line : List ℕ) (c : Command) : Type 0 where
+pub record AsksFor (line : List ℕ) (c : Command) : Type 0 where
   pub is_line : IsLine c line
   pub short : length line ≤ 64
 
 -- `command_of` is the command that a line asks for, and `Unknown` where it asks for none
 pub record CommandsHaveLines : Type 0 where
-  pub known : (line : List ℕ) (c : Command) → c ≢ Unknown → (command_of line ≡ c) ↔ Asks line c
-  pub unknown : (line : List ℕ) → (command_of line ≡ Unknown) ↔ ((c : Command) → Asks line c → ⊥)
+  pub known : (line : List ℕ) (c : Command) → c ≢ Unknown → (command_of line ≡ c) ↔ AsksFor line c
+  pub unknown : (line : List ℕ) → (command_of line ≡ Unknown) ↔ ((c : Command) → AsksFor line c → ⊥)

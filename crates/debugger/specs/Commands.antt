@@ -118,6 +118,6 @@ capped_command (MemoryAt address n) = MemoryAt address (capped n)
 capped_command other = other
 
 -- each reference of a state that a command asks a value of has 64 bits
-abbrev pub Fits : State → Command → Type 0
-Fits s (ValueAt h) = length s.values.values < 2 ^ 64
-Fits s _ = Unit {0}
+abbrev pub FitsWords : State → Command → Type 0
+FitsWords s (ValueAt h) = length s.values.values < 2 ^ 64
+FitsWords s _ = Unit {0}

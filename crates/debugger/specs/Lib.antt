@@ -1,5 +1,4 @@
-pub mod Streams
-pub mod Byte
+pub mod Limits
 pub mod Commands
 pub mod CommandLines
 pub mod Breakpoints
@@ -9,5 +8,5 @@ pub mod Verdict
 pub mod Answers
 pub mod Session
 pub mod Replies
-pub mod Told
+pub mod Transcript
 pub mod Rows

@@ -15,7 +15,8 @@ statement_at code slot = statement_of (drop (8 * slot) code)
 unfoldable pub listing_line : List ℕ → ℕ → List ℕ
 listing_line code slot = decimal slot ++ (codes " " ++ (statement_text (statement_at code slot) ++ 10 ∷ []))
 
--- up to so many lines, one for this slot and each next one for the slot after the line before, none beyond the code's end
+-- up to so many lines, one for this slot and each next one for the slot after the line before, none beyond the code's
+-- end
 unfoldable pub listing_lines : ℕ → List ℕ → ℕ → List ℕ
 listing_lines zero code slot = []
 listing_lines (suc count) code slot =

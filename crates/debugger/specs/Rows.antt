@@ -3,11 +3,12 @@ use Rattle.std.specs.Prelude.{◌≡◌, ℕ, true, false, List, [], ◌∷◌, 
 use Rattle.bpf_machine.specs.State.{State, null_values, start_state}
 use Rattle.bpf_machine.specs.Rows.{start_of}
 use Rattle.loader.specs.declared.version.Version.{Version, TheVariants.First, TheVariants.Second}
-use Rattle.debugger.specs.Answers.{Line, World, answer_to}
+use Rattle.debugger.specs.Answers.{Line, SessionState, answer_to}
 use Rattle.debugger.specs.Breakpoints.{in_order}
 use Rattle.debugger.specs.Commands.{command_of}
-use Rattle.debugger.specs.Session.{Talk, talk_of, cut, granted, says_memory, session_text}
-use Rattle.debugger.specs.Told.{Heard}
+use Rattle.debugger.specs.Session.{Dialogue, dialogue_of, granted, says_memory, session_text}
+use Rattle.streams.specs.Lines.{cut}
+use Rattle.debugger.specs.Transcript.{IsDialogue}
 use Rattle.debugger.specs.declared.command.Command.TheVariants.{Forward, MemoryAt, Unknown}
 
 -- r0 = 5; exit
@@ -55,8 +56,19 @@ leaves_words version =
     })
     null_values
 
+-- the lines of the registers once R0 is 5
+abbrev pub five_registers : List ℕ
+five_registers =
+    codes "r0 0x0000000000000005\nr1 0x0000000000000000\nr2 0x0000000000000000\nr3 0x0000000000000000\n"
+    ++ (codes "r4 0x0000000000000000\nr5 0x0000000000000000\nr6 0x0000000000000000\nr7 0x0000000000000000\n"
+    ++ codes "r8 0x0000000000000000\nr9 0x0000000000000000\nr10 0x0000000100000200\n")
+
+-- the line of a frame whose caller is slot 1, with zeros in R6 to R9
+abbrev pub empty_frame : List ℕ
+empty_frame = codes "return 1 r6 0x0000000000000000 r7 0x0000000000000000 r8 0x0000000000000000 r9 0x0000000000000000\n"
+
 -- sessions, each with what it writes, and lines, each with its command
-pub record RowsStand : Type 0 where
+pub record SessionRowsHold : Type 0 where
   pub moves : session_text five (codes "s 1\nrs 1\nrs 1\ns 0\ns 01\ns 1000001\nx\nq\n")
       ≡ codes "step 1 pc 1 running\nstep 0 pc 0 running\n? range\n? range\n? what\n? range\n? what\n"
   pub stops : session_text five (codes "s 2\ns 3\nrs 4")
@@ -65,9 +77,9 @@ pub record RowsStand : Type 0 where
   pub has_no_form : session_text five (codes "\ns\ns \ns  1\n s 1\ns 1 \ns 1\r\ns -1\nrs\nR\n")
       ≡ codes "? what\n? what\n? what\n? what\n? what\n? what\n? what\n? what\n? what\n? what\n"
   pub shows_registers : session_text five (codes "s 1\nr")
-      ≡ codes "step 1 pc 1 running\nr0 0x0000000000000005\nr1 0x0000000000000000\nr2 0x0000000000000000\nr3 0x0000000000000000\nr4 0x0000000000000000\nr5 0x0000000000000000\nr6 0x0000000000000000\nr7 0x0000000000000000\nr8 0x0000000000000000\nr9 0x0000000000000000\nr10 0x0000000100000200\n"
+      ≡ codes "step 1 pc 1 running\n" ++ five_registers
   pub breaks : session_text five (codes "b 1\nd 1\nc 10\nr\n")
-      ≡ codes "break 1\nclear 1\nstep 2 pc 1 exited 0x0000000000000005\nr0 0x0000000000000005\nr1 0x0000000000000000\nr2 0x0000000000000000\nr3 0x0000000000000000\nr4 0x0000000000000000\nr5 0x0000000000000000\nr6 0x0000000000000000\nr7 0x0000000000000000\nr8 0x0000000000000000\nr9 0x0000000000000000\nr10 0x0000000100000200\n"
+      ≡ codes "break 1\nclear 1\nstep 2 pc 1 exited 0x0000000000000005\n" ++ five_registers
   pub searches : session_text five (codes "b 1\nc 10\nrs 1\nrs 1\nrc\nbogus\n")
       ≡ codes "break 1\nstep 1 pc 1 running\nstep 0 pc 0 running\n? range\nstep 0 pc 0 running\n? what\n"
   pub searches_back : session_text five (codes "b 0\nb 1\ns 2\nrc\nrc\nrc\n")
@@ -92,39 +104,41 @@ pub record RowsStand : Type 0 where
       "m 0x300000000 0\nm 0x300000000 257\nm 0xffffffffffffffff 1\nm 0x 1\nm 0x3A 1\nm 0x00000000300000000 1\nm 0x300000000 01\nm 0x300000000\nm 300000000 1\n")
       ≡ codes "? range\n? range\n? range\n? what\n? what\n? what\n? what\n? what\n? what\n"
   pub shows_frames : session_text calls_itself (codes "f\ns 8\nf\n")
-      ≡ codes "depth 0\nstep 8 pc 0 fault F7\ndepth 7\nreturn 1 r6 0x0000000000000000 r7 0x0000000000000000 r8 0x0000000000000000 r9 0x0000000000000000\nreturn 1 r6 0x0000000000000000 r7 0x0000000000000000 r8 0x0000000000000000 r9 0x0000000000000000\nreturn 1 r6 0x0000000000000000 r7 0x0000000000000000 r8 0x0000000000000000 r9 0x0000000000000000\nreturn 1 r6 0x0000000000000000 r7 0x0000000000000000 r8 0x0000000000000000 r9 0x0000000000000000\nreturn 1 r6 0x0000000000000000 r7 0x0000000000000000 r8 0x0000000000000000 r9 0x0000000000000000\nreturn 1 r6 0x0000000000000000 r7 0x0000000000000000 r8 0x0000000000000000 r9 0x0000000000000000\nreturn 1 r6 0x0000000000000000 r7 0x0000000000000000 r8 0x0000000000000000 r9 0x0000000000000000\n"
+      ≡ codes "depth 0\nstep 8 pc 0 fault F7\ndepth 7\n"
+      ++ (empty_frame ++ (empty_frame ++ (empty_frame ++ (empty_frame ++ (empty_frame ++ (empty_frame ++ empty_frame))))))
   pub shows_verdict : session_text five (codes "w\nw 1\nW\n") ≡ codes "verdict 0 0\n? what\n? what\n"
   pub shows_words : session_text (leaves_words First) (codes "c 100\nw\ng 3\nw\n")
       ≡ codes "step 10 pc 10 exited 0x0000000000000000\nverdict 3 1\nvalidation 0 257\nvalidation 63 2\nstep 3 pc 4 running\nverdict 3 1\n"
   pub shows_messages : session_text (leaves_words Second) (codes "c 100\nw\n")
       ≡ codes "step 10 pc 10 exited 0x0000000000000000\nverdict 3 1\nvalidation 0 257\nvalidation 63 2\nmessage 0 9\nmessage 63 18446744073709551615\n"
-  pub refuses_verdicts : (talk_of five ((codes "w", true) ∷ (codes "w", false) ∷ [])).text ≡ codes "? memory\nverdict 0 0\n"
+  pub refuses_verdicts : (dialogue_of five ((codes "w", true) ∷ (codes "w", false) ∷ [])).text ≡ codes "? memory\nverdict 0 0\n"
   pub reads_addresses : command_of (codes "m 0x00000003000000ff 5") ≡ MemoryAt 0x3000000ff 5
   pub refuses_values :
-      (talk_of five
+      (dialogue_of five
       ((codes "v 3", true) ∷ (codes "v 9", true) ∷ (codes "v 18446744073709551616", true) ∷ (codes "m 0x300000000 1", true)
       ∷ (codes "f", true) ∷ [])).text
       ≡ codes "? memory\n? range\n? range\n0x0000000300000000 00\ndepth 0\n"
   pub reads_64_bytes : command_of (codes "s " ++ replicate 62 49) ≡ Forward 11111111111111111111111111111111111111111111111111111111111111
   pub reads_no_65 : command_of (codes "s " ++ replicate 63 49) ≡ Unknown
-  pub refuses_moves : (talk_of five ((codes "s 1", true) ∷ (codes "s 1", false) ∷ [])).text ≡ codes "? memory\nstep 1 pc 1 running\n"
+  pub refuses_moves : (dialogue_of five ((codes "s 1", true) ∷ (codes "s 1", false) ∷ [])).text ≡ codes "? memory\nstep 1 pc 1 running\n"
   pub refuses_new :
-      (talk_of five
+      (dialogue_of five
       ((codes "b 1", true) ∷ (codes "b 1", false) ∷ (codes "b 1", true) ∷ (codes "c 5", true) ∷ (codes "l", true) ∷ [])).text
       ≡ codes "? memory\nbreak 1\nbreak 1\n? memory\n? memory\n"
   pub refuses_no_more :
-      (talk_of five
+      (dialogue_of five
       ((codes "s 0", true) ∷ (codes "b 65536", true) ∷ (codes "d 3", true) ∷ (codes "x", true) ∷ (codes "q", true) ∷ [])).text
       ≡ codes "? range\n? range\nclear 3\n? what\n"
 
 -- where no line of the text is `? memory`, all was said that the lines ask for
 abbrev pub TellsAll : Type 0
-TellsAll = (s : State) (lines : List (List ℕ)) (t : Talk) → Heard s lines t → says_memory t.text ≡ false → t ≡ talk_of s (map granted lines)
+TellsAll = (s : State) (lines : List (List ℕ)) (t : Dialogue) → IsDialogue s lines t → says_memory t.text ≡ false
+    → t ≡ dialogue_of s (map granted lines)
 
 -- every answer is whole lines
 abbrev pub AnswersInLines : Type 0
-AnswersInLines = (s : State) (w : World) (l : Line) → (cut (answer_to s w l).text).1 ≡ []
+AnswersInLines = (s : State) (w : SessionState) (l : Line) → (cut (answer_to s w l).text).1 ≡ []
 
 -- whatever is said, the breakpoints stand in order, none twice
 abbrev pub StaysInOrder : Type 0
-StaysInOrder = (s : State) (lines : List Line) → in_order (talk_of s lines).world.breakpoints ≡ true
+StaysInOrder = (s : State) (lines : List Line) → in_order (dialogue_of s lines).world.breakpoints ≡ true

@@ -1,7 +1,6 @@
 //! The text of an answer.
 ghost use Rattle.std.specs.Prelude.{◌≡◌, ◌≤◌, ◌<◌, ◌+◌, [], ◌++◌, ◌∷◌, ℕ, codes, length, decimal};
 ghost use Rattle.std.specs.Fmt.{signed_decimal};
-ghost use Rattle.guest_memory.specs.Text.{fault_text};
 ghost use Rattle.insn_codec.specs.Codes.{register_number};
 ghost use Rattle.debugger.specs.Answers.{break_text, clear_text};
 ghost use Rattle.debugger.specs.Listing.{outside_line};
@@ -9,7 +8,6 @@ ghost use Rattle.bpf_machine.specs.Text.{hex_digit, hex_digits, move_line, regis
 
 use arrayvec::ArrayVec;
 use bpf_machine::Status;
-use guest_memory::Fault;
 use history::Emulator;
 use insn_codec::Register;
 use itoa::Buffer;
@@ -125,7 +123,7 @@ impl AnswerText {
             }
             Status::Fault(fault) => {
                 self.push_bytes(b"fault ");
-                self.push_bytes(fault_name(fault));
+                self.push_bytes(fault.code().as_bytes());
             }
         }
     }
@@ -233,22 +231,5 @@ fn hex_digit(digit: u64) -> u8
         48 + digit as u8
     } else {
         87 + digit as u8
-    }
-}
-
-fn fault_name(fault: Fault) -> &'static [u8]
-    ensures name { result.now ≡ fault_text fault }
-    ensures length { length result.now ≡ 2 }
-{
-    match fault {
-        Fault::F1 => b"F1",
-        Fault::F2 => b"F2",
-        Fault::F3 => b"F3",
-        Fault::F4 => b"F4",
-        Fault::F5 => b"F5",
-        Fault::F6 => b"F6",
-        Fault::F7 => b"F7",
-        Fault::F8 => b"F8",
-        Fault::F9 => b"F9",
     }
 }

@@ -2,27 +2,27 @@
 ghost use Rattle.std.specs.Prelude.{◌≡◌, false, true, not, ◌&&◌, codes, if◌then◌else◌, IfOk, OnErr, OnOk};
 ghost use Rattle.bpf_machine.specs.Text.{registers_text};
 ghost use Rattle.bpf_machine.specs.Trace.{state_after};
-ghost use Rattle.debugger.specs.Answers.{answer_of, break_text, clear_text, is_slot, may_be_refused, world_at};
+ghost use Rattle.debugger.specs.Answers.{answer_of, break_text, clear_text, is_slot, may_be_refused, session_state_at};
 ghost use Rattle.debugger.specs.Breakpoints.{has_breakpoint, with_breakpoint, without_breakpoint};
-ghost use Rattle.debugger.specs.Commands.{Fits, is_quit};
+ghost use Rattle.debugger.specs.Commands.{FitsWords, is_quit};
 ghost use Rattle.debugger.specs.Inspection.{StaysSized};
 ghost use Rattle.debugger.specs.Replies.{reply_text};
-ghost use Rattle.debugger.specs.Streams.{one_more};
-ghost use Rattle.debugger.specs.Told.{Answers, HeardLine, HeardPart};
+ghost use Rattle.streams.specs.Streams.{one_more};
+ghost use Rattle.debugger.specs.Transcript.{AnswersLine, WritesAnswer, WritesPartOfAnswer};
 
 use crate::answer_text::AnswerText;
 use crate::breakpoints::Breakpoints;
 use crate::command::Command;
-use crate::failed::Failed;
 use crate::inspecting::{show_frames, show_memory, show_value};
 use crate::listing::list;
 use crate::moves::{back, continue_back, continue_on, forward, go_to};
 use crate::reply::{Answer, Reply};
-use crate::sink::Sink;
 use crate::transfer::write_reply;
 use crate::verdict::show_verdict;
 use history::{Emulator, History};
+use insn_codec::SLOT_LIMIT;
 use std::alloc::{AllocError, Global};
+use streams::{Failed, Sink};
 
 /// Writes the answer to a line, and says whether the session has ended.
 pub fn hear_line<H: History, W: Sink>(
@@ -33,8 +33,13 @@ pub fn hear_line<H: History, W: Sink>(
     line: &[u8],
 ) -> Result<bool, Failed>
     requires { StaysSized (H.origin h.old) }
-    ensures heard { IfOk result (λ ended. HeardLine (H.origin h.old) (world_at breakpoints.old (H.place h.old) false) line.now (world_at breakpoints.new (H.place h.new) ended) (W.taken w.old) (W.taken w.new)) }
-    ensures part { OnErr result (HeardPart (H.origin h.old) (world_at breakpoints.old (H.place h.old) false) line.now (W.taken w.old) (W.taken w.new)) }
+    ensures heard { IfOk result (λ ended. WritesAnswer (H.origin h.old)
+        (session_state_at breakpoints.old (H.place h.old) false) line.now
+        (session_state_at breakpoints.new (H.place h.new) ended)
+        (W.taken w.old) (W.taken w.new)) }
+    ensures part { OnErr result (WritesPartOfAnswer (H.origin h.old)
+        (session_state_at breakpoints.old (H.place h.old) false) line.now
+        (W.taken w.old) (W.taken w.new)) }
     ensures origin { H.origin h.new ≡ H.origin h.old }
     ensures ok { OnOk result (W.failed w.new ≡ W.failed w.old) }
     ensures err { OnErr result (W.failed w.new ≡ one_more (W.failed w.old)) }
@@ -52,11 +57,14 @@ fn answer_line<H: History>(
     line: &[u8],
 ) -> Answer
     requires { StaysSized (H.origin h.old) }
-    ensures answers { Answers (H.origin h.old) (world_at breakpoints.old (H.place h.old) false) line.now (world_at breakpoints.new (H.place h.new) result.ended) (reply_text result.reply) }
+    ensures answers { AnswersLine (H.origin h.old)
+        (session_state_at breakpoints.old (H.place h.old) false) line.now
+        (session_state_at breakpoints.new (H.place h.new) result.ended)
+        (reply_text result.reply) }
     ensures origin { H.origin h.new ≡ H.origin h.old }
 {
     let command = Command::of(line);
-    match obey(alloc, h, breakpoints, command) {
+    match execute(alloc, h, breakpoints, command) {
         Ok(reply) => Answer {
             reply,
             ended: is_quit(command),
@@ -76,20 +84,22 @@ fn is_quit(command: Command) -> bool
 
 /// Obeys a command. Where memory is refused, nothing has changed.
 #[tactic(auto, unfolding(crate::specs::Answers::answer_of, crate::specs::Answers::may_be_refused))]
-fn obey<H: History>(
+fn execute<H: History>(
     alloc: Global,
     h: &mut H,
     breakpoints: &mut Breakpoints,
     command: Command,
 ) -> Result<Reply, AllocError>
     requires { StaysSized (H.origin h.old) }
-    ensures next { OnOk result ((answer_of (H.origin h.old) (world_at breakpoints.old (H.place h.old) false) command).next ≡ world_at breakpoints.new (H.place h.new) (is_quit command)) }
-    ensures text { IfOk result (λ reply. (answer_of (H.origin h.old) (world_at breakpoints.old (H.place h.old) false) command).text ≡ reply_text reply) }
-    ensures refused { OnErr result (may_be_refused (H.origin h.old) (world_at breakpoints.old (H.place h.old) false) command ≡ true) }
+    ensures next { OnOk result
+        ((answer_of (H.origin h.old) (session_state_at breakpoints.old (H.place h.old) false) command).next
+        ≡ session_state_at breakpoints.new (H.place h.new) (is_quit command)) }
+    ensures text { IfOk result (λ reply. (answer_of (H.origin h.old) (session_state_at breakpoints.old (H.place h.old) false) command).text ≡ reply_text reply) }
+    ensures refused { OnErr result (may_be_refused (H.origin h.old) (session_state_at breakpoints.old (H.place h.old) false) command ≡ true) }
     ensures err_place { OnErr result (H.place h.new ≡ H.place h.old) }
     ensures err_breakpoints { OnErr result (breakpoints.new ≡ breakpoints.old) }
     ensures origin { H.origin h.new ≡ H.origin h.old }
-    ensures fits { Fits (state_after (H.place h.old) (H.origin h.old)) command }
+    ensures fits { FitsWords (state_after (H.place h.old) (H.origin h.old)) command }
 {
     match command {
         Command::SetBreakpoint(slot) => set_breakpoint(breakpoints, slot),
@@ -151,5 +161,5 @@ fn clear_breakpoint(breakpoints: &mut Breakpoints, slot: u64) -> Reply
 fn is_slot(slot: u64) -> bool
     ensures { result ≡ is_slot slot }
 {
-    slot <= 65_535
+    slot <= u64::from(SLOT_LIMIT) - 1
 }

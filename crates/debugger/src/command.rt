@@ -127,8 +127,8 @@ fn shown_form(line: &[u8]) -> Command
     Command::Unknown
 }
 
-/// The bytes that are asked for, of whose address so many hex digits, with this number, stand before
-/// the line's last part.
+/// The bytes that are asked for, of whose address so many hex digits, with this number, stand
+/// before the line's last part.
 #[tactic(auto, using(crate::proofs::Addresses::power_fits))]
 fn address(digits: u32, so_far: u64, line: &[u8]) -> Command
     requires digits { digits ≤ 16 }

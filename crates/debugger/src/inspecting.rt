@@ -80,7 +80,8 @@ fn memory_lines(address: u64, bytes: &[u8]) -> AnswerText
     text
 }
 
-/// From an address on, this many bytes, if all of them stand in one region other than the constants.
+/// From an address on, this many bytes, if all of them stand in one region other than the
+/// constants.
 fn read_bytes<M: Regions>(memory: &M, address: u64, n: u64) -> Option<ArrayVec<u8, 256>>
     requires memory { HasRegions (M.bytes memory.now) }
     requires some { 0 < n }

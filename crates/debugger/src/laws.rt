@@ -3,11 +3,11 @@
 
 ghost use Rattle.debugger.specs.Breakpoints.{SetsAndClears};
 ghost use Rattle.debugger.specs.CommandLines.{CommandsHaveLines};
-ghost use Rattle.debugger.specs.Rows.{AnswersInLines, RowsStand, StaysInOrder, TellsAll};
+ghost use Rattle.debugger.specs.Rows.{AnswersInLines, SessionRowsHold, StaysInOrder, TellsAll};
 
 /// Sessions written out by hand.
 pub fn rows_stand()
-    ensures { RowsStand }
+    ensures { SessionRowsHold }
 {}
 
 /// A line is read as the command whose line it is, and as none where it is the line of none.

@@ -86,6 +86,6 @@ fn line_of(alloc: Global, code: &[u8], slot: u64) -> Result<(String, u64), Alloc
     match line_at(alloc, code, slot) {
         Ok(line) => Ok(line),
         Err(DisError::Memory) => Err(AllocError),
-        Err(DisError::D1 | DisError::D2) => unreachable!(),
+        Err(DisError::PartialSlot | DisError::CodeTooLong) => unreachable!(),
     }
 }

@@ -5,6 +5,7 @@ ghost use Rattle.debugger.specs.Answers.{can_go_back, can_go_on, can_go_to, in_r
 ghost use Rattle.debugger.specs.Replies.{Moves};
 
 use crate::answer_text::AnswerText;
+use crate::limits::{MOVE_LIMIT, PLACE_LIMIT};
 use crate::reply::Reply;
 use history::{Emulator, History};
 use std::alloc::AllocError;
@@ -82,13 +83,13 @@ fn move_to<H: History>(h: &mut H, k: u64) -> Result<Reply, AllocError>
 fn in_range(n: u64) -> bool
     ensures { result ≡ in_range n }
 {
-    1 <= n && n <= 1_000_000
+    1 <= n && n <= MOVE_LIMIT
 }
 
 fn can_go_on(k: u64, n: u64) -> bool
     ensures { result ≡ can_go_on k n }
 {
-    in_range(n) && k <= 1_000_000_000 - n
+    in_range(n) && k <= PLACE_LIMIT - n
 }
 
 fn can_go_back(k: u64, n: u64) -> bool
@@ -100,5 +101,5 @@ fn can_go_back(k: u64, n: u64) -> bool
 fn can_go_to(place: u64) -> bool
     ensures { result ≡ can_go_to place }
 {
-    place <= 1_000_000_000
+    place <= PLACE_LIMIT
 }

@@ -5,13 +5,10 @@ ghost use Rattle.debugger.specs.Replies.{reply_text};
 ghost use Rattle.debugger.specs.Verdict.{message_lines, verdict_line, verdict_text, verdict_word, word_line, word_lines};
 
 use crate::reply::Reply;
-use guest_memory::{Regions, Size};
+use guest_memory::{Regions, Size, VERDICT};
 use history::Emulator;
 use std::alloc::{AllocError, Global};
 use std::fmt::Write;
-
-/// The first address of the verdict region.
-const VERDICT: u64 = 0x3_0000_0000;
 
 /// Where the words of the validations begin in it, in bytes.
 const VALIDATIONS: u64 = 16;

@@ -17,9 +17,18 @@ none_left (byte ∷ bytes) e = absurd cc
 some_left : (code after : List ℕ) → length after < length code → code ≡ [] → ⊥
 some_left code after less e = grind arith
 
+-- what is behind the next statement
+pub record IsBehind (code after : List ℕ) : Type 0 where
+  pub is : after ≡ after_statement code
+  pub shorter : length after < length code
+
 -- whatever lists the rest, behind the text so far, lists the code; so it is after one more line
-pub goes : (code rest after out line joined longer more : List ℕ) (x : Statement) → ((t : List ℕ) → Listing rest t → Listing code (out ++ t)) → x ≡ statement_of rest → after ≡ after_statement rest → length after < length rest → line ≡ statement_text x → joined ≡ out ++ line → longer ≡ joined ++ 10 ∷ [] → Listing after more → Listing code (longer ++ more)
-goes code rest after out line joined longer more x so_far is at less printed first second later = grind (arith, append_assoc, placed, some_left)
+pub goes : (code rest after out longer more : List ℕ) → ((t : List ℕ) → Listing rest t → Listing code (out ++ t)) → IsBehind rest after
+    → longer ≡ (out ++ statement_text (statement_of rest)) ++ 10 ∷ [] → Listing after more → Listing code (longer ++ more)
+goes code rest after out longer more so_far behind line later =
+    let at = behind.is in
+    let less = behind.shorter in
+    grind (arith, append_assoc, placed, some_left)
 
 pub whole : (code rest out : List ℕ) → ((t : List ℕ) → Listing rest t → Listing code (out ++ t)) → rest ≡ [] → Listing code out
 whole code rest out so_far e = subst (λ t. Listing code t) (append-nil out) (so_far [] (none_left rest e))

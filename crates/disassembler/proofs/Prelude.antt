@@ -1,7 +1,20 @@
 -- The names that these proofs cite of the library, of the crates below and of the definitions here. Declares nothing.
-pub use Rattle.std.proofs.{Common.List, Common.None, Common.Option, Common.Some, Common.ℕ, Common.[], Common.ap, Common.append-nil, Common.append_assoc, Common.arith, Common.drop, Common.get_or, Common.length, Common.refl, Common.rules, Common.string_bytes, Common.subst, Common.suc, Common.sym, Common.take, Common.zero, Common.◌%◌, Common.◌++◌, Common.◌<◌, Common.◌∙◌, Common.◌∷◌, Common.◌≡◌, Common.◌≤◌, lemmas.Grind.common_steps}
-pub use Rattle.std.specs.{Int.from_be_bytes, Int.w64}
-pub use Rattle.byteorder.specs.{Endian.big_number, Endian.little_number}
-pub use Rattle.insn_codec.specs.{Laws.SlotsAreFilled, Spelling.more_bytes, Spelling.on_hand, Statements.Listing, Statements.Lists, Statements.after_statement, Statements.insn_or_slot, Statements.lines_text, Statements.statement_text, Statements.Lists.ended, Statements.Lists.place, declared.insn.Insn.Insn, declared.statement.Statement.Statement, declared.statement.Statement.TheVariants.Slot}
-unfoldable pub use Rattle.insn_codec.specs.{Candidate.arithmetic_at, Candidate.branch_at, Candidate.candidate_at, Candidate.jump_at, Candidate.memory_at, Candidate.wide_at, Lines.decimal, Lines.hex_digits, Spelled.spelled, Statements.statement_of}
-pub use Rattle.disassembler.specs.{Laws.OneListing}
+pub use Rattle.std.proofs.Common.{List, None, Option, Some, ℕ, [], ap, append-nil, append_assoc, arith, drop, get_or}
+pub use Rattle.std.proofs.Common.{length, refl, rules, string_bytes, subst, suc, sym, take, zero, ◌%◌, ◌++◌, ◌<◌, ◌∙◌}
+pub use Rattle.std.proofs.Common.{◌∷◌, ◌≡◌, ◌≤◌}
+pub use Rattle.std.proofs.lemmas.Grind.{common_steps}
+pub use Rattle.std.specs.Int.{from_be_bytes, w64}
+pub use Rattle.byteorder.specs.Endian.{big_number, little_number}
+pub use Rattle.insn_codec.specs.Laws.{SlotsAreFilled}
+pub use Rattle.insn_codec.specs.Spelling.{more_bytes, on_hand}
+pub use Rattle.insn_codec.specs.Statements.{Listing, Lists, after_statement, insn_or_slot, lines_text, statement_text}
+pub use Rattle.insn_codec.specs.Statements.Lists.{ended, place}
+pub use Rattle.insn_codec.specs.declared.insn.Insn.{Insn}
+pub use Rattle.insn_codec.specs.declared.statement.Statement.{Statement}
+pub use Rattle.insn_codec.specs.declared.statement.Statement.TheVariants.{Slot}
+unfoldable pub use Rattle.insn_codec.specs.Candidate.{arithmetic_at, branch_at, candidate_at, jump_at, memory_at}
+unfoldable pub use Rattle.insn_codec.specs.Candidate.{wide_at}
+unfoldable pub use Rattle.insn_codec.specs.Lines.{decimal, hex_digits}
+unfoldable pub use Rattle.insn_codec.specs.Spelled.{spelled}
+unfoldable pub use Rattle.insn_codec.specs.Statements.{statement_of}
+pub use Rattle.disassembler.specs.Laws.{OneListing}

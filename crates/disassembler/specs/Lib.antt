@@ -1,3 +1,4 @@
 pub mod Answers
+pub mod ErrorCodes
 pub mod Laws
 pub mod Rows

@@ -2,7 +2,7 @@ use Rattle.std.specs.Prelude.{◌≡◌, [], ◌∷◌, ◌++◌, codes, drop}
 use Rattle.insn_codec.specs.Statements.{Listing, statement_of, statement_text}
 
 -- listings of code, byte by byte
-pub record RowsStand : Type 0 where
+pub record ListingRowsHold : Type 0 where
   pub no_code : Listing [] []
   pub mov_and_exit : Listing (0xb7 ∷ 0 ∷ 0 ∷ 0 ∷ 5 ∷ 0 ∷ 0 ∷ 0 ∷ 0x95 ∷ 0 ∷ 0 ∷ 0 ∷ 0 ∷ 0 ∷ 0 ∷ 0 ∷ [])
       (codes "mov64 r0, 5" ++ 10 ∷ (codes "exit" ++ 10 ∷ []))

@@ -6,18 +6,35 @@ ghost use Rattle.disassembler.specs.declared.dis_error.DisError.TheVariants.{Mem
 use std::alloc::AllocError;
 use thiserror::Error;
 
-/// Why code has no listing, or no line of it could be had.
+/// Why code has no listing, and no line of one.
 #[derive(Clone, Copy, Debug, PartialEq, Eq, Error)]
 pub enum DisError {
-    /// The code is not a whole number of slots of 8 bytes.
+    /// The length of the code is not a multiple of 8 bytes, the length of a slot.
     #[error("the code is not a whole number of slots")]
-    D1,
+    PartialSlot,
     /// The code has more than 65,536 slots.
     #[error("the code has more than 65536 slots")]
-    D2,
-    /// The memory for the text could not be had.
+    CodeTooLong,
+    /// An allocation failed.
     #[error("out of memory")]
     Memory,
+}
+
+impl DisError {
+    ghost use Rattle.std.specs.Prelude.{◌≤◌, length};
+    ghost use Rattle.disassembler.specs.ErrorCodes.{dis_error_code};
+
+    /// The error's code: `D1` or `D2`, or `memory`.
+    pub fn code(&self) -> &'static str
+        ensures text { result.now ≡ dis_error_code self.now }
+        ensures length { length result.now ≤ 6 }
+    {
+        match self {
+            DisError::PartialSlot => "D1",
+            DisError::CodeTooLong => "D2",
+            DisError::Memory => "memory",
+        }
+    }
 }
 
 impl From<AllocError> for DisError {

@@ -1,6 +1,6 @@
 //! Laws of listings, each the clause of a function that does nothing.
 ghost use Rattle.disassembler.specs.Laws.{OneListing};
-ghost use Rattle.disassembler.specs.Rows.{RowsStand};
+ghost use Rattle.disassembler.specs.Rows.{ListingRowsHold};
 
 use insn_codec::slots_are_filled;
 
@@ -14,5 +14,5 @@ pub fn one_listing()
 
 /// Listings that were made by hand.
 pub fn rows_stand()
-    ensures { RowsStand }
+    ensures { ListingRowsHold }
 {}

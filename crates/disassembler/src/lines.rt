@@ -1,9 +1,10 @@
 //! Code as lines of text.
 ghost use Rattle.std.specs.Prelude.{◌≡◌, ◌<◌, ◌/◌, length, MatchResult, None};
-ghost use Rattle.disassembler.specs.Answers.{Fails, GivesLine, GivesListing, refusal_of};
+ghost use Rattle.disassembler.specs.Answers.{ListingFails, GivesLine, GivesListing, refusal_of};
 
 use crate::dis_error::DisError;
 use crate::front::{first_statement, statement_at};
+use insn_codec::SLOT_LIMIT;
 use std::alloc::Global;
 
 /// The listing of the code: the line of each statement from the front on, each ended by a line
@@ -44,13 +45,13 @@ pub fn line_at(alloc: Global, code: &[u8], slot: u64) -> Result<(String, u64), D
 
 /// Whether the code has a listing.
 fn judge(code: &[u8]) -> Result<(), DisError>
-    ensures { MatchResult result (λ _. refusal_of code.now ≡ None) (Fails code.now) }
+    ensures { MatchResult result (λ _. refusal_of code.now ≡ None) (ListingFails code.now) }
 {
     if code.len() % 8 != 0 {
-        return Err(DisError::D1);
+        return Err(DisError::PartialSlot);
     }
-    if code.len() / 8 > 65_536 {
-        return Err(DisError::D2);
+    if code.len() / 8 > SLOT_LIMIT as usize {
+        return Err(DisError::CodeTooLong);
     }
     Ok(())
 }

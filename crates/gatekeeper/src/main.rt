@@ -1,4 +1,5 @@
-//! The program `gatekeeper`: `gatekeeper_runner` on the words, the files and the streams of the system.
+//! The program `gatekeeper`: `gatekeeper_runner` on the words, the files and the streams of the
+//! system.
 #![tactic(auto)]
 
 use gatekeeper_runner::exit_code;

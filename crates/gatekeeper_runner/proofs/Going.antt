@@ -1,36 +1,26 @@
 -- How the answers go on.
-use Rattle.gatekeeper_runner.proofs.Prelude.{◌≡◌, ℕ, ◌+◌, ◌<◌, ◌≤◌, List, [], ◌∷◌, ◌++◌, length, length-drop, take, drop, Option, Some, None, refl, sym, ap, ◌∙◌, inl, inr, subst, arith, append_assoc, append-nil, Result, Ok, Err, IfErr, OnErr, OnOk, ◌⊎◌, take-append-drop, AddsBytes, KeepsBytes, one_more, FailsByResult, GivesByte, cut, input_lines, readable, with_rest, SessionError, S2, Pieces, cut-none, cut-feed, cut-plain, input_lines-ended, one_within, drop-one, readable-within, readable-end, OneImage, Answers, decided, no_memory, passed_over, too_long, Terms, Answered, AnsweredPart, AnswersEach, ByResult, Going, ToldPart, ToldSome}
+use Rattle.gatekeeper_runner.proofs.Prelude.{◌≡◌, ℕ, ◌+◌, ◌<◌, ◌≤◌, List, [], ◌∷◌, ◌++◌, length, length-drop, take, drop, Option, Some, refl, sym, ap, ◌∙◌, inl, inr, arith, append_assoc, append-nil, Result, Ok, Err, IfErr, OnErr, OnOk, ◌⊎◌, take-append-drop, AddsBytes, KeepsBytes, GivesByte, cut, input_lines, readable, with_rest, SessionError, WriteFailed, Pieces, cut-none, cut-feed, cut-plain, input_lines-ended, one_within, drop-one, readable-within, readable-end, OneImage, AnswersReviewLine, decided, no_memory, passed_over, too_long, Gatekeeper, Answered, AnsweredPart, AnswersEach, AnswersByResult, AnswersSoFar, AnsweredPartOfLines, AnsweredSomeLines}
 use Rattle.gatekeeper_runner.specs.Told as told
 
-pub end_read : (input : List ℕ) (i : ℕ) (left after : Option (List ℕ)) → left ≡ Some (drop i input)
-    → ((bytes : List ℕ) → left ≡ Some bytes → GivesByte bytes after None) → (drop i input ≡ []) × (after ≡ Some (drop i input))
-end_read input i left after e gives = let g = gives (drop i input) e in (g.0, g.1 ∙ ap Some (sym g.0))
-
--- the failures of the reads, and of the writes at the last line
-pub fails_rest : (reads reads_after writes writes_before writes_after : ℕ) (result : Result (Unit {0}) SessionError) → reads_after ≡ reads → writes_before ≡ writes → OnOk result (writes_after ≡ writes_before) → OnErr result (writes_after ≡ one_more writes_before) → IfErr result (λ e. e ≡ S2) → FailsByResult reads reads_after writes writes_after result
-fails_rest reads reads_after writes writes_before writes_after (Ok u) read wrote ok err cause = (read, ok ∙ wrote)
-fails_rest reads reads_after writes writes_before writes_after (Err e) read wrote ok err cause =
-    subst (λ (y : SessionError). FailsByResult reads reads_after writes writes_after (Err y)) (sym cause) (read, err ∙ ap one_more wrote)
-
 -- nothing is answered to an empty line
-pub no_answer : (t : Terms) (line text : List ℕ) → line ≡ [] → Answers OneImage t line text → text ≡ []
+pub no_answer : (t : Gatekeeper) (line text : List ℕ) → line ≡ [] → AnswersReviewLine OneImage t line text → text ≡ []
 no_answer t line text none (passed_over is) = refl
 no_answer t line text none (too_long long) = absurd (let zero = ap length none in omega (arith, long, zero))
 no_answer t line text none (decided some short why says) = absurd (let zero = ap length none in omega (arith, some, zero))
 no_answer t line text none (no_memory some) = absurd (let zero = ap length none in omega (arith, some, zero))
 
 -- the answers to ended lines and to the rest behind them
-with_last : (t : Terms) (lines : List (List ℕ)) (rest text answer : List ℕ) → AnswersEach OneImage t lines text → Answers OneImage t rest answer
+with_last : (t : Gatekeeper) (lines : List (List ℕ)) (rest text answer : List ℕ) → AnswersEach OneImage t lines text → AnswersReviewLine OneImage t rest answer
     → AnswersEach OneImage t (with_rest lines rest) (text ++ answer)
 with_last t lines [] text answer each last = rw (no_answer t [] answer refl last, append-nil text) each
 with_last t lines (b ∷ bs) text answer each last = told.more each last
 
 -- a rest that has an answer is a line
-is_line : (t : Terms) (lines : List (List ℕ)) (rest answer : List ℕ) (n : ℕ) → Answers OneImage t rest answer → n < length answer → lines ++ rest ∷ [] ≡ with_rest lines rest
+is_line : (t : Gatekeeper) (lines : List (List ℕ)) (rest answer : List ℕ) (n : ℕ) → AnswersReviewLine OneImage t rest answer → n < length answer → lines ++ rest ∷ [] ≡ with_rest lines rest
 is_line t lines [] answer n last some = absurd (let zero = ap length (no_answer t [] answer refl last) in omega (arith, some, zero))
 is_line t lines (b ∷ bs) answer n last some = refl
 
-pub going_start : (t : Terms) (input before : List ℕ) (left written : Option (List ℕ)) → left ≡ Some input → written ≡ Some before → Going OneImage t input before 0 left written
+pub going_start : (t : Gatekeeper) (input before : List ℕ) (left written : Option (List ℕ)) → left ≡ Some input → written ≡ Some before → AnswersSoFar OneImage t input before 0 left written
 going_start t input before left written l w = record {
   text = [];
   lines = rw cut-none told.none;
@@ -39,12 +29,12 @@ going_start t input before left written l w = record {
   within = omega arith;
 }
 
-module _ (t : Terms) (input before : List ℕ) (i : ℕ) (left written : Option (List ℕ)) (g : Going OneImage t input before i left written) (after : Option (List ℕ)) where
+module _ (t : Gatekeeper) (input before : List ℕ) (i : ℕ) (left written : Option (List ℕ)) (g : AnswersSoFar OneImage t input before i left written) (after : Option (List ℕ)) where
   written-more : (text : List ℕ) (new : Option (List ℕ)) → AddsBytes written new text → new ≡ Some (before ++ (g.text ++ text))
   written-more text new adds = adds (before ++ g.text) g.written_is ∙ ap Some (append_assoc before g.text text)
 
   -- a read that failed
-  pub told_some : (limit : ℕ) → KeepsBytes left after → readable input ≡ take limit input → i < limit → ToldSome OneImage t input before after written
+  pub told_some : (limit : ℕ) → KeepsBytes left after → readable input ≡ take limit input → i < limit → AnsweredSomeLines OneImage t input before after written
   told_some limit kept all below = record {
     read = i;
     within = readable-within input limit i all (omega (arith, below)) g.within;
@@ -67,7 +57,7 @@ module _ (t : Terms) (input before : List ℕ) (i : ℕ) (left written : Option 
       pub longer : cut (take (i + 1) input) ≡ ((cut (take i input)).0, (cut (take i input)).1 ++ b ∷ [])
       longer = cut-plain input i b first plain
 
-      pub going_byte : Going OneImage t input before (i + 1) after written
+      pub going_byte : AnswersSoFar OneImage t input before (i + 1) after written
       going_byte = record { text = g.text; lines = rw longer g.lines; left_is = rest_left; written_is = g.written_is; within = one_within input i b first }
 
     -- a line's end
@@ -75,7 +65,7 @@ module _ (t : Terms) (input before : List ℕ) (i : ℕ) (left written : Option 
       pub begun : cut (take (i + 1) input) ≡ ((cut (take i input)).0 ++ (cut (take i input)).1 ∷ [], [])
       begun = cut-feed input i b first feed
 
-      pub going_line : (new : Option (List ℕ)) → Answered OneImage t (cut (take i input)).1 written new → Going OneImage t input before (i + 1) after new
+      pub going_line : (new : Option (List ℕ)) → Answered OneImage t (cut (take i input)).1 written new → AnswersSoFar OneImage t input before (i + 1) after new
       going_line new a = record {
         text = g.text ++ a.text;
         lines = rw begun (told.more g.lines a.answers);
@@ -85,7 +75,7 @@ module _ (t : Terms) (input before : List ℕ) (i : ℕ) (left written : Option 
       }
 
   -- an answer that was written in part, when so many bytes were read
-  part_told : (read : ℕ) (new : Option (List ℕ)) → AnsweredPart OneImage t (cut (take i input)).1 written new → (cut (take i input)).0 ++ (cut (take i input)).1 ∷ [] ≡ input_lines (take read input) → after ≡ Some (drop read input) → read ≤ length (readable input) → ((cut (take read input)).1 ≡ []) ⊎ (read ≡ length (readable input)) → ToldPart OneImage t input before after new
+  part_told : (read : ℕ) (new : Option (List ℕ)) → AnsweredPart OneImage t (cut (take i input)).1 written new → (cut (take i input)).0 ++ (cut (take i input)).1 ∷ [] ≡ input_lines (take read input) → after ≡ Some (drop read input) → read ≤ length (readable input) → ((cut (take read input)).1 ≡ []) ⊎ (read ≡ length (readable input)) → AnsweredPartOfLines OneImage t input before after new
   part_told read new a all gone inside ends = record {
     read = read;
     within = inside;
@@ -104,14 +94,14 @@ module _ (t : Terms) (input before : List ℕ) (i : ℕ) (left written : Option 
   }
 
   -- at a line's end
-  pub told_part : (b : ℕ) → ((bytes : List ℕ) → left ≡ Some bytes → GivesByte bytes after (Some b)) → b ≡ 10 → (new : Option (List ℕ)) (limit : ℕ) → AnsweredPart OneImage t (cut (take i input)).1 written new → readable input ≡ take limit input → i < limit → ToldPart OneImage t input before after new
+  pub told_part : (b : ℕ) → ((bytes : List ℕ) → left ≡ Some bytes → GivesByte bytes after (Some b)) → b ≡ 10 → (new : Option (List ℕ)) (limit : ℕ) → AnsweredPart OneImage t (cut (take i input)).1 written new → readable input ≡ take limit input → i < limit → AnsweredPartOfLines OneImage t input before after new
   told_part b gives feed new limit a whole below =
       let c = begun b gives feed in
       let all = input_lines-ended (take (i + 1) input) (ap (λ (p : Pieces). take 65 p.1) c) ∙ ap (λ (p : Pieces). p.0) c in
       part_told (i + 1) new a (sym all) (rest_left b gives) (readable-within input limit (i + 1) whole (omega (arith, below)) (one_within input i b (first b gives))) (inl (ap (λ (p : Pieces). p.1) c))
 
   -- where all is read, and the rest behind the last line feed is answered
-  pub told_rest : (new : Option (List ℕ)) (result : Result (Unit {0}) SessionError) → after ≡ Some (drop i input) → readable input ≡ take i input → OnOk result (Answered OneImage t (cut (take i input)).1 written new) → OnErr result (AnsweredPart OneImage t (cut (take i input)).1 written new) → IfErr result (λ e. e ≡ S2) → ByResult OneImage t input before after new result
+  pub told_rest : (new : Option (List ℕ)) (result : Result (Unit {0}) SessionError) → after ≡ Some (drop i input) → readable input ≡ take i input → OnOk result (Answered OneImage t (cut (take i input)).1 written new) → OnErr result (AnsweredPart OneImage t (cut (take i input)).1 written new) → IfErr result (λ e. e ≡ WriteFailed) → AnswersByResult OneImage t input before after new result
   told_rest new (Ok u) gone all whole part cause = record {
     all_left = gone ∙ ap (λ (n : ℕ). Some (drop n input)) (let end = readable-end input i g.within all in omega (arith, end));
     text = g.text ++ whole.text;

@@ -1,25 +1,25 @@
 -- The answer to one line.
-use Rattle.gatekeeper_runner.proofs.Prelude.{◌≡◌, ℕ, suc, arith, length-take, ◌<◌, ◌≤◌, Bool, true, false, List, length, take, Option, None, sym, ap, subst, Result, Ok, Err, true≢false, IfOk, IsErr, nat_lt, ltb-true, AddsBytes, response_text, OneImage, document_of, Said, RunError, N2, Memory, Answers, IsKept, decided, line_of, longest_line, refusal_text, too_long, uid_shown, SayTogether, Terms, AnsweredPart}
+use Rattle.gatekeeper_runner.proofs.Prelude.{◌≡◌, ℕ, suc, arith, length-take, ◌<◌, ◌≤◌, Bool, true, false, List, length, take, Option, None, sym, ap, subst, Result, Ok, Err, true≢false, IfOk, IsErr, nat_lt, ltb-true, AddsBytes, response_text, OneImage, document_of, Decision, RunError, ReviewRefused, Memory, AnswersReviewLine, IsKeptOfLine, decided, line_of, longest_line, refusal_text, too_long, uid_shown, SayTogether, Gatekeeper, AnsweredPart}
 
-module _ (t : Terms) where
-  pub all_said : (line text : List ℕ) (said : Said) → 0 < length line → length line ≤ longest_line → SayTogether OneImage t line (Ok said)
-      → text ≡ response_text said.objection said.uid → Answers OneImage t line (line_of text)
-  all_said line text said some short says is = subst (λ (x : List ℕ). Answers OneImage t line (line_of x)) (sym is) (decided {result = Ok said} some short (λ e. cc) says)
+module _ (t : Gatekeeper) where
+  pub all_said : (line text : List ℕ) (said : Decision) → 0 < length line → length line ≤ longest_line → SayTogether OneImage t line (Ok said)
+      → text ≡ response_text said.rejection said.uid → AnswersReviewLine OneImage t line (line_of text)
+  all_said line text said some short says is = subst (λ (x : List ℕ). AnswersReviewLine OneImage t line (line_of x)) (sym is) (decided {result = Ok said} some short (λ e. cc) says)
 
   pub one_refused : (line text : List ℕ) (e : RunError) → 0 < length line → length line ≤ longest_line → SayTogether OneImage t line (Err e)
-      → (e ≡ Memory → ⊥) → text ≡ refusal_text e (uid_shown (document_of line)) → Answers OneImage t line (line_of text)
-  one_refused line text e some short says why is = subst (λ (x : List ℕ). Answers OneImage t line (line_of x)) (sym is) (decided {result = Err e} some short (λ same. why (cc)) says)
+      → (e ≡ Memory → ⊥) → text ≡ refusal_text e (uid_shown (document_of line)) → AnswersReviewLine OneImage t line (line_of text)
+  one_refused line text e some short says why is = subst (λ (x : List ℕ). AnswersReviewLine OneImage t line (line_of x)) (sym is) (decided {result = Err e} some short (λ same. why (cc)) says)
 
-  pub was_long : (lacks : Bool) (kept line text : List ℕ) → lacks ≡ false → IsKept lacks kept line → true ≡ nat_lt longest_line (length kept)
-      → text ≡ line_of (refusal_text N2 None) → Answers OneImage t line text
+  pub was_long : (lacks : Bool) (kept line text : List ℕ) → lacks ≡ false → IsKeptOfLine lacks kept line → true ≡ nat_lt longest_line (length kept)
+      → text ≡ line_of (refusal_text ReviewRefused None) → AnswersReviewLine OneImage t line text
   was_long true kept line text held keeps long is = absurd (cc)
   was_long false kept line text held keeps long is =
       let many = ap length keeps in
       let most = length-take (suc longest_line) line in
       let above = ltb-true longest_line (length kept) (sym long) in
-      subst (Answers OneImage t line) (sym is) (too_long (omega (arith, many, above, most)))
+      subst (AnswersReviewLine OneImage t line) (sym is) (too_long (omega (arith, many, above, most)))
 
-pub written_part : (t : Terms) (line text : List ℕ) (old new : Option (List ℕ)) → Answers OneImage t line text
+pub written_part : (t : Gatekeeper) (line text : List ℕ) (old new : Option (List ℕ)) → AnswersReviewLine OneImage t line text
     → (n : ℕ) × (n < length text) × AddsBytes old new (take n text) → AnsweredPart OneImage t line old new
 written_part t line text old new answers part = record { text = text; answers = answers; many = part.0; is_cut = part.1; written = part.2 }
 

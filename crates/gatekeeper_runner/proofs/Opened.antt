@@ -1,6 +1,6 @@
 -- The policies, opened one after the other.
-use Rattle.gatekeeper_runner.proofs.Prelude.{◌≡◌, ℕ, suc, ◌+◌, ◌<◌, List, [], ◌∷◌, ◌++◌, drop, length, map, take, Option, Ok, Err, String, string_bytes, sym, ap, ◌∙◌, get_or, Global, map-append, take_more, split_at, Text, CompilesDocument, IsPolicy, FileSystem, IsReading, policy_refusal_of, CompiledPolicy, PolicyRefusal, Refusal, IsUnopened, OneUnopened, Opens, OpensGate, refused, AreGates, IsGateOf}
-use Rattle.review_runner.specs.declared.refusals.policy_refusal.PolicyRefusal.TheVariants.{Memory}
+use Rattle.gatekeeper_runner.proofs.Prelude.{◌≡◌, ℕ, suc, ◌+◌, ◌<◌, List, [], ◌∷◌, ◌++◌, drop, length, map, take, Option, Ok, Err, String, string_bytes, sym, ap, ◌∙◌, get_or, Global, map-append, take_more, split_at, Text, CompilesDocument, IsPolicy, FileSystem, IsReading, policy_refusal_of, PolicyAndImage, PolicyRefusal, Refusal, IsUnopened, OneUnopened, Opens, OpensGate, refused, AreGates, IsGateOf}
+use Rattle.admission.specs.declared.policy_refusal.PolicyRefusal.TheVariants.{Memory}
 use Rattle.gatekeeper_runner.specs.Starting.{next, no_memory}
 
 -- why a policy that was read gives no gate
@@ -9,26 +9,26 @@ pub unopened_by : (known : Option FileSystem) (name : Text) (document : List ℕ
 unopened_by known name document Memory reading why = no_memory
 unopened_by known name document e reading why = refused {e = e} reading why
 
-is_policy : (document : List ℕ) (gate : CompiledPolicy) → IsGateOf document gate → IsPolicy document
+is_policy : (document : List ℕ) (gate : PolicyAndImage) → IsGateOf document gate → IsPolicy document
 is_policy document gate of = record { rules = gate.policy; is_said = of.0.0; trees = of.0.1.trees; compiles = of.0.1.compiles }
 
-gates_more : (documents : List (List ℕ)) (gates : List CompiledPolicy) (document : List ℕ) (gate : CompiledPolicy) → AreGates documents gates
+gates_more : (documents : List (List ℕ)) (gates : List PolicyAndImage) (document : List ℕ) (gate : PolicyAndImage) → AreGates documents gates
     → IsGateOf document gate → AreGates (documents ++ document ∷ []) (gates ++ gate ∷ [])
 gates_more [] [] document gate are of = (of, tt)
 gates_more (d ∷ ds) (g ∷ gs) document gate are of = (are.0, gates_more ds gs document gate are.1 of)
 gates_more documents gates document gate are of = absurd are
 
 -- the policies in the files of these names are opened
-abbrev pub Opened : Option FileSystem → List Text → List CompiledPolicy → Type 0
+abbrev pub Opened : Option FileSystem → List Text → List PolicyAndImage → Type 0
 Opened known names gates = (documents : List (List ℕ)) × AreGates documents gates × Opens known names documents
 
 -- the loop over the words stands at a word, and the policies in the files of those before it are opened
-module _ (known : Option FileSystem) (words : List (String Global)) (i : ℕ) (word : String Global) (gates : List CompiledPolicy) (within : i < length words) (is : word ≡ get_or words i word)
+module _ (known : Option FileSystem) (words : List (String Global)) (i : ℕ) (word : String Global) (gates : List PolicyAndImage) (within : i < length words) (is : word ≡ get_or words i word)
     (opened : Opened known (map string_bytes (take i words)) gates) where
   one_more : take (i + 1) words ≡ take i words ++ word ∷ []
   one_more = take_more words i word within ∙ ap (λ (w : String Global). take i words ++ w ∷ []) (sym is)
 
-  pub opened_more : (more : List CompiledPolicy) (gate : CompiledPolicy) → OpensGate known (string_bytes word) (Ok gate) → more ≡ gates ++ gate ∷ []
+  pub opened_more : (more : List PolicyAndImage) (gate : PolicyAndImage) → OpensGate known (string_bytes word) (Ok gate) → more ≡ gates ++ gate ∷ []
       → Opened known (map string_bytes (take (i + 1) words)) more
   opened_more more gate opens grown = (
     opened.0 ++ opens.0 ∷ [],

@@ -1,16 +1,64 @@
 -- The names that these proofs cite of the library, of the crates below and of the definitions here. Declares nothing.
-pub use Rattle.std.proofs.{Common.Bool, Common.Err, Common.IfErr, Common.IfOk, Common.IsErr, Common.List, Common.None, Common.Ok, Common.OnErr, Common.OnOk, Common.Option, Common.Result, Common.Some, Common.String, Common.ℕ, Common.[], Common.ap, Common.append-nil, Common.append_assoc, Common.arith, Common.codes, Common.drop, Common.false, Common.get_or, Common.inl, Common.inr, Common.length, Common.length-drop, Common.length-take, Common.map, Common.nat_lt, Common.option_map, Common.refl, Common.string_bytes, Common.subst, Common.suc, Common.sym, Common.take, Common.true, Common.true≢false, Common.unwrap_or, Common.zero, Common.◌++◌, Common.◌+◌, Common.◌<◌, Common.◌∙◌, Common.◌∷◌, Common.◌≡◌, Common.◌≢◌, Common.◌≤◌, Common.◌⊎◌, Math.Seq.split_at, lemmas.Bool.ltb-false, lemmas.Bool.ltb-true, lemmas.List.map-append, lemmas.List.take-append-drop, lemmas.List.take_all, lemmas.List.take_more, lemmas.Result.IfOk-weaker, lemmas.Result.on_err_weaker, lemmas.Result.on_ok_weaker}
-pub use Rattle.std.specs.{declared.alloc.Global.Global}
-pub use Rattle.clap.proofs.{WalkLemmas.raw_values-rows}
-unfoldable pub use Rattle.clap.proofs.{OnLiterals.clap_on_literals}
-pub use Rattle.clap.specs.{Words.App, Words.FailsBy, Words.Text, Words.app_of, Words.fault_of, Words.found_of, Words.is_simple, Words.is_simple_and_free, Words.matches_of, Words.new_app, Words.with_rule}
-pub use Rattle.debugger.proofs.{Cut.Pieces, Cut.cut-feed, Cut.cut-none, Cut.cut-plain, Cut.drop-one, Cut.input_lines-ended, Cut.one_within, Cut.readable-end, Cut.readable-is, Cut.readable-within, Cut.take-end}
-pub use Rattle.debugger.specs.{Byte.GivesByte, Session.input_lines, Session.with_rest, Streams.AddsBytes, Streams.KeepsBytes, Streams.one_more, Told.FailsByResult, declared.session_error.SessionError.SessionError, declared.session_error.SessionError.TheVariants.S2}
-unfoldable pub use Rattle.debugger.specs.{Session.cut, Session.readable}
-pub use Rattle.policy_glue.specs.{Objections.objection_view, OneImage.OneImage}
-unfoldable pub use Rattle.policy_glue.specs.{Documents.document_of, Evaluation.decision_of, Objections.response_text}
-pub use Rattle.review_runner.proofs.{Decided.refused_so, Decided.reviews_refused, OneReview.cases_once, Results.is_err, Standing.of_one}
-pub use Rattle.review_runner.specs.{Deciding.Answer, Deciding.CompilesDocument, Deciding.Documents, Deciding.IsPolicy, Deciding.answer_of, Deciding.decision, FileSystem.FileSystem, FileSystem.IsReading, OneAnswer.HasOneAnswer, OneAnswer.IsAnswerTo, Refusals.order_refusal, Refusals.policy_refusal_of, Saying.IsSaid, Saying.Said, Saying.Says, Saying.said_of, Saying.said_value, Standing.StandsBy, declared.refusals.order_error.OrderError.OrderError, declared.refusals.order_error.OrderError.TheVariants.U1, declared.refusals.policy_refusal.PolicyRefusal.PolicyRefusal, declared.refusals.refusal.Refusal.Refusal, declared.refusals.run_error.RunError.RunError, declared.refusals.run_error.RunError.TheVariants.Memory, declared.refusals.run_error.RunError.TheVariants.N2, declared.reviews.compiled_policy.CompiledPolicy.CompiledPolicy}
-unfoldable pub use Rattle.review_runner.specs.{Commands.option_rule, Commands.required_option_rule, Commands.steps_rule, Commands.with_documents, Reviews.uid_in}
-pub use Rattle.gatekeeper_runner.specs.{Lines.Answers, Lines.IsKept, Lines.Keeps, Lines.answer_text, Lines.decided, Lines.line_of, Lines.no_memory, Lines.no_memory_text, Lines.passed_over, Lines.too_long, Lines.uid_shown, Orders.Ordered, Orders.order_view, Program.Asks, Program.AsksNothing, Program.answers, Program.no_words, Program.not_started, Program.not_taken, Program.nothing, SameAnswers.LinesHaveOneAnswer, Starting.GatesFrom, Starting.IsUnopened, Starting.OneUnopened, Starting.Opens, Starting.OpensGate, Starting.no_namespace, Starting.no_params, Starting.no_policy, Starting.ready, Starting.refused, Starting.unread, Together.AllSay, Together.AreGates, Together.IsGateOf, Together.OneRefuses, Together.SayTogether, Together.SaysAlone, Together.Terms, Together.next, Together.none, Together.terms_of, Together.under, Together.unsaid, Together.with_next, Told.Answered, Told.AnsweredPart, Told.AnswersEach, Told.ByResult, Told.Going, Told.ToldAll, Told.ToldPart, Told.ToldSome, declared.order.Order.Order}
-unfoldable pub use Rattle.gatekeeper_runner.specs.{Lines.longest_line, Lines.refusal_text, Orders.entered, Orders.faults, Orders.gatekeeper_app, Orders.policies_rule}
+pub use Rattle.std.proofs.Common.{Bool, Err, IfErr, IfOk, IsErr, List, None, Ok, OnErr, OnOk, Option, Result, Some}
+pub use Rattle.std.proofs.Common.{String, ℕ, [], ap, append-nil, append_assoc, arith, codes, drop, false, get_or, inl}
+pub use Rattle.std.proofs.Common.{inr, length, length-drop, length-take, map, nat_lt, option_map, refl, string_bytes}
+pub use Rattle.std.proofs.Common.{subst, suc, sym, take, true, true≢false, unwrap_or, zero, ◌++◌, ◌+◌, ◌<◌, ◌∙◌, ◌∷◌}
+pub use Rattle.std.proofs.Common.{◌≡◌, ◌≢◌, ◌≤◌, ◌⊎◌}
+pub use Rattle.std.proofs.Math.Seq.{split_at}
+pub use Rattle.std.proofs.lemmas.Bool.{ltb-false, ltb-true}
+pub use Rattle.std.proofs.lemmas.List.{map-append, take-append-drop, take_all, take_more}
+pub use Rattle.std.proofs.lemmas.Result.{IfOk-weaker, on_err_weaker, on_ok_weaker}
+pub use Rattle.std.specs.declared.alloc.Global.{Global}
+pub use Rattle.clap.proofs.WalkLemmas.{raw_values-rows}
+unfoldable pub use Rattle.clap.proofs.OnLiterals.{clap_on_literals}
+pub use Rattle.clap.specs.Words.{App, FailsBy, Text, app_of, fault_of, found_of, is_simple, is_simple_and_free}
+pub use Rattle.clap.specs.Words.{matches_of, new_app, with_rule}
+pub use Rattle.streams.proofs.Cut.{Pieces, cut-feed, cut-none, cut-plain, drop-one, input_lines-ended, one_within}
+pub use Rattle.streams.proofs.Cut.{readable-end, readable-is, readable-within, take-end}
+pub use Rattle.streams.specs.Byte.{GivesByte}
+pub use Rattle.streams.specs.Lines.{input_lines, with_rest}
+pub use Rattle.streams.specs.Streams.{AddsBytes, KeepsBytes, one_more}
+pub use Rattle.streams.specs.Failures.{FailsByResult}
+pub use Rattle.streams.specs.declared.session_error.SessionError.{SessionError}
+pub use Rattle.streams.specs.declared.session_error.SessionError.TheVariants.{WriteFailed}
+unfoldable pub use Rattle.streams.specs.Lines.{cut, readable}
+pub use Rattle.policy_glue.specs.Rejections.{rejection_view}
+pub use Rattle.policy_glue.specs.OneImage.{OneImage}
+unfoldable pub use Rattle.policy_glue.specs.Documents.{document_of}
+unfoldable pub use Rattle.policy_glue.specs.Evaluation.{decision_of}
+unfoldable pub use Rattle.policy_glue.specs.Rejections.{response_text}
+pub use Rattle.admission.proofs.Decided.{refused_so}
+pub use Rattle.admission.proofs.OneReview.{cases_once}
+pub use Rattle.admission.proofs.Results.{is_err}
+pub use Rattle.admission.proofs.Standing.{of_one}
+pub use Rattle.admission.specs.Deciding.{Reply, CompilesDocument, Documents, IsPolicy, answer_of, decision}
+pub use Rattle.host.specs.FileSystem.{FileSystem, IsReading}
+pub use Rattle.admission.specs.OneAnswer.{ReviewHasOneResult, IsAnswerTo}
+pub use Rattle.cli.specs.Refusals.{order_refusal, policy_refusal_of}
+pub use Rattle.admission.specs.Saying.{IsSaid, Decision, DecidesReview, said_of, said_value}
+pub use Rattle.admission.specs.Standing.{RunAgrees}
+pub use Rattle.host.specs.declared.order_error.OrderError.{OrderError}
+pub use Rattle.host.specs.declared.order_error.OrderError.TheVariants.{InvalidArguments}
+pub use Rattle.admission.specs.declared.policy_refusal.PolicyRefusal.{PolicyRefusal}
+pub use Rattle.cli.specs.declared.refusal.Refusal.{Refusal}
+pub use Rattle.cli.specs.Ending.{no_words}
+pub use Rattle.admission.specs.declared.run_error.RunError.{RunError}
+pub use Rattle.admission.specs.declared.run_error.RunError.TheVariants.{Memory, ReviewRefused}
+pub use Rattle.admission.specs.declared.policy_and_image.PolicyAndImage.{PolicyAndImage}
+unfoldable pub use Rattle.cli.specs.Arguments.{option_rule, required_option_rule, steps_rule, with_documents}
+unfoldable pub use Rattle.admission.specs.Reviews.{uid_in}
+pub use Rattle.gatekeeper_runner.specs.Lines.{AnswersReviewLine, IsKeptOfLine, KeepsLine, answer_text, decided}
+pub use Rattle.gatekeeper_runner.specs.Lines.{line_of, no_memory, no_memory_text, passed_over, too_long, uid_shown}
+pub use Rattle.gatekeeper_runner.specs.Orders.{GatekeeperOrderReturns, order_view}
+pub use Rattle.gatekeeper_runner.specs.Program.{AsksGatekeeper, answers, not_started}
+pub use Rattle.gatekeeper_runner.specs.Program.{nothing}
+pub use Rattle.gatekeeper_runner.specs.SameAnswers.{LinesHaveOneAnswer}
+pub use Rattle.gatekeeper_runner.specs.Starting.{GatesFrom, IsUnopened, OneUnopened, Opens, OpensGate, no_namespace}
+pub use Rattle.gatekeeper_runner.specs.Starting.{no_params, no_policy, ready, refused, unread}
+pub use Rattle.gatekeeper_runner.specs.Together.{AllSay, AreGates, IsGateOf, OneRefuses, SayTogether, SaysAlone}
+pub use Rattle.gatekeeper_runner.specs.Together.{Gatekeeper, next, none, gatekeeper_of, under, no_decision, with_next}
+pub use Rattle.gatekeeper_runner.specs.Told.{Answered, AnsweredPart, AnswersEach, AnswersByResult, AnswersSoFar}
+pub use Rattle.gatekeeper_runner.specs.Told.{AnsweredAllLines, AnsweredPartOfLines, AnsweredSomeLines}
+pub use Rattle.gatekeeper_runner.specs.declared.order.Order.{Order}
+unfoldable pub use Rattle.gatekeeper_runner.specs.Lines.{longest_line, refusal_text}
+unfoldable pub use Rattle.gatekeeper_runner.specs.Orders.{entered, faults, gatekeeper_app, policies_rule}

@@ -1,23 +1,23 @@
 -- A policy says one thing of a review.
-use Rattle.gatekeeper_runner.proofs.Prelude.{◌≡◌, ◌≢◌, ℕ, Result, Ok, Err, refl, sym, ap, ◌∙◌, decision_of, OneImage, Answer, Documents, answer_of, decision, HasOneAnswer, IsAnswerTo, uid_in, IsSaid, Said, Says, said_of, StandsBy, RunError, Memory, cases_once, refused_so, reviews_refused}
+use Rattle.gatekeeper_runner.proofs.Prelude.{◌≡◌, ◌≢◌, ℕ, Result, Ok, Err, refl, sym, ap, ◌∙◌, decision_of, OneImage, Reply, Documents, answer_of, decision, ReviewHasOneResult, IsAnswerTo, uid_in, IsSaid, Decision, DecidesReview, said_of, RunAgrees, RunError, Memory, cases_once, refused_so}
 use Rattle.policy_glue.specs.OneAnswer as policy
 
 -- memory was not wanted
-said_cause : (r : Result Said RunError) (e : RunError) → r ≡ Err e → r ≢ Err Memory → e ≢ Memory
+said_cause : (r : Result Decision RunError) (e : RunError) → r ≡ Err e → r ≢ Err Memory → e ≢ Memory
 said_cause r e is some same = some (is ∙ ap Err same)
 
-answer_cause : (r : Result Answer RunError) (e : RunError) → r ≡ Err e → e ≢ Memory → r ≢ Err Memory
+answer_cause : (r : Result Reply RunError) (e : RunError) → r ≡ Err e → e ≢ Memory → r ≢ Err Memory
 answer_cause r e is cause same = let one : e ≡ Memory = cc in cause one
 
-some_answer : (r : Result Answer RunError) (a : Answer) → r ≡ Ok a → r ≢ Err Memory
+some_answer : (r : Result Reply RunError) (a : Reply) → r ≡ Ok a → r ≢ Err Memory
 some_answer r a is same = cc
 
-module _ (compiles_once : policy.HasOneAnswer) (reviews_once : HasOneAnswer) (d : Documents) (n : ℕ) where
+module _ (compiles_once : policy.CompileHasOneResult) (reviews_once : ReviewHasOneResult) (d : Documents) (n : ℕ) where
   -- what is said, as whose image stands
-  abbrev pub IsTrue : Result Said RunError → Type 0
-  IsTrue r = Says d n r × StandsBy OneImage d n r
+  abbrev pub IsTrue : Result Decision RunError → Type 0
+  IsTrue r = DecidesReview d n r × RunAgrees OneImage d n r
 
-  said_same : (x y : Said) → IsSaid d x → IsSaid d y → x ≡ y
+  said_same : (x y : Decision) → IsSaid d x → IsSaid d y → x ≡ y
   said_same x y is also =
       let same = cases_once compiles_once d is.case also.case in
       let both : said_of is.case.policy.rules (decision is.case) (uid_in d.review) ≡ said_of also.case.policy.rules (decision also.case) (uid_in d.review) =
@@ -25,19 +25,19 @@ module _ (compiles_once : policy.HasOneAnswer) (reviews_once : HasOneAnswer) (d 
       is.said_is ∙ both ∙ sym also.said_is
 
   -- a review of which something is said has an answer
-  answered : (x : Said) → IsTrue (Ok x) → (a : Answer) × IsAnswerTo d n (Ok a)
+  answered : (x : Decision) → IsTrue (Ok x) → (a : Reply) × IsAnswerTo d n (Ok a)
   answered x is = (answer_of is.0.case.policy.rules (decision is.0.case) (uid_in d.review), record { reviews = record { case = is.0.case; answer_is = refl }; runs = is.1 })
 
   -- and one that is refused has none
   refused : (e : RunError) → IsTrue (Err e) → IsAnswerTo d n (Err e)
-  refused e is = record { reviews = reviews_refused d n e is.0; runs = refused_so Said Answer OneImage d n e is.1 }
+  refused e is = record { reviews = is.0; runs = refused_so Decision Reply OneImage d n e is.1 }
 
-  not_both : (x : Said) (e : RunError) → e ≢ Memory → IsTrue (Ok x) → IsTrue (Err e) → ⊥
+  not_both : (x : Decision) (e : RunError) → e ≢ Memory → IsTrue (Ok x) → IsTrue (Err e) → ⊥
   not_both x e cause is also =
       let a = answered x is in
       let same = reviews_once d n (Ok a.0) (Err e) (some_answer (Ok a.0) a.0 refl) (answer_cause (Err e) e refl cause) a.1 (refused e also) in cc
 
-  pub says_once : (r s : Result Said RunError) → r ≢ Err Memory → s ≢ Err Memory → IsTrue r → IsTrue s → r ≡ s
+  pub says_once : (r s : Result Decision RunError) → r ≢ Err Memory → s ≢ Err Memory → IsTrue r → IsTrue s → r ≡ s
   says_once (Ok x) (Ok y) some other is also = ap Ok (said_same x y is.0 also.0)
   says_once (Ok x) (Err f) some other is also = absurd (not_both x f (said_cause (Err f) f refl other) is also)
   says_once (Err e) (Ok y) some other is also = absurd (not_both y e (said_cause (Err e) e refl some) also is)

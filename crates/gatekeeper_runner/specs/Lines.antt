@@ -4,13 +4,13 @@ use Rattle.std.specs.Prelude.{Option, Some, None, option_and_then, Result, Ok, E
 use Rattle.serde_json.specs.Data as json
 use Rattle.serde_json.specs.Find.{get}
 use Rattle.serde_json.specs.Written.{compact_text}
-use Rattle.policy_glue.specs.Objections.{response_text}
+use Rattle.policy_glue.specs.Rejections.{response_text}
 use Rattle.policy_glue.specs.Documents.{document_of}
-use Rattle.review_runner.specs.Refusals.{refusal_name}
-use Rattle.review_runner.specs.Saying.{Said}
-use Rattle.review_runner.specs.Standing.{Images}
-use Rattle.review_runner.specs.declared.refusals.run_error.RunError.{RunError, TheVariants.N2, TheVariants.Memory}
-use Rattle.gatekeeper_runner.specs.Together.{SayTogether, Terms}
+use Rattle.admission.specs.ErrorCodes.{run_error_code}
+use Rattle.admission.specs.Saying.{Decision}
+use Rattle.admission.specs.Standing.{Images}
+use Rattle.admission.specs.declared.run_error.RunError.{RunError, TheVariants.ReviewRefused, TheVariants.Memory}
+use Rattle.gatekeeper_runner.specs.Together.{SayTogether, Gatekeeper}
 use Rattle.gatekeeper_runner.specs.declared.line.Line.{Line}
 
 -- ---- refusals
@@ -32,7 +32,7 @@ refusal_tree name (Some uid) =
 
 -- the same as compact JSON
 unfoldable pub refusal_text : RunError → Option (List ℕ) → List ℕ
-refusal_text e uid = compact_text (refusal_tree (refusal_name e) uid)
+refusal_text e uid = compact_text (refusal_tree (run_error_code e) uid)
 
 -- ---- a line
 
@@ -49,25 +49,25 @@ abbrev pub no_memory_text : List ℕ
 no_memory_text = codes "{\"refused\":\"memory\"}\n"
 
 -- the text by what the policies say of the review in a line
-abbrev pub answer_text : List ℕ → Result Said RunError → List ℕ
-answer_text line (Ok said) = response_text said.objection said.uid
+abbrev pub answer_text : List ℕ → Result Decision RunError → List ℕ
+answer_text line (Ok said) = response_text said.rejection said.uid
 answer_text line (Err e) = refusal_text e (uid_shown (document_of line))
 
 -- a line, and what is written for it, which hangs on no other line
-pub data Answers (meant : Images) (t : Terms) (line : List ℕ) : List ℕ → Type 0 where
-  passed_over : line ≡ [] → Answers meant t line []
-  too_long : longest_line < length line → Answers meant t line (line_of (refusal_text N2 None))
-  decided : {result : Result Said RunError} → 0 < length line → length line ≤ longest_line → (result ≡ Err Memory → ⊥)
-      → SayTogether meant t line result → Answers meant t line (line_of (answer_text line result))
+pub data AnswersReviewLine (chosen : Images) (t : Gatekeeper) (line : List ℕ) : List ℕ → Type 0 where
+  passed_over : line ≡ [] → AnswersReviewLine chosen t line []
+  too_long : longest_line < length line → AnswersReviewLine chosen t line (line_of (refusal_text ReviewRefused None))
+  decided : {result : Result Decision RunError} → 0 < length line → length line ≤ longest_line → (result ≡ Err Memory → ⊥)
+      → SayTogether chosen t line result → AnswersReviewLine chosen t line (line_of (answer_text line result))
   -- the host has no memory for it, which says nothing of the line
-  no_memory : 0 < length line → Answers meant t line no_memory_text
+  no_memory : 0 < length line → AnswersReviewLine chosen t line no_memory_text
 
 -- ---- the line that is read
 
 -- what is kept of a line: its bytes up to one more than the longest, or that there was no memory for them
-abbrev pub IsKept : Bool → List ℕ → List ℕ → Type 0
-IsKept true kept line = 0 < length line
-IsKept false kept line = kept ≡ take (suc longest_line) line
+abbrev pub IsKeptOfLine : Bool → List ℕ → List ℕ → Type 0
+IsKeptOfLine true kept line = 0 < length line
+IsKeptOfLine false kept line = kept ≡ take (suc longest_line) line
 
-abbrev pub Keeps : Line → List ℕ → Type 0
-Keeps l line = IsKept l.lacks l.bytes.items line
+abbrev pub KeepsLine : Line → List ℕ → Type 0
+KeepsLine l line = IsKeptOfLine l.lacks l.bytes.items line

@@ -1,11 +1,13 @@
 -- What the words ask for.
-use Rattle.std.specs.Prelude.{◌≡◌, ℕ, List, [], map, Option, Some, option_map, Result, Ok, Err, codes, string_bytes, unwrap_or}
+use Rattle.std.specs.Prelude.{◌≡◌, ℕ, List, [], map, Option, Some, option_map, Result, codes, string_bytes, unwrap_or}
 use Rattle.clap.specs.Words.{App, Kinds, Row, Rule, Text, fault_of, first_of, matches_of, new_app, one_of, with_rule}
 use Rattle.clap.specs.Walk.{all_of}
 use Rattle.clap.specs.declared.builder.action.ArgAction.TheVariants as arg_action
-use Rattle.review_runner.specs.Commands.{required_option_rule, steps_rule, with_documents}
-use Rattle.review_runner.specs.Number.{number_of}
-use Rattle.review_runner.specs.declared.refusals.order_error.OrderError.{OrderError, TheVariants.U1, TheVariants.Memory}
+use Rattle.cli.specs.Arguments.{required_option_rule, steps_rule, with_documents}
+use Rattle.cli.specs.Number.{number_of}
+use Rattle.cli.specs.Parsing.{TakesWords}
+use Rattle.cli.specs.Limits.{default_steps}
+use Rattle.host.specs.declared.order_error.OrderError.{OrderError}
 use Rattle.gatekeeper_runner.specs.declared.order.Order.{Order as CodeOrder}
 
 -- --policy F, once or more
@@ -25,14 +27,14 @@ unfoldable pub entered : List Text → List Row
 entered words = matches_of gatekeeper_app words
 
 -- the names of the files, the policies in the order of the words, and the most steps
-pub record Order : Type 0 where
+pub record GatekeeperOrder : Type 0 where
   pub policies : List Text
   pub namespace : Option Text
   pub params : Option Text
   pub steps : ℕ
 
 -- the same of the code's order
-abbrev pub order_view : CodeOrder → Order
+abbrev pub order_view : CodeOrder → GatekeeperOrder
 order_view o = record {
   policies = map string_bytes o.policies.items;
   namespace = option_map string_bytes o.namespace;
@@ -41,16 +43,14 @@ order_view o = record {
 }
 
 -- from the values of the arguments; steps that are not there are the default number
-unfoldable pub order_from : List Row → Order
+unfoldable pub order_from : List Row → GatekeeperOrder
 order_from rows = record {
   policies = unwrap_or (all_of (codes "policy") rows) [];
   namespace = first_of (codes "namespace") rows;
   params = first_of (codes "params") rows;
-  steps = unwrap_or (number_of (one_of (codes "steps") rows)) 10000000;
+  steps = unwrap_or (number_of (one_of (codes "steps") rows)) default_steps;
 }
 
--- words that are taken give their order, unless memory runs out; U1 only where they are refused
-abbrev pub Ordered : List Text → Result CodeOrder OrderError → Type 0
-Ordered words (Ok o) = (faults words ≡ []) × (order_from (entered words) ≡ order_view o)
-Ordered words (Err U1) = faults words ≡ [] → ⊥
-Ordered words (Err Memory) = Unit {0}
+-- an order only where the words are taken, and then theirs
+abbrev pub GatekeeperOrderReturns : List Text → Result CodeOrder OrderError → Type 0
+GatekeeperOrderReturns words result = TakesWords (faults words) (λ o. order_from (entered words) ≡ order_view o) result

@@ -1,10 +1,10 @@
 -- Two equal lines have equal answers.
 use Rattle.std.specs.Prelude.{◌≡◌, ◌≢◌, ℕ, List}
 use Rattle.policy_glue.specs.OneImage.{OneImage}
-use Rattle.gatekeeper_runner.specs.Lines.{Answers, no_memory_text}
-use Rattle.gatekeeper_runner.specs.Together.{Terms}
+use Rattle.gatekeeper_runner.specs.Lines.{AnswersReviewLine, no_memory_text}
+use Rattle.gatekeeper_runner.specs.Together.{Gatekeeper}
 
 -- two answers to one line, neither of them that there is no memory, are the same
 abbrev pub LinesHaveOneAnswer : Type 0
-LinesHaveOneAnswer = (t : Terms) (line a b : List ℕ) → a ≢ no_memory_text → b ≢ no_memory_text
-    → Answers OneImage t line a → Answers OneImage t line b → a ≡ b
+LinesHaveOneAnswer = (t : Gatekeeper) (line a b : List ℕ) → a ≢ no_memory_text → b ≢ no_memory_text
+    → AnswersReviewLine OneImage t line a → AnswersReviewLine OneImage t line b → a ≡ b

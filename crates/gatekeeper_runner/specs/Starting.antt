@@ -2,17 +2,17 @@
 use Rattle.std.specs.Prelude.{◌≡◌, ℕ, List, [], ◌∷◌, ◌++◌, Option, Result, Ok, Err, Vec}
 use Rattle.std.specs.declared.alloc.Global.{Global}
 use Rattle.clap.specs.Words.{Text}
-use Rattle.review_runner.specs.Debugging.{IsReadingGiven}
-use Rattle.review_runner.specs.Deciding.{IsPolicy, IsRefused}
-use Rattle.review_runner.specs.declared.reviews.compiled_policy.CompiledPolicy.{CompiledPolicy}
-use Rattle.review_runner.specs.FileSystem.{FileSystem, IsReading}
-use Rattle.review_runner.specs.Refusals.{file_refusal}
-use Rattle.review_runner.specs.declared.refusals.file_error.FileError.{FileError}
-use Rattle.review_runner.specs.declared.refusals.policy_refusal.PolicyRefusal.{PolicyRefusal}
-use Rattle.review_runner.specs.declared.refusals.refusal.Refusal.{Refusal, TheVariants.Memory, TheVariants.Policy}
-use Rattle.gatekeeper_runner.specs.Orders.{Order}
-use Rattle.gatekeeper_runner.specs.Together.{AreGates, IsGateOf, Terms, terms_of}
-use Rattle.gatekeeper_runner.specs.declared.keeper.Keeper.{Keeper}
+use Rattle.cli.specs.GivenFiles.{IsReadingGiven}
+use Rattle.admission.specs.Deciding.{IsPolicy, IsPolicyRefused}
+use Rattle.admission.specs.declared.policy_and_image.PolicyAndImage.{PolicyAndImage}
+use Rattle.host.specs.FileSystem.{FileSystem, IsReading}
+use Rattle.cli.specs.Refusals.{file_refusal}
+use Rattle.host.specs.declared.file_error.FileError.{FileError}
+use Rattle.admission.specs.declared.policy_refusal.PolicyRefusal.{PolicyRefusal}
+use Rattle.cli.specs.declared.refusal.Refusal.{Refusal, TheVariants.Memory, TheVariants.Policy}
+use Rattle.gatekeeper_runner.specs.Orders.{GatekeeperOrder}
+use Rattle.gatekeeper_runner.specs.Together.{AreGates, IsGateOf, Gatekeeper, gatekeeper_of}
+use Rattle.gatekeeper_runner.specs.declared.gatekeeper.Gatekeeper.{Gatekeeper as CodeGatekeeper}
 
 -- the files of these names hold these documents, each of a policy that is compiled
 pub data Opens (known : Option FileSystem) : List Text → List (List ℕ) → Type 0 where
@@ -23,7 +23,7 @@ pub data Opens (known : Option FileSystem) : List Text → List (List ℕ) → T
 -- why a policy's file gives none
 pub data IsUnopened (known : Option FileSystem) (name : Text) : Refusal → Type 0 where
   unread : (e : FileError) → IsReading known name (Err e) → IsUnopened known name (file_refusal e)
-  refused : {document : List ℕ} {e : PolicyRefusal} → IsReading known name (Ok document) → IsRefused document e
+  refused : {document : List ℕ} {e : PolicyRefusal} → IsReading known name (Ok document) → IsPolicyRefused document e
       → IsUnopened known name (Policy e)
   no_memory : IsUnopened known name Memory
 
@@ -37,31 +37,33 @@ pub record OneUnopened (known : Option FileSystem) (names : List Text) (r : Refu
   pub opens : Opens known before documents
   pub unopened : IsUnopened known name r
 
--- what every line is answered under, or why no line is read: the policies are opened first, then the other files are read
-pub data Starts (known : Option FileSystem) (order : Order) : Result Terms Refusal → Type 0 where
-  no_policy : {r : Refusal} → OneUnopened known order.policies r → Starts known order (Err r)
+-- what every line is answered under, or why no line is read: the policies are opened first, then the other files are
+-- read
+pub data GatekeeperStarts (known : Option FileSystem) (order : GatekeeperOrder) : Result Gatekeeper Refusal → Type 0 where
+  no_policy : {r : Refusal} → OneUnopened known order.policies r → GatekeeperStarts known order (Err r)
   no_namespace : (e : FileError) {policies : List (List ℕ)} → Opens known order.policies policies
-      → IsReadingGiven known order.namespace (Err e) → Starts known order (Err (file_refusal e))
+      → IsReadingGiven known order.namespace (Err e) → GatekeeperStarts known order (Err (file_refusal e))
   no_params : (e : FileError) (namespace : Option (List ℕ)) {policies : List (List ℕ)} → Opens known order.policies policies
       → IsReadingGiven known order.namespace (Ok namespace) → IsReadingGiven known order.params (Err e)
-      → Starts known order (Err (file_refusal e))
+      → GatekeeperStarts known order (Err (file_refusal e))
   ready : {policies : List (List ℕ)} {namespace params : Option (List ℕ)} → Opens known order.policies policies
       → IsReadingGiven known order.namespace (Ok namespace) → IsReadingGiven known order.params (Ok params)
-      → Starts known order (Ok (record { policies = policies; namespace = namespace; params = params; steps = order.steps }))
+      → GatekeeperStarts known order (Ok (record { policies = policies; namespace = namespace; params = params; steps = order.steps }))
 
 -- ---- parts
 
 -- what is kept is what the lines are answered under, or the start ends so
-abbrev pub KeepsFrom : Option FileSystem → Order → Result Keeper Refusal → Type 0
-KeepsFrom known order (Ok k) = (policies : List (List ℕ)) × AreGates policies k.gates.items × Starts known order (Ok (terms_of policies k))
-KeepsFrom known order (Err r) = Starts known order (Err r)
+abbrev pub KeepsFrom : Option FileSystem → GatekeeperOrder → Result CodeGatekeeper Refusal → Type 0
+KeepsFrom known order (Ok k) = (policies : List (List ℕ)) × AreGates policies k.gates.items
+    × GatekeeperStarts known order (Ok (gatekeeper_of policies k))
+KeepsFrom known order (Err r) = GatekeeperStarts known order (Err r)
 
 -- the gate of the policy in this file, or why there is none
-abbrev pub OpensGate : Option FileSystem → Text → Result CompiledPolicy Refusal → Type 0
+abbrev pub OpensGate : Option FileSystem → Text → Result PolicyAndImage Refusal → Type 0
 OpensGate known name (Ok gate) = (document : List ℕ) × IsReading known name (Ok document) × IsGateOf document gate
 OpensGate known name (Err r) = IsUnopened known name r
 
 -- the gates of the policies in all these files, or the first reason why there are none
-abbrev pub GatesFrom : Option FileSystem → List Text → Result (Vec CompiledPolicy Global) Refusal → Type 0
+abbrev pub GatesFrom : Option FileSystem → List Text → Result (Vec PolicyAndImage Global) Refusal → Type 0
 GatesFrom known names (Ok gates) = (documents : List (List ℕ)) × AreGates documents gates.items × Opens known names documents
 GatesFrom known names (Err r) = OneUnopened known names r

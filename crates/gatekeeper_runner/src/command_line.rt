@@ -1,14 +1,16 @@
-//! The program as `clap` is told it, and the parse of the words.
+//! The program as `clap` is told it, and what it makes of the words.
 ghost use Rattle.std.specs.Prelude.{◌≡◌, map, IfOk, false};
-ghost use Rattle.clap.specs.Words.{app_of, found_of, rows_of, rule_of, FailsBy};
+ghost use Rattle.clap.specs.Words.{app_of, found_of, rows_of, rule_of};
+ghost use Rattle.cli.specs.Parsing.{TakesWords};
 ghost use Rattle.gatekeeper_runner.specs.Orders.{entered, faults, gatekeeper_app, policies_rule};
 
-use clap::{Arg, ArgAction, ArgMatches, Command, Error};
-use review_runner::command_line::{steps_argument, with_documents};
+use clap::{Arg, ArgAction, ArgMatches, Command};
+use cli::{parse, steps_argument, with_documents};
+use host::OrderError;
 use std::alloc::{AllocError, Global};
 
 // --policy F, once or more
-#[tactic(auto, unfolding(crate::specs::Orders::policies_rule, review_runner::specs::Commands::required_option_rule))]
+#[tactic(auto, unfolding(crate::specs::Orders::policies_rule, cli::specs::Arguments::required_option_rule))]
 fn policies_argument<'a>(alloc: Global) -> Arg<'a>
     ensures rule { rule_of result ≡ policies_rule }
     ensures local { result.global ≡ false }
@@ -27,11 +29,14 @@ fn gatekeeper_command<'a>(alloc: Global) -> Result<Command<'a>, AllocError>
     with_documents(alloc, command)?.arg(steps_argument(alloc))
 }
 
-/// What `clap` makes of the words, the program's name first.
-pub fn parse<'a>(alloc: Global, words: &'a [&'a str]) -> Result<ArgMatches<'a>, Error>
+/// What `clap` makes of the words, the program's name first, or why it does not take them.
+pub fn gatekeeper_matches<'a>(
+    alloc: Global,
+    words: &'a [&'a str],
+) -> Result<ArgMatches<'a>, OrderError>
     ensures rows { IfOk result (λ m. rows_of (found_of m) ≡ entered (map (λ s. s.now) words.entry.now)) }
-    ensures faults { FailsBy (faults (map (λ s. s.now) words.entry.now)) result }
+    ensures taken { TakesWords (faults (map (λ s. s.now) words.entry.now)) (λ _. Unit {0}) result }
 {
     let command = gatekeeper_command(alloc)?;
-    command.try_get_matches_from(words)
+    parse(command, words)
 }

@@ -4,7 +4,7 @@
 
 mod answering;
 mod command_line;
-mod keeper;
+mod gatekeeper;
 pub mod laws;
 mod line;
 mod order;
@@ -15,5 +15,5 @@ mod starting;
 mod together;
 
 pub use answering::answer_lines;
-pub use keeper::Keeper;
+pub use gatekeeper::Gatekeeper;
 pub use program::exit_code;

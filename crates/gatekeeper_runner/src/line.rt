@@ -1,6 +1,6 @@
 //! The line that is read.
 ghost use Rattle.std.specs.Prelude.{◌≡◌, ◌++◌, ◌∷◌, [], ◌<◌, ℕ, List, length, nat_lt, true, false};
-ghost use Rattle.gatekeeper_runner.specs.Lines.{longest_line, Keeps};
+ghost use Rattle.gatekeeper_runner.specs.Lines.{longest_line, KeepsLine};
 
 use std::alloc::Global;
 
@@ -19,7 +19,7 @@ pub struct Line {
 impl Line {
     /// No byte so far. It takes no memory.
     pub fn new(alloc: Global) -> Line
-        ensures { Keeps result [] }
+        ensures { KeepsLine result [] }
     {
         Line {
             bytes: Vec::new(alloc),
@@ -29,7 +29,7 @@ impl Line {
 
     /// The line's next byte.
     pub fn push(&mut self, byte: u8)
-        ensures { (line : List ℕ) → Keeps self.old line → Keeps self.new (line ++ byte ∷ []) }
+        ensures { (line : List ℕ) → KeepsLine self.old line → KeepsLine self.new (line ++ byte ∷ []) }
     {
         if self.lacks || self.is_too_long() {
             return;
@@ -42,7 +42,7 @@ impl Line {
 
     /// The next line begins.
     pub fn clear(&mut self)
-        ensures { Keeps self.new [] }
+        ensures { KeepsLine self.new [] }
     {
         self.bytes.clear();
         self.lacks = false;
@@ -50,8 +50,8 @@ impl Line {
 
     /// Whether no byte was read.
     pub fn is_empty(&self) -> bool
-        ensures empty { (line : List ℕ) → Keeps self.now line → result ≡ true → line ≡ [] }
-        ensures some { (line : List ℕ) → Keeps self.now line → result ≡ false → 0 < length line }
+        ensures empty { (line : List ℕ) → KeepsLine self.now line → result ≡ true → line ≡ [] }
+        ensures some { (line : List ℕ) → KeepsLine self.now line → result ≡ false → 0 < length line }
     {
         !self.lacks && self.bytes.is_empty()
     }

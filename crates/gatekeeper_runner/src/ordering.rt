@@ -2,32 +2,26 @@
 ghost use Rattle.std.specs.Prelude.{◌≡◌, map, string_bytes, unwrap_or, IfOk, []};
 ghost use Rattle.clap.specs.Words.{found_of, rows_of};
 ghost use Rattle.clap.specs.Walk.{all_of};
-ghost use Rattle.gatekeeper_runner.specs.Orders.{order_from, order_view, Ordered};
+ghost use Rattle.gatekeeper_runner.specs.Orders.{order_from, order_view, GatekeeperOrderReturns};
 
-use crate::command_line::parse;
+use crate::command_line::gatekeeper_matches;
 use crate::order::Order;
 use clap::ArgMatches;
-use clap::error::ErrorKind;
-use review_runner::OrderError;
-use review_runner::values::{name_in, steps_in};
+use cli::{name_in, steps_in};
+use host::OrderError;
 use std::alloc::{AllocError, Global};
 
 /// Reads the words of a command line, the program's own name first.
 ///
 /// # Errors
 ///
-/// `U1` exactly where `clap` refuses the words; `Memory` where memory runs out, which says nothing of
-/// the words.
+/// `InvalidArguments` exactly if `clap` refuses the words; `Memory` where memory runs out, which
+/// says nothing of the words.
 pub fn order_of<'a>(alloc: Global, words: &'a [&'a str]) -> Result<Order, OrderError>
-    ensures { Ordered (map (λ s. s.now) words.entry.now) result }
+    ensures { GatekeeperOrderReturns (map (λ s. s.now) words.entry.now) result }
 {
-    match parse(alloc, words) {
-        Ok(matches) => Ok(order_from(alloc, &matches)?),
-        Err(error) => match error.kind() {
-            ErrorKind::OutOfMemory => Err(OrderError::Memory),
-            _ => Err(OrderError::U1),
-        },
-    }
+    let matches = gatekeeper_matches(alloc, words)?;
+    Ok(order_from(alloc, &matches)?)
 }
 
 #[tactic(auto, unfolding(crate::specs::Orders::order_from))]

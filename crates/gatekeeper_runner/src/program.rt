@@ -1,26 +1,26 @@
 //! The program: from its words to its exit code.
 ghost use Rattle.std.specs.Prelude.{◌≡◌, map, string_bytes};
 ghost use Rattle.std.specs.Process.{exit_status};
-ghost use Rattle.debugger.specs.Streams.{stream};
+ghost use Rattle.streams.specs.Streams.{stream};
 ghost use Rattle.policy_glue.specs.OneImage.{OneImage};
-ghost use Rattle.review_runner.specs.Program.{given_of, system};
-ghost use Rattle.gatekeeper_runner.specs.Orders.{Ordered};
-ghost use Rattle.gatekeeper_runner.specs.Program.{Does, Ends};
+ghost use Rattle.cli.specs.Ending.{given_of, system};
+ghost use Rattle.gatekeeper_runner.specs.Orders.{GatekeeperOrderReturns};
+ghost use Rattle.gatekeeper_runner.specs.Program.{GatekeeperEffect, GatekeeperResult};
 
 use crate::answering::answer_lines;
 use crate::order::Order;
 use crate::ordering::order_of;
 use crate::starting::start;
-use debugger::{Sink, Source};
-use review_runner::program::{ended, texts_of};
-use review_runner::{Files, OrderError, Refusal};
+use cli::{Refusal, ended, texts_of};
+use host::{Files, OrderError};
 use std::alloc::Global;
 use std::process::ExitCode;
+use streams::{Sink, Source};
 
-/// Answers the lines of the input under the policies that the words name, the program's own name first,
-/// and answers the code that the program ends with. A refusal is one line of standard error; if that
-/// cannot be written, the code is the same. `words` is `U1` where the system's words are no texts, and
-/// `Memory` where there is no memory for them.
+/// Answers the lines of the input under the policies that the words name, the program's own name
+/// first, and answers the code that the program ends with. A refusal is one line of standard error;
+/// if that cannot be written, the code is the same. `words` is `InvalidArguments` if the system's
+/// words are no texts, and `Memory` where there is no memory for them.
 pub fn exit_code<F: Files, R: Source, W: Sink, E: Sink>(
     alloc: Global,
     words: Result<Vec<String>, OrderError>,
@@ -29,7 +29,11 @@ pub fn exit_code<F: Files, R: Source, W: Sink, E: Sink>(
     answers: &mut W,
     refusals: &mut E,
 ) -> ExitCode
-    ensures { Ends OneImage (given_of words) (system (F.known files.old) (stream (R.left requests.old) (R.failed requests.old)) (stream (W.taken answers.old) (W.failed answers.old))) (system (F.known files.new) (stream (R.left requests.new) (R.failed requests.new)) (stream (W.taken answers.new) (W.failed answers.new))) (stream (E.taken refusals.old) (E.failed refusals.old)) (stream (E.taken refusals.new) (E.failed refusals.new)) (exit_status result) }
+    ensures { let before = system (F.known files.old) (stream (R.left requests.old) (R.failed requests.old)) (stream (W.taken answers.old) (W.failed answers.old)) in
+        let after = system (F.known files.new) (stream (R.left requests.new) (R.failed requests.new)) (stream (W.taken answers.new) (W.failed answers.new)) in
+        let told = stream (E.taken refusals.old) (E.failed refusals.old) in
+        let told_after = stream (E.taken refusals.new) (E.failed refusals.new) in
+        GatekeeperResult OneImage (given_of words) before after told told_after (exit_status result) }
 {
     let ending = ending(alloc, words, files, requests, answers);
     ended(alloc, ending, refusals)
@@ -43,7 +47,9 @@ fn ending<F: Files, R: Source, W: Sink>(
     requests: &mut R,
     answers: &mut W,
 ) -> Result<u8, Refusal>
-    ensures { Does OneImage (given_of words) (system (F.known files.old) (stream (R.left requests.old) (R.failed requests.old)) (stream (W.taken answers.old) (W.failed answers.old))) (system (F.known files.new) (stream (R.left requests.new) (R.failed requests.new)) (stream (W.taken answers.new) (W.failed answers.new))) result }
+    ensures { let before = system (F.known files.old) (stream (R.left requests.old) (R.failed requests.old)) (stream (W.taken answers.old) (W.failed answers.old)) in
+        let after = system (F.known files.new) (stream (R.left requests.new) (R.failed requests.new)) (stream (W.taken answers.new) (W.failed answers.new)) in
+        GatekeeperEffect OneImage (given_of words) before after result }
 {
     let words = words?;
     let order = asked_order(alloc, &words)?;
@@ -54,7 +60,7 @@ fn ending<F: Files, R: Source, W: Sink>(
 
 /// The order that the words give.
 fn asked_order(alloc: Global, words: &[String]) -> Result<Order, OrderError>
-    ensures { Ordered (map string_bytes words.now) result }
+    ensures { GatekeeperOrderReturns (map string_bytes words.now) result }
 {
     let texts = texts_of(alloc, words)?;
     order_of(alloc, texts.as_slice())

@@ -2,16 +2,16 @@
 ghost use Rattle.std.specs.Prelude.{◌≡◌, option_map, IfOk, IsErr, Some};
 ghost use Rattle.serde_json.specs.View.{view};
 ghost use Rattle.policy_glue.specs.Documents.{document_of};
-ghost use Rattle.review_runner.specs.declared.refusals.run_error.RunError.TheVariants.{Memory};
+ghost use Rattle.admission.specs.declared.run_error.RunError.TheVariants.{Memory};
 ghost use Rattle.gatekeeper_runner.specs.Lines.{refusal_text, refusal_tree, uid_shown};
 
-use review_runner::RunError;
-use review_runner::document::document;
+use admission::RunError;
+use policy_glue::document;
 use serde_json::{Value, json};
 use std::alloc::{AllocError, Global};
 
-/// The text of a refusal of the review in a line, with the uid of its request where it shows one. Want of
-/// memory is no answer to a line.
+/// The text of a refusal of the review in a line, with the uid of its request where it shows one.
+/// Want of memory is no answer to a line.
 pub fn refused(alloc: Global, error: RunError, line: &[u8]) -> Result<Vec<u8>, AllocError>
     ensures text { IfOk result (λ text. text.items ≡ refusal_text error (uid_shown (document_of line.now))) }
     ensures memory { error ≡ Memory → IsErr result }
@@ -34,7 +34,7 @@ pub fn refusal_text(
 ) -> Result<Vec<u8>, AllocError>
     ensures { IfOk result (λ text. text.items ≡ refusal_text error (option_map (λ s. s.now) uid.entry)) }
 {
-    let tree = refusal_tree(alloc, error.name(), uid)?;
+    let tree = refusal_tree(alloc, error.code(), uid)?;
     tree.to_vec(alloc)
 }
 

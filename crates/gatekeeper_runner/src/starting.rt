@@ -3,26 +3,28 @@ ghost use Rattle.std.specs.Prelude.{◌≡◌, map, string_bytes, ℕ, List};
 ghost use Rattle.gatekeeper_runner.specs.Orders.{order_view};
 ghost use Rattle.gatekeeper_runner.specs.Starting.{GatesFrom, KeepsFrom, OpensGate};
 
-use crate::keeper::Keeper;
+use crate::gatekeeper::Gatekeeper;
 use crate::order::Order;
-use review_runner::held_files::read_given;
-use review_runner::{Files, Gate, Refusal};
+use admission::Gate;
+use cli::{Refusal, read_given};
+use host::Files;
 use std::alloc::Global;
 
-/// Compiles the policies in the files that the order names, in their order, and reads the other files.
+/// Compiles the policies in the files that the order names, in their order, and reads the other
+/// files.
 ///
 /// # Errors
 ///
-/// The first refusal: of a policy's file or of its policy, then of the namespace's file, then of the
-/// params'. `Memory` where memory runs out, which says nothing of the rest.
-pub fn start<F: Files>(alloc: Global, order: &Order, files: &mut F) -> Result<Keeper, Refusal>
+/// The first refusal: of a policy's file or of its policy, then of the namespace's file, then of
+/// the params'. `Memory` where memory runs out, which says nothing of the rest.
+pub fn start<F: Files>(alloc: Global, order: &Order, files: &mut F) -> Result<Gatekeeper, Refusal>
     ensures keeps { KeepsFrom (F.known files.old) (order_view order.now) result }
     ensures known { F.known files.new ≡ F.known files.old }
 {
     let gates = open_each(alloc, order.policies.as_slice(), files)?;
     let namespace = read_given(alloc, &order.namespace, files)?;
     let params = read_given(alloc, &order.params, files)?;
-    Ok(Keeper {
+    Ok(Gatekeeper {
         alloc,
         gates,
         namespace,

@@ -1,40 +1,40 @@
 //! What several policies say together.
 ghost use Rattle.std.specs.Prelude.{◌≡◌, option_map, IfOk, Some};
-ghost use Rattle.policy_glue.specs.Objections.{objection_view};
-ghost use Rattle.review_runner.specs.Saying.{said_value};
-ghost use Rattle.gatekeeper_runner.specs.Together.{and_also, unsaid, with_next};
+ghost use Rattle.policy_glue.specs.Rejections.{rejection_view};
+ghost use Rattle.admission.specs.Saying.{said_value};
+ghost use Rattle.gatekeeper_runner.specs.Together.{and_also, no_decision, with_next};
 
-use policy_glue::Objection;
-use review_runner::Said;
+use admission::Decision;
+use policy_glue::Rejection;
 use std::alloc::{AllocError, Global};
 
 /// What no policy says.
-pub fn unsaid(alloc: Global) -> Said
-    ensures { said_value result ≡ unsaid }
+pub fn unsaid(alloc: Global) -> Decision
+    ensures { said_value result ≡ no_decision }
 {
-    Said {
-        objection: None,
+    Decision {
+        rejection: None,
         uid: String::new(alloc),
     }
 }
 
 /// What is said so far and what a further policy says.
-pub fn with_next(so_far: Said, next: Said) -> Result<Said, AllocError>
+pub fn with_next(so_far: Decision, next: Decision) -> Result<Decision, AllocError>
     ensures { IfOk result (λ x. said_value x ≡ with_next (said_value so_far) (said_value next)) }
 {
-    let objection = and_also(so_far.objection, next.objection)?;
-    Ok(Said {
-        objection,
+    let rejection = and_also(so_far.rejection, next.rejection)?;
+    Ok(Decision {
+        rejection,
         uid: next.uid,
     })
 }
 
-/// Both objections: the messages with `; ` between them, the reason of the first.
+/// Both rejections: the messages with `; ` between them, the reason of the first.
 fn and_also(
-    first: Option<Objection>,
-    next: Option<Objection>,
-) -> Result<Option<Objection>, AllocError>
-    ensures { IfOk result (λ o. option_map objection_view o ≡ and_also (option_map objection_view first) (option_map objection_view next)) }
+    first: Option<Rejection>,
+    next: Option<Rejection>,
+) -> Result<Option<Rejection>, AllocError>
+    ensures { IfOk result (λ o. option_map rejection_view o ≡ and_also (option_map rejection_view first) (option_map rejection_view next)) }
 {
     match first {
         None => Ok(next),
@@ -46,13 +46,13 @@ fn and_also(
 }
 
 /// The message of the next behind that of the first.
-fn joined(first: Objection, next: &Objection) -> Result<Objection, AllocError>
-    ensures { IfOk result (λ o. Some (objection_view o) ≡ and_also (Some (objection_view first)) (Some (objection_view next.now))) }
+fn joined(first: Rejection, next: &Rejection) -> Result<Rejection, AllocError>
+    ensures { IfOk result (λ o. Some (rejection_view o) ≡ and_also (Some (rejection_view first)) (Some (rejection_view next.now))) }
 {
     let mut message = first.message;
     message.push_str("; ")?;
     message.push_str(next.message.as_str())?;
-    Ok(Objection {
+    Ok(Rejection {
         message,
         reason: first.reason,
     })

@@ -62,14 +62,15 @@ part_one (p ∷ ps) (suc k) n i j d h le e =
     part_back p.bytes.value (joined ps) n (256 * k + i) 256 j p.full (omega arith) ∙ part_one ps k n i (256 * k + i) d (omega arith) le refl
 
 -- a part that lies in two
-pub part_two : (ps : List Page) (k n i m j : ℕ) (d e : Page) → suc k < length ps → i ≤ 256 → n ≡ 256 - i + m → m ≤ 256 → j ≡ 256 * k + i → part (joined ps) j n ≡ drop i (get_or ps k d).bytes.value ++ take m (get_or ps (suc k) e).bytes.value
-part_two [] k n i m j d e h le en most ej = absurd (omega arith)
-part_two (p ∷ []) k n i m j d e h le en most ej = absurd (omega arith)
-part_two (p ∷ q ∷ ps) zero n i m j d e h le en most ej =
+pub part_two : (ps : List Page) (k i m j : ℕ) (d e : Page) → suc k < length ps → i ≤ 256 → m ≤ 256 → j ≡ 256 * k + i
+    → part (joined ps) j (256 - i + m) ≡ drop i (get_or ps k d).bytes.value ++ take m (get_or ps (suc k) e).bytes.value
+part_two [] k i m j d e h le most ej = absurd (omega arith)
+part_two (p ∷ []) k i m j d e h le most ej = absurd (omega arith)
+part_two (p ∷ q ∷ ps) zero i m j d e h le most ej =
     let f : j ≡ i = omega arith in let g = q.full in let l = length-append q.bytes.value (joined ps) in
-    rw f (part_across p.bytes.value (q.bytes.value ++ joined ps) n i 256 m p.full le en (omega arith) ∙ ap (λ (xs : List ℕ). drop i p.bytes.value ++ xs) (take-append-le m q.bytes.value (joined ps) (omega arith)))
-part_two (p ∷ q ∷ ps) (suc k) n i m j d e h le en most ej =
-    part_back p.bytes.value (joined (q ∷ ps)) n (256 * k + i) 256 j p.full (omega arith) ∙ part_two (q ∷ ps) k n i m (256 * k + i) d e (omega arith) le en most refl
+    rw f (part_across p.bytes.value (q.bytes.value ++ joined ps) (256 - i + m) i 256 m p.full le refl (omega arith) ∙ ap (λ (xs : List ℕ). drop i p.bytes.value ++ xs) (take-append-le m q.bytes.value (joined ps) (omega arith)))
+part_two (p ∷ q ∷ ps) (suc k) i m j d e h le most ej =
+    part_back p.bytes.value (joined (q ∷ ps)) (256 - i + m) (256 * k + i) 256 j p.full (omega arith) ∙ part_two (q ∷ ps) k i m (256 * k + i) d e (omega arith) le most refl
 
 -- one page is written
 pub joined_one : (ps : List Page) (k i j : ℕ) (d new : Page) (bytes : List ℕ) → k < length ps → i + length bytes ≤ 256 → j ≡ 256 * k + i → new.bytes.value ≡ overlay (get_or ps k d).bytes.value i bytes → joined (set ps k new) ≡ overlay (joined ps) j bytes
@@ -80,15 +81,27 @@ joined_one (p ∷ ps) zero i j d new bytes h le e is =
 joined_one (p ∷ ps) (suc k) i j d new bytes h le e is =
     ap (λ (xs : List ℕ). p.bytes.value ++ xs) (joined_one ps k i (256 * k + i) d new bytes (omega arith) le refl is) ∙ sym (overlay_back p.bytes.value (joined ps) (256 * k + i) 256 j bytes p.full (omega arith))
 
+-- two pages side by side, from before a write that goes over their border to after it: `x` is laid over the first from
+-- a place on to its end, `y` over the second from its start on
+pub record AreOverlaid (first second low high : Page) (at : ℕ) (x y : List ℕ) : Type 0 where
+  pub to_end : at + length x ≡ 256
+  pub short : length y ≤ 256
+  pub low_is : low.bytes.value ≡ overlay first.bytes.value at x
+  pub high_is : high.bytes.value ≡ overlay second.bytes.value 0 y
+
 -- two pages side by side are written
-pub joined_two : (ps : List Page) (k i j : ℕ) (d e low high : Page) (x y : List ℕ) → suc k < length ps → i + length x ≡ 256 → length y ≤ 256 → j ≡ 256 * k + i → low.bytes.value ≡ overlay (get_or ps k d).bytes.value i x → high.bytes.value ≡ overlay (get_or ps (suc k) e).bytes.value 0 y → joined (set (set ps k low) (suc k) high) ≡ overlay (joined ps) j (x ++ y)
-joined_two [] k i j d e low high x y h ex ey ej a b = absurd (omega arith)
-joined_two (p ∷ []) k i j d e low high x y h ex ey ej a b = absurd (omega arith)
-joined_two (p ∷ q ∷ ps) zero i j d e low high x y h ex ey ej a b =
-    let f : j ≡ i = omega arith in let g = q.full in let l = length-append q.bytes.value (joined ps) in
-    rw (f, a, b) (ap (λ (xs : List ℕ). overlay p.bytes.value i x ++ xs) (sym (overlay_front q.bytes.value (joined ps) 0 y (omega arith))) ∙ sym (overlay_across p.bytes.value (q.bytes.value ++ joined ps) i 256 x y p.full ex (omega arith)))
-joined_two (p ∷ q ∷ ps) (suc k) i j d e low high x y h ex ey ej a b =
-    ap (λ (xs : List ℕ). p.bytes.value ++ xs) (joined_two (q ∷ ps) k i (256 * k + i) d e low high x y (omega arith) ex ey refl a b) ∙ sym (overlay_back p.bytes.value (joined (q ∷ ps)) (256 * k + i) 256 j (x ++ y) p.full (omega arith))
+pub joined_two : (ps : List Page) (k i : ℕ) (d e low high : Page) (x y : List ℕ) → suc k < length ps
+    → AreOverlaid (get_or ps k d) (get_or ps (suc k) e) low high i x y → joined (set (set ps k low) (suc k) high) ≡ overlay (joined ps) (256 * k + i) (x ++ y)
+joined_two [] k i d e low high x y h are = absurd (omega arith)
+joined_two (p ∷ []) k i d e low high x y h are = absurd (omega arith)
+joined_two (p ∷ q ∷ ps) zero i d e low high x y h are =
+    let f : 256 * 0 + i ≡ i = omega arith in
+    let g = q.full in
+    let l = length-append q.bytes.value (joined ps) in
+    let short = are.short in
+    rw (f, are.low_is, are.high_is) (ap (λ (xs : List ℕ). overlay p.bytes.value i x ++ xs) (sym (overlay_front q.bytes.value (joined ps) 0 y (omega arith))) ∙ sym (overlay_across p.bytes.value (q.bytes.value ++ joined ps) i 256 x y p.full are.to_end (omega arith)))
+joined_two (p ∷ q ∷ ps) (suc k) i d e low high x y h are =
+    ap (λ (xs : List ℕ). p.bytes.value ++ xs) (joined_two (q ∷ ps) k i d e low high x y (omega arith) are) ∙ sym (overlay_back p.bytes.value (joined (q ∷ ps)) (256 * k + i) 256 (256 * suc k + i) (x ++ y) p.full (omega arith))
 
 -- a page keeps its bytes
 pub joined_kept : (ps : List Page) (k : ℕ) (d new : Page) → k < length ps → new.bytes.value ≡ (get_or ps k d).bytes.value → joined (set ps k new) ≡ joined ps
@@ -97,9 +110,10 @@ joined_kept (p ∷ ps) zero d new h e = rw e
 joined_kept (p ∷ ps) (suc k) d new h e = ap (λ (xs : List ℕ). p.bytes.value ++ xs) (joined_kept ps k d new (omega arith) e)
 
 -- the same, by the pages themselves
-pub part_pages : (ps : List Page) (k n i m j : ℕ) (low high : Page) → low ≡ get_or ps k low → high ≡ get_or ps (suc k) high → suc k < length ps → i ≤ 256 → n ≡ 256 - i + m → m ≤ 256 → j ≡ 256 * k + i → part (joined ps) j n ≡ drop i low.bytes.value ++ take m high.bytes.value
-part_pages ps k n i m j low high l h inside first count most place =
-    part_two ps k n i m j low high inside first count most place ∙ (λ t. drop i (sym l t).bytes.value ++ take m (sym h t).bytes.value)
+pub part_pages : (ps : List Page) (k i m : ℕ) (low high : Page) → low ≡ get_or ps k low → high ≡ get_or ps (suc k) high → suc k < length ps → i ≤ 256
+    → m ≤ 256 → part (joined ps) (256 * k + i) (256 - i + m) ≡ drop i low.bytes.value ++ take m high.bytes.value
+part_pages ps k i m low high l h inside first most =
+    part_two ps k i m (256 * k + i) low high inside first most refl ∙ (λ t. drop i (sym l t).bytes.value ++ take m (sym h t).bytes.value)
 
 -- the whole of what stands in front
 pub part_whole : (front rest : List ℕ) (n m : ℕ) → length front ≡ n → m ≡ n → part (take m (front ++ rest)) 0 n ≡ front

@@ -33,18 +33,30 @@ where_stands m address n some = grind arith
 pub one_region : (m : Memory) (address n : ℕ) → IsInside m address n → StandInOne m address n
 one_region m address n i = grind arith
 
+-- a region in pages of 256 bytes: it begins at the start of a page, and its end is a word too
+pub record IsPaged (base len : ℕ) : Type 0 where
+  pub word : base < 2 ^ 64
+  pub first : base % 256 ≡ 0
+  pub most : len ≤ 65536
+
 -- an address below a region is past its last page, where the difference wraps
-pub place_in_page : (base len address n page : ℕ) → address < 2 ^ 64 → base < 2 ^ 64 → base % 256 ≡ 0 → len ≤ 65536 → n ≤ 256 → page ≡ (address / 256 + (18446744073709551616 - base / 256)) % 18446744073709551616
+pub place_in_page : (base len address n page : ℕ) → address < 2 ^ 64 → IsPaged base len → n ≤ 256 → page ≡ (address / 256 + (18446744073709551616 - base / 256)) % 18446744073709551616
     → page < len / 256 → address % 256 ≤ 256 - n → place_of base len address n ≡ Some (256 * page + address % 256)
-place_in_page base len address n page word base_word first most short is inside within =
+place_in_page base len address n page word paged short is inside within =
+    let base_word = paged.word in
+    let first = paged.first in
+    let most = paged.most in
     let low : base ≤ address = omega arith in
     let high : address + n ≤ base + len = omega arith in
     let at : address - base ≡ 256 * page + address % 256 = omega arith in
     grind (arith, nat_tests)
 
 -- the first byte of a range is in no page of the region
-pub place_beyond : (base len address n page : ℕ) → address < 2 ^ 64 → base < 2 ^ 64 → base % 256 ≡ 0 → len ≤ 65536 → len % 256 ≡ 0 → 1 ≤ n
+pub place_beyond : (base len address n page : ℕ) → address < 2 ^ 64 → IsPaged base len → len % 256 ≡ 0 → 1 ≤ n
     → page ≡ (address / 256 + (18446744073709551616 - base / 256)) % 18446744073709551616 → len / 256 ≤ page → place_of base len address n ≡ None
-place_beyond base len address n page word base_word first most whole some is past =
+place_beyond base len address n page word paged whole some is past =
+    let base_word = paged.word in
+    let first = paged.first in
+    let most = paged.most in
     let outside : base ≤ address → base + len ≤ address = (λ low. omega (arith, low)) in
     grind (arith, nat_tests)

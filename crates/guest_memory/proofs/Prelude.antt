@@ -1,5 +1,34 @@
 -- The names that these proofs cite of the library, of the crates below and of the definitions here. Declares nothing.
-pub use Rattle.std.proofs.{Common.All, Common.Bool, Common.Err, Common.IsOk, Common.IsSome, Common.List, Common.None, Common.Ok, Common.Option, Common.Some, Common.ℕ, Common.[], Common.ap, Common.arith, Common.drop, Common.false, Common.get_or, Common.get_or-drop, Common.get_or-take, Common.if◌then◌else◌, Common.inl, Common.inr, Common.length, Common.length-append, Common.length-drop, Common.min, Common.nat_le, Common.refl, Common.replicate, Common.slice_get, Common.subst, Common.suc, Common.sym, Common.true, Common.zero, Common.◌%◌, Common.◌*◌, Common.◌+◌, Common.◌-◌, Common.◌/◌, Common.◌<◌, Common.◌^◌, Common.◌||◌, Common.◌↔◌, Common.◌∙◌, Common.◌∷◌, Common.◌≡◌, Common.◌≤◌, Common.◌⊎◌, Math.ListN.get_or-append, Math.Nat.div-div-eq-div-mul, Math.Nat.pow-succ', lemmas.Bool.cases_lt, lemmas.Bool.le-leb, lemmas.Bool.Decides.nat_tests, lemmas.Grind.common_steps, lemmas.List.ext_get_or, lemmas.List.get_or-append_right, lemmas.List.get_or-replicate, lemmas.List.length-replicate, lemmas.List.length-take, lemmas.List.length-take-le, lemmas.List.Elements.All-append, lemmas.List.Elements.All-cons, lemmas.List.Elements.All-drop, lemmas.List.Elements.All-head, lemmas.List.Elements.All-nil, lemmas.List.Elements.All-replicate, lemmas.List.Elements.All-tail, lemmas.List.Elements.All-take, lemmas.Option.slice_get-get_or, lemmas.Option.slice_get_past, Common.◌++◌, Common.take, Common.append_assoc, Common.append-nil, Common.zero-add, lemmas.List.take-append-le, lemmas.List.drop-append-le, lemmas.List.drop_all, lemmas.List.replicate-append-replicate, Math.Seq.drop-append-add, Math.Seq.take-append-add, Math.ListN.set, lemmas.List.take_all, Common.add-one, Common.rules}
+pub use Rattle.std.proofs.Common.{All, Bool, Err, IsOk, IsSome, List, None, Ok, Option, Some, ℕ, [], ap, arith, drop}
+pub use Rattle.std.proofs.Common.{false, get_or, get_or-drop, get_or-take, if◌then◌else◌, inl, inr, length}
+pub use Rattle.std.proofs.Common.{length-append, length-drop, min, nat_le, refl, replicate, slice_get, subst, suc}
+pub use Rattle.std.proofs.Common.{sym, true, zero, ◌%◌, ◌*◌, ◌+◌, ◌-◌, ◌/◌, ◌<◌, ◌^◌, ◌||◌, ◌↔◌, ◌∙◌, ◌∷◌, ◌≡◌, ◌≤◌}
+pub use Rattle.std.proofs.Common.{◌⊎◌, ◌++◌, take, append_assoc, append-nil, zero-add, add-one, rules}
+pub use Rattle.std.proofs.Math.ListN.{get_or-append, set}
+pub use Rattle.std.proofs.Math.Nat.{div-div-eq-div-mul, pow-succ'}
+pub use Rattle.std.proofs.lemmas.Bool.{cases_lt, le-leb}
+pub use Rattle.std.proofs.lemmas.Bool.Decides.{nat_tests}
+pub use Rattle.std.proofs.lemmas.Grind.{common_steps}
+pub use Rattle.std.proofs.lemmas.List.{ext_get_or, get_or-append_right, get_or-replicate, length-replicate}
+pub use Rattle.std.proofs.lemmas.List.{length-take, length-take-le, take-append-le, drop-append-le, drop_all}
+pub use Rattle.std.proofs.lemmas.List.{replicate-append-replicate, take_all}
+pub use Rattle.std.proofs.lemmas.List.Elements.{All-append, All-cons, All-drop, All-head, All-nil, All-replicate}
+pub use Rattle.std.proofs.lemmas.List.Elements.{All-tail, All-take}
+pub use Rattle.std.proofs.lemmas.Option.{slice_get-get_or, slice_get_past}
+pub use Rattle.std.proofs.Math.Seq.{drop-append-add, take-append-add}
 pub use Rattle.std.specs.List.{AllZip}
-pub use Rattle.guest_memory.specs.{Access.place_of, Access.region_of, Access.size_bytes, Access.write_at, Laws.AllStandIn, Laws.LentIsBytes, Laws.ReadIsBytes, Laws.StandInOne, Laws.StandsIn, Laws.StartIsZero, Laws.WriteIsBytes, Laws.byte_of, Memory.Constants, Memory.IsMemory, Memory.IsWritable, Memory.Memory, Memory.Region, Memory.Scratch, Memory.Stack, Memory.Verdict, Memory.base_of, Memory.byte_from, Memory.bytes_in, Memory.is_among, Memory.or_else, Memory.with_bytes, RegionWords.HasWord, RegionWords.WordsAreAccessed, RegionWords.WordsArePut, Word.low_bytes, Word.overlay, Word.part, Word.word_of, declared.fault.Fault.TheVariants.F3, declared.fault.Fault.TheVariants.F4, declared.size.Size.Size, declared.size.Size.TheVariants.Dw, Pages.joined, declared.page.Page.Page}
-unfoldable pub use Rattle.guest_memory.specs.{Access.constants_of, Access.read_of, Access.write_of, Memory.byte_at, Memory.is_writable, Memory.start_memory, RegionWords.put_word, RegionWords.word_in}
+pub use Rattle.guest_memory.specs.Access.{place_of, region_of, size_bytes, write_at}
+pub use Rattle.guest_memory.specs.Laws.{AllStandIn, LentIsBytes, ReadIsBytes, StandInOne, StandsIn, StartIsZero}
+pub use Rattle.guest_memory.specs.Laws.{WriteIsBytes, byte_of}
+pub use Rattle.guest_memory.specs.Memory.{Constants, IsMemory, IsWritable, Memory, Region, Scratch, Stack, Verdict}
+pub use Rattle.guest_memory.specs.Memory.{base_of, byte_from, bytes_in, is_among, or_else, with_bytes}
+pub use Rattle.guest_memory.specs.RegionWords.{HasWord, WordsAreAccessed, WordsArePut}
+pub use Rattle.guest_memory.specs.Word.{low_bytes, overlay, part, word_of}
+pub use Rattle.guest_memory.specs.declared.fault.Fault.TheVariants.{F3, F4}
+pub use Rattle.guest_memory.specs.declared.size.Size.{Size}
+pub use Rattle.guest_memory.specs.declared.size.Size.TheVariants.{Dw}
+pub use Rattle.guest_memory.specs.Pages.{joined}
+pub use Rattle.guest_memory.specs.declared.page.Page.{Page}
+unfoldable pub use Rattle.guest_memory.specs.Access.{constants_of, read_of, write_of}
+unfoldable pub use Rattle.guest_memory.specs.Memory.{byte_at, is_writable, start_memory}
+unfoldable pub use Rattle.guest_memory.specs.RegionWords.{put_word, word_in}

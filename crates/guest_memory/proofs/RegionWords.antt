@@ -65,7 +65,8 @@ module _ (m : Memory) (r : Region) (i w : ℕ) (room : HasWord (bytes_in r m) i)
   abbrev after : Memory
   after = with_bytes r (put_word (bytes_in r m) i w) m
 
-  -- a fact about the bytes of every region before the word was put, and about those with the word, is one about every region after it
+  -- a fact about the bytes of every region before the word was put, and about those with the word, is one about every
+  -- region after it
   each_region : (P : Region → List ℕ → Type 0) → P r (put_word (bytes_in r m) i w) → (other : Region) → P other (bytes_in other m) → P other (bytes_in other after)
   each_region P put other old = grind arith
 

@@ -2,12 +2,9 @@
 use Rattle.guest_memory.proofs.Prelude.{◌≡◌, ℕ, ◌<◌, List, replicate, Bool, true, false, if◌then◌else◌, Option, Some, None, refl, ap, ◌∙◌, arith, All, ◌||◌, cases_lt, length-replicate, get_or-replicate, All-replicate, Memory, Region, Stack, Scratch, Verdict, Constants, IsMemory, is_writable, is_among, bytes_in, base_of, byte_at, byte_from, or_else, start_memory, StartIsZero, nat_tests}
 use Rattle.guest_memory.proofs.Map.{byte_from-past, byte_from-inside, not_le}
 
-same_regions : (stack scratch verdict constants stack' scratch' verdict' constants' : List ℕ) → stack ≡ stack' → scratch ≡ scratch' → verdict ≡ verdict' → constants ≡ constants' → ◌≡◌ {A = Memory} (record { stack = stack; scratch = scratch; verdict = verdict; constants = constants }) (record { stack = stack'; scratch = scratch'; verdict = verdict'; constants = constants' })
-same_regions stack scratch verdict constants stack' scratch' verdict' constants' a b c d = grind arith
-
 pub started : (stack scratch verdict constants given : List ℕ) → stack ≡ replicate 4096 0 → scratch ≡ replicate 4096 0 → verdict ≡ replicate 2048 0 → constants ≡ given → ◌≡◌ {A = Memory} (record { stack = stack; scratch = scratch; verdict = verdict; constants = constants }) (start_memory given)
 unfolding start_memory
-started stack scratch verdict constants given a b c d = same_regions stack scratch verdict constants _ _ _ given a b c d
+started stack scratch verdict constants given a b c d = λ i. record { stack = a i; scratch = b i; verdict = c i; constants = d i }
 
 start_bytes : (constants : List ℕ) → All (λ b. b < 256) constants → (r : Region) → All (λ b. b < 256) (bytes_in r (start_memory constants))
 unfolding start_memory

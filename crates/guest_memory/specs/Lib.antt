@@ -1,4 +1,4 @@
-pub mod Text
+pub mod ErrorCodes
 pub mod Memory
 pub mod Word
 pub mod Access

@@ -1,4 +1,5 @@
--- The words of a region by their number: each has eight bytes, and word i begins 8 * i after the region's first address.
+-- The words of a region by their number: each has eight bytes, and word i begins 8 * i after the region's first
+-- address.
 use Rattle.std.specs.Prelude.{◌≡◌, ℕ, ◌+◌, ◌*◌, ◌^◌, ◌<◌, ◌≤◌, All, List, length, Ok}
 use Rattle.guest_memory.specs.Memory.{Memory, Region, Constants, IsMemory, base_of, bytes_in, with_bytes}
 use Rattle.guest_memory.specs.Word.{word_of, low_bytes, part, overlay}

@@ -1,37 +1,45 @@
-//! Why a machine stops.
-ghost use Rattle.std.specs.Prelude.{Some};
-ghost use Rattle.guest_memory.specs.Text.{fault_text};
+//! Why a program is stopped.
+ghost use Rattle.std.specs.Prelude.{◌≡◌, length, Some};
+ghost use Rattle.guest_memory.specs.ErrorCodes.{fault_code};
 
 use std::fmt;
 
-/// What stops a program by force. The instruction at `pc` is the one that could not be done.
+/// Why a program is stopped: the instruction at `pc` cannot be executed. A fault changes nothing
+/// but the status.
 #[derive(Clone, Copy, Debug, PartialEq, Eq)]
 pub enum Fault {
-    /// `pc` is outside the code.
+    /// `pc` is outside the code, as after a jump past its end. (RFC 9669, section 4.3)
     F1,
-    /// The slots at `pc` spell no instruction.
+    /// The slots at `pc` are not a valid encoding of an instruction. (RFC 9669, section 3)
     F2,
-    /// Some byte of an access lies in no region, or not in the same one as the others.
+    /// A load, store or atomic instruction whose bytes are not all in one region, or a helper call
+    /// with a range that is not all in the constants. (RFC 9669, sections 5 and 4.3.1)
     F3,
-    /// A store whose bytes all lie in the constants.
+    /// A store or atomic instruction whose bytes are all in the constants, which are read-only.
+    /// (RFC 9669, section 5)
     F4,
-    /// No helper has this number.
+    /// A call of a helper with a number that no helper has. (RFC 9669, section 4.3.1)
     F5,
-    /// No value has this reference.
+    /// A call of a helper with an argument that has to be the reference of a value and is not one.
+    /// (RFC 9669, section 4.3.1)
     F6,
-    /// A call that would open a ninth frame.
+    /// A call of a local function that would open a ninth frame. (RFC 9669, section 4.3.2)
     F7,
-    /// The charge, or the depth of a value, is above its limit.
+    /// A call of a helper after which the charge would be above 16,777,216, or a list or map deeper
+    /// than 255. (RFC 9669, section 4.3.1)
     F8,
-    /// An arithmetic or load instruction whose destination is R10.
+    /// An arithmetic or load instruction whose destination is R10, the frame pointer, or an atomic
+    /// one that would put the old word there. (RFC 9669, sections 4.1, 4.2 and 5)
     F9,
 }
 
-impl fmt::Display for Fault {
-    ghost output = { λ f. Some (fault_text f) };
-
-    fn fmt<W: fmt::Write>(&self, f: &mut fmt::Formatter<W>) -> fmt::Result {
-        f.write_str(match self {
+impl Fault {
+    /// The fault's code: `F1` to `F9`.
+    pub fn code(&self) -> &'static str
+        ensures text { result.now ≡ fault_code self.now }
+        ensures length { length result.now ≡ 2 }
+    {
+        match self {
             Fault::F1 => "F1",
             Fault::F2 => "F2",
             Fault::F3 => "F3",
@@ -41,6 +49,14 @@ impl fmt::Display for Fault {
             Fault::F7 => "F7",
             Fault::F8 => "F8",
             Fault::F9 => "F9",
-        })
+        }
+    }
+}
+
+impl fmt::Display for Fault {
+    ghost output = { λ f. Some (fault_code f) };
+
+    fn fmt<W: fmt::Write>(&self, f: &mut fmt::Formatter<W>) -> fmt::Result {
+        f.write_str(self.code())
     }
 }

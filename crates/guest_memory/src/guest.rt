@@ -1,7 +1,8 @@
 //! Memory in pages, which copies share.
 ghost use Rattle.std.specs.Prelude.{◌≡◌, length, replicate, IfOk, None};
 ghost use Rattle.guest_memory.specs.Answers.{answer_of, word_or_outside};
-ghost use Rattle.guest_memory.specs.Access.{place_of, read_of, size_bytes, write_of, Writes};
+ghost use Rattle.guest_memory.specs.Access.{place_of, read_of, size_bytes, write_of, StoreReturns};
+ghost use Rattle.guest_memory.specs.Memory.{Memory};
 
 use crate::answer::Answer;
 use crate::fault::Fault;
@@ -16,19 +17,19 @@ use std::alloc::{AllocError, Global};
 use std::rc::Rc;
 
 /// The first address of the stack.
-const STACK: u64 = 0x1_0000_0000;
+pub const STACK: u64 = 0x1_0000_0000;
 
 /// The first address of the scratch.
-const SCRATCH: u64 = 0x2_0000_0000;
+pub const SCRATCH: u64 = 0x2_0000_0000;
 
 /// The first address of the verdict.
-const VERDICT: u64 = 0x3_0000_0000;
+pub const VERDICT: u64 = 0x3_0000_0000;
 
 /// The first address of the constants.
-const CONSTANTS: u64 = 0x4_0000_0000;
+pub const CONSTANTS: u64 = 0x4_0000_0000;
 
-/// Memory that shares its pages and its constants with its copies. A store copies a page of 256 bytes that
-/// others share.
+/// Memory that shares its pages and its constants with its copies. A store copies a page of 256
+/// bytes that others share.
 #[derive(Drop)]
 pub struct Guest {
     stack: Region<16>,
@@ -65,15 +66,21 @@ fn shared(alloc: Global, constants: &[u8]) -> Result<Rc<Vec<u8>>, AllocError>
     Ok(block)
 }
 
-/// Loads and stores that are not in one page of the stack, which are rare: out of the way of those that
-/// are.
+/// Loads and stores that are not in one page of the stack, which are rare: out of the way of those
+/// that are.
 impl Guest {
     /// The word of a load over the border of a page of the stack, if one region has its bytes.
     #[tactic(auto, unfolding(crate::specs::Access::read_of))]
     #[cold]
     #[inline(never)]
     fn read_across(&self, addr: u64, size: Size) -> Option<u64>
-        ensures { word_or_outside result ≡ read_of (record { stack = self.now.stack; scratch = self.now.scratch; verdict = self.now.verdict; constants = self.now.constants.value.items }) addr size }
+        ensures { let memory : Memory = record {
+          stack = self.now.stack;
+          scratch = self.now.scratch;
+          verdict = self.now.verdict;
+          constants = self.now.constants.value.items;
+        } in
+            word_or_outside result ≡ read_of memory addr size }
     {
         match place(STACK, self.stack.len(), addr, size.bytes() as u64) {
             Some(at) => Some(self.stack.word_at(at, size)),
@@ -87,7 +94,13 @@ impl Guest {
     #[inline(never)]
     fn read_above(&self, addr: u64, size: Size) -> Option<u64>
         requires { place_of 0x100000000 (length self.now.stack) addr (size_bytes size) ≡ None }
-        ensures { word_or_outside result ≡ read_of (record { stack = self.now.stack; scratch = self.now.scratch; verdict = self.now.verdict; constants = self.now.constants.value.items }) addr size }
+        ensures { let memory : Memory = record {
+          stack = self.now.stack;
+          scratch = self.now.scratch;
+          verdict = self.now.verdict;
+          constants = self.now.constants.value.items;
+        } in
+            word_or_outside result ≡ read_of memory addr size }
     {
         let n = size.bytes() as u64;
         if let Some(at) = place(SCRATCH, self.scratch.len(), addr, n) {
@@ -107,7 +120,19 @@ impl Guest {
     #[cold]
     #[inline(never)]
     fn write_across(&mut self, addr: u64, size: Size, word: u64) -> Answer
-        ensures { Writes (write_of (record { stack = self.old.stack; scratch = self.old.scratch; verdict = self.old.verdict; constants = self.old.constants.value.items }) addr size word) (answer_of result) (record { stack = self.old.stack; scratch = self.old.scratch; verdict = self.old.verdict; constants = self.old.constants.value.items }) (record { stack = self.new.stack; scratch = self.new.scratch; verdict = self.new.verdict; constants = self.new.constants.value.items }) }
+        ensures { let before : Memory = record {
+          stack = self.old.stack;
+          scratch = self.old.scratch;
+          verdict = self.old.verdict;
+          constants = self.old.constants.value.items;
+        } in
+            let after : Memory = record {
+              stack = self.new.stack;
+              scratch = self.new.scratch;
+              verdict = self.new.verdict;
+              constants = self.new.constants.value.items;
+            } in
+            StoreReturns (write_of before addr size word) (answer_of result) before after }
     {
         if let Some(at) = place(STACK, self.stack.len(), addr, size.bytes() as u64) {
             let Ok(()) = self.stack.put_word(at, size, word) else {
@@ -124,7 +149,19 @@ impl Guest {
     #[inline(never)]
     fn write_above(&mut self, addr: u64, size: Size, word: u64) -> Answer
         requires { place_of 0x100000000 (length self.old.stack) addr (size_bytes size) ≡ None }
-        ensures { Writes (write_of (record { stack = self.old.stack; scratch = self.old.scratch; verdict = self.old.verdict; constants = self.old.constants.value.items }) addr size word) (answer_of result) (record { stack = self.old.stack; scratch = self.old.scratch; verdict = self.old.verdict; constants = self.old.constants.value.items }) (record { stack = self.new.stack; scratch = self.new.scratch; verdict = self.new.verdict; constants = self.new.constants.value.items }) }
+        ensures { let before : Memory = record {
+          stack = self.old.stack;
+          scratch = self.old.scratch;
+          verdict = self.old.verdict;
+          constants = self.old.constants.value.items;
+        } in
+            let after : Memory = record {
+              stack = self.new.stack;
+              scratch = self.new.scratch;
+              verdict = self.new.verdict;
+              constants = self.new.constants.value.items;
+            } in
+            StoreReturns (write_of before addr size word) (answer_of result) before after }
     {
         let n = size.bytes() as u64;
         if let Some(at) = place(SCRATCH, self.scratch.len(), addr, n) {

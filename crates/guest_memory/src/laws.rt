@@ -2,7 +2,7 @@
 #![tactic(auto, using(crate::proofs::Lending::lent_laws, crate::proofs::Reading::read_laws, crate::proofs::RegionWords::words_are_accessed, crate::proofs::RegionWords::words_are_put, crate::proofs::Start::start_laws, crate::proofs::Writing::write_laws))]
 
 ghost use Rattle.guest_memory.specs.Laws.{ReadIsBytes, WriteIsBytes, StoresAreWrites, StartIsZero, LentIsBytes};
-ghost use Rattle.guest_memory.specs.Rows.{RowsStand};
+ghost use Rattle.guest_memory.specs.Rows.{MemoryRowsHold};
 ghost use Rattle.guest_memory.specs.RegionWords.{WordsArePut, WordsAreAccessed};
 
 /// A load answers the word whose bytes stand at its addresses, the lowest first, exactly where one
@@ -11,8 +11,8 @@ pub fn read_is_bytes()
     ensures { ReadIsBytes }
 {}
 
-/// A store puts the bytes of its word at its addresses and changes no other, exactly where one region
-/// that can be written has them all.
+/// A store puts the bytes of its word at its addresses and changes no other, exactly where one
+/// region that can be written has them all.
 pub fn write_is_bytes()
     ensures { WriteIsBytes }
 {}
@@ -46,5 +46,5 @@ pub fn words_are_accessed()
 /// Loads and stores worked by hand.
 #[tactic(auto, unfolding(crate::specs::Access::read_of, crate::specs::Access::stores_of, crate::specs::Access::write_of, crate::specs::Memory::start_memory))]
 pub fn rows_stand()
-    ensures { RowsStand }
+    ensures { MemoryRowsHold }
 {}

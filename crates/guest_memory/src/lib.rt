@@ -17,7 +17,7 @@ mod write_error;
 mod zero_page;
 
 pub use fault::Fault;
-pub use guest::Guest;
+pub use guest::{CONSTANTS, Guest, SCRATCH, STACK, VERDICT};
 pub use regions::Regions;
 pub use size::Size;
 pub use write_error::WriteError;

@@ -31,7 +31,8 @@ impl<const N: usize> Model for Region<N> {
 }
 
 impl<const N: usize> Region<N> {
-    /// Zeros: each page is a clone of the given one. The error says that no more clones can be counted.
+    /// Zeros: each page is a clone of the given one. The error says that no more clones can be
+    /// counted.
     pub fn zeroed(zero: &ZeroPage) -> Result<Region<N>, AllocError>
         requires { N ≤ 256 }
         ensures { IfOk result (λ region. region ≡ replicate (256 * N) 0) }
@@ -59,8 +60,8 @@ impl<const N: usize> Region<N> {
         self.pages[..].len() * PAGE_LENGTH
     }
 
-    /// Where an access is in a region from `base` on. An address below the region is past its end as
-    /// well, since the difference wraps.
+    /// Where an access is in a region from `base` on. An address below the region is past its end
+    /// as well, since the difference wraps.
     #[inline(always)]
     pub fn spot(&self, base: u64, addr: u64, size: Size) -> Spot
         requires { base % 256 ≡ 0 }
@@ -97,7 +98,8 @@ impl<const N: usize> Region<N> {
         word_at(&self.pages, at, size)
     }
 
-    /// Puts the low bytes of a word into a page from `from` on. If an allocation fails, all is unchanged.
+    /// Puts the low bytes of a word into a page from `from` on. If an allocation fails, all is
+    /// unchanged.
     #[tactic(auto, using(crate::proofs::PagedBytes::joined_length))]
     #[inline(always)]
     pub fn put_in(

@@ -1,7 +1,7 @@
 //! What the machine asks of its memory.
 ghost use Rattle.std.specs.Prelude.{◌≡◌, option_copied, IfOk};
 ghost use Rattle.guest_memory.specs.Memory.{Memory, start_memory};
-ghost use Rattle.guest_memory.specs.Access.{read_of, write_of, stores_of, constants_of, Writes};
+ghost use Rattle.guest_memory.specs.Access.{read_of, write_of, stores_of, constants_of, StoreReturns};
 
 use crate::fault::Fault;
 use crate::size::Size;
@@ -24,16 +24,16 @@ pub trait Regions: Drop {
     fn copy(&self) -> Result<Self, AllocError>
         ensures { IfOk result (λ copy. bytes copy ≡ bytes self.now) };
 
-    /// The number whose bytes stand from `addr` on, the lowest first, with zeros above them; or `F3`
-    /// where they do not all stand in one region (RFC 9669, section 5).
+    /// The number whose bytes stand from `addr` on, the lowest first, with zeros above them; or
+    /// `F3` where they do not all stand in one region (RFC 9669, section 5).
     fn read(&self, addr: u64, size: Size) -> Result<u64, Fault>
         ensures { result ≡ read_of (bytes self.now) addr size };
 
-    /// Puts the low bytes of a word from `addr` on, the lowest first (RFC 9669, section 5). The error
-    /// is `F3` where they would not all stand in one region and `F4` where that region is the
+    /// Puts the low bytes of a word from `addr` on, the lowest first (RFC 9669, section 5). The
+    /// error is `F3` where they would not all stand in one region and `F4` where that region is the
     /// constants, and then nothing is changed.
     fn write(&mut self, addr: u64, size: Size, word: u64) -> Result<(), WriteError>
-        ensures { Writes (write_of (bytes self.old) addr size word) result (bytes self.old) (bytes self.new) };
+        ensures { StoreReturns (write_of (bytes self.old) addr size word) result (bytes self.old) (bytes self.new) };
 
     /// Whether a store would be made: its fault is the one that `write` would answer, whatever the
     /// word. Nothing is written, and no memory is asked for.

@@ -1,11 +1,11 @@
 //! Why a store was not made.
 use crate::fault::Fault;
 
-/// Why a store was not made. It has then changed no byte.
+/// Why a store was not made. The memory is unchanged.
 #[derive(Clone, Copy, Debug, PartialEq, Eq)]
 pub enum WriteError {
-    /// The program has no right to make it: `F3` or `F4`.
+    /// The store is not allowed: `F3` or `F4`.
     Fault(Fault),
-    /// The host has no memory for what it would change.
+    /// An allocation of the host failed.
     Memory,
 }

@@ -8,7 +8,7 @@ push_depth_at l x w e = grind (arith, push_depth)
 pub record Grows (v : Option Value) (depth : ℕ) : Type 0 where
   pub is : (w : Value) → v ≡ Some w → depth_of w ≡ depth
 
--- a plan that adds to a list or a map, where it can and within the depth
+-- an effect that adds to a list or a map, where it can and within the depth
 pub grows : (placed said : Option Value) (depth : ℕ) (can within : Bool) → ((w : Value) → said ≡ Some w → placed ≡ Some w)
     → (is_some said ≡ true → Grows said depth) → can ≡ is_some said → within ≡ nat_le depth depth_limit
     → (if can then if within then named placed 1 else Refused F8 else Plain 0 1) ≡ grown said

@@ -1,5 +1,5 @@
 -- A map with one more entry.
-use Rattle.helper_table.proofs.Prelude.{◌≡◌, ◌+◌, ℕ, max, List, Option, Some, None, Bool, true, false, not, ◌&&◌, refl, sym, ap, ◌∙◌, arith, and-true, and-false, is_eq-slice_cmp, Equal, slice_cmp, nat_cmp, is_eq, IfSome, option_map, option_and_then, is_some, bytes_eq, if◌then◌else◌, entries_at, text_at, value_at, put_in, put_of, has_key, inserted, Seen, seen, depth_of, entries_depth, Value, map, Entries, no_entries, entry, ValueOrError, depth_at, is_key, entered, is_value, is_new_key, text_part}
+use Rattle.helper_table.proofs.Prelude.{◌≡◌, ◌+◌, ℕ, max, List, Option, Some, None, Bool, true, false, not, ◌&&◌, refl, sym, ap, ◌∙◌, arith, and-true, and-false, is_eq-slice_cmp, Equal, slice_cmp, nat_cmp, is_eq, IfSome, option_map, option_and_then, is_some, bytes_eq, if◌then◌else◌, entries_at, text_at, value_at, put_in, put_of, has_key, inserted, Seen, outcome_view, depth_of, entries_depth, Value, map, Entries, no_entries, entry, ValueOrError, depth_at, is_key, entered, is_value, is_new_key, text_part}
 use lib.Pointwise.{bytes_decides}
 use Rattle.helper_table.proofs.Depths.{Grows}
 
@@ -35,11 +35,11 @@ enters_among (Some es) (Some key) (Some v) =
     and-true (not (has_key key es)) ∙ free (has_key key es) (put_of es key v) (λ e. sym (mapped (inserted key v es)) ∙ free_enters key v es e)
 enters_among _ _ x = refl
 
-value_seen : (x : ValueOrError) → is_value (seen x) ≡ is_some (value_at (Some x))
+value_seen : (x : ValueOrError) → is_value (outcome_view x) ≡ is_some (value_at (Some x))
 value_seen x = grind arith
 
 -- where a map can be entered
-pub enters : (m k x : Option ValueOrError) (s t : Seen) → option_map seen k ≡ Some s → option_map seen x ≡ Some t
+pub enters : (m k x : Option ValueOrError) (s t : Seen) → option_map outcome_view k ≡ Some s → option_map outcome_view x ≡ Some t
     → (is_new_key (entries_at m) (text_part s) && is_value t) ≡ is_some (entered m k x)
 enters m k x s t e f = grind (arith, value_seen, enters_among)
 

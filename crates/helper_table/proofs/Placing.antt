@@ -1,5 +1,5 @@
 -- What placing a value leaves.
-use Rattle.helper_table.proofs.Prelude.{◌≡◌, ℕ, suc, List, [], ◌∷◌, ◌++◌, length, refl, ◌⊎◌, arith, length-append, ◌+◌, Bool, true, first_values, place, placed, IsCanonicalAt, Contents, charge_limit, Value, null, boolean, ValueOrError, value, Names, Extends, PlacedIsNamed, PlacedExtends, Follows, if◌then◌else◌, nat_le, F8, Outcome, Plain, Named, Refused, Leaves, Halts, answer_among, charged}
+use Rattle.helper_table.proofs.Prelude.{◌≡◌, ℕ, suc, List, [], ◌∷◌, ◌++◌, length, refl, ◌⊎◌, arith, length-append, ◌+◌, Bool, true, first_values, place, placed, IsCanonicalAt, Contents, charge_limit, Value, null, boolean, ValueOrError, value, Names, ExtendsValues, PlacedIsNamed, PlacedExtends, Follows, if◌then◌else◌, nat_le, F8, RowOutcome, Plain, Named, Refused, Leaves, Halts, answer_among, charged}
 
 seam : (vs : List ValueOrError) (x : ValueOrError) → Names (vs ++ x ∷ []) (length vs) x
 seam [] x = refl
@@ -13,11 +13,11 @@ old_or_new : (vs : List ValueOrError) (y : ValueOrError) (h : ℕ) (x : ValueOrE
 old_or_new (v ∷ vs) y (suc h) x is = old_or_new vs y h x is
 old_or_new vs y h x is = grind arith
 
-pub same : (vs : List ValueOrError) → Extends vs vs
+pub same : (vs : List ValueOrError) → ExtendsValues vs vs
 same vs = grind arith
 
 -- one more value, which may have any reference
-more : (vs : List ValueOrError) (y : ValueOrError) → ((h : ℕ) → IsCanonicalAt y h) → Extends vs (vs ++ y ∷ [])
+more : (vs : List ValueOrError) (y : ValueOrError) → ((h : ℕ) → IsCanonicalAt y h) → ExtendsValues vs (vs ++ y ∷ [])
 more vs y free = grind (arith, kept, length-append, old_or_new)
 
 pub placed_extends : PlacedExtends
@@ -54,12 +54,12 @@ pub left : (test : Bool) (w word : ℕ) (contents new : Contents) → (if test t
     → Left test w word contents new
 left test w word contents new e = grind arith
 
-follows : (old new : Contents) (us : List ValueOrError) (w word added : ℕ) → Extends old.values us
+follows : (old new : Contents) (us : List ValueOrError) (w word added : ℕ) → ExtendsValues old.values us
     → ((rest : List ValueOrError) → old.values ≡ first_values ++ rest → Begins us)
     → Left (nat_le (old.charge + (1 + added)) charge_limit) w word (record { values = us; charge = old.charge + (1 + added) }) new → Follows old new
 follows old new us w word added values store limit = grind arith
 
-pub outcome_follows : (o : Outcome) (old new : Contents) (word : ℕ) → charged (answer_among old.values o) old.charge ≡ Leaves word new → Follows old new
+pub outcome_follows : (o : RowOutcome) (old new : Contents) (word : ℕ) → charged (answer_among old.values o) old.charge ≡ Leaves word new → Follows old new
 outcome_follows (Plain w added) old new word e =
     follows old new old.values w word added (same old.values) (λ rest is. record { rest = rest; is = is }) (left _ _ _ _ _ e)
 outcome_follows (Named v added) old new word e =

@@ -1,5 +1,5 @@
 -- Calls answer words, and leave tables.
-use Rattle.helper_table.proofs.Prelude.{◌≡◌, ◌+◌, ◌<◌, ◌≤◌, ◌^◌, ℕ, zero, suc, List, [], ◌∷◌, ◌++◌, length, Option, Some, lit<, arith, All-append, All-cons, All-head, All-nil, All-tail, get_or_from_slice_get, slice_get_within, w64, cast_signed, All, FitsSigned, slice_index, nat_le, option_and_then, entries_at, joined, part_at, pushed, put_in, text_at, Contents, charge_limit, place, placed, Seen, sees_list, sees_map, seen, Value, text, list, Items, ValueOrError, value, entered, grown, is_key, join_row, list_new_row, map_new_row, push_row, put_row, sequence, bytes_at, on_lent, on_range, on_value, on_values, r1, r2, r3, row_numbered, row_of, contains_row, ends_row, equal_row, less_row, member_row, starts_row, int_new_row, int_of_row, kind_row, not_row, text_const_row, text_of_int_row, Follows, count_row, field_row, has_row, index_row, item_or_key, item_row, part_by, size_row, value_under, of_number, place_part, text_part, Outcome, Plain, Named, Refused, Leaves, answer_among, charged, found, AreItemsBounded, IsBounded, IsResultBounded, IsTable, TablesAreKept, Helper}
+use Rattle.helper_table.proofs.Prelude.{◌≡◌, ◌+◌, ◌<◌, ◌≤◌, ◌^◌, ℕ, zero, suc, List, [], ◌∷◌, ◌++◌, length, Option, Some, lit<, arith, All-append, All-cons, All-head, All-nil, All-tail, get_or_from_slice_get, slice_get_within, w64, cast_signed, All, FitsSigned, slice_index, nat_le, option_and_then, entries_at, joined, part_at, pushed, put_in, text_at, Contents, charge_limit, place, placed, Seen, sees_list, sees_map, outcome_view, Value, text, list, Items, ValueOrError, value, entered, grown, is_key, join_row, list_new_row, map_new_row, push_row, put_row, sequence, bytes_at, on_lent, on_range, on_value, on_values, r1, r2, r3, row_numbered, row_of, contains_row, ends_row, equal_row, less_row, member_row, starts_row, int_new_row, int_of_row, kind_row, not_row, text_const_row, text_of_int_row, Follows, count_row, field_row, has_row, index_row, item_or_key, item_row, part_by, size_row, value_under, of_number, place_part, text_part, RowOutcome, Plain, Named, Refused, Leaves, answer_among, charged, found, AreItemsBounded, IsBounded, IsResultBounded, IsTable, TablesAreKept, Helper}
 use Rattle.helper_table.proofs.Bounded.{joined_items, key_text_bounded, looser, looser_items, part_bounded, pushed_bounded, put_in_bounded, under_bounded}
 use Rattle.helper_table.proofs.Entering.{unless}
 use Rattle.helper_table.proofs.Placing.{Left, left, outcome_follows}
@@ -7,7 +7,7 @@ use Rattle.helper_table.proofs.Maps.{few_code_points}
 use Rattle.helper_table.specs.declared.helper.Helper.TheVariants as helper
 
 -- what a row may say where no part is longer than n: a word, or a value whose parts are no longer than n and its cost
-abbrev IsFit : ℕ → Outcome → Type 0
+abbrev IsFit : ℕ → RowOutcome → Type 0
 IsFit n (Plain word added) = word < 2 ^ 64
 IsFit n (Named v added) = IsBounded (n + (1 + added)) v
 IsFit n (Refused f) = Unit {0}
@@ -23,14 +23,14 @@ argument (w ∷ ws) zero all = All-head (λ w. w < 2 ^ 64) w ws all
 argument (w ∷ ws) (suc i) all = argument ws i (All-tail (λ w. w < 2 ^ 64) w ws all)
 
 module _ (n : ℕ) where
-  lent_fits : (o : Option (List ℕ)) (row : List ℕ → Outcome) → ((bytes : List ℕ) → IsFit n (row bytes)) → IsFit n (on_lent o row)
+  lent_fits : (o : Option (List ℕ)) (row : List ℕ → RowOutcome) → ((bytes : List ℕ) → IsFit n (row bytes)) → IsFit n (on_lent o row)
   lent_fits o row is = grind arith
 
 module _ (n : ℕ) (vs : List ValueOrError) (all : All (IsResultBounded n) vs) where
-  value_fits : (h : ℕ) (row : ValueOrError → Outcome) → ((x : ValueOrError) → IsResultBounded n x → IsFit n (row x)) → IsFit n (on_value vs h row)
+  value_fits : (h : ℕ) (row : ValueOrError → RowOutcome) → ((x : ValueOrError) → IsResultBounded n x → IsFit n (row x)) → IsFit n (on_value vs h row)
   value_fits h row is = grind (arith, get_or_from_slice_get, slice_get_within)
 
-  values_fit : (a b : ℕ) (row : ValueOrError → ValueOrError → Outcome)
+  values_fit : (a b : ℕ) (row : ValueOrError → ValueOrError → RowOutcome)
       → ((x y : ValueOrError) → IsResultBounded n x → IsResultBounded n y → IsFit n (row x y)) → IsFit n (on_values vs a b row)
   values_fit a b row is = grind (arith, value_fits)
 
@@ -94,7 +94,7 @@ module _ (n : ℕ) (small : n ≤ charge_limit) (vs : List ValueOrError) (all : 
       (λ key. found_fits n (value_under (Some m) key) (λ v e. under_bounded n m key v b e)))
   row_fits helper.Index =
       values_fit n vs all (r1 args) (r2 args) index_row
-      (λ x k b c. found_fits n (part_by (seen x) (seen k) (Some x)) (λ v e. by_bounded n (seen x) (seen k) x v b e))
+      (λ x k b c. found_fits n (part_by (outcome_view x) (outcome_view k) (Some x)) (λ v e. by_bounded n (outcome_view x) (outcome_view k) x v b e))
   row_fits helper.Size = value_fits n vs all (r1 args) size_row (size_fits n small)
   row_fits helper.Join =
       values_fit n vs all (r1 args) (r2 args) join_row (λ x y b c. sequence_fits n (joined (Some x) (Some y)) (λ is e. joined_items n x y is b c e))
@@ -105,7 +105,7 @@ module _ (n : ℕ) (small : n ≤ charge_limit) (vs : List ValueOrError) (all : 
       (λ m b. values_fit n vs all (r2 args) (r3 args) (put_row m) (λ k x c d. put_fits n m k x b c d))
   row_fits helper.Item =
       value_fits n vs all (r1 args) (λ x. item_row x (r2 args))
-      (λ x b. found_fits n (item_or_key (seen x) (r2 args) (Some x)) (λ v e. at_bounded n (seen x) (r2 args) x v b e))
+      (λ x b. found_fits n (item_or_key (outcome_view x) (r2 args) (Some x)) (λ v e. at_bounded n (outcome_view x) (r2 args) x v b e))
   row_fits helper.Count = value_fits n vs all (r1 args) count_row (count_fits n small)
   row_fits h = grind (arith, lit<)
 
@@ -131,7 +131,7 @@ module _ (old new : Contents) (word : ℕ) (table : IsTable old) where
       → Left (nat_le (old.charge + (1 + added)) charge_limit) w word (record { values = us; charge = old.charge + (1 + added) }) new → (word < 2 ^ 64) × IsTable new
   keeps us w added small all follows is = grind arith
 
-  outcome_keeps : (o : Outcome) → IsFit old.charge o → charged (answer_among old.values o) old.charge ≡ Leaves word new → (word < 2 ^ 64) × IsTable new
+  outcome_keeps : (o : RowOutcome) → IsFit old.charge o → charged (answer_among old.values o) old.charge ≡ Leaves word new → (word < 2 ^ 64) × IsTable new
   outcome_keeps (Plain w added) fit e =
       keeps old.values w added fit (all_looser old.charge (old.charge + (1 + added)) old.values (omega arith) table.bounded) (outcome_follows (Plain w added) old new word e) (left _ _ _ _ _ e)
   outcome_keeps (Named v added) fit e =

@@ -5,24 +5,24 @@ use Rattle.value_store.specs.Calls.{entries_at, text_at, joined, pushed, put_in}
 use Rattle.value_store.specs.Lookup.{has_key}
 use Rattle.value_store.specs.Size.{depth_of, result_depth}
 use Rattle.value_store.specs.Value.{Value, text, list, map, no_items, Entries, no_entries, ValueOrError, list_of}
-use Rattle.helper_table.specs.Outcome.{Outcome, Plain, Named, Refused}
+use Rattle.helper_table.specs.Outcome.{RowOutcome, Plain, Named, Refused}
 
 -- what was joined, if it was
-abbrev pub sequence : Option Value → Outcome
+abbrev pub sequence : Option Value → RowOutcome
 sequence (Some (text s)) = Named (text s) (length s)
 sequence (Some (list is)) = Named (list is) (length (list_of is))
 sequence _ = Plain 0 0
 
 -- two texts or two lists, one behind the other, each byte or item of the result charged
-unfoldable pub join_row : ValueOrError → ValueOrError → Outcome
+unfoldable pub join_row : ValueOrError → ValueOrError → RowOutcome
 join_row a b = sequence (joined (Some a) (Some b))
 
 -- an empty list
-unfoldable pub list_new_row : Outcome
+unfoldable pub list_new_row : RowOutcome
 list_new_row = Named (list no_items) 0
 
 -- an empty map
-unfoldable pub map_new_row : Outcome
+unfoldable pub map_new_row : RowOutcome
 map_new_row = Named (map no_entries) 0
 
 -- the greatest depth of a list or a map that is made
@@ -35,12 +35,12 @@ depth_at (Some x) = result_depth x
 depth_at None = 0
 
 -- a list or a map that was added to, within the depth; 1 is charged also where nothing is added
-abbrev pub grown : Option Value → Outcome
+abbrev pub grown : Option Value → RowOutcome
 grown (Some v) = if nat_le (depth_of v) depth_limit then Named v 1 else Refused F8
 grown None = Plain 0 1
 
 -- a list with a value behind its items
-unfoldable pub push_row : ValueOrError → ValueOrError → Outcome
+unfoldable pub push_row : ValueOrError → ValueOrError → RowOutcome
 push_row l x = grown (pushed (Some l) (Some x))
 
 -- whether a text is a key of a map
@@ -54,5 +54,5 @@ abbrev pub entered : Option ValueOrError → Option ValueOrError → Option Valu
 entered m k x = if is_key (entries_at m) (text_at k) then None else put_in m k x
 
 -- a map with one more entry, its key a text that the map does not have
-unfoldable pub put_row : ValueOrError → ValueOrError → ValueOrError → Outcome
+unfoldable pub put_row : ValueOrError → ValueOrError → ValueOrError → RowOutcome
 put_row m k x = grown (entered (Some m) (Some k) (Some x))

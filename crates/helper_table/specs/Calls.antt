@@ -10,7 +10,7 @@ use Rattle.helper_table.specs.Comparisons.{equal_row, less_row, member_row, star
 use Rattle.helper_table.specs.Conversions.{kind_row, int_of_row, int_new_row, text_const_row, text_of_int_row, not_row}
 use Rattle.helper_table.specs.Lookups.{field_row, has_row, index_row, size_row, item_row, count_row}
 use Rattle.helper_table.specs.Numbers.{of_number}
-use Rattle.helper_table.specs.Outcome.{Outcome, Refused, HelperAnswer, answer_among, CallEnd, charged}
+use Rattle.helper_table.specs.Outcome.{RowOutcome, Refused, HelperAnswer, answer_among, CallEnd, charged}
 use Rattle.helper_table.specs.declared.helper.Helper.{Helper}
 use Rattle.helper_table.specs.declared.helper.Helper.TheVariants as helper
 
@@ -27,16 +27,16 @@ abbrev pub r3 : List ℕ → ℕ
 r3 args = slice_index args 2
 
 -- a row on an operand; where a reference is none, that is the fault
-abbrev pub on_operand : Option ValueOrError → (ValueOrError → Outcome) → Outcome
+abbrev pub on_operand : Option ValueOrError → (ValueOrError → RowOutcome) → RowOutcome
 on_operand (Some x) row = row x
 on_operand None row = Refused F6
 
 -- a row on what stands at a reference: a place in the list of values, the first being 0
-abbrev pub on_value : List ValueOrError → ℕ → (ValueOrError → Outcome) → Outcome
+abbrev pub on_value : List ValueOrError → ℕ → (ValueOrError → RowOutcome) → RowOutcome
 on_value vs h row = on_operand (slice_get vs h) row
 
 -- a row on what stands at two references, of which the first is tested first
-abbrev pub on_values : List ValueOrError → ℕ → ℕ → (ValueOrError → ValueOrError → Outcome) → Outcome
+abbrev pub on_values : List ValueOrError → ℕ → ℕ → (ValueOrError → ValueOrError → RowOutcome) → RowOutcome
 on_values vs a b row = on_value vs a (λ x. on_value vs b (row x))
 
 -- the n bytes of the constants from an address on, if none lies outside
@@ -44,16 +44,16 @@ abbrev pub bytes_at : List ℕ → ℕ → ℕ → Option (List ℕ)
 bytes_at constants address n = constants_of (start_memory constants) address n
 
 -- a row on bytes; where some lie outside, that is the fault
-abbrev pub on_lent : Option (List ℕ) → (List ℕ → Outcome) → Outcome
+abbrev pub on_lent : Option (List ℕ) → (List ℕ → RowOutcome) → RowOutcome
 on_lent (Some bytes) row = row bytes
 on_lent None row = Refused F3
 
 -- a row on the n bytes of the constants from an address on
-abbrev pub on_range : List ℕ → ℕ → ℕ → (List ℕ → Outcome) → Outcome
+abbrev pub on_range : List ℕ → ℕ → ℕ → (List ℕ → RowOutcome) → RowOutcome
 on_range constants address n row = on_lent (bytes_at constants address n) row
 
 -- each helper with its operands: references are tested before ranges
-unfoldable pub row_of : Helper → List ℕ → List ValueOrError → List ℕ → Outcome
+unfoldable pub row_of : Helper → List ℕ → List ValueOrError → List ℕ → RowOutcome
 row_of helper.Kind args vs constants = on_value vs (r1 args) kind_row
 row_of helper.IntOf args vs constants = on_value vs (r1 args) int_of_row
 row_of helper.IntNew args vs constants = int_new_row (r1 args)
@@ -79,12 +79,12 @@ row_of helper.TextOfInt args vs constants = on_value vs (r1 args) text_of_int_ro
 row_of helper.Not args vs constants = on_value vs (r1 args) not_row
 
 -- a helper's row; where no helper has the number, that is the fault
-abbrev pub row_numbered : Option Helper → List ℕ → List ValueOrError → List ℕ → Outcome
+abbrev pub row_numbered : Option Helper → List ℕ → List ValueOrError → List ℕ → RowOutcome
 row_numbered (Some h) args vs constants = row_of h args vs constants
 row_numbered None args vs constants = Refused F5
 
 -- what helper `id` says of these arguments
-abbrev pub outcome_of : ℤ → List ℕ → List ValueOrError → List ℕ → Outcome
+abbrev pub outcome_of : ℤ → List ℕ → List ValueOrError → List ℕ → RowOutcome
 outcome_of id args vs constants = row_numbered (of_number id) args vs constants
 
 -- what it answers among these values

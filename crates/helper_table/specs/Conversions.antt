@@ -3,10 +3,10 @@ use Rattle.std.specs.Prelude.{ℕ, ℤ, not, List, length, Option, Some, None, o
 use Rattle.std.specs.Fmt.{signed_decimal}
 use Rattle.std.specs.Int.{w64, cast_signed, cast_unsigned}
 use Rattle.std.specs.Str.{is_utf8}
-use Rattle.value_store.specs.Seen.{Seen, sees_error, sees_null, sees_bool, sees_int, sees_text, sees_list, sees_map, seen}
+use Rattle.value_store.specs.Seen.{Seen, sees_error, sees_null, sees_bool, sees_int, sees_text, sees_list, sees_map, outcome_view}
 use Rattle.value_store.specs.Value.{int, text, ValueOrError}
 use Rattle.helper_table.specs.Operands.{int_part, truth_part}
-use Rattle.helper_table.specs.Outcome.{Outcome, Plain, Named, truth}
+use Rattle.helper_table.specs.Outcome.{RowOutcome, Plain, Named, truth}
 
 -- the number of a kind
 abbrev pub kind_number : Seen → ℕ
@@ -19,8 +19,8 @@ kind_number (sees_list n) = 5
 kind_number (sees_map n) = 6
 
 -- the kind of what stands at a reference, by its number
-unfoldable pub kind_row : ValueOrError → Outcome
-kind_row x = Plain (kind_number (seen x)) 0
+unfoldable pub kind_row : ValueOrError → RowOutcome
+kind_row x = Plain (kind_number (outcome_view x)) 0
 
 -- an int as a word, a negative one modulo 2 ^ 64; 0 where there is none
 abbrev pub int_word : Option ℤ → ℕ
@@ -28,26 +28,26 @@ int_word (Some z) = cast_unsigned w64 z
 int_word None = 0
 
 -- the int as a word, a negative one modulo 2 ^ 64
-unfoldable pub int_of_row : ValueOrError → Outcome
-int_of_row x = Plain (int_word (int_part (seen x))) 0
+unfoldable pub int_of_row : ValueOrError → RowOutcome
+int_of_row x = Plain (int_word (int_part (outcome_view x))) 0
 
 -- the word read as signed
-unfoldable pub int_new_row : ℕ → Outcome
+unfoldable pub int_new_row : ℕ → RowOutcome
 int_new_row word = Named (int (cast_signed w64 word)) 0
 
 -- the bytes as a text, each of them charged, where they are UTF-8
-unfoldable pub text_const_row : List ℕ → Outcome
+unfoldable pub text_const_row : List ℕ → RowOutcome
 text_const_row bytes = if is_utf8 bytes then Named (text bytes) (length bytes) else Plain 0 0
 
 -- an int's decimal text, each byte charged; the error where there is no int
-abbrev pub decimal_of : Option ℤ → Outcome
+abbrev pub decimal_of : Option ℤ → RowOutcome
 decimal_of (Some z) = Named (text (signed_decimal z)) (length (signed_decimal z))
 decimal_of None = Plain 0 0
 
 -- an int's decimal text, each byte charged
-unfoldable pub text_of_int_row : ValueOrError → Outcome
-text_of_int_row x = decimal_of (int_part (seen x))
+unfoldable pub text_of_int_row : ValueOrError → RowOutcome
+text_of_int_row x = decimal_of (int_part (outcome_view x))
 
 -- the opposite of a truth
-unfoldable pub not_row : ValueOrError → Outcome
-not_row x = truth (option_map not (truth_part (seen x)))
+unfoldable pub not_row : ValueOrError → RowOutcome
+not_row x = truth (option_map not (truth_part (outcome_view x)))

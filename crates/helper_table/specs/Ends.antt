@@ -2,16 +2,16 @@
 use Rattle.std.specs.Prelude.{◌≡◌, ◌&&◌, Bool, Result, Ok, Err}
 use Rattle.std.specs.declared.alloc.AllocError.{AllocError}
 use Rattle.value_store.specs.Placing.{Contents}
-use Rattle.helper_table.specs.Outcome.{Outcome, CallEnd, Leaves, Halts, needs_room, is_left, answer_among, charged}
+use Rattle.helper_table.specs.Outcome.{RowOutcome, CallEnd, Leaves, Halts, needs_room, is_left, answer_among, charged}
 use Rattle.helper_table.specs.declared.helper_end.HelperEnd.{HelperEnd, TheVariants.Word, TheVariants.Stop}
 
 -- a call may be refused memory where its row puts a value behind the last and it is not stopped
-abbrev pub takes_memory : Outcome → Contents → Bool
+abbrev pub takes_memory : RowOutcome → Contents → Bool
 takes_memory o old = needs_room o && is_left (charged (answer_among old.values o) old.charge)
 
 -- the answer to a call is the one that is due, and the store after it too; or the host had no memory, and
 -- nothing is changed
-abbrev pub Ends : CallEnd → Result HelperEnd AllocError → Contents → Contents → Type 0
-Ends due (Ok (Word word)) old new = due ≡ Leaves word new
-Ends due (Ok (Stop f)) old new = (due ≡ Halts f) × (new ≡ old)
-Ends due (Err e) old new = new ≡ old
+abbrev pub CallReturns : CallEnd → Result HelperEnd AllocError → Contents → Contents → Type 0
+CallReturns due (Ok (Word word)) old new = due ≡ Leaves word new
+CallReturns due (Ok (Stop f)) old new = (due ≡ Halts f) × (new ≡ old)
+CallReturns due (Err e) old new = new ≡ old

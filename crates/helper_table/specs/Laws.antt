@@ -12,7 +12,7 @@ abbrev pub Names : List ValueOrError → ℕ → ValueOrError → Type 0
 Names vs h x = slice_get vs h ≡ Some x
 
 -- values after others: old references name what they named, and at most one is new
-pub record Extends (old new : List ValueOrError) : Type 0 where
+pub record ExtendsValues (old new : List ValueOrError) : Type 0 where
   pub kept : (h : ℕ) (x : ValueOrError) → Names old h x → Names new h x
   pub most_one : length new ≤ length old + 1
   pub canonical : AreCanonical old → AreCanonical new
@@ -23,7 +23,7 @@ PlacedIsNamed = (old : Contents) (v : Value) → IsStore old → Names (placed o
 
 -- placing a value keeps what references name
 abbrev pub PlacedExtends : Type 0
-PlacedExtends = (vs : List ValueOrError) (v : Value) → Extends vs (placed vs v)
+PlacedExtends = (vs : List ValueOrError) (v : Value) → ExtendsValues vs (placed vs v)
 
 -- a row that names a value answers its reference
 abbrev pub RowPlaces : Type 0
@@ -32,7 +32,7 @@ RowPlaces = (id : ℤ) (args : List ℕ) (vs : List ValueOrError) (constants : L
 
 -- what a call leaves is a store again, with the old values and at least 1 more charged
 pub record Follows (old new : Contents) : Type 0 where
-  pub values : Extends old.values new.values
+  pub values : ExtendsValues old.values new.values
   pub paid : old.charge + 1 ≤ new.charge
   pub store : IsStore old → IsStore new
 

@@ -3,25 +3,25 @@ use Rattle.std.specs.Prelude.{ℕ, pos, List, Option, Some, None, option_map, op
 use Rattle.text_kernels.specs.Scans.{code_points_of}
 use Rattle.value_store.specs.Calls.{entries_at, part_at, key_at}
 use Rattle.value_store.specs.Lookup.{find, has_key}
-use Rattle.value_store.specs.Seen.{Seen, sees_text, sees_list, sees_map, seen}
+use Rattle.value_store.specs.Seen.{Seen, sees_text, sees_list, sees_map, outcome_view}
 use Rattle.value_store.specs.Value.{Value, int, ValueOrError}
 use Rattle.helper_table.specs.Operands.{count_part, place_part, text_part}
-use Rattle.helper_table.specs.Outcome.{Outcome, Plain, found, truth}
+use Rattle.helper_table.specs.Outcome.{RowOutcome, Plain, found, truth}
 
 -- a map's value at a key
 abbrev pub value_under : Option ValueOrError → List ℕ → Option Value
 value_under m key = option_and_then (find key) (entries_at m)
 
 -- a map's value at a key; the error where it has none, or is no map
-unfoldable pub field_row : ValueOrError → List ℕ → Outcome
+unfoldable pub field_row : ValueOrError → List ℕ → RowOutcome
 field_row m key = found (value_under (Some m) key)
 
 -- whether a map has a key
-abbrev pub has_under : Option ValueOrError → List ℕ → Outcome
+abbrev pub has_under : Option ValueOrError → List ℕ → RowOutcome
 has_under m key = truth (option_map (has_key key) (entries_at m))
 
 -- whether a map has a key
-unfoldable pub has_row : ValueOrError → List ℕ → Outcome
+unfoldable pub has_row : ValueOrError → List ℕ → RowOutcome
 has_row m key = has_under (Some m) key
 
 -- a list's item at an int, a map's value at a text
@@ -31,8 +31,8 @@ part_by (sees_map n) k x = option_and_then (value_under x) (text_part k)
 part_by _ k x = None
 
 -- a list's item at an int, the first being 0, or a map's value at a text; the error where there is none
-unfoldable pub index_row : ValueOrError → ValueOrError → Outcome
-index_row x k = found (part_by (seen x) (seen k) (Some x))
+unfoldable pub index_row : ValueOrError → ValueOrError → RowOutcome
+index_row x k = found (part_by (outcome_view x) (outcome_view k) (Some x))
 
 -- code points, items or entries
 abbrev pub size_part : Seen → Option ℕ
@@ -42,12 +42,12 @@ size_part (sees_map n) = Some n
 size_part _ = None
 
 -- a size as an int; the error where there is none
-abbrev pub size_found : Option ℕ → Outcome
+abbrev pub size_found : Option ℕ → RowOutcome
 size_found n = found (option_map (λ size. int (pos size)) n)
 
 -- how many code points a text has, items a list, or entries a map
-unfoldable pub size_row : ValueOrError → Outcome
-size_row x = size_found (size_part (seen x))
+unfoldable pub size_row : ValueOrError → RowOutcome
+size_row x = size_found (size_part (outcome_view x))
 
 -- a list's i-th item, a map's i-th key in byte order, counted from 0
 abbrev pub item_or_key : Seen → ℕ → Option ValueOrError → Option Value
@@ -56,8 +56,8 @@ item_or_key (sees_map n) i x = key_at x i
 item_or_key _ i x = None
 
 -- a list's i-th item, a map's i-th key in byte order, counted from 0; the error where there is none
-unfoldable pub item_row : ValueOrError → ℕ → Outcome
-item_row x i = found (item_or_key (seen x) i (Some x))
+unfoldable pub item_row : ValueOrError → ℕ → RowOutcome
+item_row x i = found (item_or_key (outcome_view x) i (Some x))
 
 -- items or entries; elsewhere a word that is no count
 abbrev pub count_word : Option ℕ → ℕ
@@ -65,5 +65,5 @@ count_word (Some n) = n
 count_word None = 0xffff_ffff_ffff_ffff
 
 -- how many items a list has, or entries a map
-unfoldable pub count_row : ValueOrError → Outcome
-count_row x = Plain (count_word (count_part (seen x))) 0
+unfoldable pub count_row : ValueOrError → RowOutcome
+count_row x = Plain (count_word (count_part (outcome_view x))) 0

@@ -7,10 +7,10 @@ use Rattle.value_store.specs.Value.{Value, ValueOrError}
 
 -- what a row says of its operands: a word, or a value whose reference is the word, with what is added to
 -- the charge of 1 that each call has; or the fault that stops the call
-pub data Outcome : Type 0 where
-  Plain : (word added : ℕ) → Outcome
-  Named : Value → (added : ℕ) → Outcome
-  Refused : fault.Fault → Outcome
+pub data RowOutcome : Type 0 where
+  Plain : (word added : ℕ) → RowOutcome
+  Named : Value → (added : ℕ) → RowOutcome
+  Refused : fault.Fault → RowOutcome
 
 -- a truth is named by the reference of false or of true, where there is none by that of the error
 abbrev pub truth_word : Option Bool → ℕ
@@ -19,16 +19,16 @@ truth_word (Some true) = 3
 truth_word None = 0
 
 -- a truth, or the error, with nothing added to the charge
-abbrev pub truth : Option Bool → Outcome
+abbrev pub truth : Option Bool → RowOutcome
 truth b = Plain (truth_word b) 0
 
 -- a value, where there is none the error
-abbrev pub named : Option Value → ℕ → Outcome
+abbrev pub named : Option Value → ℕ → RowOutcome
 named (Some v) added = Named v added
 named None added = Plain 0 added
 
 -- a value that was looked up, or the error, with nothing added to the charge
-abbrev pub found : Option Value → Outcome
+abbrev pub found : Option Value → RowOutcome
 found v = named v 0
 
 -- what a call answers: a word with the values after it and its cost, or the fault that stops it
@@ -37,7 +37,7 @@ pub data HelperAnswer : Type 0 where
   Stops : fault.Fault → HelperAnswer
 
 -- the answer of a row among the values of a store, at a cost of 1 and what it adds; a named value is placed there
-abbrev pub answer_among : List ValueOrError → Outcome → HelperAnswer
+abbrev pub answer_among : List ValueOrError → RowOutcome → HelperAnswer
 answer_among vs (Plain word added) = Gives word vs (1 + added)
 answer_among vs (Named v added) = Gives (place vs v) (placed vs v) (1 + added)
 answer_among vs (Refused f) = Stops f
@@ -55,13 +55,13 @@ charged (Gives word vs cost) charge =
 charged (Stops f) charge = Halts f
 
 -- the row asks for a value that is placed
-abbrev pub is_named : Outcome → Bool
+abbrev pub is_named : RowOutcome → Bool
 is_named (Named v added) = true
 is_named (Plain word added) = false
 is_named (Refused f) = false
 
 -- the row asks for a value that comes behind the last, and so for room; null, false and true stand already
-abbrev pub needs_room : Outcome → Bool
+abbrev pub needs_room : RowOutcome → Bool
 needs_room (Named v added) = is_appended v
 needs_room (Plain word added) = false
 needs_room (Refused f) = false

@@ -1,24 +1,24 @@
--- What the code makes of a call: a plan, which says what its helper's row says, and what is then done.
+-- What the code makes of a call: an effect, which says what its helper's row says, and what is then done.
 use Rattle.std.specs.Prelude.{◌≡◌, ℕ, List, Option, Some, None, Result, Ok, Err, IsSome, slice_get, option_map}
 use Rattle.std.specs.Fmt.{signed_decimal}
 use Rattle.std.specs.declared.alloc.AllocError.{AllocError}
 use Rattle.guest_memory.specs.declared.fault.Fault.{Fault, TheVariants.F6}
 use Rattle.value_store.specs.Calls.{Places, part_at, key_at, joined, pushed, put_in}
-use Rattle.value_store.specs.Seen.{seen, shown}
+use Rattle.value_store.specs.Seen.{outcome_view, shape_view}
 use Rattle.value_store.specs.declared.shape.Shape.{Shape}
 use Rattle.value_store.specs.Value.{Value, int, text, list, map, no_items, no_entries, ValueOrError}
-use Rattle.helper_table.specs.Outcome.{Outcome, Plain, Named, Refused, named}
-use Rattle.helper_table.specs.declared.action.Action.{Action}
-use Rattle.helper_table.specs.declared.action.Action.TheVariants as action
-use Rattle.helper_table.specs.declared.plan.Plan.{Plan}
+use Rattle.helper_table.specs.Outcome.{RowOutcome, Plain, Named, Refused, named}
+use Rattle.helper_table.specs.declared.placement.Placement.{Placement}
+use Rattle.helper_table.specs.declared.placement.Placement.TheVariants as action
+use Rattle.helper_table.specs.declared.helper_effect.HelperEffect.{HelperEffect}
 
 -- an operand is seen; where its reference is none, that is the fault
 abbrev pub Sees : Result Shape Fault → Option ValueOrError → Type 0
-Sees (Ok shape) o = option_map seen o ≡ Some (shown shape)
+Sees (Ok shape) o = option_map outcome_view o ≡ Some (shape_view shape)
 Sees (Err f) o = (f ≡ F6) × (o ≡ None)
 
--- the value that an action places among these values
-abbrev pub value_by : List ValueOrError → Action → Option Value
+-- the value that a placement places among these values
+abbrev pub value_by : List ValueOrError → Placement → Option Value
 value_by vs (action.Word w) = None
 value_by vs (action.Int n) = Some (int n)
 value_by vs (action.Text s) = Some (text s.now)
@@ -32,28 +32,28 @@ value_by vs (action.Push l x) = pushed (slice_get vs l) (slice_get vs x)
 value_by vs (action.Put m k x) = put_in (slice_get vs m) (slice_get vs k) (slice_get vs x)
 
 -- what a row says where this is to be done
-abbrev pub outcome_by : List ValueOrError → Action → ℕ → Outcome
+abbrev pub outcome_by : List ValueOrError → Placement → ℕ → RowOutcome
 outcome_by vs (action.Word w) added = Plain w added
 outcome_by vs a added = named (value_by vs a) added
 
--- what a row says where it is planned so, or is the fault
-abbrev pub means : List ValueOrError → Result Plan Fault → Outcome
+-- what a row says if its effect is so, or is the fault
+abbrev pub means : List ValueOrError → Result HelperEffect Fault → RowOutcome
 means vs (Ok plan) = outcome_by vs plan.action plan.added
 means vs (Err f) = Refused f
 
--- what an action places is there
-abbrev pub CanDo : List ValueOrError → Action → Type 0
+-- what a placement places is there
+abbrev pub CanDo : List ValueOrError → Placement → Type 0
 CanDo vs (action.Word w) = Unit {0}
 CanDo vs a = IsSome (value_by vs a)
 
--- what a plan places is there
-abbrev pub CanFollow : List ValueOrError → Result Plan Fault → Type 0
+-- what an effect places is there
+abbrev pub CanFollow : List ValueOrError → Result HelperEffect Fault → Type 0
 CanFollow vs (Ok plan) = CanDo vs plan.action
 CanFollow vs (Err f) = Unit {0}
 
 -- the word is answered, or the value placed; a plain word needs no memory
-abbrev pub Does : Outcome → Result ℕ AllocError → List ValueOrError → List ValueOrError → Type 0
-Does (Plain w added) (Ok word) old new = (word ≡ w) × (new ≡ old)
-Does (Plain w added) (Err e) old new = ⊥
-Does (Named v added) r old new = Places old v r new
-Does (Refused f) r old new = Unit {0}
+abbrev pub TakesEffect : RowOutcome → Result ℕ AllocError → List ValueOrError → List ValueOrError → Type 0
+TakesEffect (Plain w added) (Ok word) old new = (word ≡ w) × (new ≡ old)
+TakesEffect (Plain w added) (Err e) old new = ⊥
+TakesEffect (Named v added) r old new = Places old v r new
+TakesEffect (Refused f) r old new = Unit {0}

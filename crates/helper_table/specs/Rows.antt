@@ -4,7 +4,7 @@ use Rattle.guest_memory.specs.declared.fault.Fault.TheVariants.{F3, F5, F6, F8}
 use Rattle.value_store.specs.Placing.{first_values}
 use Rattle.value_store.specs.Value.{Value, null, boolean, int, text, list, map, no_items, item, no_entries, entry, ValueOrError, value}
 use Rattle.helper_table.specs.Calls.{outcome_of, helper_row}
-use Rattle.helper_table.specs.Outcome.{Outcome, Plain, Named, Refused, Gives, Leaves, Halts, charged}
+use Rattle.helper_table.specs.Outcome.{RowOutcome, Plain, Named, Refused, Gives, Leaves, Halts, charged}
 
 -- é in UTF-8
 abbrev pub e_acute : List ℕ
@@ -50,7 +50,7 @@ abbrev pub base : ℕ
 base = 0x4_0000_0000
 
 -- what the helper with a number says of these arguments
-abbrev pub says : ℕ → List ℕ → Outcome
+abbrev pub says : ℕ → List ℕ → RowOutcome
 says number args = outcome_of (pos number) args values constants
 
 -- what the helpers say that ask for a kind, or turn words, texts and truths into others
@@ -123,7 +123,7 @@ pub record LookupRows : Type 0 where
   pub count_text : says 21 (5 ∷ []) ≡ Plain 0xffff_ffff_ffff_ffff 0
 
 -- what the helpers say that compare
-pub record ComparisonRows : Type 0 where
+pub record ComparisonHelperRows : Type 0 where
   -- 9, equal
   pub equal_same : says 9 (6 ∷ 6 ∷ []) ≡ Plain 3 0
   pub equal_other : says 9 (4 ∷ 8 ∷ []) ≡ Plain 2 0
@@ -204,9 +204,9 @@ pub record CallRows : Type 0 where
   pub charge_passed : charged (Gives 7 [] 2) 16777215 ≡ Halts F8
 
 -- the rows of each kind stand
-pub record RowsStand : Type 0 where
+pub record HelperRowsHold : Type 0 where
   pub conversions : ConversionRows
   pub lookups : LookupRows
-  pub comparisons : ComparisonRows
+  pub comparisons : ComparisonHelperRows
   pub building : BuildingRows
   pub calls : CallRows

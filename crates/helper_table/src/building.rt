@@ -8,13 +8,13 @@ ghost use Rattle.helper_table.specs.Operands.{text_part};
 ghost use Rattle.helper_table.specs.Outcome.{Plain, Refused};
 ghost use Rattle.helper_table.specs.Plans.{means, CanFollow, outcome_by, CanDo};
 ghost use Rattle.value_store.specs.Calls.{entries_at, joined};
-ghost use Rattle.value_store.specs.Seen.{seen, shown, seen_size};
+ghost use Rattle.value_store.specs.Seen.{outcome_view, shape_view, seen_size};
 ghost use Rattle.value_store.specs.Value.{ValueOrError};
 
-use crate::action::Action;
+use crate::helper_effect::HelperEffect;
 use crate::lookups::has_key;
 use crate::operands::{is_value, operand};
-use crate::plan::Plan;
+use crate::placement::Placement;
 use guest_memory::Fault;
 use value_store::{Shape, ValueStore};
 
@@ -23,7 +23,7 @@ const DEPTH_LIMIT: u64 = 255;
 
 /// Two texts or two lists.
 fn can_join(x: Shape<'_>, y: Shape<'_>) -> bool
-    ensures { result ≡ can_join (shown x.entry) (shown y.entry) }
+    ensures { result ≡ can_join (shape_view x.entry) (shape_view y.entry) }
 {
     matches!(
         (x, y),
@@ -33,7 +33,7 @@ fn can_join(x: Shape<'_>, y: Shape<'_>) -> bool
 
 /// Bytes, items or entries.
 fn size(shape: Shape<'_>) -> u64
-    ensures { result ≡ seen_size (shown shape.entry) }
+    ensures { result ≡ seen_size (shape_view shape.entry) }
 {
     match shape {
         Shape::Text(text) => text.len() as u64,
@@ -44,25 +44,31 @@ fn size(shape: Shape<'_>) -> u64
 }
 
 #[tactic(auto, using(crate::proofs::Pairs::joins))]
-fn join_plan(a: u64, b: u64, x: Shape<'_>, y: Shape<'_>) -> Plan<'static>
-    requires x { seen_size (shown x) < 2 ^ 63 }
-    requires y { seen_size (shown y) < 2 ^ 63 }
-    ensures means { (vs : List ValueOrError) → option_map seen (slice_get vs a) ≡ Some (shown x.entry) → option_map seen (slice_get vs b) ≡ Some (shown y.entry) → outcome_by vs result.action result.added ≡ sequence (joined (slice_get vs a) (slice_get vs b)) }
-    ensures can { (vs : List ValueOrError) → option_map seen (slice_get vs a) ≡ Some (shown x.entry) → option_map seen (slice_get vs b) ≡ Some (shown y.entry) → CanDo vs result.action }
+fn join_plan(a: u64, b: u64, x: Shape<'_>, y: Shape<'_>) -> HelperEffect<'static>
+    requires x { seen_size (shape_view x) < 2 ^ 63 }
+    requires y { seen_size (shape_view y) < 2 ^ 63 }
+    ensures means { (vs : List ValueOrError)
+        → option_map outcome_view (slice_get vs a) ≡ Some (shape_view x.entry)
+        → option_map outcome_view (slice_get vs b) ≡ Some (shape_view y.entry)
+        → outcome_by vs result.action result.added ≡ sequence (joined (slice_get vs a) (slice_get vs b)) }
+    ensures can { (vs : List ValueOrError)
+        → option_map outcome_view (slice_get vs a) ≡ Some (shape_view x.entry)
+        → option_map outcome_view (slice_get vs b) ≡ Some (shape_view y.entry)
+        → CanDo vs result.action }
 {
     if can_join(x, y) {
-        Plan {
-            action: Action::Join(a, b),
+        HelperEffect {
+            action: Placement::Join(a, b),
             added: size(x) + size(y),
         }
     } else {
-        Plan::word(0)
+        HelperEffect::word(0)
     }
 }
 
 /// Helper 11: two texts or two lists, one behind the other.
 #[tactic(auto, unfolding(crate::specs::Building::join_row))]
-pub(crate) fn join<V: ValueStore>(table: &V, a: u64, b: u64) -> Result<Plan<'static>, Fault>
+pub(crate) fn join<V: ValueStore>(table: &V, a: u64, b: u64) -> Result<HelperEffect<'static>, Fault>
     ensures means { means (V.values table.now) result ≡ on_values (V.values table.now) a b join_row }
     ensures can { CanFollow (V.values table.now) result }
 {
@@ -73,20 +79,20 @@ pub(crate) fn join<V: ValueStore>(table: &V, a: u64, b: u64) -> Result<Plan<'sta
 
 /// Helper 16: an empty list.
 #[tactic(auto, unfolding(crate::specs::Building::list_new_row))]
-pub(crate) fn list_new() -> Result<Plan<'static>, Fault>
+pub(crate) fn list_new() -> Result<HelperEffect<'static>, Fault>
     ensures means { (vs : List ValueOrError) → means vs result ≡ list_new_row }
     ensures can { (vs : List ValueOrError) → CanFollow vs result }
 {
-    Ok(Plan::free(Action::List))
+    Ok(HelperEffect::free(Placement::List))
 }
 
 /// Helper 18: an empty map.
 #[tactic(auto, unfolding(crate::specs::Building::map_new_row))]
-pub(crate) fn map_new() -> Result<Plan<'static>, Fault>
+pub(crate) fn map_new() -> Result<HelperEffect<'static>, Fault>
     ensures means { (vs : List ValueOrError) → means vs result ≡ map_new_row }
     ensures can { (vs : List ValueOrError) → CanFollow vs result }
 {
-    Ok(Plan::free(Action::Map))
+    Ok(HelperEffect::free(Placement::Map))
 }
 
 /// Whether a list or a map with a value more is within the depth.
@@ -101,37 +107,41 @@ fn is_within_depth<V: ValueStore>(table: &V, c: u64, x: u64) -> bool
 
 /// A list and a value.
 fn can_push(list: Shape<'_>, item: Shape<'_>) -> bool
-    ensures { result ≡ is_list (shown list.entry) && is_value (shown item.entry) }
+    ensures { result ≡ is_list (shape_view list.entry) && is_value (shape_view item.entry) }
 {
     matches!(list, Shape::List(_)) && is_value(item)
 }
 
 /// What adds to a list or a map, if it can: 1 more is charged also where nothing is added.
-fn growth(action: Action<'static>, can_grow: bool, is_within: bool) -> Result<Plan<'static>, Fault>
+fn growth(
+    action: Placement<'static>,
+    can_grow: bool,
+    is_within: bool,
+) -> Result<HelperEffect<'static>, Fault>
     ensures means { (vs : List ValueOrError) → means vs result ≡ (if can_grow then if is_within then outcome_by vs action.entry 1 else Refused F8 else Plain 0 1) }
     ensures can { (vs : List ValueOrError) → (can_grow ≡ true → CanDo vs action.entry) → CanFollow vs result }
 {
     if !can_grow {
-        return Ok(Plan {
-            action: Action::Word(0),
+        return Ok(HelperEffect {
+            action: Placement::Word(0),
             added: 1,
         });
     }
     if !is_within {
         return Err(Fault::F8);
     }
-    Ok(Plan { action, added: 1 })
+    Ok(HelperEffect { action, added: 1 })
 }
 
 /// Helper 17: a list with a value behind its items.
-pub(crate) fn push<V: ValueStore>(table: &V, l: u64, x: u64) -> Result<Plan<'static>, Fault>
+pub(crate) fn push<V: ValueStore>(table: &V, l: u64, x: u64) -> Result<HelperEffect<'static>, Fault>
     ensures means { means (V.values table.now) result ≡ on_values (V.values table.now) l x push_row }
     ensures can { CanFollow (V.values table.now) result }
 {
     let list = operand(table, l)?;
     let item = operand(table, x)?;
     growth(
-        Action::Push(l, x),
+        Placement::Push(l, x),
         can_push(list, item),
         is_within_depth(table, l, x),
     )
@@ -139,7 +149,7 @@ pub(crate) fn push<V: ValueStore>(table: &V, l: u64, x: u64) -> Result<Plan<'sta
 
 /// A text that is not yet a key of a map.
 fn is_new_key<V: ValueStore>(table: &V, m: u64, key: Shape<'_>) -> bool
-    ensures { result ≡ is_new_key (entries_at (slice_get (V.values table.now) m)) (text_part (shown key.entry)) }
+    ensures { result ≡ is_new_key (entries_at (slice_get (V.values table.now) m)) (text_part (shape_view key.entry)) }
 {
     match key {
         Shape::Text(text) => is_absent(has_key(table, m, text.as_bytes())),
@@ -156,13 +166,18 @@ fn is_absent(test: Option<bool>) -> bool
 
 /// A text that is not yet a key of a map, and a value.
 fn can_put<V: ValueStore>(table: &V, m: u64, key: Shape<'_>, value: Shape<'_>) -> bool
-    ensures { result ≡ is_new_key (entries_at (slice_get (V.values table.now) m)) (text_part (shown key.entry)) && is_value (shown value.entry) }
+    ensures { result ≡ is_new_key (entries_at (slice_get (V.values table.now) m)) (text_part (shape_view key.entry)) && is_value (shape_view value.entry) }
 {
     is_new_key(table, m, key) && is_value(value)
 }
 
 /// Helper 19: a map with a text at a value, where the text is not yet one of its keys.
-pub(crate) fn put<V: ValueStore>(table: &V, m: u64, k: u64, x: u64) -> Result<Plan<'static>, Fault>
+pub(crate) fn put<V: ValueStore>(
+    table: &V,
+    m: u64,
+    k: u64,
+    x: u64,
+) -> Result<HelperEffect<'static>, Fault>
     ensures means { means (V.values table.now) result ≡ on_value (V.values table.now) m (λ map. on_values (V.values table.now) k x (put_row map)) }
     ensures can { CanFollow (V.values table.now) result }
 {
@@ -170,7 +185,7 @@ pub(crate) fn put<V: ValueStore>(table: &V, m: u64, k: u64, x: u64) -> Result<Pl
     let key = operand(table, k)?;
     let value = operand(table, x)?;
     growth(
-        Action::Put(m, k, x),
+        Placement::Put(m, k, x),
         can_put(table, m, key, value),
         is_within_depth(table, m, x),
     )

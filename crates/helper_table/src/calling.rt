@@ -1,27 +1,24 @@
-//! A call of a helper: its plan, and what is done for it.
+//! A call of a helper: its effect, and how it is carried out.
 ghost use Rattle.std.specs.Prelude.{◌≡◌, ℕ, false, IsOk};
 ghost use Rattle.helper_table.specs.Calls.{row_of, outcome_of, call_end};
 ghost use Rattle.helper_table.specs.Outcome.{answer_among, charged};
-ghost use Rattle.helper_table.specs.Plans.{means, CanFollow, outcome_by, CanDo, Does};
-ghost use Rattle.helper_table.specs.Ends.{Ends, takes_memory};
+ghost use Rattle.helper_table.specs.Plans.{means, CanFollow, outcome_by, CanDo, TakesEffect};
+ghost use Rattle.helper_table.specs.Ends.{CallReturns, takes_memory};
 ghost use Rattle.value_store.specs.Placing.{Contents};
 
-use crate::action::Action;
 use crate::building::{join, list_new, map_new, push, put};
 use crate::comparisons::{equal, less, member, test_texts};
 use crate::conversions::{int_new, int_of, kind, not, text_const, text_of_int};
 use crate::helper::Helper;
+use crate::helper_effect::HelperEffect;
 use crate::helper_end::HelperEnd;
 use crate::lookups::{count, field, has, index, item, size};
-use crate::plan::Plan;
+use crate::placement::Placement;
 use crate::text_test::TextTest;
 use guest_memory::{Fault, Regions};
 use itoa::Buffer;
 use std::alloc::AllocError;
-use value_store::ValueStore;
-
-/// The most that a store is charged.
-const CHARGE_LIMIT: u64 = 16_777_216;
+use value_store::{CHARGE_LIMIT, ValueStore};
 
 /// What the row of a helper says of these arguments.
 #[tactic(auto, unfolding(crate::specs::Calls::row_of, crate::specs::Comparisons::starts_row, crate::specs::Comparisons::ends_row, crate::specs::Comparisons::contains_row))]
@@ -30,7 +27,7 @@ fn plan_of<'a, V: ValueStore, M: Regions>(
     args: [u64; 5],
     table: &mut V,
     memory: &'a M,
-) -> Result<Plan<'a>, Fault>
+) -> Result<HelperEffect<'a>, Fault>
     ensures means { means (V.values table.old) result ≡ row_of helper args (V.values table.old) (M.bytes memory.now).constants }
     ensures can { CanFollow (V.values table.old) result }
     ensures values { V.values table.new ≡ V.values table.old }
@@ -64,31 +61,35 @@ fn plan_of<'a, V: ValueStore, M: Regions>(
     }
 }
 
-/// The word of an action. The error says that the host has no memory for the value that is placed.
-fn word_of<V: ValueStore>(table: &mut V, action: Action<'_>) -> Result<u64, AllocError>
+/// The word of a placement. The error says that the host has no memory for the value that is
+/// placed.
+fn word_of<V: ValueStore>(table: &mut V, action: Placement<'_>) -> Result<u64, AllocError>
     requires { CanDo (V.values table.old) action }
-    ensures done { (added : ℕ) → Does (outcome_by (V.values table.old) action.entry added) result (V.values table.old) (V.values table.new) }
+    ensures done { (added : ℕ) → TakesEffect (outcome_by (V.values table.old) action.entry added) result (V.values table.old) (V.values table.new) }
     ensures charge { V.charge table.new ≡ V.charge table.old }
 {
     match action {
-        Action::Word(word) => Ok(word),
-        Action::Int(n) => table.place_int(n),
-        Action::Text(text) => table.place_text(text),
-        Action::Decimal(n) => table.place_text(Buffer::new().format(n)),
-        Action::Part(h, i) => table.alias(h, i),
-        Action::Key(h, i) => table.alias_key(h, i),
-        Action::Join(a, b) => table.join(a, b),
-        Action::List => table.new_list(),
-        Action::Map => table.new_map(),
-        Action::Push(l, x) => table.push(l, x),
-        Action::Put(m, k, x) => table.put(m, k, x),
+        Placement::Word(word) => Ok(word),
+        Placement::Int(n) => table.place_int(n),
+        Placement::Text(text) => table.place_text(text),
+        Placement::Decimal(n) => table.place_text(Buffer::new().format(n)),
+        Placement::Part(h, i) => table.alias(h, i),
+        Placement::Key(h, i) => table.alias_key(h, i),
+        Placement::Join(a, b) => table.join(a, b),
+        Placement::List => table.new_list(),
+        Placement::Map => table.new_map(),
+        Placement::Push(l, x) => table.push(l, x),
+        Placement::Put(m, k, x) => table.put(m, k, x),
     }
 }
 
-/// Charges for a plan and follows it.
-fn perform<V: ValueStore>(table: &mut V, plan: Plan<'_>) -> Result<HelperEnd, AllocError>
+/// Charges for an effect and carries it out.
+fn perform<V: ValueStore>(table: &mut V, plan: HelperEffect<'_>) -> Result<HelperEnd, AllocError>
     requires { CanDo (V.values table.old) plan.action }
-    ensures ends { let old : Contents = record { values = V.values table.old; charge = V.charge table.old } in Ends (charged (answer_among old.values (outcome_by old.values plan.entry.action plan.entry.added)) old.charge) result old (record { values = V.values table.new; charge = V.charge table.new }) }
+    ensures ends { let old : Contents = record { values = V.values table.old; charge = V.charge table.old } in
+        CallReturns
+        (charged (answer_among old.values (outcome_by old.values plan.entry.action plan.entry.added)) old.charge)
+        result old (record { values = V.values table.new; charge = V.charge table.new }) }
     ensures memory { takes_memory (outcome_by (V.values table.old) plan.entry.action plan.entry.added) (record { values = V.values table.old; charge = V.charge table.old }) ≡ false → IsOk result }
 {
     if plan.added >= CHARGE_LIMIT - table.charge() {
@@ -101,20 +102,23 @@ fn perform<V: ValueStore>(table: &mut V, plan: Plan<'_>) -> Result<HelperEnd, Al
 
 /// Calls helper `id` on the words of the registers R1 to R5: its row of the helper table, among the
 /// values of the store and the constants of the memory. It ends with a word, and the store has the
-/// value that the row places and was charged for the call; or it stops by the fault that the row names,
-/// and the store is as before: `F5` for an unknown number, `F6` for a reference that is none, `F3` for a
-/// range that lies outside the constants, `F8` for a charge or a depth above its limit, in this order.
+/// value that the row places and was charged for the call; or it stops by the fault that the row
+/// names, and the store is as before: `F5` for an unknown number, `F6` for a reference that is
+/// none, `F3` for a range that lies outside the constants, `F8` for a charge or a depth above its
+/// limit, in this order.
 ///
-/// The error says that the host has no memory for a value that is to come behind the last, and then the
-/// store is as before too. A call that stops, or that answers a plain word or the reference of null, false
-/// or true, asks for none.
+/// The error says that the host has no memory for a value that is to come behind the last, and then
+/// the store is as before too. A call that stops, or that answers a plain word or the reference of
+/// null, false or true, asks for none.
 pub fn call<V: ValueStore, M: Regions>(
     id: i32,
     args: [u64; 5],
     table: &mut V,
     memory: &M,
 ) -> Result<HelperEnd, AllocError>
-    ensures ends { let old : Contents = record { values = V.values table.old; charge = V.charge table.old } in Ends (call_end id args old (M.bytes memory.now).constants) result old (record { values = V.values table.new; charge = V.charge table.new }) }
+    ensures ends { let old : Contents = record { values = V.values table.old; charge = V.charge table.old } in
+        CallReturns (call_end id args old (M.bytes memory.now).constants)
+        result old (record { values = V.values table.new; charge = V.charge table.new }) }
     ensures memory { takes_memory (outcome_of id args (V.values table.old) (M.bytes memory.now).constants) (record { values = V.values table.old; charge = V.charge table.old }) ≡ false → IsOk result }
 {
     let Some(helper) = Helper::of_number(id) else {

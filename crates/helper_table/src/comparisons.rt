@@ -6,18 +6,18 @@ ghost use Rattle.helper_table.specs.Kinds.{is_value, have_order, may_be_in};
 ghost use Rattle.helper_table.specs.Operands.{text_part};
 ghost use Rattle.helper_table.specs.Plans.{means, CanFollow};
 ghost use Rattle.value_store.specs.Calls.{equal_at, less_at, member_at};
-ghost use Rattle.value_store.specs.Seen.{shown};
+ghost use Rattle.value_store.specs.Seen.{shape_view};
 
-use crate::action::Action;
+use crate::helper_effect::HelperEffect;
 use crate::operands::{is_value, operand};
-use crate::plan::Plan;
+use crate::placement::Placement;
 use crate::text_test::TextTest;
 use guest_memory::Fault;
 use memchr::memmem;
 use value_store::{Shape, ValueStore};
 
 fn are_values(x: Shape<'_>, y: Shape<'_>) -> bool
-    ensures { result ≡ is_value (shown x.entry) && is_value (shown y.entry) }
+    ensures { result ≡ is_value (shape_view x.entry) && is_value (shape_view y.entry) }
 {
     is_value(x) && is_value(y)
 }
@@ -34,7 +34,11 @@ fn equality<V: ValueStore>(table: &mut V, a: u64, b: u64, both: bool) -> Option<
 
 /// Helper 9: whether two values are equal.
 #[tactic(auto, unfolding(crate::specs::Comparisons::equal_row))]
-pub(crate) fn equal<V: ValueStore>(table: &mut V, a: u64, b: u64) -> Result<Plan<'static>, Fault>
+pub(crate) fn equal<V: ValueStore>(
+    table: &mut V,
+    a: u64,
+    b: u64,
+) -> Result<HelperEffect<'static>, Fault>
     ensures means { means (V.values table.old) result ≡ on_values (V.values table.old) a b equal_row }
     ensures can { CanFollow (V.values table.old) result }
     ensures values { V.values table.new ≡ V.values table.old }
@@ -44,12 +48,12 @@ pub(crate) fn equal<V: ValueStore>(table: &mut V, a: u64, b: u64) -> Result<Plan
     let y = operand(table, b)?;
     let both = are_values(x, y);
     let truth = equality(table, a, b, both);
-    Ok(Plan::truth(truth))
+    Ok(HelperEffect::truth(truth))
 }
 
 /// Two ints, two texts or two truths.
 fn have_order(x: Shape<'_>, y: Shape<'_>) -> bool
-    ensures { result ≡ have_order (shown x.entry) (shown y.entry) }
+    ensures { result ≡ have_order (shape_view x.entry) (shape_view y.entry) }
 {
     matches!(
         (x, y),
@@ -73,19 +77,19 @@ fn order<V: ValueStore>(table: &V, a: u64, b: u64, ordered: bool) -> Option<bool
 
 /// Helper 10: whether the first of two values is below the second.
 #[tactic(auto, using(crate::proofs::Pairs::less_pair), unfolding(crate::specs::Comparisons::less_row))]
-pub(crate) fn less<V: ValueStore>(table: &V, a: u64, b: u64) -> Result<Plan<'static>, Fault>
+pub(crate) fn less<V: ValueStore>(table: &V, a: u64, b: u64) -> Result<HelperEffect<'static>, Fault>
     ensures means { means (V.values table.now) result ≡ on_values (V.values table.now) a b less_row }
     ensures can { CanFollow (V.values table.now) result }
 {
     let x = operand(table, a)?;
     let y = operand(table, b)?;
     let truth = order(table, a, b, have_order(x, y));
-    Ok(Plan::truth(truth))
+    Ok(HelperEffect::truth(truth))
 }
 
 /// A value for a list, a text for a map.
 fn may_be_in(x: Shape<'_>, c: Shape<'_>) -> bool
-    ensures { result ≡ may_be_in (shown x.entry) (shown c.entry) }
+    ensures { result ≡ may_be_in (shape_view x.entry) (shape_view c.entry) }
 {
     match (x, c) {
         (_, Shape::List(_)) => is_value(x),
@@ -110,7 +114,11 @@ fn membership<V: ValueStore>(table: &mut V, x: u64, c: u64, may_be: bool) -> Opt
 
 /// Helper 15: whether a value is an item of a list, or a text a key of a map.
 #[tactic(auto, using(crate::proofs::Pairs::member_pair), unfolding(crate::specs::Comparisons::member_row))]
-pub(crate) fn member<V: ValueStore>(table: &mut V, x: u64, c: u64) -> Result<Plan<'static>, Fault>
+pub(crate) fn member<V: ValueStore>(
+    table: &mut V,
+    x: u64,
+    c: u64,
+) -> Result<HelperEffect<'static>, Fault>
     ensures means { means (V.values table.old) result ≡ on_values (V.values table.old) x c member_row }
     ensures can { CanFollow (V.values table.old) result }
     ensures values { V.values table.new ≡ V.values table.old }
@@ -120,7 +128,7 @@ pub(crate) fn member<V: ValueStore>(table: &mut V, x: u64, c: u64) -> Result<Pla
     let container = operand(table, c)?;
     let may_be = may_be_in(item, container);
     let truth = membership(table, x, c, may_be);
-    Ok(Plan::truth(truth))
+    Ok(HelperEffect::truth(truth))
 }
 
 /// Whether a test holds of two texts.
@@ -137,7 +145,7 @@ fn holds(test: TextTest, text: &[u8], part: &[u8]) -> bool
 
 /// What a test says of two texts, if they are.
 fn on_texts(test: TextTest, x: Shape<'_>, y: Shape<'_>) -> Option<bool>
-    ensures { result ≡ on_texts (test_of test) (text_part (shown x.entry)) (text_part (shown y.entry)) }
+    ensures { result ≡ on_texts (test_of test) (text_part (shape_view x.entry)) (text_part (shape_view y.entry)) }
 {
     match (x, y) {
         (Shape::Text(text), Shape::Text(part)) => Some(holds(
@@ -155,11 +163,11 @@ pub(crate) fn test_texts<V: ValueStore>(
     test: TextTest,
     a: u64,
     b: u64,
-) -> Result<Plan<'static>, Fault>
+) -> Result<HelperEffect<'static>, Fault>
     ensures means { means (V.values table.now) result ≡ on_values (V.values table.now) a b (text_row (test_of test)) }
     ensures can { CanFollow (V.values table.now) result }
 {
     let text = operand(table, a)?;
     let part = operand(table, b)?;
-    Ok(Plan::truth(on_texts(test, text, part)))
+    Ok(HelperEffect::truth(on_texts(test, text, part)))
 }

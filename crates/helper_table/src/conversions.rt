@@ -4,18 +4,18 @@ ghost use Rattle.helper_table.specs.Calls.{on_value, on_range};
 ghost use Rattle.helper_table.specs.Conversions.{kind_number, int_word, decimal_of, kind_row, int_of_row, int_new_row, text_const_row, text_of_int_row, not_row};
 ghost use Rattle.helper_table.specs.Operands.{int_part, truth_part};
 ghost use Rattle.helper_table.specs.Plans.{means, CanFollow, outcome_by, CanDo};
-ghost use Rattle.value_store.specs.Seen.{shown};
+ghost use Rattle.value_store.specs.Seen.{shape_view};
 ghost use Rattle.value_store.specs.Value.{ValueOrError};
 
-use crate::action::Action;
+use crate::helper_effect::HelperEffect;
 use crate::operands::{operand, range};
-use crate::plan::Plan;
+use crate::placement::Placement;
 use guest_memory::{Fault, Regions};
 use itoa::Buffer;
 use value_store::{Shape, ValueStore};
 
 fn kind_number(shape: Shape<'_>) -> u64
-    ensures { result ≡ kind_number (shown shape.entry) }
+    ensures { result ≡ kind_number (shape_view shape.entry) }
 {
     match shape {
         Shape::Error => 0,
@@ -30,16 +30,16 @@ fn kind_number(shape: Shape<'_>) -> u64
 
 /// Helper 1: the kind of a value, as a number.
 #[tactic(auto, unfolding(crate::specs::Conversions::kind_row))]
-pub(crate) fn kind<V: ValueStore>(table: &V, h: u64) -> Result<Plan<'static>, Fault>
+pub(crate) fn kind<V: ValueStore>(table: &V, h: u64) -> Result<HelperEffect<'static>, Fault>
     ensures means { means (V.values table.now) result ≡ on_value (V.values table.now) h kind_row }
     ensures can { CanFollow (V.values table.now) result }
 {
     let shape = operand(table, h)?;
-    Ok(Plan::word(kind_number(shape)))
+    Ok(HelperEffect::word(kind_number(shape)))
 }
 
 fn int_word(shape: Shape<'_>) -> u64
-    ensures { result ≡ int_word (int_part (shown shape.entry)) }
+    ensures { result ≡ int_word (int_part (shape_view shape.entry)) }
 {
     match shape {
         Shape::Int(n) => n.cast_unsigned(),
@@ -49,42 +49,46 @@ fn int_word(shape: Shape<'_>) -> u64
 
 /// Helper 2: an int as a word.
 #[tactic(auto, unfolding(crate::specs::Conversions::int_of_row))]
-pub(crate) fn int_of<V: ValueStore>(table: &V, h: u64) -> Result<Plan<'static>, Fault>
+pub(crate) fn int_of<V: ValueStore>(table: &V, h: u64) -> Result<HelperEffect<'static>, Fault>
     ensures means { means (V.values table.now) result ≡ on_value (V.values table.now) h int_of_row }
     ensures can { CanFollow (V.values table.now) result }
 {
     let shape = operand(table, h)?;
-    Ok(Plan::word(int_word(shape)))
+    Ok(HelperEffect::word(int_word(shape)))
 }
 
 /// Helper 3: the int that a word is, read as signed.
 #[tactic(auto, unfolding(crate::specs::Conversions::int_new_row))]
-pub(crate) fn int_new(word: u64) -> Result<Plan<'static>, Fault>
+pub(crate) fn int_new(word: u64) -> Result<HelperEffect<'static>, Fault>
     ensures means { (vs : List ValueOrError) → means vs result ≡ int_new_row word }
     ensures can { (vs : List ValueOrError) → CanFollow vs result }
 {
-    Ok(Plan {
-        action: Action::Int(word.cast_signed()),
+    Ok(HelperEffect {
+        action: Placement::Int(word.cast_signed()),
         added: 0,
     })
 }
 
 #[tactic(auto, using(crate::proofs::Seeing::no_text, crate::proofs::Seeing::text_of_utf8))]
-fn text_plan(bytes: &[u8]) -> Plan<'_>
+fn text_plan(bytes: &[u8]) -> HelperEffect<'_>
     ensures means { (vs : List ValueOrError) → outcome_by vs result.action result.added ≡ text_const_row bytes.now }
     ensures can { (vs : List ValueOrError) → CanDo vs result.action }
 {
     match std::str::from_utf8(bytes) {
-        Ok(text) => Plan {
-            action: Action::Text(text),
+        Ok(text) => HelperEffect {
+            action: Placement::Text(text),
             added: text.len() as u64,
         },
-        Err(_) => Plan::word(0),
+        Err(_) => HelperEffect::word(0),
     }
 }
 
 /// Helper 4: the text in a range of constants.
-pub(crate) fn text_const<M: Regions>(memory: &M, addr: u64, len: u64) -> Result<Plan<'_>, Fault>
+pub(crate) fn text_const<M: Regions>(
+    memory: &M,
+    addr: u64,
+    len: u64,
+) -> Result<HelperEffect<'_>, Fault>
     ensures means { (vs : List ValueOrError) → means vs result ≡ on_range (M.bytes memory.now).constants addr len text_const_row }
     ensures can { (vs : List ValueOrError) → CanFollow vs result }
 {
@@ -92,22 +96,22 @@ pub(crate) fn text_const<M: Regions>(memory: &M, addr: u64, len: u64) -> Result<
     Ok(text_plan(bytes))
 }
 
-fn decimal_plan(shape: Shape<'_>) -> Plan<'static>
-    ensures means { (vs : List ValueOrError) → outcome_by vs result.action result.added ≡ decimal_of (int_part (shown shape.entry)) }
+fn decimal_plan(shape: Shape<'_>) -> HelperEffect<'static>
+    ensures means { (vs : List ValueOrError) → outcome_by vs result.action result.added ≡ decimal_of (int_part (shape_view shape.entry)) }
     ensures can { (vs : List ValueOrError) → CanDo vs result.action }
 {
     match shape {
-        Shape::Int(n) => Plan {
-            action: Action::Decimal(n),
+        Shape::Int(n) => HelperEffect {
+            action: Placement::Decimal(n),
             added: Buffer::new().format(n).len() as u64,
         },
-        _ => Plan::word(0),
+        _ => HelperEffect::word(0),
     }
 }
 
 /// Helper 22: the decimal text of an int.
 #[tactic(auto, unfolding(crate::specs::Conversions::text_of_int_row))]
-pub(crate) fn text_of_int<V: ValueStore>(table: &V, h: u64) -> Result<Plan<'static>, Fault>
+pub(crate) fn text_of_int<V: ValueStore>(table: &V, h: u64) -> Result<HelperEffect<'static>, Fault>
     ensures means { means (V.values table.now) result ≡ on_value (V.values table.now) h text_of_int_row }
     ensures can { CanFollow (V.values table.now) result }
 {
@@ -116,7 +120,7 @@ pub(crate) fn text_of_int<V: ValueStore>(table: &V, h: u64) -> Result<Plan<'stat
 }
 
 fn other_truth(shape: Shape<'_>) -> Option<bool>
-    ensures { result ≡ option_map not (truth_part (shown shape.entry)) }
+    ensures { result ≡ option_map not (truth_part (shape_view shape.entry)) }
 {
     match shape {
         Shape::Bool(truth) => Some(!truth),
@@ -126,10 +130,10 @@ fn other_truth(shape: Shape<'_>) -> Option<bool>
 
 /// Helper 23: the other truth.
 #[tactic(auto, unfolding(crate::specs::Conversions::not_row))]
-pub(crate) fn not<V: ValueStore>(table: &V, h: u64) -> Result<Plan<'static>, Fault>
+pub(crate) fn not<V: ValueStore>(table: &V, h: u64) -> Result<HelperEffect<'static>, Fault>
     ensures means { means (V.values table.now) result ≡ on_value (V.values table.now) h not_row }
     ensures can { CanFollow (V.values table.now) result }
 {
     let shape = operand(table, h)?;
-    Ok(Plan::truth(other_truth(shape)))
+    Ok(HelperEffect::truth(other_truth(shape)))
 }

@@ -4,8 +4,8 @@ ghost use Rattle.helper_table.specs.Numbers.{numbered, of_number};
 
 use crate::operands::place_of;
 
-/// A helper. Its arguments are the words of the registers R1 to R5: references of values, words, and
-/// addresses and lengths of ranges of constants.
+/// A helper. Its arguments are the words of the registers R1 to R5: references of values, words,
+/// and addresses and lengths of ranges of constants.
 #[derive(Clone, Copy, Debug, PartialEq, Eq)]
 pub(crate) enum Helper {
     /// The kind of a value.
@@ -99,7 +99,7 @@ impl Helper {
 fn numbered(number: u64) -> Option<Helper>
     ensures { result ≡ numbered number }
 {
-    if number >= 1 && number <= 23 {
+    if number >= 1 && number <= HELPERS.len() as u64 {
         Some(HELPERS[number as usize - 1])
     } else {
         None

@@ -1,15 +1,15 @@
 //! Laws of the helper rows, each the clause of a function that does nothing.
 ghost use Rattle.helper_table.specs.Laws.{PlacedIsNamed, PlacedExtends, RowPlaces, CallsFollow, OthersPlaceNothing};
-ghost use Rattle.helper_table.specs.Rows.{RowsStand};
+ghost use Rattle.helper_table.specs.Rows.{HelperRowsHold};
 ghost use Rattle.helper_table.specs.Tables.{TablesAreKept};
 
 /// Calls worked by hand.
 pub fn rows_stand()
-    ensures { RowsStand }
+    ensures { HelperRowsHold }
 {}
 
-/// A value that is placed has a reference that names it, and references name afterwards what they named
-/// before.
+/// A value that is placed has a reference that names it, and references name afterwards what they
+/// named before.
 pub fn placed_is_named()
     ensures named { PlacedIsNamed }
     ensures extends { PlacedExtends }

@@ -2,17 +2,17 @@
 //! any memory.
 #![tactic(auto)]
 
-mod action;
 mod building;
 mod calling;
 mod comparisons;
 mod conversions;
 mod helper;
+mod helper_effect;
 mod helper_end;
 pub mod laws;
 mod lookups;
 mod operands;
-mod plan;
+mod placement;
 mod text_test;
 
 pub use calling::call;

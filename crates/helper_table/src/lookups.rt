@@ -7,12 +7,12 @@ ghost use Rattle.helper_table.specs.Outcome.{found};
 ghost use Rattle.helper_table.specs.Plans.{means, CanFollow, outcome_by, CanDo};
 ghost use Rattle.value_store.specs.Calls.{entries_at, part_at, key_at};
 ghost use Rattle.value_store.specs.Lookup.{has_key, place_of_key};
-ghost use Rattle.value_store.specs.Seen.{seen, shown, seen_size, sees_list, sees_map};
+ghost use Rattle.value_store.specs.Seen.{outcome_view, shape_view, seen_size, sees_list, sees_map};
 ghost use Rattle.value_store.specs.Value.{ValueOrError};
 
-use crate::action::Action;
+use crate::helper_effect::HelperEffect;
 use crate::operands::{is_map, operand, place_part, range};
-use crate::plan::Plan;
+use crate::placement::Placement;
 use guest_memory::{Fault, Regions};
 use text_kernels::code_points;
 use value_store::{Shape, ValueStore};
@@ -29,13 +29,13 @@ fn place_under<V: ValueStore>(table: &V, m: u64, key: &[u8]) -> Option<u64>
 }
 
 /// A map's value at a key, to be placed; the word of the error where there is none.
-fn part_under<V: ValueStore>(table: &V, m: u64, key: &[u8]) -> Plan<'static>
+fn part_under<V: ValueStore>(table: &V, m: u64, key: &[u8]) -> HelperEffect<'static>
     ensures means { outcome_by (V.values table.now) result.action result.added ≡ found (value_under (slice_get (V.values table.now) m) key.now) }
     ensures can { CanDo (V.values table.now) result.action }
 {
     match place_under(table, m, key) {
-        Some(place) => Plan::free(Action::Part(m, place)),
-        None => Plan::word(0),
+        Some(place) => HelperEffect::free(Placement::Part(m, place)),
+        None => HelperEffect::word(0),
     }
 }
 
@@ -47,7 +47,7 @@ pub(crate) fn field<V: ValueStore, M: Regions>(
     m: u64,
     addr: u64,
     len: u64,
-) -> Result<Plan<'static>, Fault>
+) -> Result<HelperEffect<'static>, Fault>
     ensures means { means (V.values table.now) result ≡ on_value (V.values table.now) m (λ x. on_range (M.bytes memory.now).constants addr len (field_row x)) }
     ensures can { CanFollow (V.values table.now) result }
 {
@@ -76,37 +76,39 @@ pub(crate) fn has<V: ValueStore, M: Regions>(
     m: u64,
     addr: u64,
     len: u64,
-) -> Result<Plan<'static>, Fault>
+) -> Result<HelperEffect<'static>, Fault>
     ensures means { means (V.values table.now) result ≡ on_value (V.values table.now) m (λ x. on_range (M.bytes memory.now).constants addr len (has_row x)) }
     ensures can { CanFollow (V.values table.now) result }
 {
     let _shape = operand(table, m)?;
     let key = range(memory, addr, len)?;
-    Ok(Plan::truth(has_key(table, m, key)))
+    Ok(HelperEffect::truth(has_key(table, m, key)))
 }
 
 /// A list's item at a place, to be placed.
 #[tactic(auto, using(crate::proofs::Maps::item_there, std::proofs::lemmas::Option::slice_get_past))]
-fn item_plan(l: u64, count: u64, place: Option<u64>) -> Plan<'static>
-    ensures means { (vs : List ValueOrError) → option_map seen (slice_get vs l) ≡ Some (sees_list count) → outcome_by vs result.action result.added ≡ found (option_and_then (part_at (slice_get vs l)) place) }
-    ensures can { (vs : List ValueOrError) → option_map seen (slice_get vs l) ≡ Some (sees_list count) → CanDo vs result.action }
+fn item_plan(l: u64, count: u64, place: Option<u64>) -> HelperEffect<'static>
+    ensures means { (vs : List ValueOrError)
+        → option_map outcome_view (slice_get vs l) ≡ Some (sees_list count)
+        → outcome_by vs result.action result.added ≡ found (option_and_then (part_at (slice_get vs l)) place) }
+    ensures can { (vs : List ValueOrError) → option_map outcome_view (slice_get vs l) ≡ Some (sees_list count) → CanDo vs result.action }
 {
     match place {
-        Some(i) if i < count => Plan::free(Action::Part(l, i)),
-        _ => Plan::word(0),
+        Some(i) if i < count => HelperEffect::free(Placement::Part(l, i)),
+        _ => HelperEffect::word(0),
     }
 }
 
 /// A map's key at a place, to be placed.
 #[tactic(auto, using(crate::proofs::Maps::key_there, std::proofs::lemmas::Option::slice_get_past))]
-fn key_plan(m: u64, count: u64, i: u64) -> Plan<'static>
-    ensures means { (vs : List ValueOrError) → option_map seen (slice_get vs m) ≡ Some (sees_map count) → outcome_by vs result.action result.added ≡ found (key_at (slice_get vs m) i) }
-    ensures can { (vs : List ValueOrError) → option_map seen (slice_get vs m) ≡ Some (sees_map count) → CanDo vs result.action }
+fn key_plan(m: u64, count: u64, i: u64) -> HelperEffect<'static>
+    ensures means { (vs : List ValueOrError) → option_map outcome_view (slice_get vs m) ≡ Some (sees_map count) → outcome_by vs result.action result.added ≡ found (key_at (slice_get vs m) i) }
+    ensures can { (vs : List ValueOrError) → option_map outcome_view (slice_get vs m) ≡ Some (sees_map count) → CanDo vs result.action }
 {
     if i < count {
-        Plan::free(Action::Key(m, i))
+        HelperEffect::free(Placement::Key(m, i))
     } else {
-        Plan::word(0)
+        HelperEffect::word(0)
     }
 }
 
@@ -116,24 +118,28 @@ fn part_plan<V: ValueStore>(
     x: u64,
     container: Shape<'_>,
     place: Shape<'_>,
-) -> Plan<'static>
-    requires { option_map seen (slice_get (V.values table.now) x) ≡ Some (shown container) }
-    ensures means { outcome_by (V.values table.now) result.action result.added ≡ found (part_by (shown container.entry) (shown place.entry) (slice_get (V.values table.now) x)) }
+) -> HelperEffect<'static>
+    requires { option_map outcome_view (slice_get (V.values table.now) x) ≡ Some (shape_view container) }
+    ensures means { outcome_by (V.values table.now) result.action result.added ≡ found (part_by (shape_view container.entry) (shape_view place.entry) (slice_get (V.values table.now) x)) }
     ensures can { CanDo (V.values table.now) result.action }
 {
     match container {
         Shape::List(count) => item_plan(x, count, place_part(place)),
         Shape::Map(_) => match place {
             Shape::Text(key) => part_under(table, x, key.as_bytes()),
-            _ => Plan::word(0),
+            _ => HelperEffect::word(0),
         },
-        _ => Plan::word(0),
+        _ => HelperEffect::word(0),
     }
 }
 
 /// Helper 7: a list's item at an int, or a map's value at a text.
 #[tactic(auto, using(crate::proofs::Seeing::by_operands), unfolding(crate::specs::Lookups::index_row))]
-pub(crate) fn index<V: ValueStore>(table: &V, x: u64, k: u64) -> Result<Plan<'static>, Fault>
+pub(crate) fn index<V: ValueStore>(
+    table: &V,
+    x: u64,
+    k: u64,
+) -> Result<HelperEffect<'static>, Fault>
     ensures means { means (V.values table.now) result ≡ on_values (V.values table.now) x k index_row }
     ensures can { CanFollow (V.values table.now) result }
 {
@@ -145,8 +151,8 @@ pub(crate) fn index<V: ValueStore>(table: &V, x: u64, k: u64) -> Result<Plan<'st
 /// Code points, items or entries.
 #[tactic(auto, using(crate::proofs::Maps::few_code_points))]
 fn size_part(shape: Shape<'_>) -> Option<u64>
-    requires { seen_size (shown shape) < 2 ^ 63 }
-    ensures size { result ≡ size_part (shown shape.entry) }
+    requires { seen_size (shape_view shape) < 2 ^ 63 }
+    ensures size { result ≡ size_part (shape_view shape.entry) }
     ensures short { IfSome result (λ n. n < 2 ^ 63) }
 {
     match shape {
@@ -157,20 +163,20 @@ fn size_part(shape: Shape<'_>) -> Option<u64>
     }
 }
 
-fn size_plan(size: Option<u64>) -> Plan<'static>
+fn size_plan(size: Option<u64>) -> HelperEffect<'static>
     requires { IfSome size (λ n. n < 2 ^ 63) }
     ensures means { (vs : List ValueOrError) → outcome_by vs result.action result.added ≡ size_found size }
     ensures can { (vs : List ValueOrError) → CanDo vs result.action }
 {
     match size {
-        Some(size) => Plan::free(Action::Int(size as i64)),
-        None => Plan::word(0),
+        Some(size) => HelperEffect::free(Placement::Int(size as i64)),
+        None => HelperEffect::word(0),
     }
 }
 
 /// Helper 8: the number of code points, items or entries, as an int.
 #[tactic(auto, unfolding(crate::specs::Lookups::size_row))]
-pub(crate) fn size<V: ValueStore>(table: &V, h: u64) -> Result<Plan<'static>, Fault>
+pub(crate) fn size<V: ValueStore>(table: &V, h: u64) -> Result<HelperEffect<'static>, Fault>
     ensures means { means (V.values table.now) result ≡ on_value (V.values table.now) h size_row }
     ensures can { CanFollow (V.values table.now) result }
 {
@@ -179,20 +185,22 @@ pub(crate) fn size<V: ValueStore>(table: &V, h: u64) -> Result<Plan<'static>, Fa
 }
 
 /// A list's item, or a map's key, at a place, to be placed.
-fn item_or_key_plan(h: u64, shape: Shape<'_>, i: u64) -> Plan<'static>
-    ensures means { (vs : List ValueOrError) → option_map seen (slice_get vs h) ≡ Some (shown shape.entry) → outcome_by vs result.action result.added ≡ found (item_or_key (shown shape.entry) i (slice_get vs h)) }
-    ensures can { (vs : List ValueOrError) → option_map seen (slice_get vs h) ≡ Some (shown shape.entry) → CanDo vs result.action }
+fn item_or_key_plan(h: u64, shape: Shape<'_>, i: u64) -> HelperEffect<'static>
+    ensures means { (vs : List ValueOrError)
+        → option_map outcome_view (slice_get vs h) ≡ Some (shape_view shape.entry)
+        → outcome_by vs result.action result.added ≡ found (item_or_key (shape_view shape.entry) i (slice_get vs h)) }
+    ensures can { (vs : List ValueOrError) → option_map outcome_view (slice_get vs h) ≡ Some (shape_view shape.entry) → CanDo vs result.action }
 {
     match shape {
         Shape::List(count) => item_plan(h, count, Some(i)),
         Shape::Map(count) => key_plan(h, count, i),
-        _ => Plan::word(0),
+        _ => HelperEffect::word(0),
     }
 }
 
 /// Helper 20: a list's item, or a map's key, at a place.
 #[tactic(auto, unfolding(crate::specs::Lookups::item_row))]
-pub(crate) fn item<V: ValueStore>(table: &V, h: u64, i: u64) -> Result<Plan<'static>, Fault>
+pub(crate) fn item<V: ValueStore>(table: &V, h: u64, i: u64) -> Result<HelperEffect<'static>, Fault>
     ensures means { means (V.values table.now) result ≡ on_value (V.values table.now) h (λ x. item_row x i) }
     ensures can { CanFollow (V.values table.now) result }
 {
@@ -201,7 +209,7 @@ pub(crate) fn item<V: ValueStore>(table: &V, h: u64, i: u64) -> Result<Plan<'sta
 }
 
 fn count_word(shape: Shape<'_>) -> u64
-    ensures { result ≡ count_word (count_part (shown shape.entry)) }
+    ensures { result ≡ count_word (count_part (shape_view shape.entry)) }
 {
     match shape {
         Shape::List(count) => count,
@@ -212,10 +220,10 @@ fn count_word(shape: Shape<'_>) -> u64
 
 /// Helper 21: the number of items or entries, as a word.
 #[tactic(auto, unfolding(crate::specs::Lookups::count_row))]
-pub(crate) fn count<V: ValueStore>(table: &V, h: u64) -> Result<Plan<'static>, Fault>
+pub(crate) fn count<V: ValueStore>(table: &V, h: u64) -> Result<HelperEffect<'static>, Fault>
     ensures means { means (V.values table.now) result ≡ on_value (V.values table.now) h count_row }
     ensures can { CanFollow (V.values table.now) result }
 {
     let shape = operand(table, h)?;
-    Ok(Plan::word(count_word(shape)))
+    Ok(HelperEffect::word(count_word(shape)))
 }

@@ -6,7 +6,7 @@ ghost use Rattle.helper_table.specs.Kinds.{has_entries, is_value};
 ghost use Rattle.helper_table.specs.Operands.{place_of, place_part};
 ghost use Rattle.helper_table.specs.Plans.{Sees};
 ghost use Rattle.value_store.specs.Calls.{entries_at};
-ghost use Rattle.value_store.specs.Seen.{shown, seen_size};
+ghost use Rattle.value_store.specs.Seen.{shape_view, seen_size};
 
 use guest_memory::{Fault, Regions};
 use value_store::{Shape, ValueStore};
@@ -15,7 +15,7 @@ use value_store::{Shape, ValueStore};
 #[tactic(auto, using(std::proofs::lemmas::Option::slice_get_within))]
 pub(crate) fn operand<V: ValueStore>(table: &V, h: u64) -> Result<Shape<'_>, Fault>
     ensures sees { Sees result (slice_get (V.values table.now) h) }
-    ensures short { IfOk result (λ shape. seen_size (shown shape) < 2 ^ 63) }
+    ensures short { IfOk result (λ shape. seen_size (shape_view shape) < 2 ^ 63) }
     ensures inside { OnOk result (h < length (V.values table.now)) }
 {
     table.at(h).ok_or(Fault::F6)
@@ -40,14 +40,14 @@ pub(crate) fn is_map<V: ValueStore>(table: &V, h: u64) -> bool
 }
 
 pub(crate) fn has_entries(shape: Shape<'_>) -> bool
-    ensures { result ≡ has_entries (shown shape.entry) }
+    ensures { result ≡ has_entries (shape_view shape.entry) }
 {
     matches!(shape, Shape::Map(_))
 }
 
 /// The place that an int is, if it is one.
 pub(crate) fn place_part(shape: Shape<'_>) -> Option<u64>
-    ensures { result ≡ place_part (shown shape.entry) }
+    ensures { result ≡ place_part (shape_view shape.entry) }
 {
     match shape {
         Shape::Int(i) => place_of(i),
@@ -64,7 +64,7 @@ pub(crate) fn place_of(i: i64) -> Option<u64>
 
 /// A value, and not the error.
 pub(crate) fn is_value(shape: Shape<'_>) -> bool
-    ensures { result ≡ is_value (shown shape.entry) }
+    ensures { result ≡ is_value (shape_view shape.entry) }
 {
     !matches!(shape, Shape::Error)
 }

@@ -1,5 +1,5 @@
 -- Places at which a machine is kept.
-use Rattle.history.proofs.Prelude.{◌≡◌, ◌≢◌, ◌%◌, ◌++◌, append-nil, drop, ℕ, zero, suc, ◌+◌, ◌-◌, ◌<◌, ◌≤◌, Bool, true, false, not, List, [], ◌∷◌, length, refl, sym, ap, ◌∙◌, arith, subst, map, Option, Some, None, option_map, get_or, inl, inr, ◌⊎◌, common_steps, nat_tests, cases_lt, drop-append-le, drop-drop, drop-map, get_or-map, get_or_default, length-append, length-drop, length-map, map-append, append_assoc, Contains-append_cases, Contains-append_left, Contains-append_right, All-append, All-drop, All-nil, All-push, All-same, keep_last, get_or_from_slice_get, slice_get_within, All, Contains, slice_get, State, is_running, next_state, state_after, state_after-add, state_after-more, state_after-zero, stays_stopped, IsDue, IsKept, IsNearest, IsReplay, IsSpared, Keeps, Kept, Reaches, Trail, places_of, with_place}
+use Rattle.history.proofs.Prelude.{◌≡◌, ◌≢◌, ◌%◌, ◌++◌, append-nil, drop, ℕ, zero, suc, ◌+◌, ◌-◌, ◌<◌, ◌≤◌, Bool, true, false, not, List, [], ◌∷◌, length, refl, sym, ap, ◌∙◌, arith, subst, map, Option, Some, None, option_map, get_or, inl, inr, ◌⊎◌, common_steps, nat_tests, cases_lt, drop-append-le, drop-drop, drop-map, get_or-map, get_or_default, length-append, length-drop, length-map, map-append, append_assoc, Contains-append_cases, Contains-append_left, Contains-append_right, All-append, All-drop, All-nil, All-push, All-same, keep_last, get_or_from_slice_get, slice_get_within, All, Contains, slice_get, State, is_running, next_state, state_after, state_after-add, state_after-more, state_after-zero, stays_stopped, IsDue, IsKept, IsNearest, IsReplay, IsSpared, KeepsPlaces, Checkpoints, Reaches, Past, places_of, with_place}
 
 -- of the first n of these places, none at or before k is greater than p
 abbrev pub NoneNearer : List ℕ → ℕ → ℕ → ℕ → Type 0
@@ -103,7 +103,7 @@ is_reached : (s t : State) (n k : ℕ) → t ≡ state_after n s → Reaches s n
 is_reached s t n k here reaches before = grind arith
 
 -- no step is made to stay
-pub replay_none : (h : Trail) (k : ℕ) → h.place ≤ k → Reaches h.origin h.place k → IsReplay h k 0
+pub replay_none : (h : Past) (k : ℕ) → h.place ≤ k → Reaches h.origin h.place k → IsReplay h k 0
 replay_none h k low reaches =
     let some = nearest_some (h.place ∷ h.checkpoints) k in
     let behind : h.place ≤ some.0 = some.1.greatest h.place (1, omega arith, refl) low in
@@ -115,7 +115,7 @@ replay_none h k low reaches =
     }
 
 -- a replay from the nearest place at hand
-pub replay_from : (h : Trail) (k r n at : ℕ) → IsNearest (places_of h) k r → at ≤ k → Reaches h.origin at k → n ≡ at - r → IsReplay h k n
+pub replay_from : (h : Past) (k r n at : ℕ) → IsNearest (places_of h) k r → at ≤ k → Reaches h.origin at k → n ≡ at - r → IsReplay h k n
 replay_from h k r n at nearest within reaches is = record {
   from = r;
   nearest = nearest;
@@ -147,23 +147,24 @@ places_on s t u k n m here run is =
 pub shown_again : (s u t : State) (n k : ℕ) → u ≡ s → t ≡ state_after n s → n ≤ k → Reaches s n k → t ≡ state_after k u
 shown_again s u t n k origin here within reaches = grind (arith, nat_tests, is_reached, stands)
 
--- the item that is read is one of those that are kept
-pub contains_at : {C : Type 0} (place : C → ℕ) (cs : List C) (ps : List ℕ) (i : ℕ) (a b c : C) → map place cs ≡ ps → slice_get cs i ≡ Some b
-    → (c ≡ a) ⊎ (c ≡ b) → Contains (0 ∷ ps) (place a) → Contains (0 ∷ ps) (place c)
-contains_at place cs ps i a b c whole is one among =
-    elim one [
-      | inl same ↦ subst (λ (n : ℕ). Contains (0 ∷ ps) n) (ap place (sym same)) among
-      | inr same ↦
-          let kept : Contains ps (place b) = subst (λ (qs : List ℕ). Contains qs (place b)) whole (contains_place place cs i b is) in
-          subst (λ (n : ℕ). Contains (0 ∷ ps) n) (ap place (sym same)) (Contains-append_right (0 ∷ []) ps (place b) kept)
-    ]
+module _ {C : Type 0} (place : C → ℕ) (cs : List C) (ps : List ℕ) where
+  -- the item that is read is one of those that are kept
+  pub contains_at : (i : ℕ) (a b c : C) → map place cs ≡ ps → slice_get cs i ≡ Some b
+      → (c ≡ a) ⊎ (c ≡ b) → Contains (0 ∷ ps) (place a) → Contains (0 ∷ ps) (place c)
+  contains_at i a b c whole is one among =
+      elim one [
+        | inl same ↦ subst (λ (n : ℕ). Contains (0 ∷ ps) n) (ap place (sym same)) among
+        | inr same ↦
+            let kept : Contains ps (place b) = subst (λ (qs : List ℕ). Contains qs (place b)) whole (contains_place place cs i b is) in
+            subst (λ (n : ℕ). Contains (0 ∷ ps) n) (ap place (sym same)) (Contains-append_right (0 ∷ []) ps (place b) kept)
+      ]
 
-pub none_more_at : {C : Type 0} (place : C → ℕ) (cs : List C) (ps : List ℕ) (i k p : ℕ) (b c : C) → map place cs ≡ ps → slice_get cs i ≡ Some b
-    → NoneNearer ps i k p → p ≤ place c → (place b ≤ k → place b ≤ place c) → NoneNearer ps (i + 1) k (place c)
-none_more_at place cs ps i k p b c whole is none more next = grind (arith, nat_tests, none_more, place_at)
+  pub none_more_at : (i k p : ℕ) (b c : C) → map place cs ≡ ps → slice_get cs i ≡ Some b
+      → NoneNearer ps i k p → p ≤ place c → (place b ≤ k → place b ≤ place c) → NoneNearer ps (i + 1) k (place c)
+  none_more_at i k p b c whole is none more next = grind (arith, nat_tests, none_more, place_at)
 
-pub all_places : {C : Type 0} (place : C → ℕ) (cs : List C) (ps : List ℕ) (n : ℕ) → map place cs ≡ ps → length cs ≤ n → length ps ≤ n
-all_places place cs ps n whole long = grind (arith, length-map)
+  pub all_places : (n : ℕ) → map place cs ≡ ps → length cs ≤ n → length ps ≤ n
+  all_places n whole long = grind (arith, length-map)
 
 -- an item that is read is one of them
 pub all_at : {C : Type 0} (P : C → Type 0) (cs : List C) (i : ℕ) (c : C) → All P cs → slice_get cs i ≡ Some c → P c
@@ -194,8 +195,8 @@ pub is_due : (ps : List ℕ) (k p : ℕ) → k % 1024 ≡ 0 → IsNearest (0 ∷
 is_due ps k p round nearest other = grind arith
 
 -- nothing was added, and nothing given up
-keeps_same : (gave_up : Bool) (ps : List ℕ) → Keeps gave_up ps [] ps
-keeps_same gave_up ps = record {
+keeps_same : (dropped_checkpoint : Bool) (ps : List ℕ) → KeepsPlaces dropped_checkpoint ps [] ps
+keeps_same dropped_checkpoint ps = record {
   rounds = All-nil (λ (k : ℕ). k % 1024 ≡ 0);
   gone = 0;
   rest = sym (append-nil ps);
@@ -203,15 +204,15 @@ keeps_same gave_up ps = record {
   room = λ none. (omega arith, omega arith);
 }
 
-pub spared_all : (a b : Kept) → b ≡ a → IsSpared a b
+pub spared_all : (a b : Checkpoints) → b ≡ a → IsSpared a b
 spared_all a b same = record {
-  origin = ap (λ (k : Kept). k.origin) same;
-  keeps = subst (λ (ps : List ℕ). Keeps b.gave_up ps [] b.places) (ap (λ (k : Kept). k.places) same) (keeps_same b.gave_up b.places);
-  told = λ none. ap (λ (k : Kept). k.gave_up) (sym same) ∙ none;
+  origin = ap (λ (k : Checkpoints). k.origin) same;
+  keeps = subst (λ (ps : List ℕ). KeepsPlaces b.dropped_checkpoint ps [] b.places) (ap (λ (k : Checkpoints). k.places) same) (keeps_same b.dropped_checkpoint b.places);
+  told = λ none. ap (λ (k : Checkpoints). k.dropped_checkpoint) (sym same) ∙ none;
 }
 
 -- the oldest is given up
-pub spared_oldest : (a b : Kept) (x : ℕ) → b.origin ≡ a.origin → a.places ≡ x ∷ b.places → b.gave_up ≡ true → IsSpared a b
+pub spared_oldest : (a b : Checkpoints) (x : ℕ) → b.origin ≡ a.origin → a.places ≡ x ∷ b.places → b.dropped_checkpoint ≡ true → IsSpared a b
 spared_oldest a b x origin places told = record {
   origin = origin;
   keeps = record {
@@ -224,15 +225,15 @@ spared_oldest a b x origin places told = record {
   told = λ none. let wrong : true ≡ false = sym told ∙ none in cc;
 }
 
-pub kept_spared : (a b : Kept) → IsSpared a b → IsKept a b
+pub kept_spared : (a b : Checkpoints) → IsSpared a b → IsKept a b
 kept_spared a b s = record { origin = s.origin; added = []; keeps = s.keeps; told = s.told }
 
-pub kept_all : (a b : Kept) → b ≡ a → IsKept a b
+pub kept_all : (a b : Checkpoints) → b ≡ a → IsKept a b
 kept_all a b same = kept_spared a b (spared_all a b same)
 
 -- one place more, of at most 64
-keeps_one : (gave_up : Bool) (ps qs : List ℕ) (k : ℕ) → length ps ≤ 64 → k % 1024 ≡ 0 → qs ≡ with_place ps k → Keeps gave_up ps (k ∷ []) qs
-keeps_one gave_up ps qs k room round is =
+keeps_one : (dropped_checkpoint : Bool) (ps qs : List ℕ) (k : ℕ) → length ps ≤ 64 → k % 1024 ≡ 0 → qs ≡ with_place ps k → KeepsPlaces dropped_checkpoint ps (k ∷ []) qs
+keeps_one dropped_checkpoint ps qs k room round is =
     let long : length (ps ++ k ∷ []) ≡ length ps + 1 = length-append ps (k ∷ []) in
     record {
       rounds = All-push (λ (i : ℕ). i % 1024 ≡ 0) [] k (All-nil (λ (i : ℕ). i % 1024 ≡ 0)) round;
@@ -242,7 +243,7 @@ keeps_one gave_up ps qs k room round is =
       room = λ none. (omega (arith, long, room), omega arith);
     }
 
-keeps_on : (f g : Bool) (ps qs rs xs ys : List ℕ) → (g ≡ false → f ≡ false) → Keeps f ps xs qs → Keeps g qs ys rs → Keeps g ps (xs ++ ys) rs
+keeps_on : (f g : Bool) (ps qs rs xs ys : List ℕ) → (g ≡ false → f ≡ false) → KeepsPlaces f ps xs qs → KeepsPlaces g qs ys rs → KeepsPlaces g ps (xs ++ ys) rs
 keeps_on f g ps qs rs xs ys told a b =
     let all : qs ++ ys ≡ drop a.gone (ps ++ (xs ++ ys)) =
     ap (λ (zs : List ℕ). zs ++ ys) a.rest ∙ sym (drop-append-le a.gone (ps ++ xs) ys a.within) ∙ ap (λ (zs : List ℕ). drop a.gone zs) (append_assoc ps xs ys) in
@@ -259,36 +260,36 @@ keeps_on f g ps qs rs xs ys told a b =
           (omega (arith, first.0, second.0, length-append xs ys), omega (arith, first.1, second.1, long, longer));
     }
 
-pub spared_on : (a b c : Kept) → IsSpared a b → IsSpared b c → IsSpared a c
+pub spared_on : (a b c : Checkpoints) → IsSpared a b → IsSpared b c → IsSpared a c
 spared_on a b c first second = record {
   origin = second.origin ∙ first.origin;
-  keeps = keeps_on b.gave_up c.gave_up a.places b.places c.places [] [] second.told first.keeps second.keeps;
+  keeps = keeps_on b.dropped_checkpoint c.dropped_checkpoint a.places b.places c.places [] [] second.told first.keeps second.keeps;
   told = λ none. first.told (second.told none);
 }
 
-pub kept_on : (a b c : Kept) → IsKept a b → IsKept b c → IsKept a c
+pub kept_on : (a b c : Checkpoints) → IsKept a b → IsKept b c → IsKept a c
 kept_on a b c first second = record {
   origin = second.origin ∙ first.origin;
   added = first.added ++ second.added;
-  keeps = keeps_on b.gave_up c.gave_up a.places b.places c.places first.added second.added second.told first.keeps second.keeps;
+  keeps = keeps_on b.dropped_checkpoint c.dropped_checkpoint a.places b.places c.places first.added second.added second.told first.keeps second.keeps;
   told = λ none. first.told (second.told none);
 }
 
 -- since these places were those of that run
-pub keeps_since : (ps : List ℕ) (a b : Kept) → a.places ≡ ps → IsKept a b → (added : List ℕ) × Keeps b.gave_up ps added b.places
-keeps_since ps a b same kept = (kept.added, subst (λ (qs : List ℕ). Keeps b.gave_up qs kept.added b.places) same kept.keeps)
+pub keeps_since : (ps : List ℕ) (a b : Checkpoints) → a.places ≡ ps → IsKept a b → (added : List ℕ) × KeepsPlaces b.dropped_checkpoint ps added b.places
+keeps_since ps a b same kept = (kept.added, subst (λ (qs : List ℕ). KeepsPlaces b.dropped_checkpoint qs kept.added b.places) same kept.keeps)
 
-pub spares_since : (ps : List ℕ) (a b : Kept) → a.places ≡ ps → IsSpared a b → Keeps b.gave_up ps [] b.places
-spares_since ps a b same spared = subst (λ (qs : List ℕ). Keeps b.gave_up qs [] b.places) same spared.keeps
+pub spares_since : (ps : List ℕ) (a b : Checkpoints) → a.places ≡ ps → IsSpared a b → KeepsPlaces b.dropped_checkpoint ps [] b.places
+spares_since ps a b same spared = subst (λ (qs : List ℕ). KeepsPlaces b.dropped_checkpoint qs [] b.places) same spared.keeps
 
 -- one place more, of at most 64
-pub kept_one : (a b c : Kept) (k : ℕ) → length b.places ≤ 64 → k % 1024 ≡ 0 → IsSpared a b → c.origin ≡ b.origin → c.places ≡ with_place b.places k
-    → c.gave_up ≡ b.gave_up → IsKept a c
+pub kept_one : (a b c : Checkpoints) (k : ℕ) → length b.places ≤ 64 → k % 1024 ≡ 0 → IsSpared a b → c.origin ≡ b.origin → c.places ≡ with_place b.places k
+    → c.dropped_checkpoint ≡ b.dropped_checkpoint → IsKept a c
 kept_one a b c k room round spared origin places told =
     kept_on a b c (kept_spared a b spared) (record {
       origin = origin;
       added = k ∷ [];
-      keeps = keeps_one c.gave_up b.places c.places k room round places;
+      keeps = keeps_one c.dropped_checkpoint b.places c.places k room round places;
       told = λ none. sym told ∙ none;
     })
 

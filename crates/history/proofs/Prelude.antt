@@ -1,8 +1,29 @@
 -- The names that these proofs cite of the library, of the crates below and of the definitions here. Declares nothing.
-pub use Rattle.std.proofs.{Common.Bool, Common.IsTrue, Common.List, Common.None, Common.Option, Common.Result, Common.Some, Common.ℕ, Common.ℤ, Common.[], Common.ap, Common.append-nil, Common.arith, Common.drop, Common.false, Common.get_or, Common.if◌then◌else◌, Common.inl, Common.inr, Common.is_ok, Common.length, Common.map, Common.nat_eq, Common.not, Common.option_map, Common.refl, Common.rules, Common.subst, Common.suc, Common.sym, Common.true, Common.zero, Common.◌%◌, Common.◌++◌, Common.◌+◌, Common.◌-◌, Common.◌<◌, Common.◌==◌, Common.◌∙◌, Common.◌∷◌, Common.◌≡◌, Common.◌≢◌, Common.◌≤◌, Common.◌⊎◌, lemmas.Bool.cases_lt, lemmas.Bool.Decides.nat_tests, lemmas.Grind.common_steps, lemmas.List.append_assoc, lemmas.List.drop-append-le, lemmas.List.drop-drop, lemmas.List.drop-map, lemmas.List.get_or-map, lemmas.List.get_or_default, lemmas.List.length-append, lemmas.List.length-drop, lemmas.List.length-map, lemmas.List.map-append, lemmas.List.Elements.All-append, lemmas.List.Elements.All-drop, lemmas.List.Elements.All-nil, lemmas.List.Elements.All-push, lemmas.List.Elements.All-same, lemmas.List.Elements.Contains-append_cases, lemmas.List.Elements.Contains-append_left, lemmas.List.Elements.Contains-append_right, lemmas.List.Folds.list_any_at, lemmas.List.Folds.list_any_none, lemmas.List.Sorted.non_decreasing_from_is_sorted, lemmas.List.Sorted.searched, lemmas.Option.get_or_from_slice_get, lemmas.Option.slice_get_within}
-pub use Rattle.std.specs.{List.All, List.Contains, List.IsAllAdjacentAnswer, List.list_any, List.slice_get, List.Sorted.IsBinarySearchResult, List.Sorted.IsNonDecreasing, Ordering.is_le, Ordering.is_some_and, Ordering.nat_cmp}
-pub use Rattle.bpf_machine.specs.{Laws.goes_on, Laws.state_after-add, Laws.state_after-more, Laws.state_after-zero, Laws.stays_stopped, State.State, Step.is_running}
-unfoldable pub use Rattle.bpf_machine.specs.{Step.next_state, Trace.state_after}
-pub use Rattle.circular_buffer.specs.{Buffer.keep_last}
-pub use Rattle.history.specs.{AsBefore.IsAsBefore, Search.FirstIsLeast, Search.IsFirst, Search.IsLast, Search.LastIsGreatest, Trail.IsCheckpoint, Trail.IsDue, Trail.IsKept, Trail.IsNearest, Trail.IsReplay, Trail.IsSpared, Trail.Keeps, Trail.Kept, Trail.Reaches, Trail.Trail, Trail.places_of, Trail.with_place}
-unfoldable pub use Rattle.history.specs.{Search.first_stop, Search.is_at, Search.is_stop, Search.last_stop}
+pub use Rattle.std.proofs.Common.{Bool, IsTrue, List, None, Option, Result, Some, ℕ, ℤ, [], ap, append-nil, arith}
+pub use Rattle.std.proofs.Common.{drop, false, get_or, if◌then◌else◌, inl, inr, is_ok, length, map, nat_eq, not}
+pub use Rattle.std.proofs.Common.{option_map, refl, rules, subst, suc, sym, true, zero, ◌%◌, ◌++◌, ◌+◌, ◌-◌, ◌<◌}
+pub use Rattle.std.proofs.Common.{◌==◌, ◌∙◌, ◌∷◌, ◌≡◌, ◌≢◌, ◌≤◌, ◌⊎◌}
+pub use Rattle.std.proofs.lemmas.Bool.{cases_lt}
+pub use Rattle.std.proofs.lemmas.Bool.Decides.{nat_tests}
+pub use Rattle.std.proofs.lemmas.Grind.{common_steps}
+pub use Rattle.std.proofs.lemmas.List.{append_assoc, drop-append-le, drop-drop, drop-map, get_or-map, get_or_default}
+pub use Rattle.std.proofs.lemmas.List.{length-append, length-drop, length-map, map-append}
+pub use Rattle.std.proofs.lemmas.List.Elements.{All-append, All-drop, All-nil, All-push, All-same}
+pub use Rattle.std.proofs.lemmas.List.Elements.{Contains-append_cases, Contains-append_left, Contains-append_right}
+pub use Rattle.std.proofs.lemmas.List.Folds.{list_any_at, list_any_none}
+pub use Rattle.std.proofs.lemmas.List.Sorted.{non_decreasing_from_is_sorted, searched}
+pub use Rattle.std.proofs.lemmas.Option.{get_or_from_slice_get, slice_get_within}
+pub use Rattle.std.specs.List.{All, Contains, IsAllAdjacentAnswer, list_any, slice_get}
+pub use Rattle.std.specs.List.Sorted.{IsBinarySearchResult, IsNonDecreasing}
+pub use Rattle.std.specs.Ordering.{is_le, is_some_and, nat_cmp}
+pub use Rattle.bpf_machine.specs.Laws.{goes_on, state_after-add, state_after-more, state_after-zero, stays_stopped}
+pub use Rattle.bpf_machine.specs.State.{State}
+pub use Rattle.bpf_machine.specs.Step.{is_running}
+unfoldable pub use Rattle.bpf_machine.specs.Step.{next_state}
+unfoldable pub use Rattle.bpf_machine.specs.Trace.{state_after}
+pub use Rattle.circular_buffer.specs.Buffer.{keep_last}
+pub use Rattle.history.specs.Unchanged.{IsUnchangedHistory}
+pub use Rattle.history.specs.Search.{FirstIsLeast, IsFirst, IsLast, LastIsGreatest}
+pub use Rattle.history.specs.Past.{IsCheckpoint, IsDue, IsKept, IsNearest, IsReplay, IsSpared, KeepsPlaces}
+pub use Rattle.history.specs.Past.{Checkpoints, Reaches, Past, places_of, with_place}
+unfoldable pub use Rattle.history.specs.Search.{first_stop, is_at, is_stop, last_stop}

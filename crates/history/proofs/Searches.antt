@@ -1,5 +1,5 @@
 -- Searches of a run for a place to stop.
-use Rattle.history.proofs.Prelude.{◌≡◌, ◌≢◌, ℕ, zero, suc, ◌+◌, ◌-◌, ◌<◌, ◌≤◌, Bool, true, false, List, [], length, refl, sym, ap, ◌∙◌, arith, inl, inr, ◌⊎◌, if◌then◌else◌, ◌==◌, ℤ, cases_lt, nat_tests, common_steps, State, is_running, state_after, goes_on, stays_stopped, first_stop, is_at, is_stop, last_stop, FirstIsLeast, IsFirst, IsLast, LastIsGreatest, Reaches}
+use Rattle.history.proofs.Prelude.{◌≡◌, ◌≢◌, ℕ, zero, suc, ◌+◌, ◌-◌, ◌<◌, ◌≤◌, Bool, true, false, List, [], length, refl, sym, ap, subst, ◌∙◌, arith, inl, inr, ◌⊎◌, if◌then◌else◌, ◌==◌, ℤ, cases_lt, nat_tests, common_steps, State, is_running, state_after, goes_on, stays_stopped, first_stop, is_at, is_stop, last_stop, FirstIsLeast, IsFirst, IsLast, LastIsGreatest, Reaches}
 
 -- of places of which none is before another there is one
 only : (P : ℕ → Type 0) → ((i j : ℕ) → P i → P j → i < j → ⊥) → (x j : ℕ) → P x → (P j → j ≡ x) × (j ≡ x → P j)
@@ -52,9 +52,9 @@ pub none_further : (stops : List ℕ) (s t : State) (k j : ℕ) (here : Bool) �
 none_further stops s t k j here none is said goes_on = grind arith
 
 -- the run is to stop at j, and at none before
-pub found_here : (stops : List ℕ) (s t : State) (k to j : ℕ) (here : Bool) → NoneBefore stops s k j → k < j → j < to → t ≡ state_after j s
-    → here ≡ is_stop stops t → here ≡ true → j ≡ first_stop stops s k (to - k)
-found_here stops s t k to j here none after before is said stops_here = grind (arith, nat_tests, only, first_not_before, first_stop-some)
+pub found_here : (stops : List ℕ) (s t : State) (k to j : ℕ) → NoneBefore stops s k j → k < j → j < to → t ≡ state_after j s → is_stop stops t ≡ true
+    → j ≡ first_stop stops s k (to - k)
+found_here stops s t k to j none after before is stops_here = grind (arith, nat_tests, only, first_not_before, first_stop-some)
 
 -- the run is to stop at no place before the last one
 pub found_none : (stops : List ℕ) (s : State) (k to j : ℕ) → NoneBefore stops s k j → k < to → to ≤ j → to ≡ first_stop stops s k (to - k)
@@ -94,7 +94,7 @@ found_next stops s k to some reaches =
           let stopped : is_running (state_after k s).status ≡ false = reaches (omega (arith, before)) in
           let same : state_after k s ≡ state_after (k + 1) s = stays_stopped s (state_after k s) k (k + 1) refl stopped (omega arith) in
           let here : is_stop stops (state_after (k + 1) s) ≡ true = ap (is_stop stops) (sym same) ∙ is_stop-stopped stops (state_after k s) stopped in
-          found_here stops s (state_after (k + 1) s) k to (k + 1) (is_stop stops (state_after (k + 1) s)) (none_first stops s k (k + 1) refl) (omega arith) before refl refl here
+          found_here stops s (state_after (k + 1) s) k to (k + 1) (none_first stops s k (k + 1) refl) (omega arith) before refl here
       | inr not_before ↦
           let last : to ≡ k + 1 = omega (arith, not_before, some) in
           sym last ∙ found_none stops s k to (k + 1) (none_first stops s k (k + 1) refl) some (omega (arith, last))
@@ -114,21 +114,21 @@ unfolding last_stop
 last_stays stops s t k j here is said goes_on before = grind arith
 
 -- the run stands before place k, with a breakpoint there
-pub last_stands : (stops : List ℕ) (s t : State) (k n : ℕ) (here : Bool) → t ≡ state_after (k - 1) s → is_running t.status ≡ false → k ≤ n → 0 < n
-    → here ≡ is_at stops t.pc → here ≡ true → n - 1 ≡ last_stop stops s n
-last_stands stops s t k n here is stopped later some said stops_here =
+pub last_stands : (stops : List ℕ) (s t : State) (k n : ℕ) → t ≡ state_after (k - 1) s → is_running t.status ≡ false → k ≤ n → 0 < n
+    → is_at stops t.pc ≡ true → n - 1 ≡ last_stop stops s n
+last_stands stops s t k n is stopped later some stops_here =
     let same : t ≡ state_after (n - 1) s = stays_stopped s t (k - 1) (n - 1) is stopped (omega (arith, later)) in
     (last_only stops s n (n - 1)).0
     (record {
       before = inl (omega (arith, some));
       none_after = λ i after before. absurd (omega (arith, after, before));
-      stops_there = λ _. ap (λ (u : State). is_at stops u.pc) (sym same) ∙ sym said ∙ stops_here;
+      stops_there = λ _. ap (λ (u : State). is_at stops u.pc) (sym same) ∙ stops_here;
     })
 
 -- the run stands before place k, with no breakpoint there
-pub last_stands_not : (stops : List ℕ) (s t : State) (k n j : ℕ) (here : Bool) → t ≡ state_after (k - 1) s → is_running t.status ≡ false → k ≤ n
-    → here ≡ is_at stops t.pc → here ≡ false → j ≡ last_stop stops s k → j ≡ last_stop stops s n
-last_stands_not stops s t k n j here is stopped later said goes_on last =
+pub last_stands_not : (stops : List ℕ) (s t : State) (k n j : ℕ) → t ≡ state_after (k - 1) s → is_running t.status ≡ false → k ≤ n
+    → is_at stops t.pc ≡ false → j ≡ last_stop stops s k → j ≡ last_stop stops s n
+last_stands_not stops s t k n j is stopped later goes_on last =
     let earlier : IsLast stops s k j = (last_only stops s k j).1 last in
     (last_only stops s n j).0
     (record {
@@ -138,7 +138,7 @@ last_stands_not stops s t k n j here is stopped later said goes_on last =
             | inl low ↦ earlier.none_after i after low
             | inr not_low ↦
                 let same : t ≡ state_after i s = stays_stopped s t (k - 1) i is stopped (omega (arith, not_low)) in
-                ap (λ (u : State). is_at stops u.pc) (sym same) ∙ sym said ∙ goes_on
+                ap (λ (u : State). is_at stops u.pc) (sym same) ∙ goes_on
           ];
       stops_there = earlier.stops_there;
     })
@@ -147,12 +147,12 @@ pub last_low : (stops : List ℕ) (s : State) (n j : ℕ) → 0 < n → j ≡ la
 last_low stops s n j some last = grind (arith, nat_tests, last_stop-is)
 
 -- none after the answer of the stretch from p to end, nor behind end
-none_after_last : (stops : List ℕ) (s t : State) (p end k j i : ℕ) → t ≡ state_after p s → NoneFrom stops s end k → IsLast stops t (end - p) j
+none_after_last : (stops : List ℕ) (s : State) (p end k j i : ℕ) → NoneFrom stops s end k → IsLast stops (state_after p s) (end - p) j
     → p + j < i → i < k → is_at stops (state_after i s).pc ≡ false
-none_after_last stops s t p end k j i is none last after before =
+none_after_last stops s p end k j i none last after before =
     elim (cases_lt i end) [
       | inl low ↦
-          let same : state_after (i - p) t ≡ state_after i s = goes_on s t p i is (omega (arith, after)) in
+          let same : state_after (i - p) (state_after p s) ≡ state_after i s = goes_on s (state_after p s) p i refl (omega (arith, after)) in
           ap (λ (u : State). is_at stops u.pc) (sym same) ∙ last.none_after (i - p) (omega (arith, after)) (omega (arith, low, after))
       | inr not_low ↦ none i (omega (arith, not_low)) before
     ]
@@ -173,27 +173,36 @@ at_begin stops s t p j is found stops_there =
           ]
     ]
 
+-- a stretch of the run from the state at place p on to place end, which is not behind place k
+pub record IsStretch (s t : State) (p end k : ℕ) : Type 0 where
+  pub is : t ≡ state_after p s
+  pub some : p < end
+  pub within : end ≤ k
+
 -- the answer of a stretch with a breakpoint in it, with none behind the stretch
-pub found_in_stretch : (stops : List ℕ) (s t : State) (p end k j : ℕ) → t ≡ state_after p s → p < end → end ≤ k → NoneFrom stops s end k
+pub found_in_stretch : (stops : List ℕ) (s t : State) (p end k j : ℕ) → IsStretch s t p end k → NoneFrom stops s end k
     → j ≡ last_stop stops t (end - p) → (0 < j) ⊎ (is_at stops t.pc ≡ true) → p + j ≡ last_stop stops s k
-found_in_stretch stops s t p end k j is some within none answer found =
+found_in_stretch stops s t p end k j stretch none answer found =
+    let is = stretch.is in
+    let some = stretch.some in
+    let within = stretch.within in
     let last : IsLast stops t (end - p) j = (last_only stops t (end - p) j).1 answer in
     let low : j < end - p = last_low stops t (end - p) j (omega (arith, some)) answer in
     (last_only stops s k (p + j)).0
     (record {
       before = inl (omega (arith, low, within));
-      none_after = λ i after before. none_after_last stops s t p end k j i is none last after before;
+      none_after = λ i after before. none_after_last stops s p end k j i none (subst (λ (u : State). IsLast stops u (end - p) j) is last) after before;
       stops_there = λ _. at_begin stops s t p j is found last.stops_there;
     })
 
 -- a stretch with no breakpoint
-pub none_in_stretch : (stops : List ℕ) (s t : State) (p end k j : ℕ) (here : Bool) → t ≡ state_after p s → NoneFrom stops s end k
-    → j ≡ last_stop stops t (end - p) → j ≡ 0 → here ≡ is_at stops t.pc → here ≡ false → NoneFrom stops s p k
-none_in_stretch stops s t p end k j here is none answer start said goes_on i behind before =
-    let last : IsLast stops t (end - p) j = (last_only stops t (end - p) j).1 answer in
+pub none_in_stretch : (stops : List ℕ) (s t : State) (p end k : ℕ) → t ≡ state_after p s → NoneFrom stops s end k
+    → 0 ≡ last_stop stops t (end - p) → is_at stops t.pc ≡ false → NoneFrom stops s p k
+none_in_stretch stops s t p end k is none answer goes_on i behind before =
+    let last : IsLast stops t (end - p) 0 = (last_only stops t (end - p) 0).1 answer in
     elim (cases_lt p i) [
-      | inl after ↦ none_after_last stops s t p end k j i is none last (omega (arith, start, after)) before
+      | inl after ↦ none_after_last stops s p end k 0 i none (subst (λ (u : State). IsLast stops u (end - p) 0) is last) (omega (arith, after)) before
       | inr not_after ↦
           let same : i ≡ p = omega (arith, behind, not_after) in
-          ap (λ (m : ℕ). is_at stops (state_after m s).pc) same ∙ ap (λ (u : State). is_at stops u.pc) (sym is) ∙ sym said ∙ goes_on
+          ap (λ (m : ℕ). is_at stops (state_after m s).pc) same ∙ ap (λ (u : State). is_at stops u.pc) (sym is) ∙ goes_on
     ]

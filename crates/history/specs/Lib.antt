@@ -1,3 +1,3 @@
-pub mod Trail
+pub mod Past
 pub mod Search
-pub mod AsBefore
+pub mod Unchanged

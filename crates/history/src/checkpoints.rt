@@ -1,6 +1,6 @@
 //! The machines that are kept of a run.
 ghost use Rattle.std.specs.Prelude.{◌≡◌, ◌∷◌, ◌+◌, ◌^◌, ◌<◌, [], false, IfNone, IfOk, IfSome, IsOk, OnErr, OnOk};
-ghost use Rattle.history.specs.Trail.{HasPlace, IsCheckpoint, IsDue, IsKept, IsNearest, IsSpared};
+ghost use Rattle.history.specs.Past.{HasPlace, IsCheckpoint, IsDue, IsKept, IsNearest, IsSpared};
 ghost use Rattle.bpf_machine.specs.Step.{next_state};
 
 use crate::checkpoint::{Checkpoint, nearer};
@@ -21,20 +21,20 @@ pub(crate) struct Checkpoints<E: Emulator> {
     start: Checkpoint<E>,
     ring: HeapCircularBuffer<Checkpoint<E>>,
     /// Whether one was given up for want of memory.
-    gave_up: bool,
+    dropped_checkpoint: bool,
 }
 
 impl<E: Emulator> Model for Checkpoints<E> {
     ghost use Rattle.std.specs.Prelude.{◌≡◌, ◌≤◌, All, length, map};
     ghost use Rattle.std.specs.Coded.{codes};
     ghost use Rattle.value_store.specs.Codes.{coded_stored};
-    ghost use Rattle.history.specs.Trail.{IsCheckpoint, Kept};
+    ghost use Rattle.history.specs.Past.{IsCheckpoint, Checkpoints};
 
-    ghost Value = { Kept };
+    ghost Value = { Checkpoints };
 
     ghost coded = { Prim.hlevel (codes, coded_stored) };
 
-    ghost view = { λ c. record { origin = E.state c.start.machine; places = map (λ p. p.place) c.ring.items; gave_up = c.gave_up } };
+    ghost view = { λ c. record { origin = E.state c.start.machine; places = map (λ p. p.place) c.ring.items; dropped_checkpoint = c.dropped_checkpoint } };
 
     ghost invariant = { λ c. (c.start.place ≡ 0) × (c.ring.capacity ≡ 64) × All (IsCheckpoint E.state (E.state c.start.machine)) c.ring.items × (length c.ring.items ≤ 64) };
 }
@@ -44,14 +44,14 @@ impl<E: Emulator> Checkpoints<E> {
     pub(crate) fn new(alloc: Global, machine: E) -> Result<Checkpoints<E>, AllocError>
         ensures origin { IfOk result (λ c. c.origin ≡ E.state machine) }
         ensures places { IfOk result (λ c. c.places ≡ []) }
-        ensures gave_up { IfOk result (λ c. c.gave_up ≡ false) }
+        ensures dropped_checkpoint { IfOk result (λ c. c.dropped_checkpoint ≡ false) }
     {
         let ring = HeapCircularBuffer::with_capacity(alloc, ROOM)?;
         let start = Checkpoint { place: 0, machine };
         Ok(Checkpoints {
             start,
             ring,
-            gave_up: false,
+            dropped_checkpoint: false,
         })
     }
 
@@ -71,16 +71,16 @@ impl<E: Emulator> Checkpoints<E> {
 
     /// Begins to tell anew whether a checkpoint is given up.
     pub(crate) fn tell_anew(&mut self)
-        ensures { self.new ≡ record { origin = self.old.origin; places = self.old.places; gave_up = false } }
+        ensures { self.new ≡ record { origin = self.old.origin; places = self.old.places; dropped_checkpoint = false } }
     {
-        self.gave_up = false;
+        self.dropped_checkpoint = false;
     }
 
     /// Whether a checkpoint was given up since that was told anew.
-    pub(crate) fn gave_up(&self) -> bool
-        ensures { result ≡ self.now.gave_up }
+    pub(crate) fn dropped_checkpoint(&self) -> bool
+        ensures { result ≡ self.now.dropped_checkpoint }
     {
-        self.gave_up
+        self.dropped_checkpoint
     }
 
     /// Gives up the oldest checkpoint, for want of memory.
@@ -91,7 +91,7 @@ impl<E: Emulator> Checkpoints<E> {
         ensures none { IfNone result (self.new.places ≡ []) }
     {
         let oldest = self.ring.pop_front()?;
-        self.gave_up = true;
+        self.dropped_checkpoint = true;
         Some(oldest)
     }
 

@@ -29,8 +29,8 @@ pub trait Emulator: Drop {
         ensures status { IfOk result (λ s. s ≡ (state self.new).status) }
         ensures err { OnErr result (state self.new ≡ state self.old) };
 
-    /// `n` steps, of which those after a stopped state change nothing. If it runs out of memory, the
-    /// machine is in the last state that it reached, whose step takes memory.
+    /// `n` steps, of which those after a stopped state change nothing. If it runs out of memory,
+    /// the machine is in the last state that it reached, whose step takes memory.
     fn run(&mut self, n: u64) -> Result<(), AllocError>
         ensures ok { OnOk result (state self.new ≡ state_after n (state self.old)) }
         ensures err { OnErr result (IsReached (state self.old) n (state self.new)) };

@@ -2,7 +2,7 @@
 ghost use Rattle.std.specs.Prelude.{◌≡◌, ◌<◌, ◌-◌, ℕ, IfOk, OnErr, OnOk};
 ghost use Rattle.bpf_machine.specs.State.{State};
 ghost use Rattle.bpf_machine.specs.Trace.{state_after};
-ghost use Rattle.history.specs.AsBefore.{IsAsBefore};
+ghost use Rattle.history.specs.Unchanged.{IsUnchangedHistory};
 ghost use Rattle.history.specs.Search.{first_stop, last_stop};
 
 use crate::emulator::Emulator;
@@ -35,7 +35,7 @@ pub trait History: Drop {
     fn go(&mut self, k: u64) -> Result<(), AllocError>
         ensures ok { OnOk result (place self.new ≡ k) }
         ensures origin { origin self.new ≡ origin self.old }
-        ensures as_before { OnErr result (IsAsBefore origin place self.old self.new) };
+        ensures as_before { OnErr result (IsUnchangedHistory origin place self.old self.new) };
 
     /// The least place after the one shown and up to `to` at which the run is to stop, since it is
     /// stopped there or `pc` is one of the slots in `stops`; else `to`. Every answer is as before,
@@ -43,11 +43,11 @@ pub trait History: Drop {
     fn first(&mut self, to: u64, stops: &[u64]) -> Result<u64, AllocError>
         requires { place self.old < to }
         ensures found { IfOk result (λ j. j ≡ first_stop stops.now (origin self.old) (place self.old) (to - place self.old)) }
-        ensures as_before { IsAsBefore origin place self.old self.new };
+        ensures as_before { IsUnchangedHistory origin place self.old self.new };
 
     /// The greatest place before the one shown whose `pc` is one of the slots in `stops`, else 0.
     /// Every answer is as before, also if it runs out of memory.
     fn last(&mut self, stops: &[u64]) -> Result<u64, AllocError>
         ensures found { IfOk result (λ j. j ≡ last_stop stops.now (origin self.old) (place self.old)) }
-        ensures as_before { IsAsBefore origin place self.old self.new };
+        ensures as_before { IsUnchangedHistory origin place self.old self.new };
 }

@@ -1,9 +1,9 @@
 //! A history that keeps checkpoints of its run and replays what lies between them.
 ghost use Rattle.std.specs.Prelude.{◌≡◌, ◌-◌, ◌<◌, ◌≤◌, ℕ, List, [], false, IfOk, IsOk, OnErr, OnOk};
 ghost use Rattle.bpf_machine.specs.Trace.{state_after};
-ghost use Rattle.history.specs.AsBefore.{IsAsBefore};
+ghost use Rattle.history.specs.Unchanged.{IsUnchangedHistory};
 ghost use Rattle.history.specs.Search.{first_stop, last_stop};
-ghost use Rattle.history.specs.Trail.{IsCheckpoint, IsReplay, Keeps, Reaches, Trail};
+ghost use Rattle.history.specs.Past.{IsCheckpoint, IsReplay, KeepsPlaces, Reaches, Past as PastView};
 
 use crate::checkpoint::Checkpoint;
 use crate::checkpoints::Checkpoints;
@@ -29,13 +29,19 @@ pub struct Past<E: Emulator> {
 impl<E: Emulator> Model for Past<E> {
     ghost use Rattle.std.specs.Coded.{codes};
     ghost use Rattle.value_store.specs.Codes.{coded_stored};
-    ghost use Rattle.history.specs.Trail.{IsCheckpoint, Trail};
+    ghost use Rattle.history.specs.Past.{IsCheckpoint, Past};
 
-    ghost Value = { Trail };
+    ghost Value = { Past };
 
     ghost coded = { Prim.hlevel (codes, coded_stored) };
 
-    ghost view = { λ h. record { origin = h.checkpoints.origin; place = h.shown.place; checkpoints = h.checkpoints.places; replayed = h.replayed; gave_up = h.checkpoints.gave_up } };
+    ghost view = { λ h. record {
+      origin = h.checkpoints.origin;
+      place = h.shown.place;
+      checkpoints = h.checkpoints.places;
+      replayed = h.replayed;
+      dropped_checkpoint = h.checkpoints.dropped_checkpoint;
+    } };
 
     ghost invariant = { λ h. IsCheckpoint E.state h.checkpoints.origin h.shown };
 }
@@ -50,10 +56,10 @@ impl<E: Emulator> Past<E> {
     }
 
     /// Whether the last `go`, `first` or `last` gave up a checkpoint since memory was refused.
-    pub fn gave_up(&self) -> bool
-        ensures { result ≡ self.now.gave_up }
+    pub fn dropped_checkpoint(&self) -> bool
+        ensures { result ≡ self.now.dropped_checkpoint }
     {
-        self.checkpoints.gave_up()
+        self.checkpoints.dropped_checkpoint()
     }
 }
 
@@ -69,7 +75,7 @@ impl<E: Emulator> History for Past<E> {
         ensures place { IfOk result (λ h. h.place ≡ 0) }
         ensures checkpoints { IfOk result (λ h. h.checkpoints ≡ []) }
         ensures replayed { IfOk result (λ h. h.replayed ≡ 0) }
-        ensures gave_up { IfOk result (λ h. h.gave_up ≡ false) }
+        ensures dropped_checkpoint { IfOk result (λ h. h.dropped_checkpoint ≡ false) }
     {
         let start = machine.copy()?;
         let checkpoints = Checkpoints::new(alloc, start)?;
@@ -92,13 +98,13 @@ impl<E: Emulator> History for Past<E> {
     fn go(&mut self, k: u64) -> Result<(), AllocError>
         ensures ok { OnOk result (self.new.place ≡ k) }
         ensures origin { self.new.origin ≡ self.old.origin }
-        ensures as_before { OnErr result (IsAsBefore (λ (h : Trail). h.origin) (λ (h : Trail). h.place) self.old self.new) }
+        ensures as_before { OnErr result (IsUnchangedHistory (λ (h : PastView). h.origin) (λ (h : PastView). h.place) self.old self.new) }
         ensures replayed { OnOk result (IsReplay self.old k self.new.replayed) }
         ensures unmoved { OnErr result (self.new.replayed ≡ self.old.replayed) }
-        ensures keeps { (added : List ℕ) × Keeps self.new.gave_up self.old.checkpoints added self.new.checkpoints }
+        ensures keeps { (added : List ℕ) × KeepsPlaces self.new.dropped_checkpoint self.old.checkpoints added self.new.checkpoints }
         ensures memory { OnErr result (self.new.checkpoints ≡ []) }
         // No memory is taken to stay, nor to go on behind a stopped state.
-        ensures no_memory { self.old.place ≤ k → Reaches self.old.origin self.old.place k → IsOk result × (self.new.gave_up ≡ false) }
+        ensures no_memory { self.old.place ≤ k → Reaches self.old.origin self.old.place k → IsOk result × (self.new.dropped_checkpoint ≡ false) }
     {
         self.checkpoints.tell_anew();
         if self.shown.reaches(k) {
@@ -121,12 +127,12 @@ impl<E: Emulator> History for Past<E> {
     fn first(&mut self, to: u64, stops: &[u64]) -> Result<u64, AllocError>
         requires { self.old.place < to }
         ensures found { IfOk result (λ j. j ≡ first_stop stops.now self.old.origin self.old.place (to - self.old.place)) }
-        ensures as_before { IsAsBefore (λ (h : Trail). h.origin) (λ (h : Trail). h.place) self.old self.new }
+        ensures as_before { IsUnchangedHistory (λ (h : PastView). h.origin) (λ (h : PastView). h.place) self.old self.new }
         ensures replayed { self.new.replayed ≡ self.old.replayed }
-        ensures keeps { (added : List ℕ) × Keeps self.new.gave_up self.old.checkpoints added self.new.checkpoints }
+        ensures keeps { (added : List ℕ) × KeepsPlaces self.new.dropped_checkpoint self.old.checkpoints added self.new.checkpoints }
         ensures memory { OnErr result (self.new.checkpoints ≡ []) }
         // No memory is taken to look one place on, nor behind a stopped state.
-        ensures no_memory { Reaches self.old.origin self.old.place (to - 1) → IsOk result × (self.new.gave_up ≡ false) }
+        ensures no_memory { Reaches self.old.origin self.old.place (to - 1) → IsOk result × (self.new.dropped_checkpoint ≡ false) }
     {
         self.checkpoints.tell_anew();
         first_after(&mut self.checkpoints, &self.shown, to, &Stops::of(stops))
@@ -135,12 +141,12 @@ impl<E: Emulator> History for Past<E> {
     #[tactic(auto, using(crate::proofs::AsBefore::as_before, crate::proofs::Places::spares_since))]
     fn last(&mut self, stops: &[u64]) -> Result<u64, AllocError>
         ensures found { IfOk result (λ j. j ≡ last_stop stops.now self.old.origin self.old.place) }
-        ensures as_before { IsAsBefore (λ (h : Trail). h.origin) (λ (h : Trail). h.place) self.old self.new }
+        ensures as_before { IsUnchangedHistory (λ (h : PastView). h.origin) (λ (h : PastView). h.place) self.old self.new }
         ensures replayed { self.new.replayed ≡ self.old.replayed }
-        ensures keeps { Keeps self.new.gave_up self.old.checkpoints [] self.new.checkpoints }
+        ensures keeps { KeepsPlaces self.new.dropped_checkpoint self.old.checkpoints [] self.new.checkpoints }
         ensures memory { OnErr result (self.new.checkpoints ≡ []) }
-        ensures no_memory { self.old.place ≡ 0 → IsOk result × (self.new.gave_up ≡ false) }
-        ensures no_stops { stops.now ≡ [] → IsOk result × (self.new.gave_up ≡ false) }
+        ensures no_memory { self.old.place ≡ 0 → IsOk result × (self.new.dropped_checkpoint ≡ false) }
+        ensures no_stops { stops.now ≡ [] → IsOk result × (self.new.dropped_checkpoint ≡ false) }
     {
         self.checkpoints.tell_anew();
         last_before(&mut self.checkpoints, &self.shown, &Stops::of(stops))

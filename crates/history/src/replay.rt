@@ -1,6 +1,6 @@
 //! The way from one place of a run to a later one.
 ghost use Rattle.std.specs.Prelude.{◌≡◌, ◌≤◌, [], IfOk, OnErr};
-ghost use Rattle.history.specs.Trail.{IsCheckpoint, IsKept, Reaches};
+ghost use Rattle.history.specs.Past.{IsCheckpoint, IsKept, Reaches};
 
 use crate::checkpoint::Checkpoint;
 use crate::checkpoints::{Checkpoints, STRETCH};

@@ -1,7 +1,7 @@
 //! Searches of a run both ways.
 ghost use Rattle.std.specs.Prelude.{◌≡◌, ◌-◌, ◌<◌, ◌+◌, ◌^◌, [], IfOk, IsOk, OnErr};
 ghost use Rattle.history.specs.Search.{first_stop, last_stop};
-ghost use Rattle.history.specs.Trail.{IsCheckpoint, IsKept, IsSpared, Reaches};
+ghost use Rattle.history.specs.Past.{IsCheckpoint, IsKept, IsSpared, Reaches};
 
 use crate::checkpoint::Checkpoint;
 use crate::checkpoints::Checkpoints;

@@ -2,7 +2,8 @@
 ghost use Rattle.std.specs.Prelude.{◌≡◌, Err, IfErr, IfOk, Ok};
 ghost use Rattle.std.specs.IoError.{error_kind};
 
-use review_runner::{FileError, Files};
+use crate::file_error::FileError;
+use crate::files::Files;
 use std::alloc::Global;
 use std::io::{self, Error, ErrorKind};
 use std::{fs, rt};

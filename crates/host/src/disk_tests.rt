@@ -1,7 +1,8 @@
 //! Files of the system, written and read.
 
 use crate::disk::Disk;
-use review_runner::{FileError, Files};
+use crate::file_error::FileError;
+use crate::files::Files;
 use std::alloc::{AllocError, Global};
 use std::rt;
 use std::test::Fail;

@@ -4,14 +4,21 @@
 mod disk;
 #[cfg(test)]
 mod disk_tests;
+mod file_error;
+mod files;
 mod input;
+mod order_error;
 pub mod words;
 
 pub use disk::Disk;
+pub use file_error::FileError;
+pub use files::Files;
 pub use input::buffered;
+pub use order_error::OrderError;
+pub use streams::Counting;
 
-/// What `$exit_code` answers on the words, the files and the streams of the system that `$rt` gives. A
-/// crate that calls it names `debugger`, too.
+/// What `$exit_code` answers on the words, the files and the streams of the system that `$rt`
+/// gives.
 #[macro_export]
 macro_rules! on_this_system {
     ($exit_code:path, $rt:ident) => {
@@ -19,9 +26,9 @@ macro_rules! on_this_system {
             $rt.alloc(),
             $crate::words::words(&$rt),
             &mut $crate::Disk::new(&$rt),
-            &mut debugger::Counting::new($crate::buffered(&$rt)),
-            &mut debugger::Counting::new(std::io::writer(&$rt)),
-            &mut debugger::Counting::new($rt.stderr()),
+            &mut $crate::Counting::new($crate::buffered(&$rt)),
+            &mut $crate::Counting::new(std::io::writer(&$rt)),
+            &mut $crate::Counting::new($rt.stderr()),
         )
     };
 }

@@ -4,7 +4,7 @@ ghost use Rattle.std.specs.IoError.{error_kind};
 ghost use Rattle.std.specs.Iterator.{IsFinite};
 ghost use Rattle.std.specs.Iterator.Runs.{WholeRun};
 
-use review_runner::OrderError;
+use crate::order_error::OrderError;
 use std::alloc::Global;
 use std::env;
 use std::io::{self, Error, ErrorKind};
@@ -14,7 +14,7 @@ use std::rt::Env;
 ///
 /// # Errors
 ///
-/// `U1` where one of them is no text, and `Memory` where there is no memory for them.
+/// `InvalidArguments` if one of them is no text, and `Memory` where there is no memory for them.
 pub fn words<R: AllocGlobal + Env>(rt: &R) -> Result<Vec<String>, OrderError> {
     given(rt.alloc(), env::args(rt))
 }
@@ -28,7 +28,7 @@ fn given<I: Iterator<Item = String> + Drop>(
     requires finite { IfOk words (λ i. IsFinite (I.remaining i)) }
     ensures all { IfOk words (λ i. IfOk result (λ v. WholeRun I.next_gives i (λ p. v.items ≡ p.items))) }
     ensures memory { IfErr words (λ e. error_kind e ≡ ErrorKind.OutOfMemory → result ≡ Err OrderError.Memory) }
-    ensures other { IfErr words (λ e. (error_kind e ≡ ErrorKind.OutOfMemory → ⊥) → result ≡ Err OrderError.U1) }
+    ensures other { IfErr words (λ e. (error_kind e ≡ ErrorKind.OutOfMemory → ⊥) → result ≡ Err OrderError.InvalidArguments) }
     ensures given { IfOk words (λ i. IfErr result (λ e. e ≡ OrderError.Memory)) }
 {
     match words {
@@ -53,10 +53,10 @@ fn all<I: Iterator<Item = String> + Drop>(
 /// Why the system gives no words.
 fn order_error(error: Error) -> OrderError
     ensures memory { error_kind error ≡ ErrorKind.OutOfMemory → result ≡ OrderError.Memory }
-    ensures other { (error_kind error ≡ ErrorKind.OutOfMemory → ⊥) → result ≡ OrderError.U1 }
+    ensures other { (error_kind error ≡ ErrorKind.OutOfMemory → ⊥) → result ≡ OrderError.InvalidArguments }
 {
     match error.kind() {
         ErrorKind::OutOfMemory => OrderError::Memory,
-        _ => OrderError::U1,
+        _ => OrderError::InvalidArguments,
     }
 }

@@ -1,6 +1,59 @@
 -- The names that these proofs cite of the library, of the crates below and of the definitions here. Declares nothing.
-pub use Rattle.std.proofs.{Common.All, Common.Bool, Common.Decides, Common.FitsSigned, Common.IfSome, Common.List, Common.None, Common.Option, Common.Some, Common.ℕ, Common.ℤ, Common.[], Common.ap, Common.append-nil, Common.append_assoc, Common.arith, Common.codes, Common.drop, Common.false, Common.get_or, Common.if◌then◌else◌, Common.inl, Common.inr, Common.length, Common.length-take-le, Common.map, Common.nat_eq, Common.not, Common.option_map, Common.refl, Common.replicate, Common.rules, Common.slice_index, Common.subst, Common.suc, Common.sym, Common.take, Common.take-append-drop, Common.true, Common.zero, Common.◌%◌, Common.◌&&◌, Common.◌*◌, Common.◌++◌, Common.◌+◌, Common.◌-◌, Common.◌/◌, Common.◌<◌, Common.◌==◌, Common.◌^◌, Common.◌∙◌, Common.◌∷◌, Common.◌≡◌, Common.◌≢◌, Common.◌≤◌, lemmas.Bool.and_from, lemmas.Bool.and_parts, lemmas.Bool.cases_lt, lemmas.Bool.eq-eqb, lemmas.Bool.eqb-true, lemmas.Bool.false_from_ne_true, lemmas.Bool.iff_false, lemmas.Bool.ne_eqb, lemmas.Bool.Decides.nat_tests, lemmas.Fmt.decimal-digits_of, lemmas.Fmt.decimal_digit, lemmas.Int.of_z-to_z, lemmas.Int.Digits.all_below_base_digits_of, lemmas.Int.Digits.digits_value_is, lemmas.Int.Digits.number_digits_of, lemmas.List.get_or-drop, lemmas.List.get_or_past, lemmas.List.Elements.All-cons, lemmas.List.Elements.All-nil, lemmas.List.Elements.All-take, lemmas.List.Folds.list_all-append, lemmas.Nat.be_bytes_8, lemmas.Slice.Eq.starts_is}
-pub use Rattle.std.specs.{Char.digit_value, Fmt.digits_onto, Fmt.format_spec, Int.cast_signed, Int.cast_unsigned, Int.from_be_bytes, Int.from_le_bytes, Int.to_be_bytes, Int.to_le_bytes, Int.w16, Int.w32, Int.w64, Int.Digits.AllBelowBase, Int.Digits.digits_of, List.list_all, List.starts_with, Str.Parse.AllDigits, Str.Parse.digits_value}
-unfoldable pub use Rattle.std.specs.{Fmt.char_count, Fmt.digits, Fmt.padded_integral}
-pub use Rattle.insn_codec.specs.{Candidate.extends_at, Candidate.◌>>=◌, Codes.atomic_width, Codes.operand_at, Codes.register_number, Codes.register_of, Families.alu_of, Families.atomic_of, Families.comparison_of, Families.extension_of, Families.order_of, Families.signed_size_of, Families.size_of_code, Families.swap_of, Laws.NoLineFeed, Laws.StatementIsSpelled, Lines.address_text, Lines.hex_digit, Lines.line_with, Lines.offset_text, Lines.operand_text, Lines.operands_text, Lines.place_text, Lines.register_text, Lines.signed_decimal, Lines.wide_text, Mnemonics.mnemonic_text, Slots.IsSlot, Slots.second_imm, Slots.slot_bytes, Slots.slot_of, Spelled.SpelledIsSpelling, Spelling.Begins, Spelling.IsInsn, Spelling.IsOperand, Spelling.first_slot, Spelling.more_bytes, Spelling.on_hand, Spelling.second_bytes, Spelling.slot_count, Spelling.spelling, Statements.IsStatement, Statements.insn_or_slot, Statements.statement_bytes, Statements.statement_mnemonic, Statements.statement_operands, Statements.statement_slots, Statements.statement_text, declared.byte_order.ByteOrder.TheVariants.Little, declared.comparison.Comparison.TheVariants.Eq, declared.extension.Extension.TheVariants.From8To32, declared.insn.Insn.Insn, declared.insn.Insn.TheVariants.Alu, declared.insn.Insn.TheVariants.Atomic, declared.insn.Insn.TheVariants.Branch, declared.insn.Insn.TheVariants.ByteSwap, declared.insn.Insn.TheVariants.Call, declared.insn.Insn.TheVariants.CallLocal, declared.insn.Insn.TheVariants.Exit, declared.insn.Insn.TheVariants.Jump, declared.insn.Insn.TheVariants.JumpLong, declared.insn.Insn.TheVariants.Load, declared.insn.Insn.TheVariants.LoadSigned, declared.insn.Insn.TheVariants.LoadWide, declared.insn.Insn.TheVariants.Neg, declared.insn.Insn.TheVariants.SignExtend, declared.insn.Insn.TheVariants.Store, declared.insn.Insn.TheVariants.StoreImm, declared.mnemonic.Mnemonic.Mnemonic, declared.operand.Operand.Operand, declared.operand.Operand.TheVariants.Imm, declared.register.Register.Register, declared.slot.Slot.Slot, declared.statement.Statement.Statement, declared.width.Width.Width, declared.width.Width.TheVariants.W32}
-unfoldable pub use Rattle.insn_codec.specs.{Candidate.arithmetic_at, Candidate.atomic_at, Candidate.branch_at, Candidate.candidate_at, Candidate.jump_at, Candidate.memory_at, Candidate.wide_at, Lines.decimal, Lines.hex_digits, Spelled.spelled, Statements.statement_of}
+pub use Rattle.std.proofs.Common.{All, Bool, Decides, FitsSigned, IfSome, List, None, Option, Some, ℕ, ℤ, [], ap}
+pub use Rattle.std.proofs.Common.{append-nil, append_assoc, arith, codes, drop, false, get_or, if◌then◌else◌, inl}
+pub use Rattle.std.proofs.Common.{inr, length, length-take-le, map, nat_eq, not, option_map, refl, replicate, rules}
+pub use Rattle.std.proofs.Common.{slice_index, subst, suc, sym, take, take-append-drop, true, zero, ◌%◌, ◌&&◌, ◌*◌}
+pub use Rattle.std.proofs.Common.{◌++◌, ◌+◌, ◌-◌, ◌/◌, ◌<◌, ◌==◌, ◌^◌, ◌∙◌, ◌∷◌, ◌≡◌, ◌≢◌, ◌≤◌}
+pub use Rattle.std.proofs.lemmas.Bool.{and_from, and_parts, cases_lt, eq-eqb, eqb-true, false_from_ne_true, iff_false}
+pub use Rattle.std.proofs.lemmas.Bool.{ne_eqb}
+pub use Rattle.std.proofs.lemmas.Bool.Decides.{nat_tests}
+pub use Rattle.std.proofs.lemmas.Fmt.{decimal-digits_of, decimal_digit}
+pub use Rattle.std.proofs.lemmas.Int.{of_z-to_z}
+pub use Rattle.std.proofs.lemmas.Int.Digits.{all_below_base_digits_of, digits_value_is, number_digits_of}
+pub use Rattle.std.proofs.lemmas.List.{get_or-drop, get_or_past}
+pub use Rattle.std.proofs.lemmas.List.Elements.{All-cons, All-nil, All-take}
+pub use Rattle.std.proofs.lemmas.List.Folds.{list_all-append}
+pub use Rattle.std.proofs.lemmas.Nat.{be_bytes_8}
+pub use Rattle.std.proofs.lemmas.Slice.Eq.{starts_is}
+pub use Rattle.std.specs.Char.{digit_value}
+pub use Rattle.std.specs.Fmt.{digits_onto, format_spec}
+pub use Rattle.std.specs.Int.{cast_signed, cast_unsigned, from_be_bytes, from_le_bytes, to_be_bytes, to_le_bytes, w16}
+pub use Rattle.std.specs.Int.{w32, w64}
+pub use Rattle.std.specs.Int.Digits.{AllBelowBase, digits_of}
+pub use Rattle.std.specs.List.{list_all, starts_with}
+pub use Rattle.std.specs.Str.Parse.{AllDigits, digits_value}
+unfoldable pub use Rattle.std.specs.Fmt.{char_count, digits, padded_integral}
+pub use Rattle.insn_codec.specs.Candidate.{extends_at, ◌>>=◌}
+pub use Rattle.insn_codec.specs.Codes.{atomic_width, operand_at, register_number, register_of}
+pub use Rattle.insn_codec.specs.Families.{alu_of, atomic_of, comparison_of, extension_of, order_of, signed_size_of}
+pub use Rattle.insn_codec.specs.Families.{size_of_code, swap_of}
+pub use Rattle.insn_codec.specs.Laws.{NoLineFeed, StatementIsSpelled}
+pub use Rattle.insn_codec.specs.Lines.{address_text, hex_digit, line_with, offset_text, operand_text, operands_text}
+pub use Rattle.insn_codec.specs.Lines.{place_text, register_text, signed_decimal, wide_text}
+pub use Rattle.insn_codec.specs.Mnemonics.{mnemonic_text}
+pub use Rattle.insn_codec.specs.Slots.{IsSlot, second_imm, slot_bytes, slot_of}
+pub use Rattle.insn_codec.specs.Spelled.{SpelledIsSpelling}
+pub use Rattle.insn_codec.specs.Spelling.{BeginsWith, IsInsn, IsOperand, first_slot, more_bytes, on_hand}
+pub use Rattle.insn_codec.specs.Spelling.{second_bytes, slot_count, spelling}
+pub use Rattle.insn_codec.specs.Statements.{IsStatement, insn_or_slot, statement_bytes, statement_mnemonic}
+pub use Rattle.insn_codec.specs.Statements.{statement_operands, statement_slots, statement_text}
+pub use Rattle.insn_codec.specs.declared.byte_order.ByteOrder.TheVariants.{Little}
+pub use Rattle.insn_codec.specs.declared.comparison.Comparison.TheVariants.{Eq}
+pub use Rattle.insn_codec.specs.declared.extension.Extension.TheVariants.{From8To32}
+pub use Rattle.insn_codec.specs.declared.insn.Insn.{Insn}
+pub use Rattle.insn_codec.specs.declared.insn.Insn.TheVariants.{Alu, Atomic, Branch, ByteSwap, Call, CallLocal, Exit}
+pub use Rattle.insn_codec.specs.declared.insn.Insn.TheVariants.{Jump, JumpLong, Load, LoadSigned, LoadWide, Neg}
+pub use Rattle.insn_codec.specs.declared.insn.Insn.TheVariants.{SignExtend, Store, StoreImm}
+pub use Rattle.insn_codec.specs.declared.mnemonic.Mnemonic.{Mnemonic}
+pub use Rattle.insn_codec.specs.declared.operand.Operand.{Operand}
+pub use Rattle.insn_codec.specs.declared.operand.Operand.TheVariants.{Imm}
+pub use Rattle.insn_codec.specs.declared.register.Register.{Register}
+pub use Rattle.insn_codec.specs.declared.slot.Slot.{Slot}
+pub use Rattle.insn_codec.specs.declared.statement.Statement.{Statement}
+pub use Rattle.insn_codec.specs.declared.width.Width.{Width}
+pub use Rattle.insn_codec.specs.declared.width.Width.TheVariants.{W32}
+unfoldable pub use Rattle.insn_codec.specs.Candidate.{arithmetic_at, atomic_at, branch_at, candidate_at, jump_at}
+unfoldable pub use Rattle.insn_codec.specs.Candidate.{memory_at, wide_at}
+unfoldable pub use Rattle.insn_codec.specs.Lines.{decimal, hex_digits}
+unfoldable pub use Rattle.insn_codec.specs.Spelled.{spelled}
+unfoldable pub use Rattle.insn_codec.specs.Statements.{statement_of}

@@ -1,4 +1,4 @@
-use Rattle.insn_codec.proofs.Prelude.{◌≡◌, ℕ, ◌+◌, ◌*◌, ◌^◌, ◌<◌, sym, subst, arith, List, ◌++◌, drop, FitsSigned, ◌≢◌, ◌%◌, Option, Some, None, refl, ◌∙◌, ap, All, slice_index, Bool, true, false, Decides, IfSome, nat_eq, if◌then◌else◌, w16, w32, from_le_bytes, w64, to_le_bytes, cases_lt, eqb-true, eq-eqb, false_from_ne_true, ne_eqb, get_or-drop, get_or_past, Slot, second_imm, slot_bytes, slot_of, IsSlot, starts_with, starts_is, ◌>>=◌, candidate_at, SpelledIsSpelling, spelled, Begins, IsInsn, first_slot, more_bytes, on_hand, second_bytes, spelling, Insn}
+use Rattle.insn_codec.proofs.Prelude.{◌≡◌, ℕ, ◌+◌, ◌*◌, ◌^◌, ◌<◌, sym, subst, arith, List, ◌++◌, drop, FitsSigned, ◌≢◌, ◌%◌, Option, Some, None, refl, ◌∙◌, ap, All, slice_index, Bool, true, false, Decides, IfSome, nat_eq, if◌then◌else◌, w16, w32, from_le_bytes, w64, to_le_bytes, cases_lt, eqb-true, eq-eqb, false_from_ne_true, ne_eqb, get_or-drop, get_or_past, Slot, second_imm, slot_bytes, slot_of, IsSlot, starts_with, starts_is, ◌>>=◌, candidate_at, SpelledIsSpelling, spelled, BeginsWith, IsInsn, first_slot, more_bytes, on_hand, second_bytes, spelling, Insn}
 use Rattle.insn_codec.proofs.Ranges.{HighOf, candidate_at-first_slot, candidate_in_range, first_slot_fits}
 
 -- the fields of a slot are read back from its bytes, whatever stands behind them
@@ -28,15 +28,15 @@ second_imm_below text small = four_below 12 text small
 abbrev kept : List ℕ → Insn → Option Insn
 kept text i = if starts_with nat_eq text (spelling i) then Some i else None
 
-starts : (front text : List ℕ) → Decides (starts_with nat_eq text front) (Begins front text)
+starts : (front text : List ℕ) → Decides (starts_with nat_eq text front) (BeginsWith front text)
 starts front text =
     let is = starts_is (λ a b. (eqb-true a b, eq-eqb a b)) text front (starts_with nat_eq text front) refl in
     ((λ e. (_, is.0 e)), (λ b. is.1 b.0 b.1))
 
-kept_begins : (text : List ℕ) (i : Insn) → Begins (spelling i) text → kept text i ≡ Some i
+kept_begins : (text : List ℕ) (i : Insn) → BeginsWith (spelling i) text → kept text i ≡ Some i
 kept_begins text i b = rw ((starts (spelling i) text).1 b) refl
 
-kept_not : (text : List ℕ) (i : Insn) → (Begins (spelling i) text → ⊥) → kept text i ≡ None
+kept_not : (text : List ℕ) (i : Insn) → (BeginsWith (spelling i) text → ⊥) → kept text i ≡ None
 kept_not text i n = rw (false_from_ne_true (starts_with nat_eq text (spelling i)) (λ e. n ((starts (spelling i) text).0 e))) refl
 
 none_some : {A : Type 0} (i : A) → None ≡ Some i → ⊥
@@ -46,12 +46,12 @@ same_some : {A : Type 0} (i j : A) → Some i ≡ Some j → i ≡ j
 same_some i j e = cc
 
 -- what is kept is the candidate, with its spelling in front
-kept_is : (text : List ℕ) (o : Option Insn) (i : Insn) → (o >>= kept text) ≡ Some i → (o ≡ Some i) × Begins (spelling i) text
+kept_is : (text : List ℕ) (o : Option Insn) (i : Insn) → (o >>= kept text) ≡ Some i → (o ≡ Some i) × BeginsWith (spelling i) text
 kept_is text None i e = absurd (none_some i e)
 kept_is text (Some j) i e = by (starts_with nat_eq text (spelling j)) refl e
   where
-    by : (t : Bool) → starts_with nat_eq text (spelling j) ≡ t → (if t then Some j else None) ≡ Some i → (Some j ≡ Some i) × Begins (spelling i) text
-    by true h g = (g, subst (λ k. Begins (spelling k) text) (same_some j i g) ((starts (spelling j) text).0 h))
+    by : (t : Bool) → starts_with nat_eq text (spelling j) ≡ t → (if t then Some j else None) ≡ Some i → (Some j ≡ Some i) × BeginsWith (spelling i) text
+    by true h g = (g, subst (λ k. BeginsWith (spelling k) text) (same_some j i g) ((starts (spelling j) text).0 h))
     by false h g = absurd (none_some i g)
 
 -- by the candidate of the first slot
@@ -59,24 +59,24 @@ pub spelled_none : (text : List ℕ) → candidate_at (slot_of text) (second_imm
 unfolding spelled
 spelled_none text e = rw e refl
 
-pub spelled_some : (text : List ℕ) (i : Insn) → candidate_at (slot_of text) (second_imm text) ≡ Some i → Begins (spelling i) text → spelled text ≡ Some i
+pub spelled_some : (text : List ℕ) (i : Insn) → candidate_at (slot_of text) (second_imm text) ≡ Some i → BeginsWith (spelling i) text → spelled text ≡ Some i
 unfolding spelled
 spelled_some text i e b = rw e (kept_begins text i b)
 
-pub spelled_other : (text : List ℕ) (i : Insn) → candidate_at (slot_of text) (second_imm text) ≡ Some i → (Begins (spelling i) text → ⊥) → spelled text ≡ None
+pub spelled_other : (text : List ℕ) (i : Insn) → candidate_at (slot_of text) (second_imm text) ≡ Some i → (BeginsWith (spelling i) text → ⊥) → spelled text ≡ None
 unfolding spelled
 spelled_other text i e n = rw e (kept_not text i n)
 
 high_of : (i : Insn) (rest : List ℕ) → IsInsn i → HighOf i (second_imm (slot_bytes (first_slot i) ++ (second_bytes i ++ rest)))
 high_of i rest f = grind arith
 
-candidate_of_spelling : (i : Insn) (text : List ℕ) → IsInsn i → Begins (spelling i) text → candidate_at (slot_of text) (second_imm text) ≡ Some i
+candidate_of_spelling : (i : Insn) (text : List ℕ) → IsInsn i → BeginsWith (spelling i) text → candidate_at (slot_of text) (second_imm text) ≡ Some i
 candidate_of_spelling i text f b =
     let s : Slot = first_slot i in
     let high : ℕ = second_imm (slot_bytes s ++ (second_bytes i ++ b.0)) in
     ap (λ t. candidate_at (slot_of t) (second_imm t)) b.1 ∙ ap (λ x. candidate_at x high) (slot_of-slot_bytes s (second_bytes i ++ b.0) (first_slot_fits i f)) ∙ candidate_at-first_slot i high (high_of i b.0 f)
 
-pub spelled_begins : (i : Insn) (text : List ℕ) → IsInsn i → Begins (spelling i) text → spelled text ≡ Some i
+pub spelled_begins : (i : Insn) (text : List ℕ) → IsInsn i → BeginsWith (spelling i) text → spelled text ≡ Some i
 spelled_begins i text f b = spelled_some text i (candidate_of_spelling i text f b) b
 
 found_in_range : (o : Option Insn) (i : Insn) → o ≡ Some i → IfSome o IsInsn → IsInsn i
@@ -85,9 +85,9 @@ found_in_range o i e h = grind arith
 pub spelled_is : SpelledIsSpelling
 unfolding spelled
 spelled_is text small i =
-    ((λ e. let k : (candidate_at (slot_of text) (second_imm text) ≡ Some i) × Begins (spelling i) text = kept_is text (candidate_at (slot_of text) (second_imm text)) i e in (k.1, found_in_range _ i k.0 (candidate_in_range (slot_of text) (second_imm text) (offset_fits text small) (imm_fits text small) (second_imm_below text small)))), spelled_begins i text)
+    ((λ e. let k : (candidate_at (slot_of text) (second_imm text) ≡ Some i) × BeginsWith (spelling i) text = kept_is text (candidate_at (slot_of text) (second_imm text)) i e in (k.1, found_in_range _ i k.0 (candidate_in_range (slot_of text) (second_imm text) (offset_fits text small) (imm_fits text small) (second_imm_below text small)))), spelled_begins i text)
 
-pub one_reading_of : (i j : Insn) (text : List ℕ) → IsInsn i → IsInsn j → Begins (spelling i) text → Begins (spelling j) text → i ≡ j
+pub one_reading_of : (i j : Insn) (text : List ℕ) → IsInsn i → IsInsn j → BeginsWith (spelling i) text → BeginsWith (spelling j) text → i ≡ j
 one_reading_of i j text f g x y = same_some i j (sym (spelled_begins i text f x) ∙ spelled_begins j text g y)
 
 -- the bytes behind the first slot do not matter to an opcode that is not a wide load's
@@ -104,5 +104,5 @@ pub candidate_of_words : (s : Slot) (first : ℕ) (second : Option ℕ) (high : 
 candidate_of_words s first second high f e h = grind arith
 
 -- words begin with the spelling of one slot where the first is its word
-pub one_begins : (front : List ℕ) (own first : ℕ) (more second : Option ℕ) → more ≡ None → on_hand own more ≡ front → own ≡ first → Begins front (on_hand first second)
+pub one_begins : (front : List ℕ) (own first : ℕ) (more second : Option ℕ) → more ≡ None → on_hand own more ≡ front → own ≡ first → BeginsWith front (on_hand first second)
 one_begins front own first more second n e h = (more_bytes second, ap (λ x. x ++ more_bytes second) (ap (λ x. on_hand x None) (sym h) ∙ ap (on_hand own) (sym n) ∙ e))

@@ -1,24 +1,24 @@
 -- The statement at the front of code.
-use Rattle.insn_codec.proofs.Prelude.{◌≡◌, ◌≢◌, ℕ, zero, suc, ◌*◌, ◌%◌, ◌^◌, ◌<◌, ◌≤◌, List, [], ◌∷◌, ◌++◌, Option, Some, None, All, refl, sym, ◌∙◌, ap, arith, length, take, drop, get_or, append_assoc, take-append-drop, length-take-le, cases_lt, get_or_past, All-take, be_bytes_8, w64, to_be_bytes, from_be_bytes, spelled, Begins, IsInsn, slot_count, spelling, StatementIsSpelled, IsStatement, insn_or_slot, statement_bytes, statement_of, statement_slots, Insn as Instruction}
+use Rattle.insn_codec.proofs.Prelude.{◌≡◌, ◌≢◌, ℕ, zero, suc, ◌*◌, ◌%◌, ◌^◌, ◌<◌, ◌≤◌, List, [], ◌∷◌, ◌++◌, Option, Some, None, All, refl, sym, ◌∙◌, ap, arith, length, take, drop, get_or, append_assoc, take-append-drop, length-take-le, cases_lt, get_or_past, All-take, be_bytes_8, w64, to_be_bytes, from_be_bytes, spelled, BeginsWith, IsInsn, slot_count, spelling, StatementIsSpelled, IsStatement, insn_or_slot, statement_bytes, statement_of, statement_slots, Insn as Instruction}
 use Rattle.insn_codec.specs.declared.statement.Statement.TheVariants.{Insn}
 use Rattle.insn_codec.proofs.Spelled.{spelled_is}
 
 -- a front of at most n bytes stands in the first n bytes
-within : (n : ℕ) (front rest : List ℕ) → length front ≤ n → Begins front (take n (front ++ rest))
+within : (n : ℕ) (front rest : List ℕ) → length front ≤ n → BeginsWith front (take n (front ++ rest))
 within n [] rest fits = (take n rest, refl)
 within zero (x ∷ front) rest fits = absurd (omega arith)
 within (suc n) (x ∷ front) rest fits = grind (arith, within n front rest (omega arith))
 
-begins_within : (n : ℕ) (front code : List ℕ) → length front ≤ n → Begins front code → Begins front (take n code)
+begins_within : (n : ℕ) (front code : List ℕ) → length front ≤ n → BeginsWith front code → BeginsWith front (take n code)
 begins_within n front code fits b =
     let found = within n front b.0 fits in
     (found.0, ap (take n) b.1 ∙ found.1)
 
-begins_whole : (n : ℕ) (front code : List ℕ) → Begins front (take n code) → Begins front code
+begins_whole : (n : ℕ) (front code : List ℕ) → BeginsWith front (take n code) → BeginsWith front code
 begins_whole n front code b = (b.0 ++ drop n code, sym (take-append-drop n code) ∙ ap (λ (t : List ℕ). t ++ drop n code) b.1 ∙ append_assoc front b.0 (drop n code))
 
 -- an instruction at the front, with what stands behind it
-insn_bytes : (i : Instruction) (code : List ℕ) → Begins (spelling i) code → code ≡ spelling i ++ drop (8 * slot_count i) code
+insn_bytes : (i : Instruction) (code : List ℕ) → BeginsWith (spelling i) code → code ≡ spelling i ++ drop (8 * slot_count i) code
 insn_bytes i code b = b.1 ∙ ap (λ (t : List ℕ). spelling i ++ t) (sym (ap (drop (8 * slot_count i)) b.1 ∙ (grind arith)))
 
 some_slot : (code : List ℕ) → length code % 8 ≡ 0 → code ≢ [] → 8 ≤ length code
@@ -43,7 +43,7 @@ stands code (Some i) e small long =
     (is.1, insn_bytes i code (begins_whole 16 (spelling i) code is.0))
 stands code None e small long = (word_below (take 8 code) (byte_at (take 8 code) (All-take (λ b. b < 256) 8 code small)), slot_bytes_back code small long)
 
-pub chosen_of : (code : List ℕ) (i : Instruction) → All (λ b. b < 256) code → IsInsn i → Begins (spelling i) code → statement_of code ≡ Insn i
+pub chosen_of : (code : List ℕ) (i : Instruction) → All (λ b. b < 256) code → IsInsn i → BeginsWith (spelling i) code → statement_of code ≡ Insn i
 unfolding statement_of
 chosen_of code i small fits b =
     ap (λ (o : Option Instruction). insn_or_slot o code) ((spelled_is (take 16 code) (All-take (λ b. b < 256) 16 code small) i).1 fits (begins_within 16 (spelling i) code (grind arith) b))

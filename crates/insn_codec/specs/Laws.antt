@@ -1,13 +1,14 @@
 -- Laws of instructions and statements.
 use Rattle.std.specs.Prelude.{◌≡◌, ◌≢◌, ℕ, ◌*◌, ◌%◌, ◌<◌, ◌≤◌, List, [], ◌++◌, length, All}
-use Rattle.insn_codec.specs.Spelling.{Begins, IsInsn, slot_count, spelling}
+use Rattle.insn_codec.specs.Spelling.{BeginsWith, IsInsn, slot_count, spelling}
 use Rattle.insn_codec.specs.Statements.{IsStatement, after_statement, statement_bytes, statement_of, statement_slots, statement_text}
 use Rattle.insn_codec.specs.declared.insn.Insn.{Insn as Instruction}
 use Rattle.insn_codec.specs.declared.statement.Statement.{Statement, TheVariants.Insn}
 
 -- no bytes begin with the spellings of two instructions
 abbrev pub OneSpelling : Type 0
-OneSpelling = (i j : Instruction) (text : List ℕ) → IsInsn i → IsInsn j → Begins (spelling i) text → Begins (spelling j) text → i ≡ j
+OneSpelling = (i j : Instruction) (text : List ℕ) → IsInsn i → IsInsn j → BeginsWith (spelling i) text → BeginsWith (spelling j) text
+    → i ≡ j
 
 -- so many bytes are so many slots of eight, at least one
 pub record FillsSlots (bytes : List ℕ) (slots : ℕ) : Type 0 where
@@ -24,7 +25,7 @@ pub record SlotsAreFilled : Type 0 where
 pub record StandsFirst (code : List ℕ) : Type 0 where
   pub in_range : IsStatement (statement_of code)
   pub bytes : code ≡ statement_bytes (statement_of code) ++ after_statement code
-  pub chosen : (i : Instruction) → IsInsn i → Begins (spelling i) code → statement_of code ≡ Insn i
+  pub chosen : (i : Instruction) → IsInsn i → BeginsWith (spelling i) code → statement_of code ≡ Insn i
 
 -- so it is with all code of whole slots, if there is a first one
 abbrev pub StatementIsSpelled : Type 0

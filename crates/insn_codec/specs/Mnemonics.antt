@@ -38,7 +38,8 @@ alu_text Xor = codes "xor"
 alu_text Mov = codes "mov"
 alu_text Arsh = codes "arsh"
 
--- the names of the atomic operations; an addition, or, and or xor that also fetches has `fetch_` before it (RFC 9669, section 5.3)
+-- the names of the atomic operations; an addition, or, and or xor that also fetches has `fetch_` before it (RFC 9669,
+-- section 5.3)
 abbrev pub atomic_text : AtomicOp → List ℕ
 atomic_text atomic.Add = codes "add"
 atomic_text atomic.Or = codes "or"
@@ -98,7 +99,8 @@ swap_text swap.Bits16 = codes "16"
 swap_text swap.Bits32 = codes "32"
 swap_text swap.Bits64 = codes "64"
 
--- a mnemonic: the operation, and behind it the width, the size or the bits where it has them; `.slot` is not the standard's
+-- a mnemonic: the operation, and behind it the width, the size or the bits where it has them; `.slot` is not the
+-- standard's
 abbrev pub mnemonic_text : Mnemonic → List ℕ
 mnemonic_text (mnemonic.Alu op width) = alu_text op ++ width_text width
 mnemonic_text (mnemonic.Neg width) = codes "neg" ++ width_text width

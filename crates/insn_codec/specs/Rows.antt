@@ -15,7 +15,7 @@ use Rattle.insn_codec.specs.declared.swap_width.SwapWidth.TheVariants as swap
 use Rattle.insn_codec.specs.declared.width.Width.TheVariants.{W32, W64}
 
 -- some slots, byte by byte, and what each spells (RFC 9669, sections 3, 4 and 5)
-pub record RowsStand : Type 0 where
+pub record SpellingRowsHold : Type 0 where
   pub mov_immediate : spelled (0xb7 ∷ 0x00 ∷ 0x00 ∷ 0x00 ∷ 0x05 ∷ 0x00 ∷ 0x00 ∷ 0x00 ∷ []) ≡ Some (Alu Mov W64 R0 (Imm (pos 5)))
   pub add_immediate : spelled (0x07 ∷ 0x00 ∷ 0x00 ∷ 0x00 ∷ 0x02 ∷ 0x00 ∷ 0x00 ∷ 0x00 ∷ []) ≡ Some (Alu Add W64 R0 (Imm (pos 2)))
   pub add_register : spelled (0x0f ∷ 0x21 ∷ 0x00 ∷ 0x00 ∷ 0x00 ∷ 0x00 ∷ 0x00 ∷ 0x00 ∷ []) ≡ Some (Alu Add W64 R1 (Reg R2))

@@ -3,8 +3,8 @@ ghost use Rattle.insn_codec.specs.Mnemonics.{atomic_text};
 
 use std::fmt;
 
-/// What an atomic instruction makes of the word in memory, and which register gets the word that was
-/// there (RFC 9669, section 5.3).
+/// What an atomic instruction makes of the word in memory, and which register gets the word that
+/// was there (RFC 9669, section 5.3).
 #[derive(Clone, Copy, Debug, PartialEq, Eq)]
 pub enum AtomicOp {
     /// The sum of the word and the source.

@@ -2,7 +2,7 @@
 ghost use Rattle.std.specs.Prelude.{◌%◌, ◌≡◌, ◌≢◌, ◌↔◌, drop, None, Some, IfSome, IsTrue};
 ghost use Rattle.std.specs.Int.{w32, from_le_bytes};
 ghost use Rattle.insn_codec.specs.Spelled.{spelled};
-ghost use Rattle.insn_codec.specs.Spelling.{Begins, IsInsn, more_bytes, on_hand, second_bytes, spelling};
+ghost use Rattle.insn_codec.specs.Spelling.{BeginsWith, IsInsn, more_bytes, on_hand, second_bytes, spelling};
 ghost use Rattle.insn_codec.specs.declared.insn.Insn.{Insn};
 
 use crate::candidate::candidate;
@@ -10,11 +10,12 @@ use crate::insn::Insn;
 use crate::slot::Slot;
 
 /// The instruction that begins at the first word, if its slots spell one (RFC 9669, section 3).
-/// A word is a slot's eight bytes, read little-endian; `second` is the next slot's, if there is one.
+/// A word is a slot's eight bytes, read little-endian; `second` is the next slot's, if there is
+/// one.
 pub fn decode(first: u64, second: Option<u64>) -> Option<Insn>
     ensures is { result ≡ spelled (on_hand first second) }
-    ensures found { IfSome result (λ i. Begins (spelling i) (on_hand first second)) }
-    ensures only { (i : Insn) → IsInsn i → Begins (spelling i) (on_hand first second) → result ≡ Some i }
+    ensures found { IfSome result (λ i. BeginsWith (spelling i) (on_hand first second)) }
+    ensures only { (i : Insn) → IsInsn i → BeginsWith (spelling i) (on_hand first second) → result ≡ Some i }
 
     // Only an opcode of 0x18 makes the second word matter.
     ensures alone { first % 256 ≢ 0x18 → result ≡ spelled (on_hand first None) }
@@ -43,7 +44,7 @@ fn high_part(second: Option<u64>) -> u32
 
 /// Whether the words begin with the instruction's spelling.
 fn spells(insn: &Insn, first: u64, second: Option<u64>) -> bool
-    ensures { IsTrue result ↔ Begins (spelling insn.now) (on_hand first second) }
+    ensures { IsTrue result ↔ BeginsWith (spelling insn.now) (on_hand first second) }
 {
     let (its_first, its_second) = encode(insn);
     its_first == first

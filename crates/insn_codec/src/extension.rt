@@ -4,7 +4,8 @@ ghost use Rattle.insn_codec.specs.Mnemonics.{extension_text};
 use crate::width::Width;
 use std::fmt;
 
-/// What a sign-extending move takes from the source and fills in the destination (RFC 9669, section 4.1).
+/// What a sign-extending move takes from the source and fills in the destination (RFC 9669, section
+/// 4.1).
 #[derive(Clone, Copy, Debug, PartialEq, Eq)]
 pub enum Extension {
     /// The low 8 bits, to 32; the high 32 bits become 0.

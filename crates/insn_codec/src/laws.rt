@@ -1,9 +1,10 @@
 //! Laws of instructions and statements, each the clause of a function that does nothing.
 ghost use Rattle.insn_codec.specs.Laws.{NoLineFeed, OneSpelling, SlotsAreFilled, StatementIsSpelled};
-ghost use Rattle.insn_codec.specs.Rows.{RowsStand};
+ghost use Rattle.insn_codec.specs.Rows.{SpellingRowsHold};
 ghost use Rattle.insn_codec.specs.Spelled.{SpelledIsSpelling};
 
-/// No bytes begin with the spellings of two instructions, so each has one, and none begins another's.
+/// No bytes begin with the spellings of two instructions, so each has one, and none begins
+/// another's.
 pub fn one_reading()
     ensures { OneSpelling }
 {}
@@ -16,7 +17,7 @@ pub fn spelled_is_spelling()
 /// Rows of the instruction table, and slots that spell nothing, byte by byte.
 #[tactic(auto, unfolding(crate::specs::Spelled::spelled, crate::specs::Candidate::candidate_at, crate::specs::Candidate::arithmetic_at, crate::specs::Candidate::jump_at, crate::specs::Candidate::branch_at, crate::specs::Candidate::memory_at, crate::specs::Candidate::atomic_at, crate::specs::Candidate::wide_at))]
 pub fn rows_stand()
-    ensures { RowsStand }
+    ensures { SpellingRowsHold }
 {}
 
 /// The bytes of an instruction, and of a statement, are eight for each of its slots, of which it

@@ -10,6 +10,7 @@ mod comparison;
 mod extension;
 mod insn;
 mod laws;
+mod limits;
 mod mnemonic;
 mod operand;
 mod register;
@@ -32,6 +33,7 @@ pub use laws::{
     no_line_feed, one_reading, rows_stand, slots_are_filled, spelled_is_spelling,
     statement_is_spelled,
 };
+pub use limits::SLOT_LIMIT;
 pub use mnemonic::Mnemonic;
 pub use operand::Operand;
 pub use register::Register;

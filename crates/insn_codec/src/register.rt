@@ -3,7 +3,8 @@ ghost use Rattle.insn_codec.specs.Lines.{register_text};
 
 use std::fmt;
 
-/// One of the machine's eleven registers, each of 64 bits, by its number in a slot (RFC 9669, section 3).
+/// One of the machine's eleven registers, each of 64 bits, by its number in a slot (RFC 9669,
+/// section 3).
 #[derive(Clone, Copy, Debug, PartialEq, Eq)]
 pub enum Register {
     R0,

@@ -11,7 +11,8 @@ use std::fmt;
 pub enum Statement {
     /// An instruction, in its one or two slots.
     Insn(Insn),
-    /// A slot: its eight bytes in the order in which they are stored, read as one big-endian number.
+    /// A slot: its eight bytes in the order in which they are stored, read as one big-endian
+    /// number.
     Slot(u64),
 }
 

@@ -25,7 +25,8 @@ impl Width {
         }
     }
 
-    /// The class of jumps that compare at this width, the opcode's low three bits (RFC 9669, section 3).
+    /// The class of jumps that compare at this width, the opcode's low three bits (RFC 9669,
+    /// section 3).
     pub(crate) fn jump_class(self) -> u8
         ensures { result ≡ jump_class self }
     {
@@ -35,7 +36,8 @@ impl Width {
         }
     }
 
-    /// The width that the opcode of an atomic instruction says, if it is one (RFC 9669, section 5.3).
+    /// The width that the opcode of an atomic instruction says, if it is one (RFC 9669, section
+    /// 5.3).
     pub(crate) fn of_atomic(opcode: u8) -> Option<Width>
         ensures { result ≡ atomic_width opcode }
     {

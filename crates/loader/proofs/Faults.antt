@@ -1,5 +1,5 @@
 -- What the tests for the faults say in numbers.
-use Rattle.loader.proofs.Prelude.{◌≡◌, ◌≤◌, ◌==◌, ℕ, ◌+◌, ◌*◌, Bool, false, not, ◌||◌, List, length, take, arith, if◌then◌else◌, Result, Ok, Err, ltb-false, le-ltb, nat_tests, bytes_eq-Decides, bytes_eq, Contents, First, Second, magic, version_in, slots_in, constants_in, is_bad_count, is_too_short, has_other_magic, has_bad_slots, has_long_constants, has_other_length, contents_in, image_in, LoadError}
+use Rattle.loader.proofs.Prelude.{◌≡◌, ◌≤◌, ◌==◌, ℕ, ◌+◌, ◌*◌, Bool, false, not, ◌||◌, List, length, take, arith, if◌then◌else◌, Result, Ok, Err, ltb-false, le-ltb, nat_tests, bytes_eq-Decides, bytes_eq, Image, First, Second, magic, version_in, slots_in, constants_in, is_bad_count, is_too_short, has_other_magic, has_bad_slots, has_long_constants, has_other_length, contents_in, image_in, LoadError, slot_limit, constants_limit}
 
 -- the file has no fault
 pub record HasNoFault (file : List ℕ) : Type 0 where
@@ -13,8 +13,8 @@ pub record HasNoFault (file : List ℕ) : Type 0 where
 pub record HasShape (file : List ℕ) : Type 0 where
   pub magic_is : take 8 file ≡ magic (version_in file)
   pub some_slots : 1 ≤ slots_in file
-  pub most_slots : slots_in file ≤ 65536
-  pub most_constants : constants_in file ≤ 1048576
+  pub most_slots : slots_in file ≤ slot_limit
+  pub most_constants : constants_in file ≤ constants_limit
   pub length_is : length file ≡ 16 + 8 * slots_in file + constants_in file
 
 same_bytes : (xs ys : List ℕ) → not (bytes_eq xs ys) ≡ false → xs ≡ ys
@@ -33,10 +33,10 @@ same_number a b h = grind (arith, nat_tests)
 pub some_slots : (n : ℕ) → is_bad_count n ≡ false → 1 ≤ n
 some_slots n h = grind (arith, nat_tests)
 
-pub most_slots : (n : ℕ) → is_bad_count n ≡ false → n ≤ 65536
+pub most_slots : (n : ℕ) → is_bad_count n ≡ false → n ≤ slot_limit
 most_slots n h = grind (arith, nat_tests)
 
-pub good_count : (n : ℕ) → 1 ≤ n → n ≤ 65536 → is_bad_count n ≡ false
+pub good_count : (n : ℕ) → 1 ≤ n → n ≤ slot_limit → is_bad_count n ≡ false
 good_count n some most = grind (arith, nat_tests)
 
 pub shape_of : (file : List ℕ) → HasNoFault file → HasShape file
@@ -45,7 +45,7 @@ shape_of file f = grind (arith, version_of, some_slots, most_slots, ltb-false, s
 pub no_fault : (file : List ℕ) → HasShape file → HasNoFault file
 no_fault file s = grind (arith, le-ltb, known_magic, good_count, some_slots, most_slots, nat_tests)
 
-pub passed : (b : Bool) (e : LoadError) (r : Result Contents LoadError) → b ≡ false → (if b then Err e else r) ≡ r
+pub passed : (b : Bool) (e : LoadError) (r : Result Image LoadError) → b ≡ false → (if b then Err e else r) ≡ r
 passed b e r h = grind arith
 
 pub holds : (file : List ℕ) → HasNoFault file → image_in file ≡ Ok (contents_in file)
@@ -53,19 +53,19 @@ unfolding image_in
 holds file f = grind arith
 
 -- an image was read: the test was passed
-pub record Passes (b : Bool) (r : Result Contents LoadError) (c : Contents) : Type 0 where
+pub record Passes (b : Bool) (r : Result Image LoadError) (c : Image) : Type 0 where
   pub test : b ≡ false
   pub rest : r ≡ Ok c
 
-pub passes : (b : Bool) (e : LoadError) (r : Result Contents LoadError) (c : Contents) → (if b then Err e else r) ≡ Ok c → Passes b r c
+pub passes : (b : Bool) (e : LoadError) (r : Result Image LoadError) (c : Image) → (if b then Err e else r) ≡ Ok c → Passes b r c
 passes b e r c h = grind arith
 
 -- a file that holds an image has no fault, and holds its contents
-pub record HasContents (file : List ℕ) (c : Contents) : Type 0 where
+pub record HasContents (file : List ℕ) (c : Image) : Type 0 where
   pub no_fault : HasNoFault file
   pub are : contents_in file ≡ c
 
-pub held : (file : List ℕ) (c : Contents) → image_in file ≡ Ok c → HasContents file c
+pub held : (file : List ℕ) (c : Image) → image_in file ≡ Ok c → HasContents file c
 unfolding image_in
 held file c h =
     let short = passes _ _ _ _ h in

@@ -1,5 +1,5 @@
 pub mod Numbers
 pub mod Faults
 pub mod RoundTrip
-pub mod Limits
+pub mod WithinLimits
 pub mod Prelude

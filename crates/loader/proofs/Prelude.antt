@@ -1,6 +1,21 @@
 -- The names that these proofs cite of the library, of the crates below and of the definitions here. Declares nothing.
-pub use Rattle.std.proofs.{Common.Bool, Common.Err, Common.List, Common.Ok, Common.Result, Common.ℕ, Common.[], Common.ap, Common.arith, Common.drop, Common.false, Common.if◌then◌else◌, Common.length, Common.length-append, Common.length-drop, Common.not, Common.suc, Common.sym, Common.take, Common.zero, Common.◌*◌, Common.◌++◌, Common.◌+◌, Common.◌/◌, Common.◌==◌, Common.◌||◌, Common.◌∙◌, Common.◌∷◌, Common.◌≡◌, Common.◌≤◌, Math.Nat.mul-div_cancel_left, Math.Seq.drop-append_seam, Math.Seq.take-append_seam, Math.Seq.take-length, lemmas.Bool.le-ltb, lemmas.Bool.ltb-false, lemmas.Bool.Decides.nat_tests, lemmas.List.drop-drop, lemmas.List.length-take-le, lemmas.List.take-append-drop, lemmas.List.take_all, lemmas.Slice.Eq.bytes_eq-Decides}
-pub use Rattle.std.specs.{Str.bytes_eq}
-pub use Rattle.byteorder.specs.{Endian.little_bytes, Endian.little_number}
-pub use Rattle.loader.specs.{Contents.AreBytes, Contents.Contents, Contents.IsImage, Format.contents_in, Format.has_bad_slots, Format.has_long_constants, Format.has_other_length, Format.has_other_magic, Format.is_bad_count, Format.is_too_short, Format.version_in, declared.load_error.LoadError.LoadError, declared.version.Version.Version, declared.version.Version.TheVariants.First, declared.version.Version.TheVariants.Second}
-unfoldable pub use Rattle.loader.specs.{Format.constants_in, Format.file_of, Format.image_from, Format.image_in, Format.magic, Format.slots_in}
+pub use Rattle.std.proofs.Common.{Bool, Err, List, Ok, Result, ℕ, [], ap, arith, drop, false, if◌then◌else◌, length}
+pub use Rattle.std.proofs.Common.{length-append, length-drop, not, suc, sym, take, zero, ◌*◌, ◌++◌, ◌+◌, ◌/◌, ◌==◌}
+pub use Rattle.std.proofs.Common.{◌||◌, ◌∙◌, ◌∷◌, ◌≡◌, ◌≤◌}
+pub use Rattle.std.proofs.Math.Nat.{mul-div_cancel_left}
+pub use Rattle.std.proofs.Math.Seq.{drop-append_seam, take-append_seam, take-length}
+pub use Rattle.std.proofs.lemmas.Bool.{le-ltb, ltb-false}
+pub use Rattle.std.proofs.lemmas.Bool.Decides.{nat_tests}
+pub use Rattle.std.proofs.lemmas.List.{drop-drop, length-take-le, take-append-drop, take_all}
+pub use Rattle.std.proofs.lemmas.Slice.Eq.{bytes_eq-Decides}
+pub use Rattle.std.specs.Str.{bytes_eq}
+pub use Rattle.byteorder.specs.Endian.{little_bytes, little_number}
+pub use Rattle.insn_codec.specs.Limits.{slot_limit}
+pub use Rattle.loader.specs.Contents.{AreBytes, Image, IsImage}
+pub use Rattle.loader.specs.Format.{contents_in, has_bad_slots, has_long_constants, has_other_length, has_other_magic}
+pub use Rattle.loader.specs.Format.{is_bad_count, is_too_short, version_in}
+pub use Rattle.loader.specs.Limits.{constants_limit}
+pub use Rattle.loader.specs.declared.load_error.LoadError.{LoadError}
+pub use Rattle.loader.specs.declared.version.Version.{Version}
+pub use Rattle.loader.specs.declared.version.Version.TheVariants.{First, Second}
+unfoldable pub use Rattle.loader.specs.Format.{constants_in, file_of, image_from, image_in, magic, slots_in}

@@ -1,5 +1,5 @@
 -- What is read and written again is the same.
-use Rattle.loader.proofs.Prelude.{◌≡◌, ◌≤◌, ℕ, zero, suc, ◌+◌, ◌*◌, ◌/◌, List, [], ◌∷◌, ◌++◌, length, take, drop, sym, ap, ◌∙◌, arith, length-append, length-drop, Ok, if◌then◌else◌, take-append-drop, drop-drop, take_all, length-take-le, take-append_seam, drop-append_seam, take-length, mul-div_cancel_left, bytes_eq, little_number, little_bytes, Contents, IsImage, AreBytes, Version, First, Second, magic, version_in, slots_in, constants_in, contents_in, file_of, image_in}
+use Rattle.loader.proofs.Prelude.{◌≡◌, ◌≤◌, ℕ, zero, suc, ◌+◌, ◌*◌, ◌/◌, List, [], ◌∷◌, ◌++◌, length, take, drop, sym, ap, ◌∙◌, arith, length-append, length-drop, Ok, if◌then◌else◌, take-append-drop, drop-drop, take_all, length-take-le, take-append_seam, drop-append_seam, take-length, mul-div_cancel_left, bytes_eq, little_number, little_bytes, Image, IsImage, AreBytes, Version, First, Second, magic, version_in, slots_in, constants_in, contents_in, file_of, image_in}
 use Rattle.loader.proofs.Numbers.{number_back}
 use Rattle.loader.proofs.Faults.{HasNoFault, HasShape, shape_of, no_fault, holds}
 
@@ -35,16 +35,21 @@ constants_next : (file : List ℕ) → 16 ≤ length file → AreBytes file → 
 unfolding constants_in
 constants_next file h bytes = four 12 file h bytes
 
-joined : (file head from_8 slots from_12 constants from_16 code rest last : List ℕ) → file ≡ head ++ from_8 → from_8 ≡ slots ++ from_12
-    → from_12 ≡ constants ++ from_16 → from_16 ≡ code ++ rest → rest ≡ last → file ≡ head ++ (slots ++ (constants ++ (code ++ last)))
-joined file head from_8 slots from_12 constants from_16 code rest last a b c d e = cc
+-- the rest of a text behind its first part may be written otherwise
+behind : (text part rest other : List ℕ) → text ≡ part ++ rest → rest ≡ other → text ≡ part ++ other
+behind text part rest other is same = is ∙ ap (λ (xs : List ℕ). part ++ xs) same
 
 -- a file is its head, its code and its constants
 whole : (file : List ℕ) → AreBytes file → HasShape file
     → file ≡ magic (version_in file) ++ (little_bytes 4 (slots_in file) ++ (little_bytes 4 (constants_in file) ++ (take (8 * slots_in file) (drop 16 file) ++ take (constants_in file) (drop (16 + 8 * slots_in file) file))))
 whole file bytes s =
     let e = s.length_is in
-    joined file (magic (version_in file)) (drop 8 file) (little_bytes 4 (slots_in file)) (drop 12 file) (little_bytes 4 (constants_in file)) (drop 16 file) (take (8 * slots_in file) (drop 16 file)) (drop (16 + 8 * slots_in file) file) (take (constants_in file) (drop (16 + 8 * slots_in file) file)) (sym (take-append-drop 8 file) ∙ ap (λ (xs : List ℕ). xs ++ drop 8 file) s.magic_is) (slots_first file (omega arith) bytes) (constants_next file (omega arith) bytes) (cut 16 (8 * slots_in file) file) (sym (take_all (constants_in file) (drop (16 + 8 * slots_in file) file) (omega (arith, length-drop (16 + 8 * slots_in file) file))))
+    let head = sym (take-append-drop 8 file) ∙ ap (λ (xs : List ℕ). xs ++ drop 8 file) s.magic_is in
+    let last = sym (take_all (constants_in file) (drop (16 + 8 * slots_in file) file) (omega (arith, length-drop (16 + 8 * slots_in file) file))) in
+    behind file (magic (version_in file)) (drop 8 file) _ head
+    (behind _ (little_bytes 4 (slots_in file)) (drop 12 file) _ (slots_first file (omega arith) bytes)
+    (behind _ (little_bytes 4 (constants_in file)) (drop 16 file) _ (constants_next file (omega arith) bytes)
+    (behind _ (take (8 * slots_in file) (drop 16 file)) (drop (16 + 8 * slots_in file) file) _ (cut 16 (8 * slots_in file) file) last)))
 
 -- the file of the contents is written with the numbers that were read
 pub file_whole : (file : List ℕ) → AreBytes file → HasNoFault file → file ≡ file_of (contents_in file)
@@ -60,7 +65,7 @@ file_image file f =
 -- ---- the file of an image holds it
 
 -- the fields of a file as it is written
-pub record HasFields (c : Contents) : Type 0 where
+pub record HasFields (c : Image) : Type 0 where
   pub slots : slots_in (file_of c) ≡ length c.code / 8
   pub constants : constants_in (file_of c) ≡ length c.constants
   pub parts : drop 16 (file_of c) ≡ c.code ++ c.constants
@@ -72,11 +77,11 @@ own_version : (v : Version) → (if bytes_eq (magic v) (magic First) then First 
 unfolding magic
 own_version v = grind arith
 
-fields_of : (c : Contents) → IsImage c → HasFields c
+fields_of : (c : Image) → IsImage c → HasFields c
 unfolding magic file_of slots_in constants_in
 fields_of c i = grind (arith, length-append, own_version)
 
-shape_written : (c : Contents) → IsImage c → HasShape (file_of c)
+shape_written : (c : Image) → IsImage c → HasShape (file_of c)
 shape_written c i =
     let f = fields_of c i in
     record {
@@ -87,7 +92,7 @@ shape_written c i =
       length_is = omega arith;
     }
 
-contents_written : (c : Contents) → IsImage c → contents_in (file_of c) ≡ c
+contents_written : (c : Image) → IsImage c → contents_in (file_of c) ≡ c
 contents_written c i =
     let f = fields_of c i in
     let slots = f.slots in
@@ -105,5 +110,5 @@ contents_written c i =
     ∙ (ap (take (length c.constants)) rest ∙ take-length c.constants) in
     λ j. record { version = version j; code = code j; constants = constants j }
 
-pub reads_back : (c : Contents) → IsImage c → image_in (file_of c) ≡ Ok c
+pub reads_back : (c : Image) → IsImage c → image_in (file_of c) ≡ Ok c
 reads_back c i = holds (file_of c) (no_fault (file_of c) (shape_written c i)) ∙ ap Ok (contents_written c i)

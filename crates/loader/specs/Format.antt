@@ -5,8 +5,10 @@ use Rattle.std.specs.Prelude.{ℕ, ◌+◌, ◌*◌, ◌/◌, ◌%◌, Bool, not
 use Rattle.std.specs.Prelude.{drop, Result, Ok, Err, codes}
 use Rattle.std.specs.Str.{bytes_eq}
 use Rattle.byteorder.specs.Endian.{little_number, little_bytes}
-use Rattle.loader.specs.Contents.{Contents, version_number}
-use Rattle.loader.specs.declared.load_error.LoadError.{LoadError, TheVariants.L1, TheVariants.L2, TheVariants.L3, TheVariants.L4, TheVariants.L5}
+use Rattle.insn_codec.specs.Limits.{slot_limit}
+use Rattle.loader.specs.Limits.{constants_limit}
+use Rattle.loader.specs.Contents.{Image, version_number}
+use Rattle.loader.specs.declared.load_error.LoadError.{LoadError, TheVariants.TooShort, TheVariants.UnknownMagic, TheVariants.BadSlotCount, TheVariants.ConstantsTooLong, TheVariants.BadLength}
 use Rattle.loader.specs.declared.version.Version.{Version, TheVariants.First, TheVariants.Second}
 
 -- what each file of a version begins with: this text and the version's digit
@@ -14,7 +16,7 @@ unfoldable pub magic : Version → List ℕ
 magic version = codes "CELBPF0" ++ ((48 + version_number version) ∷ [])
 
 -- the file of an image
-unfoldable pub file_of : Contents → List ℕ
+unfoldable pub file_of : Image → List ℕ
 file_of c =
     magic c.version
     ++ (little_bytes 4 (length c.code / 8) ++ (little_bytes 4 (length c.constants) ++ (c.code ++ c.constants)))
@@ -37,11 +39,11 @@ constants_in file = little_number 4 (drop 12 file)
 
 -- no image has that many slots
 abbrev pub is_bad_count : ℕ → Bool
-is_bad_count slots = nat_eq slots 0 || nat_lt 65536 slots
+is_bad_count slots = nat_eq slots 0 || nat_lt slot_limit slots
 
 -- no image has that many bytes of constants
 abbrev pub is_too_long : ℕ → Bool
-is_too_long constants = nat_lt 1048576 constants
+is_too_long constants = nat_lt constants_limit constants
 
 -- the causes for which a file holds no image, in the order in which they count
 
@@ -66,7 +68,7 @@ abbrev pub has_other_length : List ℕ → Bool
 has_other_length file = not (nat_eq (length file) (16 + 8 * slots_in file + constants_in file))
 
 -- the version, the code and the constants where a file that has none of these causes holds them
-abbrev pub contents_in : List ℕ → Contents
+abbrev pub contents_in : List ℕ → Image
 contents_in file = record {
   version = version_in file;
   code = take (8 * slots_in file) (drop 16 file);
@@ -74,13 +76,13 @@ contents_in file = record {
 }
 
 -- the image that a file holds, or the first cause for which it holds none
-unfoldable pub image_in : List ℕ → Result Contents LoadError
+unfoldable pub image_in : List ℕ → Result Image LoadError
 image_in file =
-    if is_too_short file then Err L1
-    else (if has_other_magic file then Err L2
-    else (if has_bad_slots file then Err L3
-    else (if has_long_constants file then Err L4
-    else (if has_other_length file then Err L5
+    if is_too_short file then Err TooShort
+    else (if has_other_magic file then Err UnknownMagic
+    else (if has_bad_slots file then Err BadSlotCount
+    else (if has_long_constants file then Err ConstantsTooLong
+    else (if has_other_length file then Err BadLength
     else Ok (contents_in file)))))
 
 -- the code ends within a slot
@@ -88,9 +90,9 @@ abbrev pub has_part_of_slot : List ℕ → Bool
 has_part_of_slot code = not (nat_eq (length code % 8) 0)
 
 -- the image of a version with some code and constants, or the first cause for which they are none
-unfoldable pub image_from : Version → List ℕ → List ℕ → Result Contents LoadError
+unfoldable pub image_from : Version → List ℕ → List ℕ → Result Image LoadError
 image_from version code constants =
-    if has_part_of_slot code then Err L5
-    else (if is_bad_count (length code / 8) then Err L3
-    else (if is_too_long (length constants) then Err L4
+    if has_part_of_slot code then Err BadLength
+    else (if is_bad_count (length code / 8) then Err BadSlotCount
+    else (if is_too_long (length constants) then Err ConstantsTooLong
     else Ok (record { version = version; code = code; constants = constants })))

@@ -1,4 +1,6 @@
+pub mod Limits
 pub mod Contents
 pub mod Format
 pub mod Answers
+pub mod ErrorCodes
 pub mod Laws

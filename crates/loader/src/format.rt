@@ -4,17 +4,13 @@ ghost use Rattle.std.specs.Prelude.{◌≡◌, ◌≤◌, length, false};
 ghost use Rattle.byteorder.specs.Endian.{little_bytes};
 ghost use Rattle.loader.specs.Format as format;
 
+use crate::limits::CONSTANTS_LIMIT;
 use crate::version::Version;
 use byteorder::{ByteOrder, LittleEndian};
+use insn_codec::SLOT_LIMIT;
 
 /// The length in bytes of what stands before the code.
 pub const HEAD: usize = 16;
-
-/// The most slots of code.
-const MOST_SLOTS: u64 = 65_536;
-
-/// The most bytes of constants.
-const MOST_CONSTANTS: u64 = 1_048_576;
 
 /// The number of slots that the file states.
 #[tactic(auto, unfolding(crate::specs::Format::slots_in))]
@@ -38,14 +34,14 @@ pub fn constants_in(file: &[u8]) -> u32
 pub fn is_bad_count(slots: u64) -> bool
     ensures { result ≡ format.is_bad_count slots }
 {
-    slots == 0 || slots > MOST_SLOTS
+    slots == 0 || slots > u64::from(SLOT_LIMIT)
 }
 
 /// Whether no image has this many bytes of constants.
 pub fn is_too_long(constants: u64) -> bool
     ensures { result ≡ format.is_too_long constants }
 {
-    constants > MOST_CONSTANTS
+    constants > CONSTANTS_LIMIT
 }
 
 /// Whether the file is shorter than a head.

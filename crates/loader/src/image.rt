@@ -27,9 +27,9 @@ pub struct Image {
 }
 
 impl Model for Image {
-    ghost use Rattle.loader.specs.Contents.{Contents, IsImage};
+    ghost use Rattle.loader.specs.Contents.{Image, IsImage};
 
-    ghost Value = { Contents };
+    ghost Value = { Image };
 
     ghost view = { λ i. record { version = i.version; code = i.code.items; constants = i.constants.items } };
 
@@ -47,19 +47,19 @@ impl Image {
         ensures memory { result ≡ Err Memory → IsOk (image_in file.now) }
     {
         if is_too_short(file) {
-            return Err(LoadError::L1);
+            return Err(LoadError::TooShort);
         }
         if has_other_magic(file) {
-            return Err(LoadError::L2);
+            return Err(LoadError::UnknownMagic);
         }
         if has_bad_slots(file) {
-            return Err(LoadError::L3);
+            return Err(LoadError::BadSlotCount);
         }
         if has_long_constants(file) {
-            return Err(LoadError::L4);
+            return Err(LoadError::ConstantsTooLong);
         }
         if has_other_length(file) {
-            return Err(LoadError::L5);
+            return Err(LoadError::BadLength);
         }
         Ok(Image::parts(alloc, file)?)
     }
@@ -82,15 +82,17 @@ impl Image {
     }
 
     /// The image of version 1 of this code, 8 bytes a slot, and these constants. It takes no
-    /// memory, and what it refuses it drops: `L5` for code that ends within a slot, else `L3` for
-    /// no slots or too many, else `L4` for constants that are too long.
+    /// memory, and what it refuses it drops: `BadLength` for code that ends within a slot, else
+    /// `BadSlotCount` for no slots or too many, else `ConstantsTooLong` for constants that are too
+    /// long.
     pub fn new(code: Vec<u8>, constants: Vec<u8>) -> Result<Image, LoadError>
         ensures { result ≡ image_from First code.items constants.items }
     {
         Image::of_version(Version::First, code, constants)
     }
 
-    /// The image of version 2 of this code and these constants, with the refusals of [`Image::new`].
+    /// The image of version 2 of this code and these constants, with the refusals of
+    /// [`Image::new`].
     pub fn new_2(code: Vec<u8>, constants: Vec<u8>) -> Result<Image, LoadError>
         ensures { result ≡ image_from Second code.items constants.items }
     {
@@ -102,13 +104,13 @@ impl Image {
         ensures { result ≡ image_from version code.items constants.items }
     {
         if code.len() % 8 != 0 {
-            return Err(LoadError::L5);
+            return Err(LoadError::BadLength);
         }
         if is_bad_count((code.len() / 8) as u64) {
-            return Err(LoadError::L3);
+            return Err(LoadError::BadSlotCount);
         }
         if is_too_long(constants.len() as u64) {
-            return Err(LoadError::L4);
+            return Err(LoadError::ConstantsTooLong);
         }
         Ok(Image {
             version,

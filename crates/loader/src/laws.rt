@@ -1,10 +1,10 @@
 //! The laws of the format, each proved as the contract of an empty function.
 
-ghost use Rattle.loader.specs.Laws.{HoldsItsFile, ReadsBack, KeepsTheLimits, RowsStand};
+ghost use Rattle.loader.specs.Laws.{HoldsItsFile, ReadsBack, KeepsTheLimits, ImageFileRowsHold};
 
 /// What is read from a file and written again is that file, and what is written as a file and
 /// read again is that image. Code and constants make an image exactly within the limits.
-#[tactic(auto, using(crate::proofs::Faults::held, crate::proofs::RoundTrip::file_whole, crate::proofs::RoundTrip::file_image, crate::proofs::RoundTrip::reads_back, crate::proofs::Limits::made, crate::proofs::Limits::keeps))]
+#[tactic(auto, using(crate::proofs::Faults::held, crate::proofs::RoundTrip::file_whole, crate::proofs::RoundTrip::file_image, crate::proofs::RoundTrip::reads_back, crate::proofs::WithinLimits::made, crate::proofs::WithinLimits::keeps))]
 pub fn read_is_the_format()
     ensures holds_its_file { HoldsItsFile }
     ensures reads_back { ReadsBack }
@@ -14,5 +14,5 @@ pub fn read_is_the_format()
 /// Files that were read by hand: a program of three slots, and one for each way to be none.
 #[tactic(auto, unfolding(crate::specs::Format::magic, crate::specs::Format::slots_in, crate::specs::Format::constants_in, crate::specs::Format::file_of, crate::specs::Format::image_in))]
 pub fn rows_stand()
-    ensures { RowsStand }
+    ensures { ImageFileRowsHold }
 {}

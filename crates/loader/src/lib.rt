@@ -4,8 +4,10 @@
 mod format;
 mod image;
 pub mod laws;
+mod limits;
 mod load_error;
 mod version;
 
 pub use image::Image;
+pub use limits::CONSTANTS_LIMIT;
 pub use load_error::LoadError;

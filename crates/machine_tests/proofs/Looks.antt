@@ -1,5 +1,5 @@
 -- What is seen at a reference tells which calls may be made there.
-use Rattle.machine_tests.proofs.Prelude.{◌≡◌, ◌<◌, ℕ, zero, suc, List, [], ◌∷◌, length, Option, Some, None, slice_get, option_map, refl, sym, ap, ◌∙◌, arith, ℤ, Bool, IsSome, Items, Entries, ValueOrError, value, list_of, keys_of, pushed, part_at, key_at, joined, put_in, text_at, find_at, equal_at, less_at, member_at, place_of_key, inserted, seen, sees_bool, sees_int, sees_text, sees_list, sees_map, absent_fits}
+use Rattle.machine_tests.proofs.Prelude.{◌≡◌, ◌<◌, ℕ, zero, suc, List, [], ◌∷◌, length, Option, Some, None, slice_get, option_map, refl, sym, ap, ◌∙◌, arith, ℤ, Bool, IsSome, Items, Entries, ValueOrError, value, list_of, keys_of, pushed, part_at, key_at, joined, put_in, text_at, find_at, equal_at, less_at, member_at, place_of_key, inserted, outcome_view, sees_bool, sees_int, sees_text, sees_list, sees_map, absent_fits}
 use Rattle.value_store.specs.Value as kind
 
 -- ---- what stands where a kind is seen
@@ -9,7 +9,7 @@ pub record ListHere (o : Option ValueOrError) (n : ℕ) : Type 0 where
   pub is : o ≡ Some (value (kind.list items))
   pub count : n ≡ length (list_of items)
 
-list_here : (o : Option ValueOrError) (n : ℕ) → Some (sees_list n) ≡ option_map seen o → ListHere o n
+list_here : (o : Option ValueOrError) (n : ℕ) → Some (sees_list n) ≡ option_map outcome_view o → ListHere o n
 list_here (Some (value (kind.list is))) n e = record { items = is; is = refl; count = cc }
 list_here _ n e = absurd (cc)
 
@@ -18,7 +18,7 @@ pub record MapHere (o : Option ValueOrError) (n : ℕ) : Type 0 where
   pub is : o ≡ Some (value (kind.map entries))
   pub count : n ≡ length (keys_of entries)
 
-map_here : (o : Option ValueOrError) (n : ℕ) → Some (sees_map n) ≡ option_map seen o → MapHere o n
+map_here : (o : Option ValueOrError) (n : ℕ) → Some (sees_map n) ≡ option_map outcome_view o → MapHere o n
 map_here (Some (value (kind.map es))) n e = record { entries = es; is = refl; count = cc }
 map_here _ n e = absurd (cc)
 
@@ -26,7 +26,7 @@ pub record IntHere (o : Option ValueOrError) : Type 0 where
   pub number : ℤ
   pub is : o ≡ Some (value (kind.int number))
 
-int_here : (o : Option ValueOrError) (z : ℤ) → Some (sees_int z) ≡ option_map seen o → IntHere o
+int_here : (o : Option ValueOrError) (z : ℤ) → Some (sees_int z) ≡ option_map outcome_view o → IntHere o
 int_here (Some (value (kind.int m))) z e = record { number = m; is = refl }
 int_here _ z e = absurd (cc)
 
@@ -34,7 +34,7 @@ pub record TextHere (o : Option ValueOrError) : Type 0 where
   pub bytes : List ℕ
   pub is : o ≡ Some (value (kind.text bytes))
 
-text_here : (o : Option ValueOrError) (s : List ℕ) → Some (sees_text s) ≡ option_map seen o → TextHere o
+text_here : (o : Option ValueOrError) (s : List ℕ) → Some (sees_text s) ≡ option_map outcome_view o → TextHere o
 text_here (Some (value (kind.text t))) s e = record { bytes = t; is = refl }
 text_here _ s e = absurd (cc)
 
@@ -42,7 +42,7 @@ pub record BoolHere (o : Option ValueOrError) : Type 0 where
   pub truth : Bool
   pub is : o ≡ Some (value (kind.boolean truth))
 
-bool_here : (o : Option ValueOrError) (b : Bool) → Some (sees_bool b) ≡ option_map seen o → BoolHere o
+bool_here : (o : Option ValueOrError) (b : Bool) → Some (sees_bool b) ≡ option_map outcome_view o → BoolHere o
 bool_here (Some (value (kind.boolean c))) b e = record { truth = c; is = refl }
 bool_here _ b e = absurd (cc)
 
@@ -57,30 +57,30 @@ some_mapped f (Some x) e = refl
 
 -- ---- what may be placed
 
-pub push_fits : (l x : Option ValueOrError) (n : ℕ) (z : ℤ) → Some (sees_list n) ≡ option_map seen l → Some (sees_int z) ≡ option_map seen x → IsSome (pushed l x)
+pub push_fits : (l x : Option ValueOrError) (n : ℕ) (z : ℤ) → Some (sees_list n) ≡ option_map outcome_view l → Some (sees_int z) ≡ option_map outcome_view x → IsSome (pushed l x)
 push_fits l x n z e f = let a = list_here l n e in let b = int_here x z f in rw (a.is, b.is) refl
 
-pub bool_fits : (l x : Option ValueOrError) (n : ℕ) (b : Bool) → Some (sees_list n) ≡ option_map seen l → Some (sees_bool b) ≡ option_map seen x → IsSome (pushed l x)
+pub bool_fits : (l x : Option ValueOrError) (n : ℕ) (b : Bool) → Some (sees_list n) ≡ option_map outcome_view l → Some (sees_bool b) ≡ option_map outcome_view x → IsSome (pushed l x)
 bool_fits l x n b e f = let a = list_here l n e in let c = bool_here x b f in rw (a.is, c.is) refl
 
-pub list_fits : (l x : Option ValueOrError) (n m : ℕ) → Some (sees_list n) ≡ option_map seen l → Some (sees_list m) ≡ option_map seen x → IsSome (pushed l x)
+pub list_fits : (l x : Option ValueOrError) (n m : ℕ) → Some (sees_list n) ≡ option_map outcome_view l → Some (sees_list m) ≡ option_map outcome_view x → IsSome (pushed l x)
 list_fits l x n m e f = let a = list_here l n e in let b = list_here x m f in rw (a.is, b.is) refl
 
-pub item_fits : (o : Option ValueOrError) (n i : ℕ) → Some (sees_list n) ≡ option_map seen o → i < n → IsSome (part_at o i)
+pub item_fits : (o : Option ValueOrError) (n i : ℕ) → Some (sees_list n) ≡ option_map outcome_view o → i < n → IsSome (part_at o i)
 item_fits o n i e f = let a = list_here o n e in rw a.is (some_within (list_of a.items) i (let g = a.count in omega arith))
 
-pub key_fits : (o : Option ValueOrError) (n i : ℕ) → Some (sees_map n) ≡ option_map seen o → i < n → IsSome (key_at o i)
+pub key_fits : (o : Option ValueOrError) (n i : ℕ) → Some (sees_map n) ≡ option_map outcome_view o → i < n → IsSome (key_at o i)
 key_fits o n i e f =
     let a = map_here o n e in
     rw a.is (some_mapped kind.text (slice_get (keys_of a.entries) i) (some_within (keys_of a.entries) i (let g = a.count in omega arith)))
 
-pub texts_join : (a b : Option ValueOrError) (s t : List ℕ) → Some (sees_text s) ≡ option_map seen a → Some (sees_text t) ≡ option_map seen b → IsSome (joined a b)
+pub texts_join : (a b : Option ValueOrError) (s t : List ℕ) → Some (sees_text s) ≡ option_map outcome_view a → Some (sees_text t) ≡ option_map outcome_view b → IsSome (joined a b)
 texts_join a b s t e f = let x = text_here a s e in let y = text_here b t f in rw (x.is, y.is) refl
 
-pub lists_join : (a b : Option ValueOrError) (m n : ℕ) → Some (sees_list m) ≡ option_map seen a → Some (sees_list n) ≡ option_map seen b → IsSome (joined a b)
+pub lists_join : (a b : Option ValueOrError) (m n : ℕ) → Some (sees_list m) ≡ option_map outcome_view a → Some (sees_list n) ≡ option_map outcome_view b → IsSome (joined a b)
 lists_join a b m n e f = let x = list_here a m e in let y = list_here b n f in rw (x.is, y.is) refl
 
-pub find_fits : (o : Option ValueOrError) (n : ℕ) (key : List ℕ) → Some (sees_map n) ≡ option_map seen o → IsSome (find_at o key)
+pub find_fits : (o : Option ValueOrError) (n : ℕ) (key : List ℕ) → Some (sees_map n) ≡ option_map outcome_view o → IsSome (find_at o key)
 find_fits o n key e = let a = map_here o n e in rw a.is refl
 
 none_found : (o p : Option ℕ) → Some o ≡ Some p → None ≡ o → p ≡ None
@@ -89,8 +89,8 @@ none_found o p e f = cc
 key_is_free : (es : Entries) (key : List ℕ) → Some None ≡ find_at (Some (value (kind.map es))) key → place_of_key key es ≡ None
 key_is_free es key e = none_found None (place_of_key key es) e refl
 
-pub put_fits : (m k x : Option ValueOrError) (n : ℕ) (z : ℤ) (key : List ℕ) → Some (sees_map n) ≡ option_map seen m
-    → Some (sees_int z) ≡ option_map seen x → Some key ≡ text_at k → Some None ≡ find_at m key → IsSome (put_in m k x)
+pub put_fits : (m k x : Option ValueOrError) (n : ℕ) (z : ℤ) (key : List ℕ) → Some (sees_map n) ≡ option_map outcome_view m
+    → Some (sees_int z) ≡ option_map outcome_view x → Some key ≡ text_at k → Some None ≡ find_at m key → IsSome (put_in m k x)
 put_fits m k x n z key e f t free =
     let a = map_here m n e in
     let b = int_here x z f in
@@ -99,29 +99,29 @@ put_fits m k x n z key e f t free =
 
 -- ---- what may be compared
 
-pub texts_equal : (a b : Option ValueOrError) (s t : List ℕ) → Some (sees_text s) ≡ option_map seen a → Some (sees_text t) ≡ option_map seen b → IsSome (equal_at a b)
+pub texts_equal : (a b : Option ValueOrError) (s t : List ℕ) → Some (sees_text s) ≡ option_map outcome_view a → Some (sees_text t) ≡ option_map outcome_view b → IsSome (equal_at a b)
 texts_equal a b s t e f = let x = text_here a s e in let y = text_here b t f in rw (x.is, y.is) refl
 
-pub lists_equal : (a b : Option ValueOrError) (m n : ℕ) → Some (sees_list m) ≡ option_map seen a → Some (sees_list n) ≡ option_map seen b → IsSome (equal_at a b)
+pub lists_equal : (a b : Option ValueOrError) (m n : ℕ) → Some (sees_list m) ≡ option_map outcome_view a → Some (sees_list n) ≡ option_map outcome_view b → IsSome (equal_at a b)
 lists_equal a b m n e f = let x = list_here a m e in let y = list_here b n f in rw (x.is, y.is) refl
 
-pub maps_equal : (a b : Option ValueOrError) (m n : ℕ) → Some (sees_map m) ≡ option_map seen a → Some (sees_map n) ≡ option_map seen b → IsSome (equal_at a b)
+pub maps_equal : (a b : Option ValueOrError) (m n : ℕ) → Some (sees_map m) ≡ option_map outcome_view a → Some (sees_map n) ≡ option_map outcome_view b → IsSome (equal_at a b)
 maps_equal a b m n e f = let x = map_here a m e in let y = map_here b n f in rw (x.is, y.is) refl
 
-pub bools_less : (a b : Option ValueOrError) (s t : Bool) → Some (sees_bool s) ≡ option_map seen a → Some (sees_bool t) ≡ option_map seen b → IsSome (less_at a b)
+pub bools_less : (a b : Option ValueOrError) (s t : Bool) → Some (sees_bool s) ≡ option_map outcome_view a → Some (sees_bool t) ≡ option_map outcome_view b → IsSome (less_at a b)
 bools_less a b s t e f = let x = bool_here a s e in let y = bool_here b t f in rw (x.is, y.is) refl
 
-pub ints_less : (a b : Option ValueOrError) (y z : ℤ) → Some (sees_int y) ≡ option_map seen a → Some (sees_int z) ≡ option_map seen b → IsSome (less_at a b)
+pub ints_less : (a b : Option ValueOrError) (y z : ℤ) → Some (sees_int y) ≡ option_map outcome_view a → Some (sees_int z) ≡ option_map outcome_view b → IsSome (less_at a b)
 ints_less a b y z e f = let p = int_here a y e in let q = int_here b z f in rw (p.is, q.is) refl
 
-pub texts_less : (a b : Option ValueOrError) (s t : List ℕ) → Some (sees_text s) ≡ option_map seen a → Some (sees_text t) ≡ option_map seen b → IsSome (less_at a b)
+pub texts_less : (a b : Option ValueOrError) (s t : List ℕ) → Some (sees_text s) ≡ option_map outcome_view a → Some (sees_text t) ≡ option_map outcome_view b → IsSome (less_at a b)
 texts_less a b s t e f = let x = text_here a s e in let y = text_here b t f in rw (x.is, y.is) refl
 
-pub int_in_list : (x c : Option ValueOrError) (z : ℤ) (n : ℕ) → Some (sees_int z) ≡ option_map seen x → Some (sees_list n) ≡ option_map seen c → IsSome (member_at x c)
+pub int_in_list : (x c : Option ValueOrError) (z : ℤ) (n : ℕ) → Some (sees_int z) ≡ option_map outcome_view x → Some (sees_list n) ≡ option_map outcome_view c → IsSome (member_at x c)
 int_in_list x c z n e f = let a = int_here x z e in let b = list_here c n f in rw (a.is, b.is) refl
 
-pub list_in_list : (x c : Option ValueOrError) (m n : ℕ) → Some (sees_list m) ≡ option_map seen x → Some (sees_list n) ≡ option_map seen c → IsSome (member_at x c)
+pub list_in_list : (x c : Option ValueOrError) (m n : ℕ) → Some (sees_list m) ≡ option_map outcome_view x → Some (sees_list n) ≡ option_map outcome_view c → IsSome (member_at x c)
 list_in_list x c m n e f = let a = list_here x m e in let b = list_here c n f in rw (a.is, b.is) refl
 
-pub text_in_map : (x c : Option ValueOrError) (s : List ℕ) (n : ℕ) → Some (sees_text s) ≡ option_map seen x → Some (sees_map n) ≡ option_map seen c → IsSome (member_at x c)
+pub text_in_map : (x c : Option ValueOrError) (s : List ℕ) (n : ℕ) → Some (sees_text s) ≡ option_map outcome_view x → Some (sees_map n) ≡ option_map outcome_view c → IsSome (member_at x c)
 text_in_map x c s n e f = let a = text_here x s e in let b = map_here c n f in rw (a.is, b.is) refl

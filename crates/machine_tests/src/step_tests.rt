@@ -1,4 +1,5 @@
-//! Programs whose ends were computed by hand. A slot is written as its eight bytes in storage order.
+//! Programs whose ends were computed by hand. A slot is written as its eight bytes in storage
+//! order.
 use bpf_machine::{Machine, Status};
 use guest_memory::Guest;
 use insn_codec::Register;

@@ -32,15 +32,15 @@ const NULLS: [&str; 5] = ["null", "null", "null", "null", "null"];
 /// Roots that are refused, and why.
 #[rattlefmt::skip]
 const REFUSED: [([&str; 5], TableError); 9] = [
-    (["1", "null", "null", "null", "null"], TableError::V1(4)),
-    (["null", "null", "[]", "null", "null"], TableError::V1(6)),
-    (["null", "null", "null", "null", "\"\""], TableError::V1(8)),
-    (["null", "{\"a\":1.5}", "null", "null", "null"], TableError::V2(5)),
-    (["null", "null", "null", "{\"a\":-0}", "null"], TableError::V2(7)),
-    (["{\"a\":9223372036854775808}", "null", "null", "null", "null"], TableError::V2(4)),
-    (["{\"a\":[{\"b\":-9223372036854775809}]}", "null", "null", "null", "null"], TableError::V2(4)),
-    (["{\"a\":1.5}", "true", "null", "null", "null"], TableError::V2(4)),
-    (["null", "true", "{\"a\":1.5}", "null", "null"], TableError::V1(5)),
+    (["1", "null", "null", "null", "null"], TableError::NotAnObject(4)),
+    (["null", "null", "[]", "null", "null"], TableError::NotAnObject(6)),
+    (["null", "null", "null", "null", "\"\""], TableError::NotAnObject(8)),
+    (["null", "{\"a\":1.5}", "null", "null", "null"], TableError::NumberOutOfInt64(5)),
+    (["null", "null", "null", "{\"a\":-0}", "null"], TableError::NumberOutOfInt64(7)),
+    (["{\"a\":9223372036854775808}", "null", "null", "null", "null"], TableError::NumberOutOfInt64(4)),
+    (["{\"a\":[{\"b\":-9223372036854775809}]}", "null", "null", "null", "null"], TableError::NumberOutOfInt64(4)),
+    (["{\"a\":1.5}", "true", "null", "null", "null"], TableError::NumberOutOfInt64(4)),
+    (["null", "true", "{\"a\":1.5}", "null", "null"], TableError::NotAnObject(5)),
 ];
 
 /// Texts, and what they are as JSON.
@@ -158,7 +158,7 @@ fn a_root_too_large(rt: HostRuntime) -> Result<(), Fail> {
     ];
     assert_eq!(rt;
         Table::of_roots(rt.alloc(), &roots).err(),
-        Some(TableError::V3)
+        Some(TableError::RootsTooLarge)
     );
     Ok(())
 }

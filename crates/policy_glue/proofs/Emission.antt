@@ -1,7 +1,7 @@
 -- The program of a policy as it is emitted.
-use Rattle.policy_glue.proofs.Prelude.{◌≡◌, ℕ, zero, suc, ◌+◌, ◌-◌, ◌<◌, ◌≤◌, Bool, true, false, List, [], ◌∷◌, ◌++◌, length, map, take, get_or, Option, Some, None, Result, Ok, OnOk, IfOk, refl, sym, ap, ◌∙◌, subst, arith, append_assoc, length-append, append-nil, ◌*◌, IsErrOf, take-append_seam, if◌then◌else◌, slice_get, slice_index_or, slice_set, option_map, fold, length-map, slice_get-map, slice_get_read, and_from, and_parts, nat_le, leb-true, le-leb, cases_lt, le-ltb, lt-ltb, slot_count, spelling, Insn, Tree, CoreTree, expanded, core_view, Core, depth, need, nodes, Declaration, declared, depths_of, scope_of, typing as type_of, code_at, has_room, with_counted, with_expression, passed, Emitted, with_insn_at, with_nodes, with_piece, no_code, HasTooManyTexts, IsTooLong, slot_spellings, routines_of, whole_short, size, slots, spellings, length-insn_slots, slots-append, size-append, size-cons, rule_expanded, rule_trees, variable_expanded, IsChecked, depth_in, scope_after, type_or_any, with_variable as with_declared, FitInOrder, MayFit, with_condition, with_conditions, with_decided, with_result, with_validation, with_validations, with_variables, with_way, emitted, denial_code, leave_error, message_tail, condition_tail, conditions_code, decided_code, decided_tail, if_true, message_code, outcome_tail, policy_code, result_code, routines_code, validation_code, validations_code, AreConditions, AreRules, AreVariables, RuleTree, VariableTree, PolicyTree, CheckedValidation, FailurePolicy, sum_by, fold-append, sum_by-cons, saturated, with_texts, joined, message_nodes, part_nodes, policy_nodes, policy_texts, rule_nodes, validation_texts, excess, Laid, after_condition, after_conditions, after_variables, before_message, condition_codes, laid_conditions, laid_routines, message_codes, nothing_laid, texts_with, tree_code, validation_codes, variable_code, variable_codes, with_routine, with_slots, with_tree, with_message as with_message_laid, program_of, decided_slots, Exit, slot_spellings-append, slots_spelled, Checked, G3, G4}
+use Rattle.policy_glue.proofs.Prelude.{◌≡◌, ℕ, zero, suc, ◌+◌, ◌-◌, ◌<◌, ◌≤◌, Bool, true, false, List, [], ◌∷◌, ◌++◌, length, map, take, get_or, Option, Some, None, Result, Ok, OnOk, IfOk, refl, sym, ap, ◌∙◌, subst, arith, append_assoc, length-append, append-nil, ◌*◌, IsErrOf, take-append_seam, if◌then◌else◌, slice_get, slice_index_or, slice_set, option_map, fold, length-map, slice_get-map, slice_get_read, and_from, and_parts, nat_le, leb-true, le-leb, cases_lt, le-ltb, lt-ltb, slot_count, spelling, Insn, Tree, Core, expanded, core_view, CodeCore, depth, need, nodes, Declaration, declared, depths_of, scope_of, typing as type_of, code_at, has_room, with_counted, with_expression, passed, Emitted, with_insn_at, with_nodes, with_piece, no_code, HasTooManyTexts, IsTooLong, slot_spellings, routines_of, whole_short, size, slots, spellings, length-insn_slots, slots-append, size-append, size-cons, validation_expanded, validation_trees, variable_expanded, IsChecked, depth_in, scope_after, type_or_any, with_variable as with_declared, FitInOrder, MayFit, with_condition, with_conditions, with_decided, with_result, with_validation, with_validations, with_variables, with_way, emitted, denial_code, leave_error, message_tail, condition_tail, conditions_code, decided_code, decided_tail, if_true, message_code, outcome_tail, policy_code, result_code, routines_code, validation_code, validations_code, AreConditions, AreValidations, AreVariables, ValidationTree, VariableTree, PolicyTree, CheckedValidation, FailurePolicy, sum_by, fold-append, sum_by-cons, saturated, with_texts, joined, message_nodes, part_nodes, policy_nodes, policy_texts, rule_nodes, validation_texts, excess, Laid, after_condition, after_conditions, after_variables, before_message, condition_codes, laid_conditions, laid_routines, message_codes, nothing_laid, texts_with, tree_code, validation_codes, variable_code, variable_codes, with_routine, with_slots, with_tree, with_message as with_message_laid, program_of, decided_slots, Exit, slot_spellings-append, slots_spelled, Checked, TooManyNodes, TooManyTextBytes, part_slot_limit, code_limit, node_limit, jump_limit, word_limit, variable_depth_limit, slot_limit, slots_per_node}
 use Rattle.codegen.specs.Added.{with_variable}
-use Rattle.policy_glue.specs.Emission.{Fits, with_message}
+use Rattle.policy_glue.specs.Emission.{FitsFrame, with_message}
 use Rattle.policy_glue.proofs.Programs.Validations.{denial_size, message_tail_size, outcome_tail_size, result_size}
 use Rattle.policy_glue.proofs.Programs.Conditions.{tail_size}
 use Rattle.policy_glue.proofs.Programs.Sizes.{conditions_texts, message_texts_are, program_is_short, variables_texts}
@@ -32,15 +32,15 @@ last_slot i tail d e1 e2 r is at put = grind (arith, message_tail_last, length-a
 -- ---- an expression
 
 -- it has few slots, whether there is room for it or not
-few_where : (room : Bool) (e : Emitted) (piece : List Insn) → (room ≡ true → size piece ≤ 32256) → length (if room then with_piece e piece else e).code ≤ length e.code + 32256
+few_where : (room : Bool) (e : Emitted) (piece : List Insn) → (room ≡ true → size piece ≤ part_slot_limit) → length (if room then with_piece e piece else e).code ≤ length e.code + part_slot_limit
 few_where true e piece few = let counted = length-append e.code (slots piece) in let within = few refl in omega arith
 few_where false e piece few = omega arith
 
-pub few_slots : (e : Emitted) (scope : List Declaration) (tree : CoreTree) → length (with_expression e scope tree).code ≤ length e.code + 32256
+pub few_slots : (e : Emitted) (scope : List Declaration) (tree : Core) → length (with_expression e scope tree).code ≤ length e.code + part_slot_limit
 few_slots e scope tree =
     let counted = with_counted e tree (nodes tree) in
     few_where (has_room counted) counted (code_at counted scope tree (length e.code)) (λ room.
-    let within : counted.nodes ≤ 512 = leb-true counted.nodes 512 (and_parts (nat_le counted.nodes 512) (nat_le (length e.code) 0x7fff_0000) room).0 in
+    let within : counted.nodes ≤ node_limit = leb-true counted.nodes node_limit (and_parts (nat_le counted.nodes node_limit) (nat_le (length e.code) code_limit) room).0 in
     let short = whole_short tree counted.constants (routines_of scope counted.routines) (length e.code) in
     omega (arith, within, short))
 
@@ -49,7 +49,7 @@ begins_where : (room : Bool) (e : Emitted) (piece : List Insn) → (more : List 
 begins_where true e piece = (slots piece, refl)
 begins_where false e piece = ([], sym (append-nil e.code))
 
-begins : (e : Emitted) (scope : List Declaration) (tree : CoreTree) → (more : List (Option Insn)) × ((with_expression e scope tree).code ≡ e.code ++ more)
+begins : (e : Emitted) (scope : List Declaration) (tree : Core) → (more : List (Option Insn)) × ((with_expression e scope tree).code ≡ e.code ++ more)
 begins e scope tree =
     let counted = with_counted e tree (nodes tree) in
     begins_where (has_room counted) counted (code_at counted scope tree (length e.code))
@@ -64,7 +64,7 @@ set_here : (xs ys : List (Option Insn)) (x y : Option Insn) → slice_set (xs ++
 set_here [] ys x y = refl
 set_here (z ∷ xs) ys x y = ap (λ (l : List (Option Insn)). z ∷ l) (set_here xs ys x y)
 
-module _ (f : FailurePolicy) (i : ℕ) (scope : List Declaration) (tree : CoreTree) (e e1 e2 e3 : Emitted) (jump : Insn) (denial : List Insn) (one : slot_count jump ≡ 1) (is : denial ≡ denial_code f i 0) (first : e1 ≡ with_piece e (jump ∷ [])) (second : e2 ≡ with_piece e1 denial) (third : e3 ≡ with_message i scope e2 tree) where
+module _ (f : FailurePolicy) (i : ℕ) (scope : List Declaration) (tree : Core) (e e1 e2 e3 : Emitted) (jump : Insn) (denial : List Insn) (one : slot_count jump ≡ 1) (is : denial ≡ denial_code f i 0) (first : e1 ≡ with_piece e (jump ∷ [])) (second : e2 ≡ with_piece e1 denial) (third : e3 ≡ with_message i scope e2 tree) where
   abbrev rest : List (Option Insn)
   rest = (begins (with_nodes e2 1) scope tree).0 ++ slots (message_tail i)
 
@@ -88,7 +88,7 @@ module _ (f : FailurePolicy) (i : ℕ) (scope : List Declaration) (tree : CoreTr
   leave_stands e4 new put = grind (arith, stands, set_here, get_behind, leave_in)
 
   -- all of it is short
-  pub few_between : (last : ℕ) → last + 1 ≡ length e3.code → (last - length e.code < 32768) × (length e.code + 5 ≤ last)
+  pub few_between : (last : ℕ) → last + 1 ≡ length e3.code → (last - length e.code < jump_limit) × (length e.code + 5 ≤ last)
   few_between last at =
       let few = few_slots (with_nodes e2 1) scope tree in
       let begun = begins (with_nodes e2 1) scope tree in
@@ -112,22 +112,22 @@ pub scope_begins : (vs : List VariableTree) (ds : List Declaration) → (more : 
 scope_begins [] ds = ([], sym (append-nil ds))
 scope_begins (v ∷ vs) ds = grind (arith, append_assoc, scope_begins vs (with_declared ds v))
 
-abbrev FitsAt : List Declaration → CoreTree → Type 0
-FitsAt ds tree = (need tree ≤ 60) × (depth tree (depths_of ds) ≤ 6)
+abbrev FitsAt : List Declaration → Core → Type 0
+FitsAt ds tree = (need tree ≤ word_limit) × (depth tree (depths_of ds) ≤ variable_depth_limit)
 
-fits_first : (v : VariableTree) (more : List VariableTree) (ds : List Declaration) (tree : CoreTree) → AreVariables ds (v ∷ more) → Some (expanded v.expression) ≡ Some tree → FitsAt (take (length ds) (fold with_declared ds (v ∷ more))) tree
+fits_first : (v : VariableTree) (more : List VariableTree) (ds : List Declaration) (tree : Core) → AreVariables ds (v ∷ more) → Some (expanded v.expression) ≡ Some tree → FitsAt (take (length ds) (fold with_declared ds (v ∷ more))) tree
 fits_first v more ds tree are is =
     let here : expanded v.expression ≡ tree = cc in
     let begun = scope_begins (v ∷ more) ds in
     let front : ds ≡ take (length ds) (fold with_declared ds (v ∷ more)) = sym (ap (take (length ds)) begun.1 ∙ take-append_seam ds begun.0) in
-    subst (λ (s : List Declaration). FitsAt s tree) front (subst (λ (a : CoreTree). FitsAt ds a) here (are.0.fits, are.1))
+    subst (λ (s : List Declaration). FitsAt s tree) front (subst (λ (a : Core). FitsAt ds a) here (are.0.fits, are.1))
 
-fits_from : (vs : List VariableTree) (ds : List Declaration) → AreVariables ds vs → (i : ℕ) (tree : CoreTree) → slice_get (map variable_expanded vs) i ≡ Some tree → FitsAt (take (length ds + i) (fold with_declared ds vs)) tree
+fits_from : (vs : List VariableTree) (ds : List Declaration) → AreVariables ds vs → (i : ℕ) (tree : Core) → slice_get (map variable_expanded vs) i ≡ Some tree → FitsAt (take (length ds + i) (fold with_declared ds vs)) tree
 fits_from [] ds are i tree is = absurd (cc)
 fits_from (v ∷ more) ds are zero tree is = subst (λ (n : ℕ). FitsAt (take n (fold with_declared ds (v ∷ more))) tree) (omega arith) (fits_first v more ds tree are is)
 fits_from (v ∷ more) ds are (suc i) tree is = grind (arith, fits_from more (with_declared ds v) are.2 i tree is, one_more)
 
-pub fit_in_order : (vs : List VariableTree) (declarations : List Declaration) (trees : List CoreTree) → AreVariables [] vs → declarations ≡ scope_after vs → trees ≡ map variable_expanded vs → FitInOrder declarations trees
+pub fit_in_order : (vs : List VariableTree) (declarations : List Declaration) (trees : List Core) → AreVariables [] vs → declarations ≡ scope_after vs → trees ≡ map variable_expanded vs → FitInOrder declarations trees
 fit_in_order vs declarations trees are scope same =
     subst (λ (ds : List Declaration). FitInOrder ds trees) (sym scope) (subst (FitInOrder (scope_after vs)) (sym same) (λ i tree is. subst (λ (n : ℕ). FitsAt (take n (scope_after vs)) tree) (omega arith) (fits_from vs [] are i tree is)))
 
@@ -135,7 +135,7 @@ length_scope : (vs : List VariableTree) (ds : List Declaration) → length (fold
 length_scope [] ds = omega arith
 length_scope (v ∷ vs) ds = grind (arith, length_scope vs (with_declared ds v), one_more)
 
-pub as_many : {A B : Type 0} (f : A → Declaration) (g : B → CoreTree) (vs : List VariableTree) (xs : List A) (ys : List B) → map f xs ≡ scope_after vs → map g ys ≡ map variable_expanded vs → length ys ≤ length xs
+pub as_many : {A B : Type 0} (f : A → Declaration) (g : B → Core) (vs : List VariableTree) (xs : List A) (ys : List B) → map f xs ≡ scope_after vs → map g ys ≡ map variable_expanded vs → length ys ≤ length xs
 as_many f g vs xs ys scope same = grind (arith, length-map, length_scope)
 
 -- ---- conditions and validations
@@ -143,19 +143,19 @@ as_many f g vs xs ys scope same = grind (arith, length-map, length_scope)
 first_same : {A : Type 0} (x y : A) (xs ys : List A) → x ∷ xs ≡ y ∷ ys → x ≡ y
 first_same x y xs ys e = cc
 
-pub conditions_fit : (trees : List Tree) (cores : List Core) → AreConditions trees → map core_view cores ≡ map expanded trees → (k : ℕ) (d : Core) → k < length cores → Fits (core_view (slice_index_or cores k d))
+pub conditions_fit : (trees : List Tree) (cores : List CodeCore) → AreConditions trees → map core_view cores ≡ map expanded trees → (k : ℕ) (d : CodeCore) → k < length cores → FitsFrame (core_view (slice_index_or cores k d))
 conditions_fit trees [] are same k d below = absurd (omega arith)
 conditions_fit [] (c ∷ cores) are same k d below = absurd (cc)
-conditions_fit (a ∷ more) (c ∷ cores) are same zero d below = let here : core_view c ≡ expanded a = cc in subst Fits (sym here) are.0.fits
+conditions_fit (a ∷ more) (c ∷ cores) are same zero d below = let here : core_view c ≡ expanded a = cc in subst FitsFrame (sym here) are.0.fits
 conditions_fit (a ∷ more) (c ∷ cores) are same (suc k) d below = conditions_fit more cores are.1 (cc) k d (omega arith)
 
-pub rules_fit : (scope : List Declaration) (rs : List RuleTree) (vs : List CheckedValidation) → AreRules scope rs → map rule_trees vs ≡ map rule_expanded rs → (k : ℕ) (d : CheckedValidation) → k < length vs → Fits (core_view (slice_index_or vs k d).expression)
+pub rules_fit : (scope : List Declaration) (rs : List ValidationTree) (vs : List CheckedValidation) → AreValidations scope rs → map validation_trees vs ≡ map validation_expanded rs → (k : ℕ) (d : CheckedValidation) → k < length vs → FitsFrame (core_view (slice_index_or vs k d).expression)
 rules_fit scope rs [] are same k d below = absurd (omega arith)
 rules_fit scope [] (v ∷ vs) are same k d below = absurd (cc)
 rules_fit scope (r ∷ more) (v ∷ vs) are same zero d below = grind (arith, first_same)
 rules_fit scope (r ∷ more) (v ∷ vs) are same (suc k) d below = rules_fit scope more vs are.2 (cc) k d (omega arith)
 
-pub messages_fit : (scope : List Declaration) (rs : List RuleTree) (vs : List CheckedValidation) → AreRules scope rs → map rule_trees vs ≡ map rule_expanded rs → (k : ℕ) (d : CheckedValidation) → k < length vs → MayFit (option_map core_view (slice_index_or vs k d).message)
+pub messages_fit : (scope : List Declaration) (rs : List ValidationTree) (vs : List CheckedValidation) → AreValidations scope rs → map validation_trees vs ≡ map validation_expanded rs → (k : ℕ) (d : CheckedValidation) → k < length vs → MayFit (option_map core_view (slice_index_or vs k d).message)
 messages_fit scope rs [] are same k d below = absurd (omega arith)
 messages_fit scope [] (v ∷ vs) are same k d below = absurd (cc)
 messages_fit scope (r ∷ more) (v ∷ vs) are same zero d below = grind (arith, first_same)
@@ -165,17 +165,18 @@ messages_fit scope (r ∷ more) (v ∷ vs) are same (suc k) d below = messages_f
 abbrev pub emitter : List Insn → List (List ℕ) → ℕ → List ℕ → Emitted
 emitter code texts n routines = record { code = slots code; constants = texts; nodes = saturated n; routines = routines }
 
--- the emitter has counted n nodes and what stands so far, and where there was room, as behind few slots, it has the code
+-- the emitter has counted n nodes and what stands so far, and where there was room, as behind few slots, it has the
+-- code
 pub record Same (e : Emitted) (l : Laid) (code : List Insn) (n : ℕ) : Type 0 where
   pub nodes_are : e.nodes ≡ saturated n
   pub texts_are : e.constants ≡ l.texts
-  pub is : n ≤ 512 → size code ≤ 0x7fff_0000 → e ≡ emitter code l.texts n l.routines
+  pub is : n ≤ node_limit → size code ≤ code_limit → e ≡ emitter code l.texts n l.routines
   pub place : l.place ≡ size code
 
-has_room_in : (code : List Insn) (texts : List (List ℕ)) (n : ℕ) (routines : List ℕ) → n ≤ 512 → size code ≤ 0x7fff_0000 → has_room (emitter code texts n routines) ≡ true
+has_room_in : (code : List Insn) (texts : List (List ℕ)) (n : ℕ) (routines : List ℕ) → n ≤ node_limit → size code ≤ code_limit → has_room (emitter code texts n routines) ≡ true
 has_room_in code texts n routines short near =
-    and_from (nat_le (saturated n) 512) (nat_le (length (slots code)) 0x7fff_0000) (le-leb (saturated n) 512 (omega arith))
-    (le-leb (length (slots code)) 0x7fff_0000 near)
+    and_from (nat_le (saturated n) node_limit) (nat_le (length (slots code)) code_limit) (le-leb (saturated n) node_limit (omega arith))
+    (le-leb (length (slots code)) code_limit near)
 
 -- ---- one step
 
@@ -283,18 +284,18 @@ same_result {e} {l} {code} {n} f i ds (Some a) s =
     let put = ways_put f i code message (texts_with there a) (n + message_nodes (Some a)) l.routines in
     grind (arith, taken, put, s.is, size-append, result_size, append_assoc)
 
-same_validation : {e : Emitted} {l : Laid} {code : List Insn} {n : ℕ} (f : FailurePolicy) (i : ℕ) (ds : List Declaration) (r : RuleTree) → Same e l code n
-    → Same (with_validation f i ds e (rule_expanded r)) (with_message_laid ds (before_message ds l r) r.message) (code ++ validation_code f i (tree_code ds l r.expression, message_codes ds (before_message ds l r) r.message)) (n + rule_nodes r)
+same_validation : {e : Emitted} {l : Laid} {code : List Insn} {n : ℕ} (f : FailurePolicy) (i : ℕ) (ds : List Declaration) (r : ValidationTree) → Same e l code n
+    → Same (with_validation f i ds e (validation_expanded r)) (with_message_laid ds (before_message ds l r) r.message) (code ++ validation_code f i (tree_code ds l r.expression, message_codes ds (before_message ds l r) r.message)) (n + rule_nodes r)
 same_validation f i ds r s = same_at (same_result f i ds r.message (same_expression (same_nodes s 1) ds r.expression)) (simp append_assoc) (omega arith)
 
 -- what stands behind validations
-abbrev after_rules : List Declaration → Laid → List RuleTree → Laid
+abbrev after_rules : List Declaration → Laid → List ValidationTree → Laid
 after_rules ds l [] = l
 after_rules ds l (r ∷ more) = after_rules ds (with_message_laid ds (before_message ds l r) r.message) more
 
-same_validations : (f : FailurePolicy) (ds : List Declaration) (rs : List RuleTree) (i : ℕ) {e : Emitted} {l : Laid} {code : List Insn} {n : ℕ}
+same_validations : (f : FailurePolicy) (ds : List Declaration) (rs : List ValidationTree) (i : ℕ) {e : Emitted} {l : Laid} {code : List Insn} {n : ℕ}
     → Same e l code n
-    → Same (with_validations f i ds e (map rule_expanded rs)) (after_rules ds l rs)
+    → Same (with_validations f i ds e (map validation_expanded rs)) (after_rules ds l rs)
     (code ++ validations_code f i (validation_codes ds l rs)) (n + sum_by rule_nodes rs)
 unfolding validations_code
 same_validations f ds [] i {code = code} s = same_at s (sym (append-nil code)) (omega arith)
@@ -309,7 +310,7 @@ abbrev pub emitted_of : FailurePolicy → PolicyTree → Emitted
 emitted_of f t =
     let variables = with_variables (scope_after t.variables) 0 (with_nodes no_code 1) (map variable_expanded t.variables) in
     let conditions = with_decided (with_conditions f variables (map expanded t.conditions)) (map expanded t.conditions) in
-    with_piece (with_validations f 0 (scope_after t.variables) conditions (map rule_expanded t.validations)) outcome_tail
+    with_piece (with_validations f 0 (scope_after t.variables) conditions (map validation_expanded t.validations)) outcome_tail
 
 -- its program without the exit
 abbrev pub code_before : FailurePolicy → PolicyTree → List Insn
@@ -330,7 +331,7 @@ whole_is f t =
     let rules = same_validations f (scope_after t.variables) t.validations 0 conditions in
     same_at (same_piece rules outcome_tail 7 outcome_tail_size) (simp append_assoc) refl
 
-rules_texts : (ds : List Declaration) (l : Laid) (rs : List RuleTree) → (after_rules ds l rs).texts ≡ with_texts l.texts (validation_texts rs)
+rules_texts : (ds : List Declaration) (l : Laid) (rs : List ValidationTree) → (after_rules ds l rs).texts ≡ with_texts l.texts (validation_texts rs)
 rules_texts ds l [] = refl
 rules_texts ds l (r ∷ more) = grind (arith, message_texts_are, fold-append, rules_texts ds (with_message_laid ds (before_message ds l r) r.message) more)
 
@@ -344,7 +345,7 @@ nodes_counted f t = (whole_is f t).nodes_are
 pub texts_counted : (f : FailurePolicy) (t : PolicyTree) → (emitted_of f t).constants ≡ policy_texts t
 texts_counted f t = (whole_is f t).texts_are ∙ texts_laid t
 
-pub policy_emitted : (f : FailurePolicy) (t : PolicyTree) → policy_nodes t ≤ 512 → (emitted_of f t).code ≡ slots (code_before f t)
+pub policy_emitted : (f : FailurePolicy) (t : PolicyTree) → policy_nodes t ≤ node_limit → (emitted_of f t).code ≡ slots (code_before f t)
 unfolding program_of
 policy_emitted f t few =
     let short = program_is_short f t in
@@ -357,19 +358,19 @@ emitted_is f c t is = grind arith
 
 -- ---- limits
 
-pub too_long : (f : FailurePolicy) (t : PolicyTree) → IsTooLong (emitted_of f t) → 65536 < 128 * policy_nodes t
+pub too_long : (f : FailurePolicy) (t : PolicyTree) → IsTooLong (emitted_of f t) → slot_limit < slots_per_node * policy_nodes t
 too_long f t h = let counted = nodes_counted f t in omega arith
 
-pub too_long_is : (f : FailurePolicy) (t : PolicyTree) → 65536 < 128 * policy_nodes t → IsTooLong (emitted_of f t)
+pub too_long_is : (f : FailurePolicy) (t : PolicyTree) → slot_limit < slots_per_node * policy_nodes t → IsTooLong (emitted_of f t)
 too_long_is f t h = let counted = nodes_counted f t in omega arith
 
 joined_counted : (f : FailurePolicy) (t : PolicyTree) → length (joined (emitted_of f t).constants) ≡ length (joined (policy_texts t))
 joined_counted f t = ap (λ (texts : List (List ℕ)). length (joined texts)) (texts_counted f t)
 
-pub excess_long : (f : FailurePolicy) (t : PolicyTree) → IsTooLong (emitted_of f t) → excess t ≡ Some G3
-excess_long f t h = rw (lt-ltb 65536 (128 * policy_nodes t) (too_long f t h)) refl
+pub excess_long : (f : FailurePolicy) (t : PolicyTree) → IsTooLong (emitted_of f t) → excess t ≡ Some TooManyNodes
+excess_long f t h = rw (lt-ltb slot_limit (slots_per_node * policy_nodes t) (too_long f t h)) refl
 
-not_long : (f : FailurePolicy) (t : PolicyTree) → (IsTooLong (emitted_of f t) → ⊥) → 128 * policy_nodes t ≤ 65536
+not_long : (f : FailurePolicy) (t : PolicyTree) → (IsTooLong (emitted_of f t) → ⊥) → slots_per_node * policy_nodes t ≤ slot_limit
 not_long f t short = grind (arith, cases_lt, too_long_is)
 
 -- ---- bytes
@@ -393,10 +394,10 @@ module _ (f : FailurePolicy) (c : Checked) (t : PolicyTree) (is : IsChecked c t)
       → constants ≡ joined e.constants → (excess t ≡ None) × (code ≡ spellings (program_of f t)) × (constants ≡ joined (policy_texts t))
   answers_program = rw (took ∙ emitted_is f c t is) (finished f t)
 
-  pub answers_long : IsTooLong e → excess t ≡ Some G3
+  pub answers_long : IsTooLong e → excess t ≡ Some TooManyNodes
   answers_long = rw (took ∙ emitted_is f c t is) (excess_long f t)
 
-  pub answers_texts : (IsTooLong e → ⊥) → HasTooManyTexts e → excess t ≡ Some G4
+  pub answers_texts : (IsTooLong e → ⊥) → HasTooManyTexts e → excess t ≡ Some TooManyTextBytes
   answers_texts = rw (took ∙ emitted_is f c t is) (grind (arith, joined_counted, le-ltb, not_long, lt-ltb))
 
 pub no_error : {T E : Type 0} (x : T) (e : E) → IsErrOf (Ok x) e → ⊥

@@ -1,5 +1,5 @@
 -- Lists of the code, over plain variables.
-use Rattle.policy_glue.proofs.Prelude.{◌≡◌, ℕ, Bool, List, [], ◌∷◌, map, string_bytes, refl, ap, ◌++◌, Option, Some, None, true, false, append-nil, codes, ◌<◌, ◌+◌, zero, suc, length, set, get_or, arith, sym, ◌∙◌, subst, ◌||◌, slice_get, list_any, bytes_eq, NamedExpression, named_view, rule_view, has_line_break, each, separator_of, cases_lt, get_or-set_other, get_or-set_same, length-set, map-set, slice_get-get_or, lent}
+use Rattle.policy_glue.proofs.Prelude.{◌≡◌, ℕ, Bool, List, [], ◌∷◌, map, string_bytes, refl, ap, ◌++◌, Option, Some, None, true, false, append-nil, codes, ◌<◌, ◌+◌, zero, suc, length, set, get_or, arith, sym, ◌∙◌, subst, ◌||◌, slice_get, list_any, bytes_eq, CodeNamedExpression, named_view, validation_view, has_line_break, each, separator_of, cases_lt, get_or-set_other, get_or-set_same, length-set, map-set, slice_get-get_or, lent}
 use Rattle.policy_glue.specs.declared.validation.Validation.{Validation}
 use Rattle.serde_json.specs.Data as json
 use Rattle.policy_glue.specs.Response.{joined}
@@ -8,11 +8,11 @@ list_any_map : {A B : Type 0} (p : B → Bool) (f : A → B) (xs : List A) → l
 list_any_map p f [] = refl
 list_any_map p f (x ∷ xs) = ap (λ b. p (f x) || b) (list_any_map p f xs)
 
-pub name_in_views : (name : List ℕ) (ns : List NamedExpression) → list_any (λ n. bytes_eq name (string_bytes n.name)) ns ≡ list_any (λ n. bytes_eq name n.name) (map named_view ns)
+pub name_in_views : (name : List ℕ) (ns : List CodeNamedExpression) → list_any (λ n. bytes_eq name (string_bytes n.name)) ns ≡ list_any (λ n. bytes_eq name n.name) (map named_view ns)
 name_in_views name ns = list_any_map (λ n. bytes_eq name n.name) named_view ns
 
-pub breaks_in_views : (vs : List Validation) → list_any (λ v. has_line_break (string_bytes v.message)) vs ≡ list_any (λ r. has_line_break r.message) (map rule_view vs)
-breaks_in_views vs = list_any_map (λ r. has_line_break r.message) rule_view vs
+pub breaks_in_views : (vs : List Validation) → list_any (λ v. has_line_break (string_bytes v.message)) vs ≡ list_any (λ r. has_line_break r.message) (map validation_view vs)
+breaks_in_views vs = list_any_map (λ r. has_line_break r.message) validation_view vs
 
 abbrev pub all_before : {A : Type 0} → List A → Option (List A) → Option (List A)
 all_before xs (Some ys) = Some (xs ++ ys)

@@ -1,5 +1,5 @@
 -- A policy has one answer, and one image.
-use Rattle.policy_glue.proofs.Prelude.{◌≡◌, ℕ, List, [], Result, Ok, Err, refl, sym, ap, ◌∙◌, subst, true≢false, ◌∷◌, ◌++◌, length, arith, Lexeme, ReadError, IsAnswer, spoken, Tree, one_refusal, whole_unique, one_list, only_of, Declaration, allowed, CelType, ConditionsEnd, Ends, IsNoRule, IsNoneOf, IsOneOf, IsOther, IsRefused, IsRule, IsTaken, IsVariable, PartsEnd, Reads, RefusesCondition, RefusesRule, RefusesVariable, TakesCondition, TakesRule, TakesVariable, ValidationsEnd, VariablesEnd, expression, expression_judged, judged, of_another_type, refused, scope_after, texts, truths, unread, variable_judged, CompileError, K6, K7, K9, ExpressionError, Unread, PartKind, HasOneImage, Compiles, excess, Named, Rule, Rules, PolicyTree, RuleTree, VariableTree, Condition, Message, Validation}
+use Rattle.policy_glue.proofs.Prelude.{◌≡◌, ℕ, List, [], Result, Ok, Err, refl, sym, ap, ◌∙◌, subst, true≢false, ◌∷◌, ◌++◌, length, arith, Token, ReadError, IsReadResult, words_only, Tree, one_refusal, whole_unique, one_list, only_of, Declaration, allowed, CelType, ConditionsEnd, TakenOrRefused, IsNoValidation, IsNoneOf, IsOneOf, HasOtherType, IsExpressionRefused, IsValidation, IsTaken, IsVariable, PartsEnd, ReadsTree, RefusesCondition, RefusesValidation, RefusesVariable, TakesCondition, TakesValidation, TakesVariable, ValidationsEnd, VariablesEnd, expression, expression_judged, judged, of_another_type, refused, scope_after, texts, truths, unread, variable_judged, CompileError, InvalidExpression, NotABool, MessageNotAString, ExpressionError, Unread, PartKind, HasOneImage, Compiles, excess, NamedExpression, Validation, Policy, PolicyTree, ValidationTree, VariableTree, Condition, Message, CodeValidation, open_limit}
 use Rattle.cel_reader.specs.Answers.{IsExpression}
 use Rattle.policy_glue.specs.Checking as checking
 use Rattle.policy_glue.specs.Limits as limits
@@ -16,12 +16,12 @@ ok_is_no_err x e is = cc
 
 -- ---- expressions
 
-pub reads_once : (text : List ℕ) (a b : Tree) → Reads text a → Reads text b → a ≡ b
+pub reads_once : (text : List ℕ) (a b : Tree) → ReadsTree text a → ReadsTree text b → a ≡ b
 reads_once text a b r s =
-    whole_unique 100 100 (spoken s.0) a b (subst (λ (ls : List Lexeme). IsExpression 100 (spoken ls) a) (one_list text r.0 s.0 r.1 s.1) r.2) s.2
+    whole_unique open_limit open_limit (words_only s.0) a b (subst (λ (ls : List Token). IsExpression open_limit (words_only ls) a) (one_list text r.0 s.0 r.1 s.1) r.2) s.2
 
 -- a text that is an expression is not refused for its form
-not_unread : (text : List ℕ) (a : Tree) (e : ReadError) → Reads text a → IsAnswer text (Err e) → ⊥
+not_unread : (text : List ℕ) (a : Tree) (e : ReadError) → ReadsTree text a → IsReadResult text (Err e) → ⊥
 not_unread text a e r is = is.some (ap Err (only_of text (Err e) is.answers r.0 a r.1 r.2))
 
 -- ---- what is judged
@@ -31,11 +31,11 @@ module _ (judge : Tree → Result CelType ExpressionError) (text : List ℕ) whe
   type_once a b t u taken other = ok_same t u (sym taken.judged ∙ ap judge (reads_once text a b taken.reads other.reads) ∙ other.judged)
 
   -- what is taken is not refused
-  pub not_refused : (a : Tree) (t : CelType) (e : ExpressionError) → IsTaken judge text a t → IsRefused judge text e → ⊥
+  pub not_refused : (a : Tree) (t : CelType) (e : ExpressionError) → IsTaken judge text a t → IsExpressionRefused judge text e → ⊥
   not_refused a t e taken (unread x is) = not_unread text a x taken.reads is
   not_refused a t e taken (judged b x reads is) = ok_is_no_err t x (sym taken.judged ∙ ap judge (reads_once text a b taken.reads reads) ∙ is)
 
-  pub refused_once : (e f : ExpressionError) → IsRefused judge text e → IsRefused judge text f → e ≡ f
+  pub refused_once : (e f : ExpressionError) → IsExpressionRefused judge text e → IsExpressionRefused judge text f → e ≡ f
   refused_once e f (unread x is) (unread y also) = ap Unread (one_refusal text x y is also)
   refused_once e f (unread x is) (judged b y reads also) = absurd (not_unread text b x reads is)
   refused_once e f (judged a x reads is) (unread y also) = absurd (not_unread text a y reads also)
@@ -47,7 +47,7 @@ module _ (types : List CelType) (scope : List Declaration) (text : List ℕ) whe
   pub one_of_once : (a b : Tree) → IsOneOf types scope text a → IsOneOf types scope text b → a ≡ b
   one_of_once a b one other = reads_once text a b one.taken.reads other.taken.reads
 
-  not_other : (a : Tree) → IsOneOf types scope text a → IsOther types scope text → ⊥
+  not_other : (a : Tree) → IsOneOf types scope text a → HasOtherType types scope text → ⊥
   not_other a one other = true≢false (sym one.kind ∙ ap (allowed types) (type_once (expression_judged scope) text a other.tree one.cel_type other.cel_type one.taken other.taken) ∙ other.kind)
 
   module _ (other : CompileError) (part : PartKind) (place : ℕ) where
@@ -56,7 +56,7 @@ module _ (types : List CelType) (scope : List Declaration) (text : List ℕ) whe
     not_none a e one (of_another_type is) = not_other a one is
 
     pub none_once : (e f : CompileError) → IsNoneOf types other part place scope text e → IsNoneOf types other part place scope text f → e ≡ f
-    none_once e f (refused x because) (refused y also) = ap (K6 part place) (refused_once (expression_judged scope) text x y because also)
+    none_once e f (refused x because) (refused y also) = ap (InvalidExpression part place) (refused_once (expression_judged scope) text x y because also)
     none_once e f (refused x because) (of_another_type is) = absurd (not_refused (expression_judged scope) text is.tree is.cel_type x is.taken because)
     none_once e f (of_another_type is) (refused y because) = absurd (not_refused (expression_judged scope) text is.tree is.cel_type y is.taken because)
     none_once e f (of_another_type is) (of_another_type also) = refl
@@ -72,7 +72,7 @@ module _ {A B : Type 0} (Takes : List B → A → B → Type 0) (Refuses : List 
     (takes_once : (taken : List B) (part : A) (x y : B) → Takes taken part x → Takes taken part y → x ≡ y)
     (takes_or_refuses : (taken : List B) (part : A) (x : B) (e : CompileError) → Takes taken part x → Refuses taken part e → ⊥)
     (refuses_once : (taken : List B) (part : A) (e f : CompileError) → Refuses taken part e → Refuses taken part f → e ≡ f) where
-  ends_once : (taken : List B) (parts : List A) (r s : Result (List B) CompileError) → Ends Takes Refuses taken parts r → Ends Takes Refuses taken parts s
+  ends_once : (taken : List B) (parts : List A) (r s : Result (List B) CompileError) → TakenOrRefused Takes Refuses taken parts r → TakenOrRefused Takes Refuses taken parts s
       → r ≡ s
   ends_once taken [] r s checking.over checking.over = refl
   ends_once taken (part ∷ more) r s (checking.refused e because) (checking.refused f also) = ap Err (refuses_once taken part e f because also)
@@ -80,17 +80,17 @@ module _ {A B : Type 0} (Takes : List B → A → B → Type 0) (Refuses : List 
   ends_once taken (part ∷ more) r s (checking.next x takes ends) (checking.refused f because) = absurd (takes_or_refuses taken part x f takes because)
   ends_once taken (part ∷ more) r s (checking.next x takes ends) (checking.next y also rest) =
       let same = takes_once taken part x y takes also in
-      ends_once (taken ++ y ∷ []) more r s (subst (λ (z : B). Ends Takes Refuses (taken ++ z ∷ []) more r) same ends) rest
+      ends_once (taken ++ y ∷ []) more r s (subst (λ (z : B). TakenOrRefused Takes Refuses (taken ++ z ∷ []) more r) same ends) rest
 
 -- ---- variables
 
-variable_once : (scope : List Declaration) (n : Named) (x y : VariableTree) → IsVariable scope n x → IsVariable scope n y → x ≡ y
+variable_once : (scope : List Declaration) (n : NamedExpression) (x y : VariableTree) → IsVariable scope n x → IsVariable scope n y → x ≡ y
 variable_once scope n x y is also =
     let name : x.name ≡ y.name = is.name ∙ sym also.name in
     let tree : x.expression ≡ y.expression = reads_once n.expression x.expression y.expression is.tree.reads also.tree.reads in
     λ i. record { name = name i; expression = tree i }
 
-variables_once : (ns : List Named) (r s : Result (List VariableTree) CompileError) → VariablesEnd ns r → VariablesEnd ns s → r ≡ s
+variables_once : (ns : List NamedExpression) (r s : Result (List VariableTree) CompileError) → VariablesEnd ns r → VariablesEnd ns s → r ≡ s
 variables_once ns r s ends also =
     ends_once TakesVariable RefusesVariable
     (λ taken n x y. variable_once (scope_after taken) n x y)
@@ -100,39 +100,39 @@ variables_once ns r s ends also =
 
 -- ---- conditions
 
-conditions_once : (ns : List Named) (r s : Result (List Tree) CompileError) → ConditionsEnd ns r → ConditionsEnd ns s → r ≡ s
+conditions_once : (ns : List NamedExpression) (r s : Result (List Tree) CompileError) → ConditionsEnd ns r → ConditionsEnd ns s → r ≡ s
 conditions_once ns r s ends also =
     ends_once TakesCondition RefusesCondition
     (λ taken n x y. one_of_once truths [] n.expression x y)
-    (λ taken n x e. not_none truths [] n.expression K7 Condition (length taken) x e)
-    (λ taken n e f. none_once truths [] n.expression K7 Condition (length taken) e f)
+    (λ taken n x e. not_none truths [] n.expression NotABool Condition (length taken) x e)
+    (λ taken n e f. none_once truths [] n.expression NotABool Condition (length taken) e f)
     [] ns r s ends also
 
 -- ---- validations
 
 module _ (scope : List Declaration) where
-  rule_once : (n : Rule) (x y : RuleTree) → IsRule scope n x → IsRule scope n y → x ≡ y
+  rule_once : (n : Validation) (x y : ValidationTree) → IsValidation scope n x → IsValidation scope n y → x ≡ y
   rule_once n x y is also =
       let tree : x.expression ≡ y.expression = one_of_once truths scope n.expression x.expression y.expression is.expression also.expression in
       let message : x.message ≡ y.message = grind (arith, one_of_once) in
       λ i. record { expression = tree i; message = message i }
 
-  rule_or_none : (place : ℕ) (n : Rule) (x : RuleTree) (e : CompileError) → IsRule scope n x → IsNoRule scope place n e → ⊥
-  rule_or_none place n x e is (checking.expression f none) = not_none truths scope n.expression K7 Validation place x.expression f is.expression none
+  rule_or_none : (place : ℕ) (n : Validation) (x : ValidationTree) (e : CompileError) → IsValidation scope n x → IsNoValidation scope place n e → ⊥
+  rule_or_none place n x e is (checking.expression f none) = not_none truths scope n.expression NotABool CodeValidation place x.expression f is.expression none
   rule_or_none place n x e is (checking.message a text f one source none) = grind (arith, not_none)
 
-  no_rule_once : (place : ℕ) (n : Rule) (e f : CompileError) → IsNoRule scope place n e → IsNoRule scope place n f → e ≡ f
-  no_rule_once place n e f (checking.expression x none) (checking.expression y other) = none_once truths scope n.expression K7 Validation place x y none other
+  no_rule_once : (place : ℕ) (n : Validation) (e f : CompileError) → IsNoValidation scope place n e → IsNoValidation scope place n f → e ≡ f
+  no_rule_once place n e f (checking.expression x none) (checking.expression y other) = none_once truths scope n.expression NotABool CodeValidation place x y none other
   no_rule_once place n e f (checking.expression x none) (checking.message b text y one is other) =
-      absurd (not_none truths scope n.expression K7 Validation place b x one none)
+      absurd (not_none truths scope n.expression NotABool CodeValidation place b x one none)
   no_rule_once place n e f (checking.message a text x one is none) (checking.expression y other) =
-      absurd (not_none truths scope n.expression K7 Validation place a y one other)
+      absurd (not_none truths scope n.expression NotABool CodeValidation place a y one other)
   no_rule_once place n e f (checking.message a text x one is none) (checking.message b source y two also other) =
-      none_once texts scope source K9 Message place x y (subst (λ (t : List ℕ). IsNoneOf texts K9 Message place scope t x) (cc) none) other
+      none_once texts scope source MessageNotAString Message place x y (subst (λ (t : List ℕ). IsNoneOf texts MessageNotAString Message place scope t x) (cc) none) other
 
-  validations_once : (ns : List Rule) (r s : Result (List RuleTree) CompileError) → ValidationsEnd scope ns r → ValidationsEnd scope ns s → r ≡ s
+  validations_once : (ns : List Validation) (r s : Result (List ValidationTree) CompileError) → ValidationsEnd scope ns r → ValidationsEnd scope ns s → r ≡ s
   validations_once ns r s ends also =
-      ends_once (TakesRule scope) (RefusesRule scope)
+      ends_once (TakesValidation scope) (RefusesValidation scope)
       (λ taken n x y. rule_once n x y)
       (λ taken n x e. rule_or_none (length taken) n x e)
       (λ taken n e f. no_rule_once (length taken) n e f)
@@ -140,8 +140,8 @@ module _ (scope : List Declaration) where
 
 -- ---- the policy
 
-module _ (p : Rules) where
-  rules_once : (vs ws : List VariableTree) (r s : Result (List RuleTree) CompileError) → VariablesEnd p.variables (Ok vs) → VariablesEnd p.variables (Ok ws)
+module _ (p : Policy) where
+  rules_once : (vs ws : List VariableTree) (r s : Result (List ValidationTree) CompileError) → VariablesEnd p.variables (Ok vs) → VariablesEnd p.variables (Ok ws)
       → ValidationsEnd (scope_after vs) p.validations r → ValidationsEnd (scope_after ws) p.validations s → r ≡ s
   rules_once vs ws r s v w ends also = validations_once (scope_after ws) p.validations r s (grind (arith, ok_same, variables_once)) also
 

@@ -1,38 +1,255 @@
 -- The names that these proofs cite of the library, of the crates below and of the definitions here. Declares nothing.
-pub use Rattle.std.proofs.{Common.All, Common.Bool, Common.Err, Common.IfOk, Common.IfSome, Common.IsErr, Common.IsErrOf, Common.List, Common.None, Common.Ok, Common.OnOk, Common.Option, Common.Result, Common.Some, Common.nat_le, Common.ℕ, Common.ℤ, Common.[], Common.ap, Common.append-nil, Common.append_assoc, Common.arith, Common.codes, Common.count_by, Common.drop, Common.false, Common.fold, Common.get_or, Common.if◌then◌else◌, Common.length, Common.length-append, Common.map, Common.nat_lt, Common.not, Common.option_map, Common.pos, Common.refl, Common.rules, Common.set, Common.slice_get, Common.slice_index, Common.slice_index_or, Common.slice_set, Common.string_bytes, Common.subst, Common.suc, Common.sym, Common.take, Common.true, Common.true≢false, Common.vec_len, Common.zero, Common.◌%◌, Common.◌&&◌, Common.◌*◌, Common.◌++◌, Common.◌+◌, Common.◌-◌, Common.◌<◌, Common.◌^◌, Common.◌||◌, Common.◌∙◌, Common.◌∷◌, Common.◌≡◌, Common.◌≢◌, Common.◌≤◌, Math.ListN.drop_of_length-le, Math.Seq.take-append_seam, lemmas.Bool.and_from, lemmas.Bool.and_parts, lemmas.Bool.cases_eq, lemmas.Bool.cases_lt, lemmas.Bool.false≢true, lemmas.Bool.le-leb, lemmas.Bool.le-ltb, lemmas.Bool.leb-true, lemmas.Bool.lt-ltb, lemmas.Bool.ltb-false, lemmas.Bool.Decides.nat_tests, lemmas.Cmp.nat_list_eq_equiv, lemmas.Int.ints, lemmas.List.drop_more, lemmas.List.get_or-set_other, lemmas.List.get_or-set_same, lemmas.List.length-map, lemmas.List.length-set, lemmas.List.map-append, lemmas.List.map-set, lemmas.List.take-append-drop, lemmas.List.take_more, lemmas.List.Elements.All-head, lemmas.List.Elements.All-push, lemmas.List.Elements.All-tail, lemmas.List.Folds.list_any-append, lemmas.List.Sums.count_by-le-length, lemmas.List.Sums.fold-append, lemmas.List.Sums.sum_by-append, lemmas.List.Sums.sum_by-cons, lemmas.Map.Text.is_eq-slice_cmp, lemmas.Option.slice_get-get_or, lemmas.Option.slice_get-map, lemmas.Option.slice_get_past, lemmas.Option.slice_get_read, lemmas.Result.IfOk-weaker, lemmas.Result.on_ok_weaker, lemmas.Str.IsUtf8-from_is_utf8, lemmas.Str.is_utf8-from_IsUtf8}
-pub use Rattle.std.specs.{BTreeSet.BTreeSet, BTreeSet.IsEmpty, BTreeSet.Updates, BTreeSet.contains, Borrow.Bor, Cmp.Lexicographic.slice_cmp, Int.cast_unsigned, Int.w64, List.list_all, List.list_any, List.sum_by, Ordering.is_eq, Ordering.nat_cmp, Prelude.⊤, Result.IsErrAnd, Str.IsUtf8, Str.bytes_eq}
-unfoldable pub use Rattle.std.specs.{Char.encode_utf8, Fmt.digits, Str.chars, Str.is_utf8}
-pub use Rattle.bpf_machine.specs.{Access.loaded, Access.stored, Decoding.DecodesSpelling, Decoding.fetched, Laws.stays_stopped, Operands.is_frame_pointer, State.State, Words.compares, declared.frame.Frame.Frame}
-unfoldable pub use Rattle.bpf_machine.specs.{Access.load_row, Access.load_wide_row, Access.store_row, Arithmetic.alu_row, Decoding.insn_at, HelperCalls.call_row, Jumps.branch_row, Jumps.call_local_row, Jumps.exit_row, Jumps.jump_row, State.null_values, State.start_state, Step.next_state, Trace.state_after}
-unfoldable pub use Rattle.bpf_word.specs.{Arithmetic.alu64_of, Arithmetic.operated, Comparisons.holds_of}
-pub use Rattle.cel_macros.proofs.{Expansion.expansion_plain}
-pub use Rattle.cel_macros.specs.{CoreTree.CoreTree, CoreView.core_view, Environment.Environment, Environment.Roots, MacroFault.ArgumentCount, MacroFault.IterationName, MacroFault.MacroFault, MacroFault.NoSelection, MacroFault.fault_error, declared.core_tree.Core.Core, declared.macro_error.MacroError.MacroError}
-unfoldable pub use Rattle.cel_macros.specs.{CoreTree.expanded, CoreTree.plain_tree, Environment.is_root, Environment.name_value, Environment.variable_value, Functions.function_named, Functions.test_named, MacroFault.macro_fault, Macros.is_has, Macros.is_map, Macros.is_variables, Macros.macro_named, Meaning.meaning}
-pub use Rattle.cel_measures.specs.{Measures.depth, Saturated.saturated}
-unfoldable pub use Rattle.cel_measures.specs.{Measures.deepest, Measures.need, Measures.nodes}
-pub use Rattle.cel_reader.proofs.{OneAnswer.one_refusal, Theorems.whole_unique, Told.one_list, Told.only_of}
-pub use Rattle.cel_reader.specs.{Answers.Answers, Answers.IsAnswer, Answers.Placed, Look.spoken, Tree.Entries, Tree.Tree, Tree.Trees, Tree.more_entries, Tree.more_trees, Tree.no_entries, Tree.no_trees, Tree.view, WellFormed.AreWellFormed, WellFormed.HasWellFormedEntries, WellFormed.IsWellFormed}
-unfoldable pub use Rattle.cel_reader.specs.{Words.is_reserved, Words.role_of}
-pub use Rattle.cel_tokens.specs.{Token.Lexeme, declared.read_error.ReadError.ReadError, declared.read_error.ReadError.TheVariants.P1, declared.read_error.ReadError.TheVariants.P2, declared.read_error.ReadError.TheVariants.P3, declared.read_error.ReadError.TheVariants.P4, declared.read_error.ReadError.TheVariants.P5, declared.read_error.ReadError.TheVariants.P6}
-pub use Rattle.cel_types.proofs.{CoreTypes.expansion_typed}
-pub use Rattle.cel_types.specs.{Declarations.Declaration, Declarations.declaration, Declarations.declared, Declarations.depths_of, Declarations.scope_of, Types.Typing, Types.allowed, declared.cel_type.CelType.CelType}
-unfoldable pub use Rattle.cel_types.specs.{Scope.name_type, Scope.variable_type, Typing.typing}
-pub use Rattle.codegen.proofs.{CodeInsns.AreLow, CodeInsns.AreNear, CodeInsns.near_named, Finished.slot_spellings-append, Finished.slots_spelled, Layer.expression_gives, Layer.frames_are_enough, Layer.variable_is_taken, Layer.variable_joins, Whole.whole_insns, Whole.whole_short}
-pub use Rattle.codegen.specs.{Added.code_at, Added.has_room, Added.passed, Added.with_counted, Added.with_expression, Computes.environment_in, Computes.variable_of, Constants.joined, Constants.with_text, Constants.with_texts, Cost.Cost, Cost.IsDeep, Cost.spent_by, Emitted.Emitted, Emitted.HasTooManyTexts, Emitted.IsTooLong, Emitted.no_code, Emitted.slot_spellings, Emitted.with_insn_at, Emitted.with_nodes, Emitted.with_piece, HasLiterals.EntriesHaveLiterals, HasLiterals.HasLiterals, HasLiterals.HaveLiterals, Layer.AreShallow, Layer.HasConstants, Layer.IsExpression, Surroundings.routines_of}
-unfoldable pub use Rattle.codegen.specs.{Code.Expressions.code_of, Code.Expressions.texts_of, Code.Whole.first_path, Code.Whole.whole_code, Cost.cost}
-pub use Rattle.codegen_base.proofs.{Accesses.has_verdict, Effects.add_is, Effects.differs_no, Effects.differs_yes, Effects.does, Effects.equal_no, Effects.equal_yes, Effects.operand_is, Effects.register_set, Exits.comes_to_exit, Frames.fits_registers, Frames.fits_verdict, HelperAnswers.helpers, Insns.insns_append, Insns.memo_insns, Later.wider_gives, Listings.alu, Listings.ask, Listings.begins, Listings.jump, Listings.load_wide, Listings.mov, Listings.no, Listings.yes, Operands.fits_told, Pieces.length-insn_slots, Pieces.length-spelling, Pieces.size-append, Pieces.size-cons, Pieces.slots-append, Pieces.stands_back, Pieces.stands_first, Pieces.stands_front, Pieces.stands_rest, Programs.charges-most, Programs.halts_into, Programs.start_fits, Programs.start_is, Programs.steps-most, Programs.word_in-zeros, Runs.and_then, Runs.done, Runs.from_place, Runs.into, Runs.looser, Runs.one, Runs.to_place, Scopes.no_scope, Spelled.spelled_stands, Values.names_error, Values.small_reference, Values.told}
-pub use Rattle.codegen_base.specs.{Body.Body, Body.at, Body.set_register, Calls.Tells, Calls.answered, Contexts.Context, Contexts.Fits, Contexts.HasValues, Contexts.Shows, Engine.Comes, Engine.Halts, Engine.Setting, Instructions.skip, Pieces.AreInsns, Pieces.Stands, Pieces.size, Pieces.slots, Pieces.spellings, Programs.start_body, Programs.total, Scopes.IsScope, Scopes.Variable, Scopes.bindings, Scopes.first_charges, Scopes.first_steps, Scopes.scope_setting, Variables.memo_tail, Variables.routine_context, Words.Framed, Words.set_verdict, Words.verdict_address, Words.verdict_at}
-pub use Rattle.guest_memory.proofs.{RegionWords.put_word-other, RegionWords.put_word-same, RegionWords.read_word, RegionWords.write_word}
-pub use Rattle.guest_memory.specs.{Memory.Constants, Memory.IsMemory, Memory.Memory, Memory.base_of, declared.fault.Fault.Fault}
-unfoldable pub use Rattle.guest_memory.specs.{Access.constants_of, Access.read_of, Access.write_of, Memory.start_memory, RegionWords.put_word, RegionWords.word_in}
-pub use Rattle.helper_table.specs.{Conversions.kind_number, Laws.Names}
-unfoldable pub use Rattle.helper_table.specs.{Calls.row_of, Conversions.kind_row, Conversions.text_const_row, Numbers.of_number}
-pub use Rattle.insn_codec.specs.{Spelling.slot_count, Spelling.spelling, declared.comparison.Comparison.TheVariants.Eq, declared.comparison.Comparison.TheVariants.Ne, declared.insn.Insn.Insn, declared.insn.Insn.TheVariants.Exit, declared.insn.Insn.TheVariants.Load, declared.insn.Insn.TheVariants.Store, declared.insn.Insn.TheVariants.StoreImm, declared.operand.Operand.TheVariants.Imm, declared.operand.Operand.TheVariants.Reg, declared.register.Register.Register, declared.register.Register.TheVariants.R0, declared.register.Register.TheVariants.R1, declared.register.Register.TheVariants.R10, declared.register.Register.TheVariants.R2, declared.register.Register.TheVariants.R6, declared.size.Size.TheVariants.Dw, declared.width.Width.TheVariants.W64}
-unfoldable pub use Rattle.insn_codec.specs.{Candidate.arithmetic_at, Candidate.branch_at, Candidate.candidate_at, Candidate.jump_at, Candidate.memory_at, Candidate.wide_at, Spelled.spelled}
-pub use Rattle.loader.specs.{declared.version.Version.TheVariants.Second}
-unfoldable pub use Rattle.loader.specs.{Format.image_from}
-unfoldable pub use Rattle.serde_json.proofs.{OnLiterals.serde_json_on_literals}
-pub use Rattle.serde_json.specs.{Read.read, View.items_view, View.members_view}
-pub use Rattle.value_store.specs.{Calls.text_at, Placing.Contents, Placing.charge_limit, Seen.seen, Value.ValueOrError, Value.boolean, Value.error, Value.int, Value.list, Value.null, Value.text, Value.value}
-pub use Rattle.policy_glue.specs.{Budget.conditions_cost, Budget.is_running, Budget.message_cost, Budget.policy_spent, Budget.policy_work, Budget.rules_cost, Budget.runs_on, Budget.variables_cost, Checked.AreTaken, Checked.Checks, Checked.ChecksConditions, Checked.ChecksRule, Checked.ChecksRules, Checked.ChecksVariables, Checked.Expands, Checked.IsAdded, Checked.IsChecked, Checked.IsExpanded, Checked.IsFormedRule, Checked.IsFormedVariable, Checked.Judges, Checked.JudgesVariable, Checked.Sorts, Checked.SortsMessage, Checked.rule_expanded, Checked.rule_trees, Checked.variable_expanded, Checking.ConditionsEnd, Checking.Ends, Checking.IsNoRule, Checking.IsNoneOf, Checking.IsOneOf, Checking.IsOther, Checking.IsRefused, Checking.IsRule, Checking.IsTaken, Checking.IsVariable, Checking.PartsEnd, Checking.Reads, Checking.RefusesCondition, Checking.RefusesRule, Checking.RefusesVariable, Checking.TakesCondition, Checking.TakesRule, Checking.TakesVariable, Checking.ValidationsEnd, Checking.VariablesEnd, Checking.depth_in, Checking.expression, Checking.in_conditions, Checking.in_validations, Checking.in_variables, Checking.judged, Checking.message, Checking.next, Checking.of_another_type, Checking.other_type, Checking.over, Checking.refused, Checking.scope_after, Checking.taken, Checking.texts, Checking.truths, Checking.type_or_any, Checking.types_of, Checking.unread, Checking.variable_judged, Checking.with_depth, Checking.with_macros, Checking.with_typing, Checking.with_variable, CompileErrors.from_macros, CompileErrors.from_reader, CompileErrors.in_part, Compiled.CompilesTo, Compiled.IsCompiled, Denials.denial_view, Denials.denials_told, Denials.denies_word, Denials.lent, Documents.each, Documents.keys_within, Emission.Emits, Emission.FitInOrder, Emission.HasTrees, Emission.MayFit, Emission.emitted, Emission.with_condition, Emission.with_conditions, Emission.with_decided, Emission.with_result, Emission.with_validation, Emission.with_validations, Emission.with_variables, Emission.with_way, Evaluation.condition_values, Evaluation.environment_with, Evaluation.rule_value, Evaluation.values_of, Evaluation.with_value, Layout.AreRead, Layout.IsLayout, Layout.IsMessageWord, Layout.Tell, Layout.Words, Layout.finding_word, Layout.first_message, Layout.first_result, Layout.message_at, Layout.message_in, Layout.most_validations, Layout.ok_or_zero, Layout.outcome_word, Layout.result_at, Layout.text_named, Layout.truth_word, Layout.words_view, Limits.Compiles, Limits.condition_texts, Limits.excess, Limits.message_nodes, Limits.message_texts, Limits.part_nodes, Limits.rule_nodes, Limits.rule_texts, Limits.tree_texts, Limits.validation_texts, Limits.variable_texts, Objections.Objection, Objections.objected_tree, Objections.objection_by, Objections.objection_of, Objections.objection_told, Objections.objection_view, OneAnswer.HasOneImage, OneImage.OneImage, OneImage.contents, Policy.Named, Policy.Rule, Policy.Rules, Policy.named_view, Policy.rule_view, Policy.rules_view, Program.decided_code, Program.decided_tail, Program.error_way, Program.if_true, Program.leave_error, Program.message_code, Program.result_code, Program.routines_code, Program.validation_code, ProgramCode.Laid, ProgramCode.after_condition, ProgramCode.after_conditions, ProgramCode.after_variables, ProgramCode.before_message, ProgramCode.condition_codes, ProgramCode.laid_conditions, ProgramCode.laid_routines, ProgramCode.message_codes, ProgramCode.nothing_laid, ProgramCode.texts_with, ProgramCode.tree_code, ProgramCode.validation_codes, ProgramCode.variable_code, ProgramCode.variable_codes, ProgramCode.with_message, ProgramCode.with_routine, ProgramCode.with_slots, ProgramCode.with_tree, ProgramLaws.LeavesVerdict, ProgramLaws.PolicyDecides, ProgramLaws.conditions_place, ProgramLaws.passes, ProgramLaws.program_charge, ProgramLaws.program_steps, ProgramLaws.validations_place, ProgramParts.ConditionsGive, ProgramParts.MessageGives, ProgramParts.Part, ProgramParts.PartGives, ProgramParts.RulePart, ProgramParts.ValidationsGive, ProgramParts.codes_of, ProgramParts.conditions_charge, ProgramParts.conditions_steps, ProgramParts.decided_slots, ProgramParts.found, ProgramParts.message_charge, ProgramParts.message_size, ProgramParts.message_steps, ProgramParts.rule_charge, ProgramParts.rule_code, ProgramParts.rule_codes, ProgramParts.rule_size, ProgramParts.rule_steps, ProgramParts.rules_given, ProgramParts.validations_charge, ProgramParts.validations_steps, ProgramParts.values_given, ProgramTrees.AreConditions, ProgramTrees.AreRules, ProgramTrees.AreVariables, ProgramTrees.Decides, ProgramTrees.HasProgram, ProgramTrees.IsMessage, ProgramTrees.ProgramDecides, ProgramTrees.ProgramIsCode, ProgramTrees.ProgramIsShort, ProgramTrees.ProgramStops, Reading.IsAccepted, Reading.are_distinct, Reading.has_line_break, Reading.named_in, Reading.rule_in, Response.Denial, Response.denial_text, Response.denials_of, Response.separator_of, Response.tree_of, Trees.PolicyTree, Trees.RuleTree, Trees.VariableTree, Verdict.Admitted, Verdict.Denied, Verdict.Errs, Verdict.Fails, Verdict.Finding, Verdict.Holds, Verdict.Outcome, Verdict.Skipped, Verdict.Truth, Verdict.Verdict, Verdict.decided, Verdict.decided_before, Verdict.denies, Verdict.finding_of, Verdict.is_denial, Verdict.is_failed, Verdict.is_held, Verdict.judged_by, Verdict.text_given, Verdict.truth_of, Verdict.undecided, declared.checked.Checked.Checked, declared.checked_validation.CheckedValidation.CheckedValidation, declared.compile_error.CompileError.CompileError, declared.compile_error.CompileError.TheVariants.G3, declared.compile_error.CompileError.TheVariants.G4, declared.compile_error.CompileError.TheVariants.K6, declared.compile_error.CompileError.TheVariants.K7, declared.compile_error.CompileError.TheVariants.K9, declared.expression_error.ExpressionError.ExpressionError, declared.expression_error.ExpressionError.TheVariants.G1, declared.expression_error.ExpressionError.TheVariants.G2, declared.expression_error.ExpressionError.TheVariants.Unexpanded, declared.expression_error.ExpressionError.TheVariants.Unread, declared.expression_error.ExpressionError.TheVariants.Untyped, declared.failure_policy.FailurePolicy.FailurePolicy, declared.named_expression.NamedExpression.NamedExpression, declared.part_kind.PartKind.PartKind, declared.part_kind.PartKind.TheVariants.Condition, declared.part_kind.PartKind.TheVariants.Message, declared.part_kind.PartKind.TheVariants.Validation, declared.parts.Parts.Parts}
-unfoldable pub use Rattle.policy_glue.specs.{Budget.policy_cost, Checking.expression_judged, Documents.document_of, Evaluation.decision_of, Layout.verdict_word, Limits.policy_nodes, Limits.policy_texts, Objections.response_text, Program.condition_tail, Program.conditions_code, Program.denial_code, Program.message_tail, Program.outcome_tail, Program.policy_code, Program.validations_code, ProgramCode.program_of, Reading.has_head, Reading.has_spec_form, Reading.has_top_form, Reading.named_keys, Reading.named_parts, Reading.policy_in, Reading.policy_of, Reading.reason_in, Reading.rule_keys, Reading.rule_parts, Reading.spec_keys, Reading.spec_parts, Reading.top_keys, Response.response_of, Response.review_tree, Verdict.verdict_of}
+pub use Rattle.std.proofs.Common.{All, Bool, Err, IfOk, IfSome, IsErr, IsErrOf, List, None, Ok, OnOk, Option, Result}
+pub use Rattle.std.proofs.Common.{Some, nat_le, ℕ, ℤ, [], ap, append-nil, append_assoc, arith, codes, count_by, drop}
+pub use Rattle.std.proofs.Common.{false, fold, get_or, if◌then◌else◌, length, length-append, map, nat_lt, not}
+pub use Rattle.std.proofs.Common.{option_map, pos, refl, rules, set, slice_get, slice_index, slice_index_or}
+pub use Rattle.std.proofs.Common.{slice_set, string_bytes, subst, suc, sym, take, true, true≢false, vec_len, zero}
+pub use Rattle.std.proofs.Common.{◌%◌, ◌&&◌, ◌*◌, ◌++◌, ◌+◌, ◌-◌, ◌<◌, ◌^◌, ◌||◌, ◌∙◌, ◌∷◌, ◌≡◌, ◌≢◌, ◌≤◌}
+pub use Rattle.std.proofs.Math.ListN.{drop_of_length-le}
+pub use Rattle.std.proofs.Math.Seq.{take-append_seam}
+pub use Rattle.std.proofs.lemmas.Bool.{and_from, and_parts, cases_eq, cases_lt, false≢true, le-leb, le-ltb, leb-true}
+pub use Rattle.std.proofs.lemmas.Bool.{lt-ltb, ltb-false}
+pub use Rattle.std.proofs.lemmas.Bool.Decides.{nat_tests}
+pub use Rattle.std.proofs.lemmas.Cmp.{nat_list_eq_equiv}
+pub use Rattle.std.proofs.lemmas.Int.{ints}
+pub use Rattle.std.proofs.lemmas.List.{drop_more, get_or-set_other, get_or-set_same, length-map, length-set}
+pub use Rattle.std.proofs.lemmas.List.{map-append, map-set, take-append-drop, take_more}
+pub use Rattle.std.proofs.lemmas.List.Elements.{All-head, All-push, All-tail}
+pub use Rattle.std.proofs.lemmas.List.Folds.{list_any-append}
+pub use Rattle.std.proofs.lemmas.List.Sums.{count_by-le-length, fold-append, sum_by-append, sum_by-cons}
+pub use Rattle.std.proofs.lemmas.Map.Text.{is_eq-slice_cmp}
+pub use Rattle.std.proofs.lemmas.Option.{slice_get-get_or, slice_get-map, slice_get_past, slice_get_read}
+pub use Rattle.std.proofs.lemmas.Result.{IfOk-weaker, on_ok_weaker}
+pub use Rattle.std.proofs.lemmas.Str.{IsUtf8-from_is_utf8, is_utf8-from_IsUtf8}
+pub use Rattle.std.specs.BTreeSet.{BTreeSet, IsEmpty, Updates, contains}
+pub use Rattle.std.specs.Borrow.{Bor}
+pub use Rattle.std.specs.Cmp.Lexicographic.{slice_cmp}
+pub use Rattle.std.specs.Int.{cast_unsigned, w64}
+pub use Rattle.std.specs.List.{list_all, list_any, sum_by}
+pub use Rattle.std.specs.Ordering.{is_eq, nat_cmp}
+pub use Rattle.std.specs.Prelude.{⊤}
+pub use Rattle.std.specs.Result.{IsErrAnd}
+pub use Rattle.std.specs.Str.{IsUtf8, bytes_eq}
+unfoldable pub use Rattle.std.specs.Char.{encode_utf8}
+unfoldable pub use Rattle.std.specs.Fmt.{digits}
+unfoldable pub use Rattle.std.specs.Str.{chars, is_utf8}
+pub use Rattle.bpf_machine.specs.Access.{loaded, stored}
+pub use Rattle.bpf_machine.specs.Decoding.{DecodesSpelling, fetched}
+pub use Rattle.bpf_machine.specs.Laws.{stays_stopped}
+pub use Rattle.bpf_machine.specs.Operands.{is_frame_pointer}
+pub use Rattle.bpf_machine.specs.State.{State}
+pub use Rattle.bpf_machine.specs.Words.{compares}
+pub use Rattle.bpf_machine.specs.declared.frame.Frame.{Frame}
+unfoldable pub use Rattle.bpf_machine.specs.Access.{load_row, load_wide_row, store_row}
+unfoldable pub use Rattle.bpf_machine.specs.Arithmetic.{alu_row}
+unfoldable pub use Rattle.bpf_machine.specs.Decoding.{insn_at}
+unfoldable pub use Rattle.bpf_machine.specs.HelperCalls.{call_row}
+unfoldable pub use Rattle.bpf_machine.specs.Jumps.{branch_row, call_local_row, exit_row, jump_row}
+unfoldable pub use Rattle.bpf_machine.specs.State.{null_values, start_state}
+unfoldable pub use Rattle.bpf_machine.specs.Step.{next_state}
+unfoldable pub use Rattle.bpf_machine.specs.Trace.{state_after}
+unfoldable pub use Rattle.bpf_word.specs.Arithmetic.{alu64_of, operated}
+unfoldable pub use Rattle.bpf_word.specs.Comparisons.{holds_of}
+pub use Rattle.cel_macros.proofs.Expansion.{expansion_plain}
+pub use Rattle.cel_macros.specs.CoreTree.{Core}
+pub use Rattle.cel_macros.specs.CoreView.{core_view}
+pub use Rattle.cel_macros.specs.Environment.{Environment, Roots}
+pub use Rattle.cel_macros.specs.MacroFault.{ArgumentCount, IterationName, MacroFault, NoSelection, fault_error}
+pub use Rattle.cel_macros.specs.declared.core_tree.Core.{Core as CodeCore}
+pub use Rattle.cel_macros.specs.declared.macro_error.MacroError.{MacroError}
+unfoldable pub use Rattle.cel_macros.specs.CoreTree.{expanded, plain_tree}
+unfoldable pub use Rattle.cel_macros.specs.Environment.{is_root, name_value, variable_value}
+unfoldable pub use Rattle.cel_macros.specs.Functions.{function_named, test_named}
+unfoldable pub use Rattle.cel_macros.specs.MacroFault.{macro_fault}
+unfoldable pub use Rattle.cel_macros.specs.Macros.{is_has, is_map, is_variables, macro_named}
+unfoldable pub use Rattle.cel_macros.specs.Meaning.{meaning}
+pub use Rattle.cel_measures.specs.Measures.{depth}
+pub use Rattle.cel_measures.specs.Saturated.{saturated}
+unfoldable pub use Rattle.cel_measures.specs.Measures.{deepest, need, nodes}
+pub use Rattle.cel_reader.proofs.OneAnswer.{one_refusal}
+pub use Rattle.cel_reader.proofs.Theorems.{whole_unique}
+pub use Rattle.cel_reader.proofs.Told.{one_list, only_of}
+pub use Rattle.cel_reader.specs.Answers.{ReadReturns, IsReadResult, ErrorIsAt}
+pub use Rattle.cel_reader.specs.Limits.{open_limit}
+pub use Rattle.cel_reader.specs.Look.{words_only}
+pub use Rattle.cel_reader.specs.Tree.{TreeEntries, Tree, Trees, more_entries, more_trees, no_entries, no_trees, view}
+pub use Rattle.cel_reader.specs.WellFormed.{AreWellFormed, HasWellFormedEntries, IsWellFormed}
+unfoldable pub use Rattle.cel_reader.specs.Words.{is_reserved, role_of}
+pub use Rattle.cel_tokens.specs.Token.{Token}
+pub use Rattle.cel_tokens.specs.declared.read_error.ReadError.{ReadError}
+pub use Rattle.cel_tokens.specs.declared.read_error.ReadError.TheVariants.{UnknownCharacter, InvalidTextLiteral}
+pub use Rattle.cel_tokens.specs.declared.read_error.ReadError.TheVariants.{IntOutOfRange, UnexpectedToken}
+pub use Rattle.cel_tokens.specs.declared.read_error.ReadError.TheVariants.{TooManyOpen, TextTooLong}
+pub use Rattle.cel_types.proofs.CoreTypes.{expansion_typed}
+pub use Rattle.cel_types.specs.Declarations.{Declaration, declaration, declared, depths_of, scope_of}
+pub use Rattle.cel_types.specs.Types.{Typing, allowed}
+pub use Rattle.cel_types.specs.declared.cel_type.CelType.{CelType}
+unfoldable pub use Rattle.cel_types.specs.Scope.{name_type, variable_type}
+unfoldable pub use Rattle.cel_types.specs.Typing.{typing}
+pub use Rattle.codegen.proofs.CodeInsns.{AreLow, AreNear, near_named}
+pub use Rattle.codegen.proofs.Finished.{slot_spellings-append, slots_spelled}
+pub use Rattle.codegen.proofs.Layer.{expression_gives, frames_are_enough, variable_is_taken, variable_joins}
+pub use Rattle.codegen.proofs.Whole.{whole_insns, whole_short}
+pub use Rattle.codegen.specs.Added.{code_at, has_room, passed, with_counted, with_expression}
+pub use Rattle.codegen.specs.Computes.{environment_in, variable_of}
+pub use Rattle.codegen.specs.Constants.{joined, with_text, with_texts}
+pub use Rattle.codegen.specs.Cost.{Cost, IsDeep, spent_by}
+pub use Rattle.codegen.specs.Emitted.{Emitted, HasTooManyTexts, IsTooLong, no_code, slot_spellings, with_insn_at}
+pub use Rattle.codegen.specs.Emitted.{with_nodes, with_piece}
+pub use Rattle.codegen.specs.HasLiterals.{EntriesHaveLiterals, HasLiterals, HaveLiterals}
+pub use Rattle.codegen.specs.Layer.{AreShallow, HasConstants, IsEmittable}
+pub use Rattle.codegen.specs.NameTable.{routines_of}
+unfoldable pub use Rattle.codegen.specs.Code.Expressions.{code_of, texts_of}
+unfoldable pub use Rattle.codegen.specs.Code.Whole.{first_path, whole_code}
+unfoldable pub use Rattle.codegen.specs.Cost.{cost}
+pub use Rattle.expression_code.proofs.Accesses.{has_verdict}
+pub use Rattle.expression_code.proofs.Effects.{add_is, differs_no, differs_yes, does, equal_no, equal_yes, operand_is}
+pub use Rattle.expression_code.proofs.Effects.{register_set}
+pub use Rattle.expression_code.proofs.Exits.{comes_to_exit}
+pub use Rattle.expression_code.proofs.Frames.{fits_registers, fits_verdict}
+pub use Rattle.expression_code.proofs.HelperAnswers.{helpers}
+pub use Rattle.expression_code.proofs.Insns.{insns_append, memo_insns}
+pub use Rattle.expression_code.proofs.Later.{wider_gives}
+pub use Rattle.expression_code.proofs.Listings.{alu, ask, begins, jump, load_wide, mov, no, yes}
+pub use Rattle.expression_code.proofs.Operands.{fits_told}
+pub use Rattle.expression_code.proofs.Pieces.{length-insn_slots, length-spelling, size-append, size-cons, slots-append}
+pub use Rattle.expression_code.proofs.Pieces.{stands_back, stands_first, stands_front, stands_rest}
+pub use Rattle.expression_code.proofs.Programs.{charges-most, halts_into, start_fits, start_is, steps-most}
+pub use Rattle.expression_code.proofs.Programs.{word_in-zeros}
+pub use Rattle.expression_code.proofs.Runs.{and_then, done, from_place, into, looser, one, to_place}
+pub use Rattle.expression_code.proofs.Scopes.{no_scope}
+pub use Rattle.expression_code.proofs.Spelled.{spelled_stands}
+pub use Rattle.expression_code.proofs.Values.{names_error, small_reference, told}
+pub use Rattle.expression_code.specs.CpuState.{CpuState, at, set_register}
+pub use Rattle.expression_code.specs.Calls.{Tells, answered}
+pub use Rattle.expression_code.specs.Contexts.{Context, IsWellFormedState, HasValues, LeavesValue}
+pub use Rattle.expression_code.specs.Engine.{RunsTo, ExitsOrRunsOut, RunContext}
+pub use Rattle.expression_code.specs.Instructions.{ja}
+pub use Rattle.expression_code.specs.Limits.{charge_per_unit, code_limit, jump_limit, memo_limit, node_limit, part_slot_limit, part_slots_per_node, short_size, slot_reach, slots_per_node, steps_per_visit, variable_depth_limit, word_limit}
+pub use Rattle.expression_code.specs.Pieces.{AreInsns, IsCodeAt, size, slots, spellings}
+pub use Rattle.expression_code.specs.Programs.{start_body, total}
+pub use Rattle.expression_code.specs.Scopes.{IsScope, Variable, bindings, first_charges, first_steps, scope_setting}
+pub use Rattle.expression_code.specs.Variables.{memo_tail, routine_context}
+pub use Rattle.expression_code.specs.Words.{Framed, set_verdict, verdict_address, verdict_at}
+pub use Rattle.guest_memory.proofs.RegionWords.{put_word-other, put_word-same, read_word, write_word}
+pub use Rattle.guest_memory.specs.Memory.{Constants, IsMemory, Memory, base_of}
+pub use Rattle.guest_memory.specs.declared.fault.Fault.{Fault}
+unfoldable pub use Rattle.guest_memory.specs.Access.{constants_of, read_of, write_of}
+unfoldable pub use Rattle.guest_memory.specs.Memory.{start_memory}
+unfoldable pub use Rattle.guest_memory.specs.RegionWords.{put_word, word_in}
+pub use Rattle.helper_table.specs.Conversions.{kind_number}
+pub use Rattle.helper_table.specs.Laws.{Names}
+unfoldable pub use Rattle.helper_table.specs.Calls.{row_of}
+unfoldable pub use Rattle.helper_table.specs.Conversions.{kind_row, text_const_row}
+unfoldable pub use Rattle.helper_table.specs.Numbers.{of_number}
+pub use Rattle.insn_codec.specs.Limits.{slot_limit}
+pub use Rattle.insn_codec.specs.Spelling.{slot_count, spelling}
+pub use Rattle.insn_codec.specs.declared.comparison.Comparison.TheVariants.{Eq, Ne}
+pub use Rattle.insn_codec.specs.declared.insn.Insn.{Insn}
+pub use Rattle.insn_codec.specs.declared.insn.Insn.TheVariants.{Exit, Load, Store, StoreImm}
+pub use Rattle.insn_codec.specs.declared.operand.Operand.TheVariants.{Imm, Reg}
+pub use Rattle.insn_codec.specs.declared.register.Register.{Register}
+pub use Rattle.insn_codec.specs.declared.register.Register.TheVariants.{R0, R1, R10, R2, R6}
+pub use Rattle.insn_codec.specs.declared.size.Size.TheVariants.{Dw}
+pub use Rattle.insn_codec.specs.declared.width.Width.TheVariants.{W64}
+unfoldable pub use Rattle.insn_codec.specs.Candidate.{arithmetic_at, branch_at, candidate_at, jump_at, memory_at}
+unfoldable pub use Rattle.insn_codec.specs.Candidate.{wide_at}
+unfoldable pub use Rattle.insn_codec.specs.Spelled.{spelled}
+pub use Rattle.loader.specs.Limits.{constants_limit}
+pub use Rattle.loader.specs.declared.version.Version.TheVariants.{Second}
+unfoldable pub use Rattle.loader.specs.Format.{image_from}
+unfoldable pub use Rattle.serde_json.proofs.OnLiterals.{serde_json_on_literals}
+pub use Rattle.serde_json.specs.Read.{read}
+pub use Rattle.serde_json.specs.View.{items_view, members_view}
+pub use Rattle.value_store.specs.Calls.{text_at}
+pub use Rattle.value_store.specs.Placing.{Contents, charge_limit}
+pub use Rattle.value_store.specs.Seen.{outcome_view}
+pub use Rattle.value_store.specs.Value.{ValueOrError, boolean, error, int, list, null, text, value}
+pub use Rattle.policy_glue.specs.Budget.{conditions_cost, is_running, message_cost, policy_spent, policy_work}
+pub use Rattle.policy_glue.specs.Budget.{rules_cost, runs_on, variables_cost}
+pub use Rattle.policy_glue.specs.Checked.{PartsChecked, Checks, ChecksConditions, ChecksValidation, ChecksValidations}
+pub use Rattle.policy_glue.specs.Checked.{ChecksVariables, ReadsAndExpands, IsAdded, IsChecked, IsExpanded}
+pub use Rattle.policy_glue.specs.Checked.{IsFormedValidation, IsFormedVariable, Judges, JudgesVariable, Sorts}
+pub use Rattle.policy_glue.specs.Checked.{SortsMessage, validation_expanded, validation_trees, variable_expanded}
+pub use Rattle.policy_glue.specs.Checking.{ConditionsEnd, TakenOrRefused, IsNoValidation, IsNoneOf, IsOneOf}
+pub use Rattle.policy_glue.specs.Checking.{HasOtherType, IsExpressionRefused, IsValidation, IsTaken, IsVariable}
+pub use Rattle.policy_glue.specs.Checking.{PartsEnd, ReadsTree, RefusesCondition, RefusesValidation, RefusesVariable}
+pub use Rattle.policy_glue.specs.Checking.{TakesCondition, TakesValidation, TakesVariable, ValidationsEnd}
+pub use Rattle.policy_glue.specs.Checking.{VariablesEnd, depth_in, expression, in_conditions, in_validations}
+pub use Rattle.policy_glue.specs.Checking.{in_variables, judged, message, next, of_another_type, other_type, over}
+pub use Rattle.policy_glue.specs.Checking.{refused, scope_after, taken, texts, truths, type_or_any, types_of, unread}
+pub use Rattle.policy_glue.specs.Checking.{variable_judged, with_depth, with_macros, with_typing, with_variable}
+pub use Rattle.policy_glue.specs.CompileErrors.{from_macros, from_reader, in_part}
+pub use Rattle.policy_glue.specs.Compiled.{CompilesTo, IsCompiled}
+pub use Rattle.policy_glue.specs.Denials.{denial_view, denials_told, denies_word, lent}
+pub use Rattle.policy_glue.specs.Documents.{each, keys_within}
+pub use Rattle.policy_glue.specs.Emission.{EmitsProgram, FitInOrder, HasTrees, MayFit, emitted, with_condition}
+pub use Rattle.policy_glue.specs.Emission.{with_conditions, with_decided, with_result, with_validation}
+pub use Rattle.policy_glue.specs.Emission.{with_validations, with_variables, with_way}
+pub use Rattle.policy_glue.specs.Evaluation.{condition_values, environment_with, rule_value, values_of, with_value}
+pub use Rattle.policy_glue.specs.Layout.{AreRead, IsLayout, IsMessageWord, Encodes, VerdictWords, finding_word}
+pub use Rattle.policy_glue.specs.Layout.{first_message, first_result, message_at, message_in}
+pub use Rattle.policy_glue.specs.Layout.{ok_or_zero, outcome_of, outcome_word, result_at, text_named, truth_word, words_view}
+pub use Rattle.policy_glue.specs.Limits.{Compiles, condition_texts, excess, message_nodes, message_texts, part_nodes}
+pub use Rattle.policy_glue.specs.Limits.{rule_nodes, rule_texts, tree_texts, validation_texts, variable_texts}
+pub use Rattle.policy_glue.specs.Rejections.{Rejection, objected_tree, rejection_by, rejection_of}
+pub use Rattle.policy_glue.specs.Rejections.{rejection_view}
+pub use Rattle.policy_glue.specs.OneAnswer.{HasOneImage}
+pub use Rattle.policy_glue.specs.OneImage.{OneImage, contents}
+pub use Rattle.policy_glue.specs.Policy.{NamedExpression, Policy, Validation, named_view, part_limit, policy_view, validation_view}
+pub use Rattle.policy_glue.specs.Program.{decided_code, decided_tail, error_way, if_true, leave_error, message_code}
+pub use Rattle.policy_glue.specs.Program.{result_code, routines_code, validation_code}
+pub use Rattle.policy_glue.specs.ProgramCode.{Laid, after_condition, after_conditions, after_variables}
+pub use Rattle.policy_glue.specs.ProgramCode.{before_message, condition_codes, laid_conditions, laid_routines}
+pub use Rattle.policy_glue.specs.ProgramCode.{message_codes, nothing_laid, texts_with, tree_code, validation_codes}
+pub use Rattle.policy_glue.specs.ProgramCode.{variable_code, variable_codes, with_message, with_routine, with_slots}
+pub use Rattle.policy_glue.specs.ProgramCode.{with_tree}
+pub use Rattle.policy_glue.specs.ProgramLaws.{LeavesVerdict, PolicyDecides, conditions_place, passes, program_charge}
+pub use Rattle.policy_glue.specs.ProgramLaws.{program_steps, validations_place}
+pub use Rattle.policy_glue.specs.ProgramParts.{ConditionsGive, MessageGives, Part, PartGives, ValidationPart}
+pub use Rattle.policy_glue.specs.ProgramParts.{ValidationsGive, codes_of, conditions_charge, conditions_steps}
+pub use Rattle.policy_glue.specs.ProgramParts.{decided_slots, found, message_charge, message_size, message_steps}
+pub use Rattle.policy_glue.specs.ProgramParts.{rule_charge, rule_code, rule_codes, rule_size, rule_steps, rules_given}
+pub use Rattle.policy_glue.specs.ProgramParts.{validations_charge, validations_steps, values_given}
+pub use Rattle.policy_glue.specs.ProgramTrees.{AreConditions, AreValidations, AreVariables, Decides, HasProgram}
+pub use Rattle.policy_glue.specs.ProgramTrees.{IsEmittableMessage, ProgramDecides, ProgramIsCode, ProgramIsShort}
+pub use Rattle.policy_glue.specs.ProgramTrees.{ProgramStops}
+pub use Rattle.policy_glue.specs.Reading.{IsAcceptedPolicy, are_distinct, has_line_break, named_in, validation_in}
+pub use Rattle.policy_glue.specs.Response.{Denial, denial_text, denials_of, separator_of, tree_of}
+pub use Rattle.policy_glue.specs.Trees.{PolicyTree, ValidationTree, VariableTree}
+pub use Rattle.policy_glue.specs.Verdict.{Errs, Fails, Finding, Holds}
+pub use Rattle.policy_glue.specs.declared.outcome.Outcome.{Outcome}
+pub use Rattle.policy_glue.specs.declared.outcome.Outcome.TheVariants.{Admitted, Denied, Skipped}
+pub use Rattle.policy_glue.specs.Verdict.{CheckResult, Verdict, decided, decided_before, denies, finding_of}
+pub use Rattle.policy_glue.specs.Verdict.{is_denial, is_failed, is_held, judged_by, text_given, truth_of, undecided}
+pub use Rattle.policy_glue.specs.declared.checked.Checked.{Checked}
+pub use Rattle.policy_glue.specs.declared.checked_validation.CheckedValidation.{CheckedValidation}
+pub use Rattle.policy_glue.specs.declared.compile_error.CompileError.{CompileError}
+pub use Rattle.policy_glue.specs.declared.compile_error.CompileError.TheVariants.{TooManyNodes, TooManyTextBytes}
+pub use Rattle.policy_glue.specs.declared.compile_error.CompileError.TheVariants.{InvalidExpression, NotABool}
+pub use Rattle.policy_glue.specs.declared.compile_error.CompileError.TheVariants.{MessageNotAString}
+pub use Rattle.policy_glue.specs.declared.expression_error.ExpressionError.{ExpressionError}
+pub use Rattle.policy_glue.specs.declared.expression_error.ExpressionError.TheVariants.{NeedsTooManyWords}
+pub use Rattle.policy_glue.specs.declared.expression_error.ExpressionError.TheVariants.{VariableTooDeep, Unexpanded}
+pub use Rattle.policy_glue.specs.declared.expression_error.ExpressionError.TheVariants.{Unread, Untyped}
+pub use Rattle.policy_glue.specs.declared.failure_policy.FailurePolicy.{FailurePolicy}
+pub use Rattle.policy_glue.specs.declared.named_expression.NamedExpression.{NamedExpression as CodeNamedExpression}
+pub use Rattle.policy_glue.specs.declared.part_kind.PartKind.{PartKind}
+pub use Rattle.policy_glue.specs.declared.part_kind.PartKind.TheVariants.{Condition, Message}
+pub use Rattle.policy_glue.specs.declared.part_kind.PartKind.TheVariants.{Validation as CodeValidation}
+pub use Rattle.policy_glue.specs.declared.parts.Parts.{Parts}
+unfoldable pub use Rattle.policy_glue.specs.Budget.{policy_cost}
+unfoldable pub use Rattle.policy_glue.specs.Checking.{expression_judged}
+unfoldable pub use Rattle.policy_glue.specs.Documents.{document_of}
+unfoldable pub use Rattle.policy_glue.specs.Evaluation.{decision_of}
+unfoldable pub use Rattle.policy_glue.specs.Layout.{verdict_word}
+unfoldable pub use Rattle.policy_glue.specs.Limits.{policy_nodes, policy_texts}
+unfoldable pub use Rattle.policy_glue.specs.Rejections.{response_text}
+unfoldable pub use Rattle.policy_glue.specs.Program.{condition_tail, conditions_code, denial_code, message_tail}
+unfoldable pub use Rattle.policy_glue.specs.Program.{outcome_tail, policy_code, validations_code}
+unfoldable pub use Rattle.policy_glue.specs.ProgramCode.{program_of}
+unfoldable pub use Rattle.policy_glue.specs.Reading.{has_head, has_spec_form, has_top_form, named_keys, named_parts}
+unfoldable pub use Rattle.policy_glue.specs.Reading.{policy_in, policy_of, reason_in, validation_keys}
+unfoldable pub use Rattle.policy_glue.specs.Reading.{validation_parts, spec_keys, spec_parts, top_keys}
+unfoldable pub use Rattle.policy_glue.specs.Response.{response_of, review_tree}
+unfoldable pub use Rattle.policy_glue.specs.Verdict.{verdict_of}

@@ -1,5 +1,5 @@
 -- What the words of a verdict tell.
-use Rattle.policy_glue.proofs.Prelude.{◌≡◌, ◌<◌, ◌≤◌, ◌+◌, ◌*◌, ℕ, Bool, true, false, List, [], length, Option, None, nat_lt, arith, refl, sym, ap, ◌∙◌, zero, suc, ◌∷◌, ◌++◌, Some, ◌-◌, map, ltb-false, nat_tests, slice_get_past, slice_get, if◌then◌else◌, slice_index, Memory, IsMemory, base_of, word_in, read_word, ValueOrError, AreRead, IsLayout, Tell, Words, finding_word, first_message, message_at, message_in, most_validations, ok_or_zero, result_at, text_named, verdict_word, outcome_word, truth_word, Finding, Verdict, Truth, Outcome, denies, FailurePolicy, IsAccepted, Parts, denials_told, denies_word, lent, Rule, Rules, rule_view, rules_view, Objection, objected_tree, objection_by, objection_of, objection_told, response_text, Denial, denials_of, response_of, tree_of}
+use Rattle.policy_glue.proofs.Prelude.{◌≡◌, ◌<◌, ◌≤◌, ◌+◌, ◌*◌, ℕ, Bool, true, false, List, [], length, Option, None, nat_lt, arith, refl, sym, ap, ◌∙◌, zero, suc, ◌∷◌, ◌++◌, Some, ◌-◌, map, ltb-false, nat_tests, slice_get_past, slice_get, if◌then◌else◌, slice_index, Memory, IsMemory, base_of, word_in, read_word, ValueOrError, AreRead, IsLayout, Encodes, VerdictWords, finding_word, first_message, message_at, message_in, part_limit, ok_or_zero, result_at, text_named, verdict_word, outcome_of, outcome_word, truth_word, Finding, Verdict, CheckResult, Outcome, denies, FailurePolicy, IsAcceptedPolicy, Parts, denials_told, denies_word, lent, Validation, Policy, validation_view, policy_view, Rejection, objected_tree, rejection_by, rejection_of, response_text, Denial, denials_of, response_of, tree_of}
 use Rattle.guest_memory.specs.Memory.{Verdict as VerdictRegion}
 
 word_is : (m : Memory) (i : ℕ) → IsMemory m → i < 256 → verdict_word m i ≡ word_in m.verdict i
@@ -16,52 +16,52 @@ module _ (f : FailurePolicy) (v : Verdict) (values : List ValueOrError) (m : Mem
   beyond : (i : ℕ) → nat_lt i count ≡ false → slice_get v.findings i ≡ None
   beyond i e = slice_get_past v.findings i (let past = ltb-false i count e in omega arith)
 
-  result_is : (i : ℕ) → i < most_validations → result_at m count i ≡ finding_word (slice_get v.findings i)
+  result_is : (i : ℕ) → i < part_limit → result_at m count i ≡ finding_word (slice_get v.findings i)
   result_is i below = grind (arith, read_by, nat_lt, word_is, beyond)
 
-  named_is : (i : ℕ) → i < most_validations → text_named values (verdict_word m (first_message + i)) ≡ message_in (slice_get v.findings i)
+  named_is : (i : ℕ) → i < part_limit → text_named values (verdict_word m (first_message + i)) ≡ message_in (slice_get v.findings i)
   named_is i below = ap (text_named values) (word_is m (first_message + i) is (omega arith)) ∙ (grind (arith, nat_tests))
 
-  message_is : (i : ℕ) → i < most_validations → message_at m values count i ≡ message_in (slice_get v.findings i)
+  message_is : (i : ℕ) → i < part_limit → message_at m values count i ≡ message_in (slice_get v.findings i)
   message_is i below = read_by message_in _ (slice_get v.findings i) (nat_lt i count) (λ e. named_is i below) (beyond i)
 
   -- what is read tells the verdict of which the region has the layout
-  pub layout_told : (words : Words) → AreRead m values count words → Tell f v words
+  pub layout_told : (words : VerdictWords) → AreRead m values count words → Encodes f v words
   layout_told words read = grind (arith, word_is, result_is, message_is)
 
 -- ---- the walk
 
-pub record DenialsGo (f : FailurePolicy) (all rest : List Rule) (words : Words) (i : ℕ) (done : List Denial) : Type 0 where
+pub record DenialsGo (f : FailurePolicy) (all rest : List Validation) (words : VerdictWords) (i : ℕ) (done : List Denial) : Type 0 where
   pub left : denials_told f all words 0 ≡ done ++ denials_told f rest words i
 
 -- ---- what the words of a verdict tell
 
-none_told : (f : FailurePolicy) (rs : List Rule) (words : Words) (i : ℕ) → ((k : ℕ) → i ≤ k → k < i + length rs → slice_index words.results k ≡ 0)
+none_told : (f : FailurePolicy) (rs : List Validation) (words : VerdictWords) (i : ℕ) → ((k : ℕ) → i ≤ k → k < i + length rs → slice_index words.results k ≡ 0)
     → denials_told f rs words i ≡ []
 none_told f [] words i zeros = refl
 none_told f (r ∷ rs) words i zeros = grind (arith, none_told f rs words (i + 1) (λ k low high. zeros k (omega arith) (omega arith)))
 
-one_told : (f : FailurePolicy) (r : Rule) (t : Truth) (m : Option (List ℕ)) (word : ℕ) (message : Option (Option (List ℕ))) (told more : List Denial)
+one_told : (f : FailurePolicy) (r : Validation) (t : CheckResult) (m : Option (List ℕ)) (word : ℕ) (message : Option (Option (List ℕ))) (told more : List Denial)
     → word ≡ truth_word t → message ≡ Some m → told ≡ more
     → (if denies_word f word then record { rule = r; message = lent message } ∷ told else told)
     ≡ (if denies f t then record { rule = r; message = m } ∷ more else more)
 one_told f r t m word message told more is said same = grind arith
 
 -- the words from place i on are those of these findings
-pub record TellFrom (xs : List Finding) (words : Words) (i n : ℕ) : Type 0 where
+pub record TellFrom (xs : List Finding) (words : VerdictWords) (i n : ℕ) : Type 0 where
   pub results : (k : ℕ) → k < n → slice_index words.results (i + k) ≡ finding_word (slice_get xs k)
   pub messages : (k : ℕ) → k < n → slice_get words.messages (i + k) ≡ Some (message_in (slice_get xs k))
 
-past : (words : Words) (i n k : ℕ) → i ≤ k → k < i + n → TellFrom [] words i n → slice_index words.results k ≡ 0
+past : (words : VerdictWords) (i n k : ℕ) → i ≤ k → k < i + n → TellFrom [] words i n → slice_index words.results k ≡ 0
 past words i n k low high told = ap (slice_index words.results) (omega arith) ∙ told.results (k - i) (omega arith)
 
-rest_told : (x : Finding) (xs : List Finding) (words : Words) (i n : ℕ) → TellFrom (x ∷ xs) words i (suc n) → TellFrom xs words (i + 1) n
+rest_told : (x : Finding) (xs : List Finding) (words : VerdictWords) (i n : ℕ) → TellFrom (x ∷ xs) words i (suc n) → TellFrom xs words (i + 1) n
 rest_told x xs words i n told = record {
   results = λ k below. ap (slice_index words.results) (omega arith) ∙ told.results (suc k) (omega arith);
   messages = λ k below. ap (slice_get words.messages) (omega arith) ∙ told.messages (suc k) (omega arith);
 }
 
-pub denials_from : (f : FailurePolicy) (rs : List Rule) (xs : List Finding) (words : Words) (i n : ℕ) → length rs ≤ n → TellFrom xs words i n
+pub denials_from : (f : FailurePolicy) (rs : List Validation) (xs : List Finding) (words : VerdictWords) (i n : ℕ) → length rs ≤ n → TellFrom xs words i n
     → denials_told f rs words i ≡ denials_of f rs xs
 denials_from f [] xs words i n short told = refl
 denials_from f (r ∷ rs) [] words i n short told = none_told f (r ∷ rs) words i (λ k low high. past words i n k low (omega arith) told)
@@ -71,30 +71,31 @@ denials_from f (r ∷ rs) (x ∷ xs) words i (suc n) short told =
     (ap (slice_get words.messages) (omega arith) ∙ told.messages 0 (omega arith))
     (denials_from f rs xs words (i + 1) n (omega arith) (rest_told x xs words i n told))
 
-said_by : (o : Outcome) (ds : List Denial) → objection_told (outcome_word o) ds ≡ objection_by o ds
-said_by o ds = grind arith
+-- the word of an outcome states it
+pub outcome_told : (o : Outcome) → outcome_of (outcome_word o) ≡ o
+outcome_told o = grind arith
 
-from_zero : (f : FailurePolicy) (v : Verdict) (words : Words) → Tell f v words → TellFrom v.findings words 0 most_validations
+from_zero : (f : FailurePolicy) (v : Verdict) (words : VerdictWords) → Encodes f v words → TellFrom v.findings words 0 part_limit
 from_zero f v words told = grind arith
 
-objection_is : (f : FailurePolicy) (rs : List Rule) (v : Verdict) (words : Words) → length rs ≤ most_validations → Tell f v words
-    → objection_told words.outcome (denials_told f rs words 0) ≡ objection_by v.outcome (denials_of f rs v.findings)
-objection_is f rs v words short told = grind (arith, said_by, denials_from, from_zero)
+rejection_is : (f : FailurePolicy) (rs : List Validation) (v : Verdict) (words : VerdictWords) → length rs ≤ part_limit → Encodes f v words
+    → rejection_by (outcome_of words.outcome) (denials_told f rs words 0) ≡ rejection_by v.outcome (denials_of f rs v.findings)
+rejection_is f rs v words short told = grind (arith, outcome_told, denials_from, from_zero)
 
-pub few_parts : (p : Rules) → IsAccepted p → (length p.variables ≤ 64) × (length p.validations ≤ 64)
+pub few_parts : (p : Policy) → IsAcceptedPolicy p → (length p.variables ≤ 64) × (length p.validations ≤ 64)
 few_parts p accepted = grind (arith, ltb-false)
 
 -- what is said is what the verdict that the words tell says
-pub objected : (parts : Parts) (p : Rules) (v : Verdict) (words : Words) (said : Option Objection) → p ≡ rules_view parts → IsAccepted (rules_view parts)
-    → Tell p.failure_policy v words
-    → said ≡ objection_told words.outcome (denials_told parts.failure_policy (map rule_view parts.validations.items) words 0) → said ≡ objection_of p v
-objected parts p v words said is accepted told here = grind (arith, objection_is, few_parts)
+pub objected : (parts : Parts) (p : Policy) (v : Verdict) (words : VerdictWords) (said : Option Rejection) → p ≡ policy_view parts → IsAcceptedPolicy (policy_view parts)
+    → Encodes p.failure_policy v words
+    → said ≡ rejection_by (outcome_of words.outcome) (denials_told parts.failure_policy (map validation_view parts.validations.items) words 0) → said ≡ rejection_of p v
+objected parts p v words said is accepted told here = grind (arith, rejection_is, few_parts)
 
-tree_by : (o : Outcome) (ds : List Denial) (uid : List ℕ) → objected_tree (objection_by o ds) uid ≡ tree_of o ds uid
+tree_by : (o : Outcome) (ds : List Denial) (uid : List ℕ) → objected_tree (rejection_by o ds) uid ≡ tree_of o ds uid
 tree_by o ds uid = grind arith
 
 -- the response by what a verdict says is the one to the verdict
-pub responded : (p : Rules) (v : Verdict) (uid bytes : List ℕ) (said : Option Objection) → said ≡ objection_of p v → bytes ≡ response_text said uid
+pub responded : (p : Policy) (v : Verdict) (uid bytes : List ℕ) (said : Option Rejection) → said ≡ rejection_of p v → bytes ≡ response_text said uid
     → bytes ≡ response_of p v uid
 unfolding response_of response_text
 responded p v uid bytes said here written = grind (arith, tree_by)

@@ -6,8 +6,9 @@ use Rattle.cel_macros.specs.Environment.{Environment, Roots}
 use Rattle.cel_macros.specs.Meaning.{meaning}
 use Rattle.codegen.specs.Cost.{Cost, ◌and◌, nothing, cost, spent_by}
 use Rattle.policy_glue.specs.Evaluation.{condition_values, environment_with, values_of, with_value}
-use Rattle.policy_glue.specs.Trees.{VariableTree, RuleTree, PolicyTree}
-use Rattle.policy_glue.specs.Verdict.{Outcome, decided_before, denies, truth_of}
+use Rattle.policy_glue.specs.Trees.{VariableTree, ValidationTree, PolicyTree}
+use Rattle.policy_glue.specs.Verdict.{decided_before, denies, truth_of}
+use Rattle.policy_glue.specs.declared.outcome.Outcome.{Outcome}
 use Rattle.policy_glue.specs.declared.failure_policy.FailurePolicy.{FailurePolicy}
 
 -- a visit of the policy, or of one of its parts
@@ -40,12 +41,12 @@ abbrev pub is_denied : Bool → FailurePolicy → ValueOrError → Bool
 is_denied runs f x = runs && denies f (truth_of x)
 
 -- a validation, and its message expression where it denies; whether the policy runs comes first
-abbrev pub rule_cost : Bool → FailurePolicy → Environment → RuleTree → Cost
+abbrev pub rule_cost : Bool → FailurePolicy → Environment → ValidationTree → Cost
 rule_cost runs f env r =
     part_cost env r.expression and message_cost (is_denied runs f (meaning r.expression env)) env r.message
 
 -- all validations, in an environment with every variable
-abbrev pub rules_cost : Bool → FailurePolicy → Environment → List RuleTree → Cost
+abbrev pub rules_cost : Bool → FailurePolicy → Environment → List ValidationTree → Cost
 rules_cost runs f env [] = nothing
 rules_cost runs f env (r ∷ rs) = rule_cost runs f env r and rules_cost runs f env rs
 

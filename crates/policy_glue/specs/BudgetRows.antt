@@ -6,7 +6,7 @@ use Rattle.policy_glue.specs.Budget.{policy_spent, policy_work}
 use Rattle.policy_glue.specs.DecisionRows.{at_most_three, bare, five, ruled, wrong}
 use Rattle.policy_glue.specs.Limits.{excess, policy_nodes, policy_texts}
 use Rattle.policy_glue.specs.Trees.{PolicyTree}
-use Rattle.policy_glue.specs.declared.compile_error.CompileError.TheVariants.{G3}
+use Rattle.policy_glue.specs.declared.compile_error.CompileError.TheVariants.{TooManyNodes}
 use Rattle.policy_glue.specs.declared.failure_policy.FailurePolicy.TheVariants.{Fail}
 
 abbrev pub few_replicas : PolicyTree
@@ -30,4 +30,4 @@ pub record BudgetRowsStand : Type 0 where
   pub texts : policy_texts (ruled (bare at_most_three ∷ bare at_most_three ∷ [])) ≡ codes "spec" ∷ codes "replicas" ∷ []
   -- true && true && .. of 255 literals, and of 256
   pub largest : excess (ruled (bare (conjoined 254) ∷ [])) ≡ None
-  pub too_large : excess (ruled (bare (conjoined 255) ∷ [])) ≡ Some G3
+  pub too_large : excess (ruled (bare (conjoined 255) ∷ [])) ≡ Some TooManyNodes

@@ -3,125 +3,129 @@ use Rattle.std.specs.Prelude.{◌≡◌, ◌≢◌, ℕ, All, IfSome, List, [], 
 use Rattle.std.specs.Global.{Global}
 use Rattle.cel_reader.specs.Tree.{Tree}
 use Rattle.cel_reader.specs.WellFormed.{IsWellFormed}
-use Rattle.cel_macros.specs.CoreTree.{CoreTree, expanded}
+use Rattle.cel_macros.specs.CoreTree.{Core, expanded}
 use Rattle.cel_macros.specs.CoreView.{core_view}
 use Rattle.cel_macros.specs.MacroFault.{macro_fault}
-use Rattle.cel_macros.specs.declared.core_tree.Core.{Core}
+use Rattle.cel_macros.specs.declared.core_tree.Core.{Core as CodeCore}
 use Rattle.cel_types.specs.Declarations.{Declaration}
 use Rattle.cel_types.specs.declared.scope.Scope.{Scope}
 use Rattle.cel_types.specs.declared.cel_type.CelType.{CelType}
-use Rattle.policy_glue.specs.Checking.{Ends, Reads, IsTaken, IsRefused, IsOneOf, IsNoneOf, IsVariable, IsNoVariable, IsMessage, IsRule, IsNoRule, with_variable}
-use Rattle.policy_glue.specs.Checking.{PartsEnd, VariablesEnd, ConditionsEnd, ValidationsEnd, TakesVariable, TakesCondition, TakesRule}
-use Rattle.policy_glue.specs.Checking.{RefusesVariable, RefusesCondition, RefusesRule, depth_in, expression_judged, scope_after, texts, variable_judged}
-use Rattle.policy_glue.specs.Policy.{Named, Rule, Rules}
-use Rattle.policy_glue.specs.Trees.{VariableTree, RuleTree, PolicyTree}
+use Rattle.policy_glue.specs.Checking.{TakenOrRefused, ReadsTree, IsTaken, IsExpressionRefused, IsOneOf, IsNoneOf, IsVariable, IsNoVariable, IsMessage, IsValidation, IsNoValidation, with_variable}
+use Rattle.policy_glue.specs.Checking.{PartsEnd, VariablesEnd, ConditionsEnd, ValidationsEnd, TakesVariable, TakesCondition, TakesValidation}
+use Rattle.policy_glue.specs.Checking.{RefusesVariable, RefusesCondition, RefusesValidation, depth_in, expression_judged, scope_after, texts, variable_judged}
+use Rattle.policy_glue.specs.Policy.{NamedExpression, Validation, Policy}
+use Rattle.policy_glue.specs.Trees.{VariableTree, ValidationTree, PolicyTree}
 use Rattle.policy_glue.specs.declared.checked.Checked.{Checked}
 use Rattle.policy_glue.specs.declared.checked_validation.CheckedValidation.{CheckedValidation}
-use Rattle.policy_glue.specs.declared.compile_error.CompileError.{CompileError, TheVariants.K9}
+use Rattle.policy_glue.specs.declared.compile_error.CompileError.{CompileError, TheVariants.MessageNotAString}
 use Rattle.policy_glue.specs.declared.compile_error.CompileError.TheVariants as compile_error
 use Rattle.policy_glue.specs.declared.expression_error.ExpressionError.{ExpressionError}
 use Rattle.policy_glue.specs.declared.expression_error.ExpressionError.TheVariants as expression_error
 use Rattle.policy_glue.specs.declared.part_kind.PartKind.{PartKind, TheVariants.Message}
 
 -- the tree with its macros expanded, whose literals are values and whose names are names
-abbrev pub IsExpanded : Core → Tree → Type 0
+abbrev pub IsExpanded : CodeCore → Tree → Type 0
 IsExpanded core a = (core_view core ≡ expanded a) × IsWellFormed a
 
 -- a validation's trees are such
-abbrev pub IsFormedRule : RuleTree → Type 0
-IsFormedRule r = IsWellFormed r.expression × IfSome r.message IsWellFormed
+abbrev pub IsFormedValidation : ValidationTree → Type 0
+IsFormedValidation r = IsWellFormed r.expression × IfSome r.message IsWellFormed
 
 -- a text is read and its macros are expanded, or it is refused in every scope; or the host has no memory for it
-abbrev pub Expands : List ℕ → Result Core ExpressionError → Type 0
-Expands text (Ok core) = (a : Tree) × IsExpanded core a × Reads text a × (macro_fault a ≡ None)
-Expands text (Err e) = e ≢ expression_error.Memory → (scope : List Declaration) → IsRefused (expression_judged scope) text e
+abbrev pub ReadsAndExpands : List ℕ → Result CodeCore ExpressionError → Type 0
+ReadsAndExpands text (Ok core) = (a : Tree) × IsExpanded core a × ReadsTree text a × (macro_fault a ≡ None)
+ReadsAndExpands text (Err e) = e ≢ expression_error.Memory → (scope : List Declaration)
+    → IsExpressionRefused (expression_judged scope) text e
 
 -- a text is judged, or the host has no memory for it
-abbrev pub Judges : (Tree → Result CelType ExpressionError) → List ℕ → Result (Core × CelType) ExpressionError → Type 0
+abbrev pub Judges : (Tree → Result CelType ExpressionError) → List ℕ → Result (CodeCore × CelType) ExpressionError → Type 0
 Judges judge text (Ok x) = (a : Tree) × IsExpanded x.0 a × IsTaken judge text a x.1
-Judges judge text (Err e) = e ≢ expression_error.Memory → IsRefused judge text e
+Judges judge text (Err e) = e ≢ expression_error.Memory → IsExpressionRefused judge text e
 
 -- and is of one of these types
-abbrev pub Sorts : List CelType → CompileError → PartKind → ℕ → List Declaration → List ℕ → Result Core CompileError → Type 0
+abbrev pub Sorts : List CelType → CompileError → PartKind → ℕ → List Declaration → List ℕ → Result CodeCore CompileError → Type 0
 Sorts types other part place scope text (Ok core) = (a : Tree) × IsExpanded core a × IsOneOf types scope text a
 Sorts types other part place scope text (Err e) = e ≢ compile_error.Memory → IsNoneOf types other part place scope text e
 
 -- ---- parts and lists of them
 
 -- a variable's text is judged, and its depth is told
-abbrev pub JudgesVariable : List Declaration → ℕ → List ℕ → Result (Core × CelType × ℕ) CompileError → Type 0
+abbrev pub JudgesVariable : List Declaration → ℕ → List ℕ → Result (CodeCore × CelType × ℕ) CompileError → Type 0
 JudgesVariable scope place text (Ok x) =
     (a : Tree) × IsExpanded x.0 a × IsTaken (variable_judged scope) text a x.1 × (x.2 ≡ depth_in scope a)
 JudgesVariable scope place text (Err e) = e ≢ compile_error.Memory → IsNoVariable scope place text e
 
 -- a variable comes into scope, and its tree behind the others
-pub record IsAdded (n : Named) (old new : List Declaration) (before after : List CoreTree) : Type 0 where
+pub record IsAdded (n : NamedExpression) (old new : List Declaration) (before after : List Core) : Type 0 where
   pub variable : VariableTree
   pub taken : IsVariable old n variable
   pub scope : new ≡ with_variable old variable
   pub trees : after ≡ before ++ expanded variable.expression ∷ []
   pub formed : IsWellFormed variable.expression
 
-abbrev pub Adds : Named → ℕ → List Declaration → List Declaration → List CoreTree → List CoreTree → Result (Unit {0}) CompileError → Type 0
-Adds n place old new before after (Ok u) = IsAdded n old new before after
-Adds n place old new before after (Err e) = e ≢ compile_error.Memory → IsNoVariable old place n.expression e
+abbrev pub AddsVariable : NamedExpression → ℕ → List Declaration → List Declaration → List Core → List Core → Result (Unit {0}) CompileError
+    → Type 0
+AddsVariable n place old new before after (Ok u) = IsAdded n old new before after
+AddsVariable n place old new before after (Err e) = e ≢ compile_error.Memory → IsNoVariable old place n.expression e
 
 -- each part of a list is taken, and shows this of its tree, which is well formed
-pub record AreTaken {A B C : Type 0} (Takes : List B → A → B → Type 0) (Refuses : List B → A → CompileError → Type 0) (seen : B → C)
+pub record PartsChecked {A B C : Type 0} (Takes : List B → A → B → Type 0) (Refuses : List B → A → CompileError → Type 0) (seen : B → C)
     (IsFormed : B → Type 0) (ns : List A) (trees : List C) : Type 0 where
   pub taken : List B
-  pub end : Ends Takes Refuses [] ns (Ok taken)
+  pub end : TakenOrRefused Takes Refuses [] ns (Ok taken)
   pub trees_are : trees ≡ map seen taken
   pub formed : All IsFormed taken
 
-abbrev pub variable_expanded : VariableTree → CoreTree
+abbrev pub variable_expanded : VariableTree → Core
 variable_expanded v = expanded v.expression
 
 abbrev pub IsFormedVariable : VariableTree → Type 0
 IsFormedVariable v = IsWellFormed v.expression
 
-pub record AreVariables (ns : List Named) (scope : List Declaration) (trees : List CoreTree) : Type 0 where
-  pub are : AreTaken TakesVariable RefusesVariable variable_expanded IsFormedVariable ns trees
+pub record VariablesChecked (ns : List NamedExpression) (scope : List Declaration) (trees : List Core) : Type 0 where
+  pub are : PartsChecked TakesVariable RefusesVariable variable_expanded IsFormedVariable ns trees
   pub scope_is : scope ≡ scope_after are.taken
 
-abbrev pub ChecksVariables : List Named → Result (Scope × Vec Core Global) CompileError → Type 0
-ChecksVariables ns (Ok x) = AreVariables ns x.0 (map core_view x.1.items)
+abbrev pub ChecksVariables : List NamedExpression → Result (Scope × Vec CodeCore Global) CompileError → Type 0
+ChecksVariables ns (Ok x) = VariablesChecked ns x.0 (map core_view x.1.items)
 ChecksVariables ns (Err e) = e ≢ compile_error.Memory → VariablesEnd ns (Err e)
 
-abbrev pub AreConditions : List Named → List CoreTree → Type 0
-AreConditions ns trees = AreTaken TakesCondition RefusesCondition expanded IsWellFormed ns trees
+abbrev pub ConditionsChecked : List NamedExpression → List Core → Type 0
+ConditionsChecked ns trees = PartsChecked TakesCondition RefusesCondition expanded IsWellFormed ns trees
 
-abbrev pub ChecksConditions : List Named → Result (Vec Core Global) CompileError → Type 0
-ChecksConditions ns (Ok v) = AreConditions ns (map core_view v.items)
+abbrev pub ChecksConditions : List NamedExpression → Result (Vec CodeCore Global) CompileError → Type 0
+ChecksConditions ns (Ok v) = ConditionsChecked ns (map core_view v.items)
 ChecksConditions ns (Err e) = e ≢ compile_error.Memory → ConditionsEnd ns (Err e)
 
-abbrev pub rule_trees : CheckedValidation → CoreTree × Option CoreTree
-rule_trees v = (core_view v.expression, option_map core_view v.message)
+abbrev pub validation_trees : CheckedValidation → Core × Option Core
+validation_trees v = (core_view v.expression, option_map core_view v.message)
 
-abbrev pub rule_expanded : RuleTree → CoreTree × Option CoreTree
-rule_expanded r = (expanded r.expression, option_map expanded r.message)
+abbrev pub validation_expanded : ValidationTree → Core × Option Core
+validation_expanded r = (expanded r.expression, option_map expanded r.message)
 
 -- a message expression that a validation may have
 pub record IsNoMessage (scope : List Declaration) (place : ℕ) (text : Option (List ℕ)) (e : CompileError) : Type 0 where
   pub source : List ℕ
   pub is : text ≡ Some source
-  pub because : IsNoneOf texts K9 Message place scope source e
+  pub because : IsNoneOf texts MessageNotAString Message place scope source e
 
-abbrev pub SortsMessage : List Declaration → ℕ → Option (List ℕ) → Result (Option Core) CompileError → Type 0
+abbrev pub SortsMessage : List Declaration → ℕ → Option (List ℕ) → Result (Option CodeCore) CompileError → Type 0
 SortsMessage scope place text (Ok m) =
     (b : Option Tree) × (option_map core_view m ≡ option_map expanded b) × IsMessage scope text b × IfSome b IsWellFormed
 SortsMessage scope place text (Err e) = e ≢ compile_error.Memory → IsNoMessage scope place text e
 
-abbrev pub ChecksRule : List Declaration → ℕ → Rule → Result CheckedValidation CompileError → Type 0
-ChecksRule scope place n (Ok v) = (r : RuleTree) × (rule_trees v ≡ rule_expanded r) × IsRule scope n r × IsFormedRule r
-ChecksRule scope place n (Err e) = e ≢ compile_error.Memory → IsNoRule scope place n e
+abbrev pub ChecksValidation : List Declaration → ℕ → Validation → Result CheckedValidation CompileError → Type 0
+ChecksValidation scope place n (Ok v) = (r : ValidationTree) × (validation_trees v ≡ validation_expanded r) × IsValidation scope n r
+    × IsFormedValidation r
+ChecksValidation scope place n (Err e) = e ≢ compile_error.Memory → IsNoValidation scope place n e
 
-abbrev pub AreRules : List Declaration → List Rule → List (CoreTree × Option CoreTree) → Type 0
-AreRules scope ns trees = AreTaken (TakesRule scope) (RefusesRule scope) rule_expanded IsFormedRule ns trees
+abbrev pub ValidationsChecked : List Declaration → List Validation → List (Core × Option Core) → Type 0
+ValidationsChecked scope ns trees =
+    PartsChecked (TakesValidation scope) (RefusesValidation scope) validation_expanded IsFormedValidation ns trees
 
-abbrev pub ChecksRules : List Declaration → List Rule → Result (Vec CheckedValidation Global) CompileError → Type 0
-ChecksRules scope ns (Ok v) = AreRules scope ns (map rule_trees v.items)
-ChecksRules scope ns (Err e) = e ≢ compile_error.Memory → ValidationsEnd scope ns (Err e)
+abbrev pub ChecksValidations : List Declaration → List Validation → Result (Vec CheckedValidation Global) CompileError → Type 0
+ChecksValidations scope ns (Ok v) = ValidationsChecked scope ns (map validation_trees v.items)
+ChecksValidations scope ns (Err e) = e ≢ compile_error.Memory → ValidationsEnd scope ns (Err e)
 
 -- ---- a policy
 
@@ -129,17 +133,17 @@ ChecksRules scope ns (Err e) = e ≢ compile_error.Memory → ValidationsEnd sco
 pub record IsFormed (t : PolicyTree) : Type 0 where
   pub variables : All IsFormedVariable t.variables
   pub conditions : All IsWellFormed t.conditions
-  pub validations : All IsFormedRule t.validations
+  pub validations : All IsFormedValidation t.validations
 
 -- what is checked, beside its trees
 pub record IsChecked (checked : Checked) (t : PolicyTree) : Type 0 where
   pub scope : checked.scope ≡ scope_after t.variables
   pub variables : map core_view checked.variables.items ≡ map variable_expanded t.variables
   pub conditions : map core_view checked.conditions.items ≡ map expanded t.conditions
-  pub validations : map rule_trees checked.validations.items ≡ map rule_expanded t.validations
+  pub validations : map validation_trees checked.validations.items ≡ map validation_expanded t.validations
   pub formed : IsFormed t
 
 -- the policy's parts are checked, or the first refusal is answered; or the host has no memory for them
-abbrev pub Checks : Rules → Result Checked CompileError → Type 0
+abbrev pub Checks : Policy → Result Checked CompileError → Type 0
 Checks p (Ok checked) = (t : PolicyTree) × IsChecked checked t × PartsEnd p (Ok t)
 Checks p (Err e) = e ≢ compile_error.Memory → PartsEnd p (Err e)

@@ -1,9 +1,10 @@
--- Which expressions a policy may have, and the first that is refused: variables, conditions and validations, each in its
--- order, a message expression behind its validation, and each judged whole before the next.
+-- Which expressions a policy may have, and the first that is refused: variables, conditions and validations, each in
+-- its order, a message expression behind its validation, and each judged whole before the next.
 use Rattle.std.specs.Prelude.{◌≡◌, ℕ, true, false, List, [], ◌∷◌, ◌++◌, length, fold, nat_lt, Option, Some, None, Result, Ok, Err, if◌then◌else◌}
+use Rattle.cel_reader.specs.Limits.{open_limit}
 use Rattle.cel_tokens.specs.declared.read_error.ReadError.{ReadError}
 use Rattle.cel_reader.specs.Tree.{Tree}
-use Rattle.cel_reader.specs.Answers.{HasTokens, IsAnswer, IsExpression}
+use Rattle.cel_reader.specs.Answers.{HasTokens, IsReadResult, IsExpression}
 use Rattle.cel_macros.specs.CoreTree.{expanded}
 use Rattle.cel_macros.specs.MacroFault.{MacroFault, macro_fault, fault_error}
 use Rattle.cel_types.specs.Declarations.{Declaration, declared, depths_of, scope_of}
@@ -12,34 +13,27 @@ use Rattle.cel_types.specs.Types.{TypeFault, Typing, UnknownName, NoOverload, Mi
 use Rattle.cel_types.specs.Typing.{typing as type_of}
 use Rattle.cel_types.specs.declared.cel_type.CelType.{CelType}
 use Rattle.cel_types.specs.declared.cel_type.CelType.TheVariants as type
-use Rattle.cel_types.specs.declared.type_error.TypeError.{TypeError, TheVariants.Y1, TheVariants.Y2, TheVariants.Y3}
+use Rattle.cel_types.specs.declared.type_error.TypeError.{TypeError, TheVariants.UnknownIdentifier, TheVariants.NoMatchingOverload, TheVariants.MisusedVariables}
 use Rattle.cel_measures.specs.Measures.{need, depth}
-use Rattle.policy_glue.specs.Policy.{Named, Rule, Rules}
-use Rattle.policy_glue.specs.Trees.{VariableTree, RuleTree, PolicyTree}
-use Rattle.policy_glue.specs.declared.part_kind.PartKind.{PartKind, TheVariants.Variable, TheVariants.Condition, TheVariants.Validation, TheVariants.Message}
+use Rattle.expression_code.specs.Limits.{word_limit, variable_depth_limit}
+use Rattle.policy_glue.specs.Policy.{NamedExpression, Validation, Policy}
+use Rattle.policy_glue.specs.Trees.{VariableTree, ValidationTree, PolicyTree}
+use Rattle.policy_glue.specs.declared.part_kind.PartKind.{PartKind, TheVariants.Variable, TheVariants.Condition, TheVariants.Validation as CodeValidation, TheVariants.Message}
 use Rattle.policy_glue.specs.declared.expression_error.ExpressionError.{ExpressionError}
-use Rattle.policy_glue.specs.declared.expression_error.ExpressionError.TheVariants.{Unread, Unexpanded, Untyped, G1, G2}
-use Rattle.policy_glue.specs.declared.compile_error.CompileError.{CompileError, TheVariants.K6, TheVariants.K7, TheVariants.K9}
+use Rattle.policy_glue.specs.declared.expression_error.ExpressionError.TheVariants.{Unread, Unexpanded, Untyped, NeedsTooManyWords, VariableTooDeep}
+use Rattle.policy_glue.specs.declared.compile_error.CompileError.{CompileError, TheVariants.InvalidExpression, TheVariants.NotABool, TheVariants.MessageNotAString}
 
 -- ---- one tree: macros, types, stack words, and for a variable its depth
 
--- the most stack words of an expression, and the greatest depth of a variable
-abbrev pub most_need : ℕ
-most_need = 60
-
--- the greatest depth of a variable, which is one above the deepest that it names
-abbrev pub most_depth : ℕ
-most_depth = 6
-
--- Y1 to Y3, by why a tree has no type
+-- the error that the type checker reports, by why a tree has no type
 abbrev pub type_error : TypeFault → TypeError
-type_error UnknownName = Y1
-type_error NoOverload = Y2
-type_error MisplacedVariables = Y3
+type_error UnknownName = UnknownIdentifier
+type_error NoOverload = NoMatchingOverload
+type_error MisplacedVariables = MisusedVariables
 
--- of a tree of this type: G1 where it needs more stack words than there are
+-- the type of a tree; `NeedsTooManyWords` if the tree needs more stack words than there are
 abbrev pub with_need : ℕ → CelType → Result CelType ExpressionError
-with_need n t = if nat_lt most_need n then Err G1 else Ok t
+with_need n t = if nat_lt word_limit n then Err NeedsTooManyWords else Ok t
 
 -- the same of what typing says of the tree
 abbrev pub with_typing : Typing → ℕ → Result CelType ExpressionError
@@ -55,9 +49,9 @@ with_macros (Some fault) t n = Err (Unexpanded (fault_error fault))
 unfoldable pub expression_judged : List Declaration → Tree → Result CelType ExpressionError
 expression_judged scope a = with_macros (macro_fault a) (type_of a (scope_of scope)) (need (expanded a))
 
--- of a variable at this depth, judged as a tree: G2 where it is too deep
+-- a variable at this depth, judged as a tree; `VariableTooDeep` if it is too deep
 abbrev pub with_depth : ℕ → Result CelType ExpressionError → Result CelType ExpressionError
-with_depth d (Ok t) = if nat_lt most_depth d then Err G2 else Ok t
+with_depth d (Ok t) = if nat_lt variable_depth_limit d then Err VariableTooDeep else Ok t
 with_depth d (Err e) = Err e
 
 -- the depth of a variable with this tree, which may name these variables
@@ -71,18 +65,18 @@ variable_judged scope a = with_depth (depth_in scope a) (expression_judged scope
 -- ---- one text
 
 -- the text is this tree, with at most 100 brackets and conditionals open
-abbrev pub Reads : List ℕ → Tree → Type 0
-Reads text a = HasTokens text (λ ws. IsExpression 100 ws a)
+abbrev pub ReadsTree : List ℕ → Tree → Type 0
+ReadsTree text a = HasTokens text (λ ws. IsExpression open_limit ws a)
 
 -- the text is this tree, of this type
 pub record IsTaken (judge : Tree → Result CelType ExpressionError) (text : List ℕ) (a : Tree) (t : CelType) : Type 0 where
-  pub reads : Reads text a
+  pub reads : ReadsTree text a
   pub judged : judge a ≡ Ok t
 
 -- the text is no expression, or is refused as the tree that it is
-pub data IsRefused (judge : Tree → Result CelType ExpressionError) (text : List ℕ) : ExpressionError → Type 0 where
-  unread : (e : ReadError) → IsAnswer text (Err e) → IsRefused judge text (Unread e)
-  judged : (a : Tree) (e : ExpressionError) → Reads text a → judge a ≡ Err e → IsRefused judge text e
+pub data IsExpressionRefused (judge : Tree → Result CelType ExpressionError) (text : List ℕ) : ExpressionError → Type 0 where
+  unread : (e : ReadError) → IsReadResult text (Err e) → IsExpressionRefused judge text (Unread e)
+  judged : (a : Tree) (e : ExpressionError) → ReadsTree text a → judge a ≡ Err e → IsExpressionRefused judge text e
 
 -- conditions and validations are bools, message expressions texts, each as far as is known
 abbrev pub truths : List CelType
@@ -99,8 +93,8 @@ types_of _ = truths
 
 -- the refusal of one of another type
 abbrev pub other_type : PartKind → CompileError
-other_type Message = K9
-other_type _ = K7
+other_type Message = MessageNotAString
+other_type _ = NotABool
 
 -- the text is this tree, of one of these types or of none that is known
 pub record IsOneOf (types : List CelType) (scope : List Declaration) (text : List ℕ) (a : Tree) : Type 0 where
@@ -109,7 +103,7 @@ pub record IsOneOf (types : List CelType) (scope : List Declaration) (text : Lis
   pub kind : allowed types cel_type ≡ true
 
 -- the text is a tree of another type
-pub record IsOther (types : List CelType) (scope : List Declaration) (text : List ℕ) : Type 0 where
+pub record HasOtherType (types : List CelType) (scope : List Declaration) (text : List ℕ) : Type 0 where
   pub tree : Tree
   pub cel_type : CelType
   pub taken : IsTaken (expression_judged scope) text tree cel_type
@@ -118,20 +112,20 @@ pub record IsOther (types : List CelType) (scope : List Declaration) (text : Lis
 -- the text of the part at this place is refused, or is a tree of another type than these
 pub data IsNoneOf (types : List CelType) (other : CompileError) (part : PartKind) (place : ℕ) (scope : List Declaration) (text : List ℕ)
     : CompileError → Type 0 where
-  refused : (e : ExpressionError) → IsRefused (expression_judged scope) text e
-      → IsNoneOf types other part place scope text (K6 part place e)
-  of_another_type : IsOther types scope text → IsNoneOf types other part place scope text other
+  refused : (e : ExpressionError) → IsExpressionRefused (expression_judged scope) text e
+      → IsNoneOf types other part place scope text (InvalidExpression part place e)
+  of_another_type : HasOtherType types scope text → IsNoneOf types other part place scope text other
 
 -- ---- lists of parts
 
 -- from here on, behind what is taken, each part is taken, or the first that is not is refused
-pub data Ends {A B : Type 0} (Takes : List B → A → B → Type 0) (Refuses : List B → A → CompileError → Type 0)
+pub data TakenOrRefused {A B : Type 0} (Takes : List B → A → B → Type 0) (Refuses : List B → A → CompileError → Type 0)
     : List B → List A → Result (List B) CompileError → Type 0 where
-  over : {taken : List B} → Ends Takes Refuses taken [] (Ok taken)
+  over : {taken : List B} → TakenOrRefused Takes Refuses taken [] (Ok taken)
   refused : {taken : List B} {part : A} {more : List A} (e : CompileError) → Refuses taken part e
-      → Ends Takes Refuses taken (part ∷ more) (Err e)
+      → TakenOrRefused Takes Refuses taken (part ∷ more) (Err e)
   next : {taken : List B} {part : A} {more : List A} {end : Result (List B) CompileError} (tree : B) → Takes taken part tree
-      → Ends Takes Refuses (taken ++ tree ∷ []) more end → Ends Takes Refuses taken (part ∷ more) end
+      → TakenOrRefused Takes Refuses (taken ++ tree ∷ []) more end → TakenOrRefused Takes Refuses taken (part ∷ more) end
 
 -- the type that was found, or `dyn` where there is none
 abbrev pub type_or_any : Typing → CelType
@@ -147,40 +141,40 @@ abbrev pub scope_after : List VariableTree → List Declaration
 scope_after variables = fold with_variable [] variables
 
 -- a variable may use those in scope, which are those before it
-pub record IsVariable (scope : List Declaration) (n : Named) (v : VariableTree) : Type 0 where
+pub record IsVariable (scope : List Declaration) (n : NamedExpression) (v : VariableTree) : Type 0 where
   pub name : v.name ≡ n.name
   pub cel_type : CelType
   pub tree : IsTaken (variable_judged scope) n.expression v.expression cel_type
 
--- the variable at this place is refused with K6
+-- the variable at this place is refused with `InvalidExpression`
 pub record IsNoVariable (scope : List Declaration) (place : ℕ) (text : List ℕ) (e : CompileError) : Type 0 where
   pub cause : ExpressionError
-  pub because : IsRefused (variable_judged scope) text cause
-  pub is : e ≡ K6 Variable place cause
+  pub because : IsExpressionRefused (variable_judged scope) text cause
+  pub is : e ≡ InvalidExpression Variable place cause
 
 -- the next variable, which may use those taken so far
-abbrev pub TakesVariable : List VariableTree → Named → VariableTree → Type 0
+abbrev pub TakesVariable : List VariableTree → NamedExpression → VariableTree → Type 0
 TakesVariable taken n v = IsVariable (scope_after taken) n v
 
 -- it is refused, at the place behind them
-abbrev pub RefusesVariable : List VariableTree → Named → CompileError → Type 0
+abbrev pub RefusesVariable : List VariableTree → NamedExpression → CompileError → Type 0
 RefusesVariable taken n e = IsNoVariable (scope_after taken) (length taken) n.expression e
 
 -- the trees of all variables, or the first refusal
-abbrev pub VariablesEnd : List Named → Result (List VariableTree) CompileError → Type 0
-VariablesEnd ns end = Ends TakesVariable RefusesVariable [] ns end
+abbrev pub VariablesEnd : List NamedExpression → Result (List VariableTree) CompileError → Type 0
+VariablesEnd ns end = TakenOrRefused TakesVariable RefusesVariable [] ns end
 
 -- a condition may use no variable
-abbrev pub TakesCondition : List Tree → Named → Tree → Type 0
+abbrev pub TakesCondition : List Tree → NamedExpression → Tree → Type 0
 TakesCondition taken n a = IsOneOf truths [] n.expression a
 
--- the next condition is refused, with K7 where it has another type
-abbrev pub RefusesCondition : List Tree → Named → CompileError → Type 0
-RefusesCondition taken n e = IsNoneOf truths K7 Condition (length taken) [] n.expression e
+-- the next condition is refused, with `NotABool` if it has another type
+abbrev pub RefusesCondition : List Tree → NamedExpression → CompileError → Type 0
+RefusesCondition taken n e = IsNoneOf truths NotABool Condition (length taken) [] n.expression e
 
 -- the trees of all conditions, or the first refusal
-abbrev pub ConditionsEnd : List Named → Result (List Tree) CompileError → Type 0
-ConditionsEnd ns end = Ends TakesCondition RefusesCondition [] ns end
+abbrev pub ConditionsEnd : List NamedExpression → Result (List Tree) CompileError → Type 0
+ConditionsEnd ns end = TakenOrRefused TakesCondition RefusesCondition [] ns end
 
 -- a validation and its message expression may use all variables
 abbrev pub IsMessage : List Declaration → Option (List ℕ) → Option Tree → Type 0
@@ -189,37 +183,38 @@ IsMessage scope None None = Unit {0}
 IsMessage scope _ _ = ⊥
 
 -- a validation is these trees: a bool, and a text where it has a message expression
-pub record IsRule (scope : List Declaration) (n : Rule) (r : RuleTree) : Type 0 where
+pub record IsValidation (scope : List Declaration) (n : Validation) (r : ValidationTree) : Type 0 where
   pub expression : IsOneOf truths scope n.expression r.expression
   pub message : IsMessage scope n.message_expression r.message
 
--- the validation at this place is refused: its expression, or else its message expression, with K9 for its type
-pub data IsNoRule (scope : List Declaration) (place : ℕ) (n : Rule) : CompileError → Type 0 where
-  expression : (e : CompileError) → IsNoneOf truths K7 Validation place scope n.expression e → IsNoRule scope place n e
+-- the validation at this place is refused: its expression, or else its message expression, with `MessageNotAString` for
+-- its type
+pub data IsNoValidation (scope : List Declaration) (place : ℕ) (n : Validation) : CompileError → Type 0 where
+  expression : (e : CompileError) → IsNoneOf truths NotABool CodeValidation place scope n.expression e → IsNoValidation scope place n e
   message : (a : Tree) (text : List ℕ) (e : CompileError) → IsOneOf truths scope n.expression a → n.message_expression ≡ Some text
-      → IsNoneOf texts K9 Message place scope text e → IsNoRule scope place n e
+      → IsNoneOf texts MessageNotAString Message place scope text e → IsNoValidation scope place n e
 
 -- the next validation
-abbrev pub TakesRule : List Declaration → List RuleTree → Rule → RuleTree → Type 0
-TakesRule scope taken n r = IsRule scope n r
+abbrev pub TakesValidation : List Declaration → List ValidationTree → Validation → ValidationTree → Type 0
+TakesValidation scope taken n r = IsValidation scope n r
 
 -- it is refused, at the place behind those taken so far
-abbrev pub RefusesRule : List Declaration → List RuleTree → Rule → CompileError → Type 0
-RefusesRule scope taken n e = IsNoRule scope (length taken) n e
+abbrev pub RefusesValidation : List Declaration → List ValidationTree → Validation → CompileError → Type 0
+RefusesValidation scope taken n e = IsNoValidation scope (length taken) n e
 
 -- the trees of all validations, or the first refusal
-abbrev pub ValidationsEnd : List Declaration → List Rule → Result (List RuleTree) CompileError → Type 0
-ValidationsEnd scope ns end = Ends (TakesRule scope) (RefusesRule scope) [] ns end
+abbrev pub ValidationsEnd : List Declaration → List Validation → Result (List ValidationTree) CompileError → Type 0
+ValidationsEnd scope ns end = TakenOrRefused (TakesValidation scope) (RefusesValidation scope) [] ns end
 
 -- ---- the policy
 
 -- its expressions as trees, or the first refusal
-pub data PartsEnd (p : Rules) : Result PolicyTree CompileError → Type 0 where
+pub data PartsEnd (p : Policy) : Result PolicyTree CompileError → Type 0 where
   in_variables : (e : CompileError) → VariablesEnd p.variables (Err e) → PartsEnd p (Err e)
   in_conditions : (vs : List VariableTree) (e : CompileError) → VariablesEnd p.variables (Ok vs)
       → ConditionsEnd p.conditions (Err e) → PartsEnd p (Err e)
   in_validations : (vs : List VariableTree) (cs : List Tree) (e : CompileError) → VariablesEnd p.variables (Ok vs)
       → ConditionsEnd p.conditions (Ok cs) → ValidationsEnd (scope_after vs) p.validations (Err e) → PartsEnd p (Err e)
-  taken : (vs : List VariableTree) (cs : List Tree) (rs : List RuleTree) → VariablesEnd p.variables (Ok vs)
+  taken : (vs : List VariableTree) (cs : List Tree) (rs : List ValidationTree) → VariablesEnd p.variables (Ok vs)
       → ConditionsEnd p.conditions (Ok cs) → ValidationsEnd (scope_after vs) p.validations (Ok rs)
       → PartsEnd p (Ok (record { variables = vs; conditions = cs; validations = rs }))

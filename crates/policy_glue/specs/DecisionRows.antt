@@ -6,16 +6,17 @@ use Rattle.cel_reader.specs.Written.{num, str, yes, no, name, dot, call, method,
 use Rattle.cel_reader.specs.declared.operator.BinaryOperator.TheVariants.{Add, And, Divide, Equal, LessEqual, Or}
 use Rattle.cel_macros.specs.Environment.{Roots}
 use Rattle.cel_macros.specs.Written.{entries_of, review, variable}
-use Rattle.cel_macros.specs.declared.macro_error.MacroError.TheVariants.{M2, M3}
+use Rattle.cel_macros.specs.declared.macro_error.MacroError.TheVariants.{InvalidIterationName, HasWithoutSelection}
 use Rattle.cel_types.specs.Types.{allowed}
 use Rattle.cel_types.specs.declared.cel_type.CelType.TheVariants as type
-use Rattle.cel_types.specs.declared.type_error.TypeError.TheVariants.{Y2, Y3}
+use Rattle.cel_types.specs.declared.type_error.TypeError.TheVariants.{NoMatchingOverload, MisusedVariables}
 use Rattle.cel_measures.specs.Rows.{to_the_right}
 use Rattle.policy_glue.specs.Checking.{expression_judged, scope_after, texts, truths, variable_judged}
 use Rattle.policy_glue.specs.Evaluation.{decision_of}
-use Rattle.policy_glue.specs.Trees.{VariableTree, RuleTree, PolicyTree}
-use Rattle.policy_glue.specs.Verdict.{Verdict, Finding, Truth, Holds, Fails, Errs, Skipped, Rejected, Denied, Admitted}
-use Rattle.policy_glue.specs.declared.expression_error.ExpressionError.TheVariants.{Unexpanded, Untyped, G1, G2}
+use Rattle.policy_glue.specs.Trees.{VariableTree, ValidationTree, PolicyTree}
+use Rattle.policy_glue.specs.Verdict.{Verdict, Finding, CheckResult, Holds, Fails, Errs}
+use Rattle.policy_glue.specs.declared.outcome.Outcome.{TheVariants.Skipped, TheVariants.Rejected, TheVariants.Denied, TheVariants.Admitted}
+use Rattle.policy_glue.specs.declared.expression_error.ExpressionError.TheVariants.{Unexpanded, Untyped, NeedsTooManyWords, VariableTooDeep}
 use Rattle.policy_glue.specs.declared.failure_policy.FailurePolicy.{FailurePolicy, TheVariants.Fail, TheVariants.Ignore}
 
 -- ---- decisions
@@ -39,25 +40,25 @@ wrong = binary Divide (num 1) (num 0)
 abbrev pub undecided : Tree
 undecided = binary Equal wrong (num 1)
 
-abbrev pub bare : Tree → RuleTree
+abbrev pub bare : Tree → ValidationTree
 bare a = record { expression = a; message = None }
 
 -- validations alone
-abbrev pub ruled : List RuleTree → PolicyTree
+abbrev pub ruled : List ValidationTree → PolicyTree
 ruled rules = record { variables = []; conditions = []; validations = rules }
 
-abbrev pub decided : FailurePolicy → List RuleTree → Verdict
+abbrev pub decided : FailurePolicy → List ValidationTree → Verdict
 decided f rules = decision_of f (ruled rules) five
 
 abbrev pub under : FailurePolicy → List Tree → Verdict
 under f conditions = decision_of f (record { variables = []; conditions = conditions; validations = bare no ∷ [] }) five
 
 -- where variable v is 1 / 0
-abbrev pub with_wrong : FailurePolicy → List RuleTree → Verdict
+abbrev pub with_wrong : FailurePolicy → List ValidationTree → Verdict
 with_wrong f rules =
     decision_of f (record { variables = record { name = codes "v"; expression = wrong } ∷ []; conditions = []; validations = rules }) five
 
-abbrev pub found : Truth → Finding
+abbrev pub found : CheckResult → Finding
 found t = record { truth = t; message = None }
 
 abbrev pub admitted : List Finding → Verdict
@@ -108,10 +109,10 @@ chained (suc n) = chained n ++ record { name = numbered n; expression = earlier 
 
 pub record CheckingRowsStand : Type 0 where
   pub sixth : variable_judged (scope_after (chained 5)) (earlier 5) ≡ Ok type.Int
-  pub seventh : variable_judged (scope_after (chained 6)) (earlier 6) ≡ Err G2
+  pub seventh : variable_judged (scope_after (chained 6)) (earlier 6) ≡ Err VariableTooDeep
   -- a variable may not use a later one, nor a condition any
-  pub later_variable : variable_judged (scope_after []) (variable "v1") ≡ Err (Untyped Y3)
-  pub in_condition : expression_judged [] (variable "v0") ≡ Err (Untyped Y3)
+  pub later_variable : variable_judged (scope_after []) (variable "v1") ≡ Err (Untyped MisusedVariables)
+  pub in_condition : expression_judged [] (variable "v0") ≡ Err (Untyped MisusedVariables)
   pub in_validation : expression_judged (scope_after (chained 1)) (binary Equal (variable "v0") (num 1)) ≡ Ok type.Bool
   pub number : expression_judged [] (binary Add (num 1) (num 1)) ≡ Ok type.Int
   pub number_is_no_truth : allowed truths type.Int ≡ false
@@ -119,10 +120,11 @@ pub record CheckingRowsStand : Type 0 where
   pub unknown_is_truth : allowed truths type.Dyn ≡ true
   pub unknown_is_text : allowed texts type.Dyn ≡ true
   -- 'a' + 1, has(object), [1].all(object, true), variables
-  pub no_overload : expression_judged [] (binary Add (str "a") (num 1)) ≡ Err (Untyped Y2)
-  pub no_selection : expression_judged [] (call "has" (name "object" ∷ [])) ≡ Err (Unexpanded M3)
-  pub root_as_item : expression_judged [] (method (list_literal (num 1 ∷ [])) "all" (name "object" ∷ yes ∷ [])) ≡ Err (Unexpanded M2)
-  pub variables_alone : expression_judged [] (name "variables") ≡ Err (Untyped Y3)
+  pub no_overload : expression_judged [] (binary Add (str "a") (num 1)) ≡ Err (Untyped NoMatchingOverload)
+  pub no_selection : expression_judged [] (call "has" (name "object" ∷ [])) ≡ Err (Unexpanded HasWithoutSelection)
+  pub root_as_item : expression_judged [] (method (list_literal (num 1 ∷ [])) "all" (name "object" ∷ yes ∷ []))
+      ≡ Err (Unexpanded InvalidIterationName)
+  pub variables_alone : expression_judged [] (name "variables") ≡ Err (Untyped MisusedVariables)
   -- 1 + (1 + (.. + 1)) == 1
   pub need_of_59 : expression_judged [] (binary Equal (to_the_right 59) (num 1)) ≡ Ok type.Bool
-  pub need_of_60 : expression_judged [] (binary Equal (to_the_right 60) (num 1)) ≡ Err G1
+  pub need_of_60 : expression_judged [] (binary Equal (to_the_right 60) (num 1)) ≡ Err NeedsTooManyWords

@@ -1,8 +1,8 @@
 -- The denials as the words of a verdict tell them.
 use Rattle.std.specs.Prelude.{ℕ, ◌+◌, ◌&&◌, ◌||◌, Bool, true, false, List, [], ◌∷◌, map, nat_eq, slice_get, slice_index}
 use Rattle.std.specs.Prelude.{Option, Some, None, option_map, if◌then◌else◌}
-use Rattle.policy_glue.specs.Policy.{Rule, rule_view}
-use Rattle.policy_glue.specs.Layout.{Words, words_view}
+use Rattle.policy_glue.specs.Policy.{Validation, validation_view}
+use Rattle.policy_glue.specs.Layout.{VerdictWords, words_view}
 use Rattle.policy_glue.specs.Response.{Denial}
 use Rattle.policy_glue.specs.declared.parts.Parts.{Parts}
 use Rattle.policy_glue.specs.declared.verdict.Verdict.{Verdict}
@@ -10,7 +10,7 @@ use Rattle.policy_glue.specs.declared.denial.Denial.{Denial as CodeDenial}
 use Rattle.policy_glue.specs.declared.failure_policy.FailurePolicy.{FailurePolicy, TheVariants.Fail, TheVariants.Ignore}
 
 abbrev pub denial_view : CodeDenial → Denial
-denial_view d = record { rule = rule_view d.validation.now; message = option_map (λ t. t.now) d.message }
+denial_view d = record { rule = validation_view d.validation.now; message = option_map (λ t. t.now) d.message }
 
 abbrev pub is_fail : FailurePolicy → Bool
 is_fail Fail = true
@@ -25,7 +25,7 @@ lent (Some message) = message
 lent None = None
 
 -- those of the validations from place i on
-abbrev pub denials_told : FailurePolicy → List Rule → Words → ℕ → List Denial
+abbrev pub denials_told : FailurePolicy → List Validation → VerdictWords → ℕ → List Denial
 denials_told f [] words i = []
 denials_told f (r ∷ rs) words i =
     let more = denials_told f rs words (i + 1) in
@@ -33,4 +33,4 @@ denials_told f (r ∷ rs) words i =
 
 -- those of all validations
 abbrev pub denials_in : Parts → Verdict → List Denial
-denials_in p v = denials_told p.failure_policy (map rule_view p.validations.items) (words_view v) 0
+denials_in p v = denials_told p.failure_policy (map validation_view p.validations.items) (words_view v) 0

@@ -1,21 +1,22 @@
 -- A policy's program as it is emitted: what an emitter has taken behind each part of the policy.
 use Rattle.std.specs.Prelude.{◌≡◌, ◌≢◌, ℕ, ◌+◌, ◌-◌, ◌≤◌, List, [], ◌∷◌, fold, length, map, slice_get, take, Option, Some, None, Result, Ok, Err, Vec}
 use Rattle.std.specs.Global.{Global}
-use Rattle.cel_macros.specs.CoreTree.{CoreTree}
+use Rattle.cel_macros.specs.CoreTree.{Core}
 use Rattle.cel_macros.specs.CoreView.{core_view}
 use Rattle.cel_measures.specs.Measures.{depth, need}
 use Rattle.cel_types.specs.Declarations.{Declaration, depths_of}
 use Rattle.codegen.specs.Added.{with_expression, with_variable}
 use Rattle.codegen.specs.Constants.{joined}
 use Rattle.codegen.specs.Emitted.{Emitted, no_code, with_insn_at, with_nodes, with_piece}
-use Rattle.codegen_base.specs.Pieces.{spellings}
-use Rattle.policy_glue.specs.Checked.{IsChecked, rule_trees}
+use Rattle.expression_code.specs.Pieces.{spellings}
+use Rattle.expression_code.specs.Limits.{word_limit, variable_depth_limit}
+use Rattle.policy_glue.specs.Policy.{part_limit}
+use Rattle.policy_glue.specs.Checked.{IsChecked, validation_trees}
 use Rattle.policy_glue.specs.Checking.{scope_after}
-use Rattle.policy_glue.specs.Layout.{most_validations}
 use Rattle.policy_glue.specs.Limits.{excess, policy_texts}
 use Rattle.policy_glue.specs.Program.{condition_tail, decided_tail, if_true, leave_error, message_tail, outcome_tail, result_code}
 use Rattle.policy_glue.specs.ProgramCode.{program_of}
-use Rattle.policy_glue.specs.ProgramTrees.{AreConditions, AreRules, AreVariables}
+use Rattle.policy_glue.specs.ProgramTrees.{AreConditions, AreValidations, AreVariables}
 use Rattle.policy_glue.specs.Trees.{PolicyTree}
 use Rattle.policy_glue.specs.declared.checked.Checked.{Checked}
 use Rattle.policy_glue.specs.declared.compile_error.CompileError.{CompileError, TheVariants.Memory}
@@ -24,14 +25,14 @@ use Rattle.policy_glue.specs.declared.failure_policy.FailurePolicy.{FailurePolic
 -- ---- each part
 
 -- from variable i on, each in the scope of those before it
-abbrev pub with_variables : List Declaration → ℕ → Emitted → List CoreTree → Emitted
+abbrev pub with_variables : List Declaration → ℕ → Emitted → List Core → Emitted
 with_variables declarations i e [] = e
 with_variables declarations i e (tree ∷ more) = with_variables declarations (i + 1) (with_variable e (take i declarations) tree) more
 
-abbrev pub with_condition : FailurePolicy → Emitted → CoreTree → Emitted
+abbrev pub with_condition : FailurePolicy → Emitted → Core → Emitted
 with_condition f e tree = with_piece (with_expression (with_nodes e 1) [] tree) (condition_tail f)
 
-abbrev pub with_conditions : FailurePolicy → Emitted → List CoreTree → Emitted
+abbrev pub with_conditions : FailurePolicy → Emitted → List Core → Emitted
 with_conditions f e trees = fold (with_condition f) e trees
 
 -- what the conditions decide, if there are any
@@ -39,7 +40,7 @@ abbrev pub with_decided : {A : Type 0} → Emitted → List A → Emitted
 with_decided e [] = e
 with_decided e (condition ∷ more) = with_piece e decided_tail
 
-abbrev pub with_message : ℕ → List Declaration → Emitted → CoreTree → Emitted
+abbrev pub with_message : ℕ → List Declaration → Emitted → Core → Emitted
 with_message i scope e tree = with_piece (with_expression (with_nodes e 1) scope tree) (message_tail i)
 
 -- what stands behind a validation from a slot on leads behind all of the code
@@ -48,28 +49,28 @@ with_way f slot e =
     with_insn_at (with_insn_at e slot (if_true (length e.code - 1 - slot))) (slot + 5) (leave_error f (length e.code - 1 - slot - 5))
 
 -- what is done where a validation is not true, and the message
-abbrev pub with_result : FailurePolicy → ℕ → List Declaration → Emitted → Option CoreTree → Emitted
+abbrev pub with_result : FailurePolicy → ℕ → List Declaration → Emitted → Option Core → Emitted
 with_result f i scope e None = with_piece e (result_code f i [])
 with_result f i scope e (Some tree) = with_way f (length e.code) (with_message i scope (with_piece e (result_code f i [])) tree)
 
-abbrev pub with_validation : FailurePolicy → ℕ → List Declaration → Emitted → CoreTree × Option CoreTree → Emitted
+abbrev pub with_validation : FailurePolicy → ℕ → List Declaration → Emitted → Core × Option Core → Emitted
 with_validation f i scope e v = with_result f i scope (with_expression (with_nodes e 1) scope v.0) v.1
 
 -- from validation i on
-abbrev pub with_validations : FailurePolicy → ℕ → List Declaration → Emitted → List (CoreTree × Option CoreTree) → Emitted
+abbrev pub with_validations : FailurePolicy → ℕ → List Declaration → Emitted → List (Core × Option Core) → Emitted
 with_validations f i scope e [] = e
 with_validations f i scope e (v ∷ more) = with_validations f (i + 1) scope (with_validation f i scope e v) more
 
 -- ---- the whole
 
-abbrev pub variables_of : Checked → List CoreTree
+abbrev pub variables_of : Checked → List Core
 variables_of c = map core_view c.variables.items
 
-abbrev pub conditions_of : Checked → List CoreTree
+abbrev pub conditions_of : Checked → List Core
 conditions_of c = map core_view c.conditions.items
 
-abbrev pub validations_of : Checked → List (CoreTree × Option CoreTree)
-validations_of c = map rule_trees c.validations.items
+abbrev pub validations_of : Checked → List (Core × Option Core)
+validations_of c = map validation_trees c.validations.items
 
 abbrev pub before_validations : FailurePolicy → Checked → Emitted
 before_validations f c =
@@ -81,15 +82,15 @@ emitted f c = with_piece (with_validations f 0 c.scope (before_validations f c) 
 -- ---- what can be emitted
 
 -- each expression has words enough in a frame, and each variable's is not too deep among those before it
-abbrev pub FitInOrder : List Declaration → List CoreTree → Type 0
-FitInOrder declarations trees = (i : ℕ) (tree : CoreTree) → slice_get trees i ≡ Some tree
-    → (need tree ≤ 60) × (depth tree (depths_of (take i declarations)) ≤ 6)
+abbrev pub FitInOrder : List Declaration → List Core → Type 0
+FitInOrder declarations trees = (i : ℕ) (tree : Core) → slice_get trees i ≡ Some tree
+    → (need tree ≤ word_limit) × (depth tree (depths_of (take i declarations)) ≤ variable_depth_limit)
 
-abbrev pub Fits : CoreTree → Type 0
-Fits tree = need tree ≤ 60
+abbrev pub FitsFrame : Core → Type 0
+FitsFrame tree = need tree ≤ word_limit
 
-abbrev pub MayFit : Option CoreTree → Type 0
-MayFit (Some tree) = Fits tree
+abbrev pub MayFit : Option Core → Type 0
+MayFit (Some tree) = FitsFrame tree
 MayFit None = Unit {0}
 
 -- what is checked are the trees of a policy, and they are taken
@@ -98,10 +99,10 @@ pub record HasTrees (checked : Checked) : Type 0 where
   pub are : IsChecked checked trees
   pub variables : AreVariables [] trees.variables
   pub conditions : AreConditions trees.conditions
-  pub validations : AreRules (scope_after trees.variables) trees.validations
-  pub few : length trees.validations ≤ most_validations
+  pub validations : AreValidations (scope_after trees.variables) trees.validations
+  pub few : length trees.validations ≤ part_limit
 
 -- the bytes of a policy's program and those of its texts, or that it is too large; or the host has no memory for them
-abbrev pub Emits : FailurePolicy → PolicyTree → Result (Vec ℕ Global × Vec ℕ Global) CompileError → Type 0
-Emits f t (Ok r) = (excess t ≡ None) × (r.0.items ≡ spellings (program_of f t)) × (r.1.items ≡ joined (policy_texts t))
-Emits f t (Err e) = e ≢ Memory → excess t ≡ Some e
+abbrev pub EmitsProgram : FailurePolicy → PolicyTree → Result (Vec ℕ Global × Vec ℕ Global) CompileError → Type 0
+EmitsProgram f t (Ok r) = (excess t ≡ None) × (r.0.items ≡ spellings (program_of f t)) × (r.1.items ≡ joined (policy_texts t))
+EmitsProgram f t (Err e) = e ≢ Memory → excess t ≡ Some e

@@ -4,7 +4,7 @@ use Rattle.value_store.specs.Value.{ValueOrError}
 use Rattle.cel_reader.specs.Tree.{Tree}
 use Rattle.cel_macros.specs.Environment.{Environment, Roots}
 use Rattle.cel_macros.specs.Meaning.{meaning}
-use Rattle.policy_glue.specs.Trees.{VariableTree, RuleTree, PolicyTree}
+use Rattle.policy_glue.specs.Trees.{VariableTree, ValidationTree, PolicyTree}
 use Rattle.policy_glue.specs.Verdict.{Verdict, verdict_of}
 use Rattle.policy_glue.specs.declared.failure_policy.FailurePolicy.{FailurePolicy}
 
@@ -25,7 +25,7 @@ abbrev pub condition_values : Roots → List Tree → List ValueOrError
 condition_values roots conditions = map (λ e. meaning e (environment_with roots [])) conditions
 
 -- what the expression of a validation means, and its message expression, if it has one
-abbrev pub rule_value : Environment → RuleTree → ValueOrError × Option ValueOrError
+abbrev pub rule_value : Environment → ValidationTree → ValueOrError × Option ValueOrError
 rule_value env r = (meaning r.expression env, option_map (λ m. meaning m env) r.message)
 
 -- validations and their message expressions may use all variables

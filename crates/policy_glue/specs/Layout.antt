@@ -9,7 +9,9 @@ use Rattle.guest_memory.specs.declared.fault.Fault as fault
 use Rattle.guest_memory.specs.declared.size.Size.TheVariants.{Dw}
 use Rattle.value_store.specs.Value.{ValueOrError}
 use Rattle.value_store.specs.Calls.{text_at}
-use Rattle.policy_glue.specs.Verdict.{Verdict, Finding, Truth, Holds, Fails, Errs, Outcome, Skipped, Rejected, Denied, Admitted, is_denial}
+use Rattle.policy_glue.specs.Policy.{part_limit}
+use Rattle.policy_glue.specs.Verdict.{Verdict, Finding, CheckResult, Holds, Fails, Errs, is_denial}
+use Rattle.policy_glue.specs.declared.outcome.Outcome.{Outcome, TheVariants.Skipped, TheVariants.Rejected, TheVariants.Denied, TheVariants.Admitted}
 use Rattle.policy_glue.specs.declared.failure_policy.FailurePolicy.{FailurePolicy}
 use Rattle.policy_glue.specs.declared.verdict.Verdict.{Verdict as CodeVerdict}
 
@@ -20,11 +22,7 @@ first_result = 2
 
 -- the first of the words that name messages
 abbrev pub first_message : ℕ
-first_message = 66
-
--- how many validations a verdict has words for
-abbrev pub most_validations : ℕ
-most_validations = 64
+first_message = first_result + part_limit
 
 -- the word of an outcome
 abbrev pub outcome_word : Outcome → ℕ
@@ -33,8 +31,16 @@ outcome_word Rejected = 2
 outcome_word Denied = 3
 outcome_word Admitted = 4
 
+-- the outcome that a word states; a word that states none rejects the request
+abbrev pub outcome_of : ℕ → Outcome
+outcome_of word =
+    if nat_eq word (outcome_word Skipped) then Skipped
+    else (if nat_eq word (outcome_word Denied) then Denied
+    else (if nat_eq word (outcome_word Admitted) then Admitted
+    else Rejected))
+
 -- the word of what a validation came to
-abbrev pub truth_word : Truth → ℕ
+abbrev pub truth_word : CheckResult → ℕ
 truth_word Holds = 0
 truth_word Fails = 1
 truth_word Errs = 2
@@ -58,15 +64,15 @@ IsMessageWord values word None = word ≡ 0
 pub record IsLayout (f : FailurePolicy) (verdict : Verdict) (values : List ValueOrError) (region : List ℕ) : Type 0 where
   pub outcome : word_in region 0 ≡ outcome_word verdict.outcome
   pub denials : word_in region 1 ≡ count_by (is_denial f) verdict.findings
-  pub results : (i : ℕ) → i < most_validations → word_in region (first_result + i) ≡ finding_word (slice_get verdict.findings i)
-  pub messages : (i : ℕ) → i < most_validations
+  pub results : (i : ℕ) → i < part_limit → word_in region (first_result + i) ≡ finding_word (slice_get verdict.findings i)
+  pub messages : (i : ℕ) → i < part_limit
       → IsMessageWord values (word_in region (first_message + i)) (message_in (slice_get verdict.findings i))
-  pub others : (i : ℕ) → first_message + most_validations ≤ i → i < 256 → word_in region i ≡ 0
+  pub others : (i : ℕ) → first_message + part_limit ≤ i → i < 256 → word_in region i ≡ 0
 
 -- ---- reading it
 
 -- a verdict as it stands in words, with the texts that are lent
-pub record Words : Type 0 where
+pub record VerdictWords : Type 0 where
   pub outcome : ℕ
   pub denials : ℕ
   pub results : List ℕ
@@ -78,7 +84,7 @@ ok_or_zero (Ok word) = word
 ok_or_zero (Err f) = 0
 
 -- what the code's verdict holds
-abbrev pub words_view : CodeVerdict → Words
+abbrev pub words_view : CodeVerdict → VerdictWords
 words_view v = record {
   outcome = v.outcome;
   denials = v.denials;
@@ -103,15 +109,15 @@ abbrev pub message_at : Memory → List ValueOrError → ℕ → ℕ → Option 
 message_at m values count i = if nat_lt i count then text_named values (verdict_word m (first_message + i)) else None
 
 -- the words and texts are those of the verdict region and the values
-pub record AreRead (m : Memory) (values : List ValueOrError) (count : ℕ) (words : Words) : Type 0 where
+pub record AreRead (m : Memory) (values : List ValueOrError) (count : ℕ) (words : VerdictWords) : Type 0 where
   pub outcome : words.outcome ≡ verdict_word m 0
   pub denials : words.denials ≡ verdict_word m 1
-  pub results : (i : ℕ) → i < most_validations → slice_index words.results i ≡ result_at m count i
-  pub messages : (i : ℕ) → i < most_validations → slice_get words.messages i ≡ Some (message_at m values count i)
+  pub results : (i : ℕ) → i < part_limit → slice_index words.results i ≡ result_at m count i
+  pub messages : (i : ℕ) → i < part_limit → slice_get words.messages i ≡ Some (message_at m values count i)
 
--- the words and texts tell a verdict
-pub record Tell (f : FailurePolicy) (verdict : Verdict) (words : Words) : Type 0 where
+-- the words and texts encode a verdict
+pub record Encodes (f : FailurePolicy) (verdict : Verdict) (words : VerdictWords) : Type 0 where
   pub outcome : words.outcome ≡ outcome_word verdict.outcome
   pub denials : words.denials ≡ count_by (is_denial f) verdict.findings
-  pub results : (i : ℕ) → i < most_validations → slice_index words.results i ≡ finding_word (slice_get verdict.findings i)
-  pub messages : (i : ℕ) → i < most_validations → slice_get words.messages i ≡ Some (message_in (slice_get verdict.findings i))
+  pub results : (i : ℕ) → i < part_limit → slice_index words.results i ≡ finding_word (slice_get verdict.findings i)
+  pub messages : (i : ℕ) → i < part_limit → slice_get words.messages i ≡ Some (message_in (slice_get verdict.findings i))

@@ -8,10 +8,11 @@ pub mod DecisionRows
 pub mod Denials
 pub mod Documents
 pub mod Emission
+pub mod ErrorCodes
 pub mod Evaluation
 pub mod Layout
 pub mod Limits
-pub mod Objections
+pub mod Rejections
 pub mod OneAnswer
 pub mod OneImage
 pub mod Policy

@@ -7,9 +7,9 @@ use Rattle.cel_measures.specs.Measures.{nodes}
 use Rattle.codegen.specs.Constants.{joined, with_texts}
 use Rattle.codegen.specs.Code.Expressions.{texts_of}
 use Rattle.policy_glue.specs.Checking.{PartsEnd}
-use Rattle.policy_glue.specs.Policy.{Rules}
-use Rattle.policy_glue.specs.Trees.{VariableTree, RuleTree, PolicyTree}
-use Rattle.policy_glue.specs.declared.compile_error.CompileError.{CompileError, TheVariants.G3, TheVariants.G4}
+use Rattle.policy_glue.specs.Policy.{Policy}
+use Rattle.policy_glue.specs.Trees.{VariableTree, ValidationTree, PolicyTree}
+use Rattle.policy_glue.specs.declared.compile_error.CompileError.{CompileError, TheVariants.TooManyNodes, TheVariants.TooManyTextBytes}
 
 -- ---- nodes: one for the policy, and one for each part beside those of its expression
 
@@ -23,7 +23,7 @@ message_nodes (Some a) = part_nodes a
 message_nodes None = 0
 
 -- of a validation with its message expression
-abbrev pub rule_nodes : RuleTree → ℕ
+abbrev pub rule_nodes : ValidationTree → ℕ
 rule_nodes r = part_nodes r.expression + message_nodes r.message
 
 -- the nodes of a whole policy
@@ -43,7 +43,7 @@ message_texts (Some a) = tree_texts a
 message_texts None = []
 
 -- those of a validation with its message expression
-abbrev pub rule_texts : RuleTree → List (List ℕ)
+abbrev pub rule_texts : ValidationTree → List (List ℕ)
 rule_texts r = tree_texts r.expression ++ message_texts r.message
 
 -- those of all variables
@@ -57,7 +57,7 @@ condition_texts [] = []
 condition_texts (a ∷ more) = tree_texts a ++ condition_texts more
 
 -- those of all validations
-abbrev pub validation_texts : List RuleTree → List (List ℕ)
+abbrev pub validation_texts : List ValidationTree → List (List ℕ)
 validation_texts [] = []
 validation_texts (r ∷ rs) = rule_texts r ++ validation_texts rs
 
@@ -71,12 +71,12 @@ policy_texts p =
 -- an image has room for 65,536 slots, 128 for each node, and for 1,048,576 bytes of texts
 abbrev pub excess : PolicyTree → Option CompileError
 excess p =
-    if nat_lt 65536 (128 * policy_nodes p) then Some G3
-    else (if nat_lt 1048576 (length (joined (policy_texts p))) then Some G4
+    if nat_lt 65536 (128 * policy_nodes p) then Some TooManyNodes
+    else (if nat_lt 1048576 (length (joined (policy_texts p))) then Some TooManyTextBytes
     else None)
 
 -- the trees of a policy that is compiled, or why it is not
-pub data Compiles (p : Rules) : Result PolicyTree CompileError → Type 0 where
+pub data Compiles (p : Policy) : Result PolicyTree CompileError → Type 0 where
   refused : (e : CompileError) → PartsEnd p (Err e) → Compiles p (Err e)
   too_large : (t : PolicyTree) (e : CompileError) → PartsEnd p (Ok t) → excess t ≡ Some e → Compiles p (Err e)
   compiled : (t : PolicyTree) → PartsEnd p (Ok t) → excess t ≡ None → Compiles p (Ok t)

@@ -4,24 +4,24 @@
 use Rattle.std.specs.Prelude.{◌≡◌, ℕ, List, Ok}
 use Rattle.loader.specs.Contents as loader
 use Rattle.loader.specs.declared.version.Version.{Version, TheVariants.Second}
-use Rattle.codegen_base.specs.Pieces.{spellings}
+use Rattle.expression_code.specs.Pieces.{spellings}
 use Rattle.codegen.specs.Constants.{joined}
 use Rattle.policy_glue.specs.Limits.{Compiles, policy_texts}
-use Rattle.policy_glue.specs.Policy.{Rules}
+use Rattle.policy_glue.specs.Policy.{Policy}
 use Rattle.policy_glue.specs.ProgramCode.{program_of}
 use Rattle.policy_glue.specs.Trees.{PolicyTree}
 use Rattle.policy_glue.specs.declared.failure_policy.FailurePolicy.{FailurePolicy}
 
 -- what an image of this version holds
-abbrev pub contents : Version → List ℕ → List ℕ → loader.Contents
+abbrev pub contents : Version → List ℕ → List ℕ → loader.Image
 contents version code constants = record { version = version; code = code; constants = constants }
 
 -- the image of a policy: the code of its program and its texts, in version 2
-abbrev pub program_image : FailurePolicy → PolicyTree → loader.Contents
+abbrev pub program_image : FailurePolicy → PolicyTree → loader.Image
 program_image f t = contents Second (spellings (program_of f t)) (joined (policy_texts t))
 
 -- the image is the one that is made of this policy
-pub record OneImage (p : Rules) (image : loader.Contents) : Type 0 where
+pub record OneImage (p : Policy) (image : loader.Image) : Type 0 where
   pub trees : PolicyTree
   pub compiles : Compiles p (Ok trees)
   pub is : image ≡ program_image p.failure_policy trees

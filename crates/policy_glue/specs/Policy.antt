@@ -4,36 +4,40 @@ use Rattle.std.specs.Prelude.{ℕ, List, map, Option, option_map, string_bytes, 
 use Rattle.policy_glue.specs.declared.failure_policy.FailurePolicy.{FailurePolicy}
 use Rattle.policy_glue.specs.declared.reason.Reason.{Reason}
 use Rattle.policy_glue.specs.declared.reason.Reason.TheVariants.{Unauthorized, Forbidden, Invalid, RequestEntityTooLarge}
-use Rattle.policy_glue.specs.declared.named_expression.NamedExpression.{NamedExpression}
-use Rattle.policy_glue.specs.declared.validation.Validation.{Validation}
+use Rattle.policy_glue.specs.declared.named_expression.NamedExpression.{NamedExpression as CodeNamedExpression}
+use Rattle.policy_glue.specs.declared.validation.Validation.{Validation as CodeValidation}
 use Rattle.policy_glue.specs.declared.parts.Parts.{Parts}
 
+-- the most conditions, variables and validations, of each kind; a verdict has words for as many validations
+abbrev pub part_limit : ℕ
+part_limit = 64
+
 -- a match condition or a variable
-pub record Named : Type 0 where
+pub record NamedExpression : Type 0 where
   pub name : List ℕ
   pub expression : List ℕ
 
 -- a validation; its message is empty where none is set
-pub record Rule : Type 0 where
+pub record Validation : Type 0 where
   pub expression : List ℕ
   pub message : List ℕ
   pub reason : Reason
   pub message_expression : Option (List ℕ)
 
 -- the `spec` of a policy: match conditions, variables and validations in their order
-pub record Rules : Type 0 where
+pub record Policy : Type 0 where
   pub failure_policy : FailurePolicy
-  pub conditions : List Named
-  pub variables : List Named
-  pub validations : List Rule
+  pub conditions : List NamedExpression
+  pub variables : List NamedExpression
+  pub validations : List Validation
 
 -- the code's condition or variable
-abbrev pub named_view : NamedExpression → Named
+abbrev pub named_view : CodeNamedExpression → NamedExpression
 named_view n = record { name = string_bytes n.name; expression = string_bytes n.expression }
 
 -- the code's validation
-abbrev pub rule_view : Validation → Rule
-rule_view v = record {
+abbrev pub validation_view : CodeValidation → Validation
+validation_view v = record {
   expression = string_bytes v.expression;
   message = string_bytes v.message;
   reason = v.reason;
@@ -41,12 +45,12 @@ rule_view v = record {
 }
 
 -- the code's policy
-abbrev pub rules_view : Parts → Rules
-rules_view p = record {
+abbrev pub policy_view : Parts → Policy
+policy_view p = record {
   failure_policy = p.failure_policy;
   conditions = map named_view p.conditions.items;
   variables = map named_view p.variables.items;
-  validations = map rule_view p.validations.items;
+  validations = map validation_view p.validations.items;
 }
 
 -- the name of a reason (Kubernetes, Validation.reason) and its HTTP status

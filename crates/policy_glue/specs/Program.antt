@@ -1,5 +1,5 @@
--- The code of a policy. The code of each expression leaves the reference of its value in R0; what comes to be known stands
--- in the words of the verdict region, since code for expressions keeps these.
+-- The code of a policy. The code of each expression leaves the reference of its value in R0; what comes to be known
+-- stands in the words of the verdict region, since code for expressions keeps these.
 use Rattle.std.specs.Prelude.{ℕ, ◌+◌, ◌*◌, pos, List, [], ◌∷◌, ◌++◌, Option, Some, None}
 use Rattle.insn_codec.specs.declared.alu_op.AluOp.TheVariants.{Add}
 use Rattle.insn_codec.specs.declared.comparison.Comparison.TheVariants.{Eq, Ne}
@@ -9,23 +9,24 @@ use Rattle.insn_codec.specs.declared.operand.Operand.TheVariants.{Imm}
 use Rattle.insn_codec.specs.declared.register.Register.TheVariants.{R0, R1, R2, R6}
 use Rattle.insn_codec.specs.declared.size.Size.TheVariants.{Dw}
 use Rattle.insn_codec.specs.declared.width.Width.TheVariants.{W64}
-use Rattle.codegen_base.specs.Instructions.{copy, load_wide, put, skip, skip_if}
-use Rattle.codegen_base.specs.Pieces.{size}
-use Rattle.codegen_base.specs.Words.{verdict_address}
+use Rattle.expression_code.specs.Instructions.{mov_reg, lddw, mov_imm, ja, jump_if_imm}
+use Rattle.expression_code.specs.Pieces.{size}
+use Rattle.expression_code.specs.Words.{verdict_address}
 use Rattle.codegen.specs.Added.{passed}
 use Rattle.policy_glue.specs.Layout.{first_message, outcome_word, truth_word}
-use Rattle.policy_glue.specs.Verdict.{Skipped, Denied, Admitted, Fails, Errs, undecided}
+use Rattle.policy_glue.specs.Verdict.{Fails, Errs, undecided}
+use Rattle.policy_glue.specs.declared.outcome.Outcome.{TheVariants.Skipped, TheVariants.Denied, TheVariants.Admitted}
 use Rattle.policy_glue.specs.declared.failure_policy.FailurePolicy.{FailurePolicy, TheVariants.Fail, TheVariants.Ignore}
 
--- behind a condition: true goes on, false ends the program with the policy skipped, and an error leaves the outcome that
--- stands where no condition is false
+-- behind a condition: true goes on, false ends the program with the policy skipped, and an error leaves the outcome
+-- that stands where no condition is false
 unfoldable pub condition_tail : FailurePolicy → List Insn
 condition_tail f =
-    skip_if Eq R0 (pos 3) 8
-    ∷ put R2 (pos (outcome_word (undecided f)))
-    ∷ load_wide R1 (verdict_address 0)
-    ∷ skip_if Ne R0 (pos 2) 3
-    ∷ put R0 (pos (outcome_word Skipped))
+    jump_if_imm Eq R0 (pos 3) 8
+    ∷ mov_imm R2 (pos (outcome_word (undecided f)))
+    ∷ lddw R1 (verdict_address 0)
+    ∷ jump_if_imm Ne R0 (pos 2) 3
+    ∷ mov_imm R0 (pos (outcome_word Skipped))
     ∷ Store Dw R1 (pos 0) R0
     ∷ Exit
     ∷ Store Dw R1 (pos 0) R2
@@ -34,9 +35,9 @@ condition_tail f =
 -- behind all conditions: an outcome that stands ends the program
 abbrev pub decided_tail : List Insn
 decided_tail =
-    load_wide R1 (verdict_address 0)
+    lddw R1 (verdict_address 0)
     ∷ Load Dw R0 R1 (pos 0)
-    ∷ skip_if Eq R0 (pos 0) 1
+    ∷ jump_if_imm Eq R0 (pos 0) 1
     ∷ Exit
     ∷ []
 
@@ -47,7 +48,7 @@ decided_code (condition ∷ more) = decided_tail
 
 -- past so many slots where a validation is true: its word is 0 as it is
 abbrev pub if_true : ℕ → Insn
-if_true n = skip_if Eq R0 (pos 3) n
+if_true n = jump_if_imm Eq R0 (pos 3) n
 
 -- an error is counted as a denial, or passes that and the message
 abbrev pub error_way : FailurePolicy → ℕ → ℕ
@@ -55,7 +56,7 @@ error_way Fail n = 1
 error_way Ignore n = n
 
 abbrev pub leave_error : FailurePolicy → ℕ → Insn
-leave_error f n = skip (error_way f n)
+leave_error f n = ja (error_way f n)
 
 -- the word of validation i begins so many bytes behind that of the denials
 abbrev pub result_offset : ℕ → ℕ
@@ -64,8 +65,8 @@ result_offset i = 8 * (i + 1)
 -- behind validation i, where it is not true: its word, and one more denial; its message takes n slots
 unfoldable pub denial_code : FailurePolicy → ℕ → ℕ → List Insn
 denial_code f i n =
-    load_wide R1 (verdict_address 1)
-    ∷ skip_if Eq R0 (pos 2) 2
+    lddw R1 (verdict_address 1)
+    ∷ jump_if_imm Eq R0 (pos 2) 2
     ∷ StoreImm Dw R1 (pos (result_offset i)) (pos (truth_word Errs))
     ∷ leave_error f (n + 4)
     ∷ StoreImm Dw R1 (pos (result_offset i)) (pos (truth_word Fails))
@@ -81,11 +82,11 @@ text_kind = 4
 -- behind the message expression of validation i: its word gets the reference of a text
 unfoldable pub message_tail : ℕ → List Insn
 message_tail i =
-    copy R6 R0
-    ∷ copy R1 R0
+    mov_reg R6 R0
+    ∷ mov_reg R1 R0
     ∷ Call (pos 1)
-    ∷ skip_if Ne R0 (pos text_kind) 3
-    ∷ load_wide R1 (verdict_address (first_message + i))
+    ∷ jump_if_imm Ne R0 (pos text_kind) 3
+    ∷ lddw R1 (verdict_address (first_message + i))
     ∷ Store Dw R1 (pos 0) R6
     ∷ []
 
@@ -99,20 +100,20 @@ abbrev pub result_code : FailurePolicy → ℕ → List Insn → List Insn
 result_code f i message = if_true (size message + 9) ∷ (denial_code f i (size message) ++ message)
 
 -- a validation's code, and that of its message expression, if it has one
-abbrev pub Validation : Type 0
-Validation = List Insn × Option (List Insn)
+abbrev pub ValidationCode : Type 0
+ValidationCode = List Insn × Option (List Insn)
 
-abbrev pub validation_code : FailurePolicy → ℕ → Validation → List Insn
+abbrev pub validation_code : FailurePolicy → ℕ → ValidationCode → List Insn
 validation_code f i v = v.0 ++ result_code f i (message_code i v.1)
 
 -- the outcome of a policy that ran: the exit behind it answers R0
 unfoldable pub outcome_tail : List Insn
 outcome_tail =
-    load_wide R1 (verdict_address 0)
+    lddw R1 (verdict_address 0)
     ∷ Load Dw R2 R1 (pos 8)
-    ∷ put R0 (pos (outcome_word Admitted))
-    ∷ skip_if Eq R2 (pos 0) 1
-    ∷ put R0 (pos (outcome_word Denied))
+    ∷ mov_imm R0 (pos (outcome_word Admitted))
+    ∷ jump_if_imm Eq R2 (pos 0) 1
+    ∷ mov_imm R0 (pos (outcome_word Denied))
     ∷ Store Dw R1 (pos 0) R0
     ∷ []
 
@@ -122,7 +123,7 @@ conditions_code f [] = []
 conditions_code f (condition ∷ more) = condition ++ (condition_tail f ++ conditions_code f more)
 
 -- validations one behind another, from number i on
-unfoldable pub validations_code : FailurePolicy → ℕ → List Validation → List Insn
+unfoldable pub validations_code : FailurePolicy → ℕ → List ValidationCode → List Insn
 validations_code f i [] = []
 validations_code f i (v ∷ more) = validation_code f i v ++ validations_code f (i + 1) more
 
@@ -132,7 +133,7 @@ routines_code [] = []
 routines_code (routine ∷ more) = passed routine ++ routines_code more
 
 -- the whole but for its exit
-unfoldable pub policy_code : FailurePolicy → List (List Insn) → List (List Insn) → List Validation → List Insn
+unfoldable pub policy_code : FailurePolicy → List (List Insn) → List (List Insn) → List ValidationCode → List Insn
 policy_code f routines conditions validations =
     routines_code routines
     ++ (conditions_code f conditions ++ (decided_code conditions ++ (validations_code f 0 validations ++ outcome_tail)))

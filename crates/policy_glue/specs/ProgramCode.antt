@@ -4,15 +4,15 @@ use Rattle.insn_codec.specs.declared.insn.Insn.{Insn, TheVariants.Exit}
 use Rattle.cel_reader.specs.Tree.{Tree}
 use Rattle.cel_macros.specs.CoreTree.{expanded}
 use Rattle.cel_types.specs.Declarations.{Declaration}
-use Rattle.codegen_base.specs.Pieces.{size}
+use Rattle.expression_code.specs.Pieces.{size}
 use Rattle.codegen.specs.Code.Whole.{routine_code, whole_code}
 use Rattle.codegen.specs.Constants.{with_texts}
-use Rattle.codegen.specs.Surroundings.{routines_of}
+use Rattle.codegen.specs.NameTable.{routines_of}
 use Rattle.policy_glue.specs.Checking.{scope_after, with_variable}
 use Rattle.policy_glue.specs.Limits.{tree_texts}
-use Rattle.policy_glue.specs.Program.{Validation, policy_code}
+use Rattle.policy_glue.specs.Program.{ValidationCode, policy_code}
 use Rattle.policy_glue.specs.ProgramParts.{condition_slots, decided_slots, message_slots, result_slots}
-use Rattle.policy_glue.specs.Trees.{PolicyTree, RuleTree, VariableTree}
+use Rattle.policy_glue.specs.Trees.{PolicyTree, ValidationTree, VariableTree}
 use Rattle.policy_glue.specs.declared.failure_policy.FailurePolicy.{FailurePolicy}
 
 -- what stands so far: how many slots, the texts among the constants, and where the routines begin
@@ -74,7 +74,7 @@ after_conditions l (a ∷ more) = after_conditions (after_condition l a) more
 
 -- ---- validations, each with its message
 
-abbrev pub before_message : List Declaration → Laid → RuleTree → Laid
+abbrev pub before_message : List Declaration → Laid → ValidationTree → Laid
 before_message scope l r = with_slots result_slots (with_tree scope l r.expression)
 
 abbrev pub message_codes : List Declaration → Laid → Option Tree → Option (List Insn)
@@ -85,7 +85,7 @@ abbrev pub with_message : List Declaration → Laid → Option Tree → Laid
 with_message scope l (Some a) = with_slots message_slots (with_tree scope l a)
 with_message scope l None = l
 
-abbrev pub validation_codes : List Declaration → Laid → List RuleTree → List Validation
+abbrev pub validation_codes : List Declaration → Laid → List ValidationTree → List ValidationCode
 validation_codes scope l [] = []
 validation_codes scope l (r ∷ more) =
     (tree_code scope l r.expression, message_codes scope (before_message scope l r) r.message) ∷ validation_codes scope

@@ -7,23 +7,24 @@ use Rattle.value_store.specs.Placing.{Contents}
 use Rattle.cel_macros.specs.Environment.{Roots}
 use Rattle.bpf_machine.specs.State.{start_state}
 use Rattle.bpf_machine.specs.Trace.{state_after}
-use Rattle.codegen_base.specs.Body.{Body}
-use Rattle.codegen_base.specs.Contexts.{HasValues}
-use Rattle.codegen_base.specs.Engine.{Halts}
-use Rattle.codegen_base.specs.Pieces.{AreInsns, size, spellings}
-use Rattle.codegen_base.specs.Programs.{start_body, total}
-use Rattle.codegen_base.specs.Scopes.{Variable, bindings, first_steps, scope_setting}
-use Rattle.codegen_base.specs.Variables.{routine_context}
+use Rattle.expression_code.specs.CpuState.{CpuState}
+use Rattle.expression_code.specs.Contexts.{HasValues}
+use Rattle.expression_code.specs.Engine.{ExitsOrRunsOut}
+use Rattle.expression_code.specs.Pieces.{AreInsns, size, spellings}
+use Rattle.expression_code.specs.Programs.{start_body, total}
+use Rattle.expression_code.specs.Scopes.{Variable, bindings, first_steps, scope_setting}
+use Rattle.expression_code.specs.Variables.{routine_context}
+use Rattle.policy_glue.specs.Policy.{part_limit}
 use Rattle.policy_glue.specs.Budget.{is_running}
-use Rattle.policy_glue.specs.Layout.{IsLayout, most_validations, outcome_word}
+use Rattle.policy_glue.specs.Layout.{IsLayout, outcome_word}
 use Rattle.policy_glue.specs.Program.{conditions_code, policy_code, routines_code}
-use Rattle.policy_glue.specs.ProgramParts.{ConditionsGive, Part, RulePart, ValidationsGive, codes_of, conditions_charge, conditions_steps}
+use Rattle.policy_glue.specs.ProgramParts.{ConditionsGive, Part, ValidationPart, ValidationsGive, codes_of, conditions_charge, conditions_steps}
 use Rattle.policy_glue.specs.ProgramParts.{decided_slots, rule_codes, rules_given, validations_charge, validations_steps, values_given}
 use Rattle.policy_glue.specs.Verdict.{Verdict, decided_before, truth_of, verdict_of}
 use Rattle.policy_glue.specs.declared.failure_policy.FailurePolicy.{FailurePolicy}
 
 -- R0 has the word of the verdict's outcome, and the verdict region is the layout of the verdict
-pub record LeavesVerdict (f : FailurePolicy) (v : Verdict) (b : Body) : Type 0 where
+pub record LeavesVerdict (f : FailurePolicy) (v : Verdict) (b : CpuState) : Type 0 where
   pub answers : b.registers R0 ≡ outcome_word v.outcome
   pub layout : IsLayout f v b.values.values b.memory.verdict
 
@@ -32,11 +33,11 @@ abbrev pub passes : FailurePolicy → List Part → Bool
 passes f conditions = is_running (decided_before f (map truth_of (values_given conditions)))
 
 -- the steps of the whole but for its exit and for the first uses of variables; validations run where the policy does
-abbrev pub program_steps : FailurePolicy → List (List Insn) → List Part → List RulePart → ℕ
+abbrev pub program_steps : FailurePolicy → List (List Insn) → List Part → List ValidationPart → ℕ
 program_steps f routines conditions rules =
     length routines + (conditions_steps conditions + 3 + (if passes f conditions then validations_steps f rules + 6 else 0))
 
-abbrev pub program_charge : FailurePolicy → List Part → List RulePart → ℕ
+abbrev pub program_charge : FailurePolicy → List Part → List ValidationPart → ℕ
 program_charge f conditions rules = conditions_charge conditions + (if passes f conditions then validations_charge f rules else 0)
 
 -- the first slots of conditions and of validations
@@ -47,17 +48,17 @@ abbrev pub validations_place : FailurePolicy → List (List Insn) → List Part 
 validations_place f routines conditions =
     conditions_place routines + size (conditions_code f (codes_of conditions)) + decided_slots conditions
 
--- an image that begins with the code of a policy and an exit, run from the start, has exited with the verdict's outcome and
--- layout, or stopped for its charge or a depth, after its steps and those of its variables
+-- an image that begins with the code of a policy and an exit, run from the start, has exited with the verdict's outcome
+-- and layout, or stopped for its charge or a depth, after its steps and those of its variables
 abbrev pub PolicyDecides : Type 0
-PolicyDecides = (image : loader.Contents) (deep : Bool) (values : Contents) (roots : Roots) (scope : List Variable) (f : FailurePolicy)
-    (routines : List (List Insn)) (conditions : List Part) (rules : List RulePart) (after : List ℕ) (m : ℕ)
+PolicyDecides = (image : loader.Image) (deep : Bool) (values : Contents) (roots : Roots) (scope : List Variable) (f : FailurePolicy)
+    (routines : List (List Insn)) (conditions : List Part) (rules : List ValidationPart) (after : List ℕ) (m : ℕ)
     → let code = policy_code f routines (codes_of conditions) (rule_codes rules) ++ Exit ∷ [] in
     image.code ≡ spellings code ++ after → All (λ b. b < 256) image.code → All (λ b. b < 256) image.constants → AreInsns code
-    → HasValues roots values → length rules ≤ most_validations
+    → HasValues roots values → length rules ≤ part_limit
     → let s = scope_setting image deep scope in let c = routine_context roots (bindings scope) image.constants in
     ConditionsGive s c (conditions_place routines) conditions
     → (passes f conditions ≡ true → ValidationsGive f s c (validations_place f routines conditions) rules)
     → program_steps f routines conditions rules + total (first_steps scope) < m
-    → Halts s (program_charge f conditions rules) (start_body image values)
+    → ExitsOrRunsOut s (program_charge f conditions rules) (start_body image values)
     (LeavesVerdict f (verdict_of f (values_given conditions) (rules_given rules))) (state_after m (start_state image values))

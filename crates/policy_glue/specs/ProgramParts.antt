@@ -2,10 +2,10 @@
 use Rattle.std.specs.Prelude.{◌≡◌, ℕ, ◌+◌, List, [], ◌∷◌, map, Bool, true, Option, Some, None, option_map, if◌then◌else◌}
 use Rattle.insn_codec.specs.declared.insn.Insn.{Insn}
 use Rattle.value_store.specs.Value.{ValueOrError}
-use Rattle.codegen_base.specs.Contexts.{Context, Gives}
-use Rattle.codegen_base.specs.Engine.{Setting}
-use Rattle.codegen_base.specs.Pieces.{size}
-use Rattle.policy_glue.specs.Program.{Validation}
+use Rattle.expression_code.specs.Contexts.{Context, Evaluates}
+use Rattle.expression_code.specs.Engine.{RunContext}
+use Rattle.expression_code.specs.Pieces.{size}
+use Rattle.policy_glue.specs.Program.{ValidationCode}
 use Rattle.policy_glue.specs.Verdict.{Finding, denies, finding_of, truth_of}
 use Rattle.policy_glue.specs.declared.failure_policy.FailurePolicy.{FailurePolicy}
 
@@ -17,7 +17,7 @@ pub record Part : Type 0 where
   pub charge : ℕ
 
 -- a validation, with its message expression, if it has one
-pub record RulePart : Type 0 where
+pub record ValidationPart : Type 0 where
   pub expression : Part
   pub message : Option Part
 
@@ -27,25 +27,26 @@ codes_of parts = map (λ a. a.code) parts
 abbrev pub values_given : List Part → List ValueOrError
 values_given parts = map (λ a. a.value) parts
 
-abbrev pub rule_code : RulePart → Validation
+abbrev pub rule_code : ValidationPart → ValidationCode
 rule_code r = (r.expression.code, option_map (λ m. m.code) r.message)
 
-abbrev pub rule_codes : List RulePart → List Validation
+abbrev pub rule_codes : List ValidationPart → List ValidationCode
 rule_codes rules = map rule_code rules
 
-abbrev pub rule_given : RulePart → ValueOrError × Option ValueOrError
+abbrev pub rule_given : ValidationPart → ValueOrError × Option ValueOrError
 rule_given r = (r.expression.value, option_map (λ m. m.value) r.message)
 
-abbrev pub rules_given : List RulePart → List (ValueOrError × Option ValueOrError)
+abbrev pub rules_given : List ValidationPart → List (ValueOrError × Option ValueOrError)
 rules_given rules = map rule_given rules
 
--- what a validation comes to
-abbrev pub found : FailurePolicy → RulePart → Finding
+-- the result of a validation
+abbrev pub found : FailurePolicy → ValidationPart → Finding
 found f r = finding_of f (rule_given r)
 
 -- ---- places
 
--- slots of what stands behind a condition, behind all of them if there are any, and behind the expression of a validation and of a message
+-- slots of what stands behind a condition, behind all of them if there are any, and behind the expression of a
+-- validation and of a message
 abbrev pub condition_slots : ℕ
 condition_slots = 9
 
@@ -63,24 +64,24 @@ abbrev pub message_size : Option Part → ℕ
 message_size (Some m) = size m.code + message_slots
 message_size None = 0
 
-abbrev pub rule_size : RulePart → ℕ
+abbrev pub rule_size : ValidationPart → ℕ
 rule_size r = size r.expression.code + result_slots + message_size r.message
 
-abbrev pub PartGives : Setting → Context → ℕ → Part → Type 0
-PartGives s c p a = Gives s p a.code c 0 0 a.value a.steps a.charge
+abbrev pub PartGives : RunContext → Context → ℕ → Part → Type 0
+PartGives s c p a = Evaluates s p a.code c 0 0 a.value a.steps a.charge
 
 -- each condition gives its value where it stands, the first one at slot p
-abbrev pub ConditionsGive : Setting → Context → ℕ → List Part → Type 0
+abbrev pub ConditionsGive : RunContext → Context → ℕ → List Part → Type 0
 ConditionsGive s c p [] = Unit {0}
 ConditionsGive s c p (a ∷ more) = PartGives s c p a × ConditionsGive s c (p + size a.code + condition_slots) more
 
 -- a message where it is evaluated
-abbrev pub MessageGives : Setting → Context → ℕ → Bool → Option Part → Type 0
+abbrev pub MessageGives : RunContext → Context → ℕ → Bool → Option Part → Type 0
 MessageGives s c p denied (Some m) = denied ≡ true → PartGives s c p m
 MessageGives s c p denied None = Unit {0}
 
 -- each validation, with its message where it denies
-abbrev pub ValidationsGive : FailurePolicy → Setting → Context → ℕ → List RulePart → Type 0
+abbrev pub ValidationsGive : FailurePolicy → RunContext → Context → ℕ → List ValidationPart → Type 0
 ValidationsGive f s c p [] = Unit {0}
 ValidationsGive f s c p (r ∷ more) = PartGives s c p r.expression
     × MessageGives s c (p + size r.expression.code + result_slots) (denies f (truth_of r.expression.value)) r.message
@@ -97,10 +98,10 @@ abbrev pub message_charge : Bool → Option Part → ℕ
 message_charge denied (Some m) = if denied then m.charge + 1 else 0
 message_charge denied None = 0
 
-abbrev pub rule_steps : FailurePolicy → RulePart → ℕ
+abbrev pub rule_steps : FailurePolicy → ValidationPart → ℕ
 rule_steps f r = r.expression.steps + 8 + message_steps (denies f (truth_of r.expression.value)) r.message
 
-abbrev pub rule_charge : FailurePolicy → RulePart → ℕ
+abbrev pub rule_charge : FailurePolicy → ValidationPart → ℕ
 rule_charge f r = r.expression.charge + message_charge (denies f (truth_of r.expression.value)) r.message
 
 abbrev pub conditions_steps : List Part → ℕ
@@ -111,10 +112,10 @@ abbrev pub conditions_charge : List Part → ℕ
 conditions_charge [] = 0
 conditions_charge (a ∷ more) = a.charge + conditions_charge more
 
-abbrev pub validations_steps : FailurePolicy → List RulePart → ℕ
+abbrev pub validations_steps : FailurePolicy → List ValidationPart → ℕ
 validations_steps f [] = 0
 validations_steps f (r ∷ more) = rule_steps f r + validations_steps f more
 
-abbrev pub validations_charge : FailurePolicy → List RulePart → ℕ
+abbrev pub validations_charge : FailurePolicy → List ValidationPart → ℕ
 validations_charge f [] = 0
 validations_charge f (r ∷ more) = rule_charge f r + validations_charge f more

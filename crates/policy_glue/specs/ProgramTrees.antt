@@ -1,7 +1,10 @@
 -- The policies that have a program, and what their programs do.
 use Rattle.std.specs.Prelude.{◌≡◌, ℕ, ◌+◌, ◌*◌, ◌<◌, ◌≤◌, ◌⊎◌, All, false, List, [], ◌∷◌, length, Option, Some, None}
+use Rattle.expression_code.specs.Limits.{variable_depth_limit, slots_per_node, charge_per_unit, steps_per_visit}
 use Rattle.guest_memory.specs.declared.fault.Fault.TheVariants.{F8}
+use Rattle.insn_codec.specs.Limits.{slot_limit}
 use Rattle.loader.specs.Contents as loader
+use Rattle.loader.specs.Limits.{constants_limit}
 use Rattle.value_store.specs.Placing.{Contents, charge_limit}
 use Rattle.cel_reader.specs.Tree.{Tree}
 use Rattle.cel_macros.specs.CoreTree.{expanded}
@@ -11,17 +14,18 @@ use Rattle.bpf_machine.specs.State.{State, start_state}
 use Rattle.bpf_machine.specs.Step.{is_running}
 use Rattle.bpf_machine.specs.Trace.{state_after}
 use Rattle.bpf_machine.specs.declared.status.Status.TheVariants.{Exited, Fault}
-use Rattle.codegen_base.specs.Contexts.{HasValues}
-use Rattle.codegen_base.specs.Pieces.{AreInsns, size, spellings}
+use Rattle.expression_code.specs.Contexts.{HasValues}
+use Rattle.expression_code.specs.Pieces.{AreInsns, size, spellings}
 use Rattle.codegen.specs.Constants.{joined}
-use Rattle.codegen.specs.Layer.{IsExpression}
+use Rattle.codegen.specs.Layer.{IsEmittable}
+use Rattle.policy_glue.specs.Policy.{part_limit}
 use Rattle.policy_glue.specs.Budget.{IsDeepPolicy, policy_spent, policy_work}
 use Rattle.policy_glue.specs.Checking.{depth_in, scope_after, with_variable}
 use Rattle.policy_glue.specs.Evaluation.{decision_of}
-use Rattle.policy_glue.specs.Layout.{IsLayout, most_validations, outcome_word}
+use Rattle.policy_glue.specs.Layout.{IsLayout, outcome_word}
 use Rattle.policy_glue.specs.Limits.{policy_nodes, policy_texts}
 use Rattle.policy_glue.specs.ProgramCode.{program_of}
-use Rattle.policy_glue.specs.Trees.{PolicyTree, RuleTree, VariableTree}
+use Rattle.policy_glue.specs.Trees.{PolicyTree, ValidationTree, VariableTree}
 use Rattle.policy_glue.specs.declared.failure_policy.FailurePolicy.{FailurePolicy}
 
 -- ---- policies
@@ -30,54 +34,55 @@ use Rattle.policy_glue.specs.declared.failure_policy.FailurePolicy.{FailurePolic
 abbrev pub AreVariables : List Declaration → List VariableTree → Type 0
 AreVariables scope [] = Unit {0}
 AreVariables scope (v ∷ more) =
-    IsExpression scope (expanded v.expression) × (depth_in scope v.expression ≤ 6) × AreVariables (with_variable scope v) more
+    IsEmittable scope (expanded v.expression) × (depth_in scope v.expression ≤ variable_depth_limit)
+    × AreVariables (with_variable scope v) more
 
 -- each condition is an expression that is taken without variables
 abbrev pub AreConditions : List Tree → Type 0
 AreConditions [] = Unit {0}
-AreConditions (a ∷ more) = IsExpression [] (expanded a) × AreConditions more
+AreConditions (a ∷ more) = IsEmittable [] (expanded a) × AreConditions more
 
 -- a message expression, if there is one, is taken in this scope
-abbrev pub IsMessage : List Declaration → Option Tree → Type 0
-IsMessage scope (Some a) = IsExpression scope (expanded a)
-IsMessage scope None = Unit {0}
+abbrev pub IsEmittableMessage : List Declaration → Option Tree → Type 0
+IsEmittableMessage scope (Some a) = IsEmittable scope (expanded a)
+IsEmittableMessage scope None = Unit {0}
 
 -- each validation and its message expression are taken in this scope
-abbrev pub AreRules : List Declaration → List RuleTree → Type 0
-AreRules scope [] = Unit {0}
-AreRules scope (r ∷ more) = IsExpression scope (expanded r.expression) × IsMessage scope r.message × AreRules scope more
+abbrev pub AreValidations : List Declaration → List ValidationTree → Type 0
+AreValidations scope [] = Unit {0}
+AreValidations scope (r ∷ more) = IsEmittable scope (expanded r.expression) × IsEmittableMessage scope r.message × AreValidations scope more
 
 -- a policy whose expressions are taken, within its limits
 pub record HasProgram (p : PolicyTree) : Type 0 where
   pub variables : AreVariables [] p.variables
   pub conditions : AreConditions p.conditions
-  pub validations : AreRules (scope_after p.variables) p.validations
+  pub validations : AreValidations (scope_after p.variables) p.validations
   pub few_variables : length p.variables ≤ 64
-  pub few_validations : length p.validations ≤ most_validations
-  pub short : 128 * policy_nodes p ≤ 65536
-  pub few_texts : length (joined (policy_texts p)) ≤ 1048576
+  pub few_validations : length p.validations ≤ part_limit
+  pub short : slots_per_node * policy_nodes p ≤ slot_limit
+  pub few_texts : length (joined (policy_texts p)) ≤ constants_limit
 
 -- ---- programs
 
--- the program of a policy has exited with the outcome of its decision in R0 and the layout of the decision in the verdict
--- region, or has stopped where its charge would pass the limit or a value is too deep
+-- the program of a policy has exited with the outcome of its decision in R0 and the layout of the decision in the
+-- verdict region, or has stopped where its charge would pass the limit or a value is too deep
 pub data Decides (f : FailurePolicy) (p : PolicyTree) (roots : Roots) (values : Contents) (t : State) : Type 0 where
-  Over : t.status ≡ Fault F8 → (charge_limit < values.charge + 16 * policy_spent f p roots) ⊎ IsDeepPolicy f p roots
+  OutOfBudget : t.status ≡ Fault F8 → (charge_limit < values.charge + charge_per_unit * policy_spent f p roots) ⊎ IsDeepPolicy f p roots
       → Decides f p roots values t
-  Left : t.status ≡ Exited (outcome_word (decision_of f p roots).outcome)
+  LeavesByExit : t.status ≡ Exited (outcome_word (decision_of f p roots).outcome)
       → IsLayout f (decision_of f p roots) t.values.values t.memory.verdict → Decides f p roots values t
 
 -- the image of a policy's program, with its texts, run from the start, is there after 128 steps for each unit of the
 -- policy's work
 abbrev pub ProgramDecides : Type 0
-ProgramDecides = (f : FailurePolicy) (p : PolicyTree) (roots : Roots) (image : loader.Contents) (values : Contents) (m : ℕ)
+ProgramDecides = (f : FailurePolicy) (p : PolicyTree) (roots : Roots) (image : loader.Image) (values : Contents) (m : ℕ)
     → HasProgram p → image.code ≡ spellings (program_of f p) → image.constants ≡ joined (policy_texts p)
     → All (λ b. b < 256) image.code → All (λ b. b < 256) image.constants → HasValues roots values
-    → 128 * policy_work f p roots ≤ m → Decides f p roots values (state_after m (start_state image values))
+    → steps_per_visit * policy_work f p roots ≤ m → Decides f p roots values (state_after m (start_state image values))
 
 -- and wherever that run stands stopped, it is there
 abbrev pub ProgramStops : Type 0
-ProgramStops = (f : FailurePolicy) (p : PolicyTree) (roots : Roots) (image : loader.Contents) (values : Contents) (k : ℕ)
+ProgramStops = (f : FailurePolicy) (p : PolicyTree) (roots : Roots) (image : loader.Image) (values : Contents) (k : ℕ)
     → HasProgram p → image.code ≡ spellings (program_of f p) → image.constants ≡ joined (policy_texts p)
     → All (λ b. b < 256) image.code → All (λ b. b < 256) image.constants → HasValues roots values
     → is_running (state_after k (start_state image values)).status ≡ false
@@ -85,7 +90,7 @@ ProgramStops = (f : FailurePolicy) (p : PolicyTree) (roots : Roots) (image : loa
 
 -- it has at most 128 slots for each of the policy's nodes, and can be spelled
 abbrev pub ProgramIsShort : Type 0
-ProgramIsShort = (f : FailurePolicy) (p : PolicyTree) → size (program_of f p) ≤ 128 * policy_nodes p
+ProgramIsShort = (f : FailurePolicy) (p : PolicyTree) → size (program_of f p) ≤ slots_per_node * policy_nodes p
 
 -- and each of its slots can be spelled
 abbrev pub ProgramIsCode : Type 0

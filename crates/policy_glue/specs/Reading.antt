@@ -8,13 +8,13 @@ use Rattle.serde_json.specs.Find.{get}
 use Rattle.cel_reader.specs.Words.{is_identifier}
 use Rattle.policy_glue.specs.Documents.{document_of, has_only, is_object_or_absent, is_the_text, text_of, optional_text_of}
 use Rattle.policy_glue.specs.Documents.{text_or_empty_of, list_in, optional_list_in}
-use Rattle.policy_glue.specs.Policy.{Named, Rule, Rules}
+use Rattle.policy_glue.specs.Policy.{NamedExpression, Validation, Policy, part_limit}
 use Rattle.policy_glue.specs.declared.name_rule.NameRule.{NameRule, TheVariants.NotEmpty, TheVariants.Identifier}
 use Rattle.policy_glue.specs.declared.failure_policy.FailurePolicy.{FailurePolicy, TheVariants.Fail, TheVariants.Ignore}
 use Rattle.policy_glue.specs.declared.reason.Reason.{Reason}
 use Rattle.policy_glue.specs.declared.reason.Reason.TheVariants.{Unauthorized, Forbidden, Invalid, RequestEntityTooLarge}
 use Rattle.policy_glue.specs.declared.policy_error.PolicyError.{PolicyError}
-use Rattle.policy_glue.specs.declared.policy_error.PolicyError.TheVariants.{K1, K2, K3, K4, K5, K8, Memory}
+use Rattle.policy_glue.specs.declared.policy_error.PolicyError.TheVariants.{NotJson, NotAPolicy, InvalidField, NoValidations, TooManyParts, MessageWithLineBreak, Memory}
 
 -- ---- the form of a document: nothing where a key is unknown, missing or ill-typed, or a name, a failure
 -- policy or a reason is not allowed
@@ -24,12 +24,12 @@ unfoldable pub named_keys : List (List ℕ)
 named_keys = codes "name" ∷ codes "expression" ∷ []
 
 -- a condition or variable, if both its name and its expression are there
-abbrev pub named_from : Option (List ℕ) → Option (List ℕ) → Option Named
+abbrev pub named_from : Option (List ℕ) → Option (List ℕ) → Option NamedExpression
 named_from (Some n) (Some e) = Some (record { name = n; expression = e })
 named_from _ _ = None
 
 -- its `name` and `expression`, which have to be texts
-unfoldable pub named_parts : json.Data → Option Named
+unfoldable pub named_parts : json.Data → Option NamedExpression
 named_parts d = named_from (text_of (get (codes "name") d)) (text_of (get (codes "expression") d))
 
 -- a text with a byte
@@ -43,26 +43,26 @@ allows NotEmpty n = is_not_empty n
 allows Identifier n = is_identifier n
 
 -- the same, if its name is allowed
-abbrev pub kept_if : NameRule → Option Named → Option Named
+abbrev pub kept_if : NameRule → Option NamedExpression → Option NamedExpression
 kept_if rule (Some n) = if allows rule n.name then Some n else None
 kept_if rule None = None
 
 -- a match condition or a variable
-abbrev pub named_in : NameRule → json.Data → Option Named
+abbrev pub named_in : NameRule → json.Data → Option NamedExpression
 named_in rule d = if has_only named_keys d then kept_if rule (named_parts d) else None
 
 -- no name stands twice
-abbrev pub are_distinct : List Named → Bool
+abbrev pub are_distinct : List NamedExpression → Bool
 are_distinct [] = true
 are_distinct (n ∷ ns) = not (list_any (λ m. bytes_eq n.name m.name) ns) && are_distinct ns
 
 -- the same, if no name stands twice
-abbrev pub distinct : Option (List Named) → Option (List Named)
+abbrev pub distinct : Option (List NamedExpression) → Option (List NamedExpression)
 distinct (Some ns) = if are_distinct ns then Some ns else None
 distinct None = None
 
 -- a list of conditions or variables, which may be absent
-abbrev pub named_list_in : NameRule → Option json.Data → Option (List Named)
+abbrev pub named_list_in : NameRule → Option json.Data → Option (List NamedExpression)
 named_list_in rule o = distinct (optional_list_in (named_in rule) o)
 
 -- the reasons that a validation may set
@@ -80,25 +80,25 @@ reason_in (Some (json.string s)) = reason_named s
 reason_in (Some _) = None
 
 -- the fields of a validation
-unfoldable pub rule_keys : List (List ℕ)
-rule_keys = codes "expression" ∷ codes "message" ∷ codes "messageExpression" ∷ codes "reason" ∷ []
+unfoldable pub validation_keys : List (List ℕ)
+validation_keys = codes "expression" ∷ codes "message" ∷ codes "messageExpression" ∷ codes "reason" ∷ []
 
 -- a validation, if each of its parts has its form
-abbrev pub rule_from : Option (List ℕ) → Option (List ℕ) → Option Reason → Option (Option (List ℕ)) → Option Rule
-rule_from (Some e) (Some m) (Some r) (Some x) = Some (record { expression = e; message = m; reason = r; message_expression = x })
-rule_from _ _ _ _ = None
+abbrev pub validation_from : Option (List ℕ) → Option (List ℕ) → Option Reason → Option (Option (List ℕ)) → Option Validation
+validation_from (Some e) (Some m) (Some r) (Some x) = Some (record { expression = e; message = m; reason = r; message_expression = x })
+validation_from _ _ _ _ = None
 
 -- its `expression`, `message`, `reason` and `messageExpression`, of which the first has to be there
-unfoldable pub rule_parts : json.Data → Option Rule
-rule_parts d = rule_from
+unfoldable pub validation_parts : json.Data → Option Validation
+validation_parts d = validation_from
     (text_of (get (codes "expression") d))
     (text_or_empty_of (get (codes "message") d))
     (reason_in (get (codes "reason") d))
     (optional_text_of (get (codes "messageExpression") d))
 
 -- a validation
-abbrev pub rule_in : json.Data → Option Rule
-rule_in d = if has_only rule_keys d then rule_parts d else None
+abbrev pub validation_in : json.Data → Option Validation
+validation_in d = if has_only validation_keys d then validation_parts d else None
 
 -- the two failure policies
 abbrev pub failure_named : List ℕ → Option FailurePolicy
@@ -117,18 +117,19 @@ spec_keys =
     ∷ codes "variables" ∷ []
 
 -- a policy, if each of its parts has its form
-abbrev pub rules_from : Option FailurePolicy → Option (List Named) → Option (List Named) → Option (List Rule) → Option Rules
-rules_from (Some f) (Some cs) (Some vs) (Some rs) =
+abbrev pub policy_from : Option FailurePolicy → Option (List NamedExpression) → Option (List NamedExpression) → Option (List Validation)
+    → Option Policy
+policy_from (Some f) (Some cs) (Some vs) (Some rs) =
     Some (record { failure_policy = f; conditions = cs; variables = vs; validations = rs })
-rules_from _ _ _ _ = None
+policy_from _ _ _ _ = None
 
 -- its `failurePolicy`, `matchConditions`, `variables` and `validations`, of which the last has to be there
-unfoldable pub spec_parts : json.Data → Option Rules
-spec_parts d = rules_from
+unfoldable pub spec_parts : json.Data → Option Policy
+spec_parts d = policy_from
     (failure_in (get (codes "failurePolicy") d))
     (named_list_in NotEmpty (get (codes "matchConditions") d))
     (named_list_in Identifier (get (codes "variables") d))
-    (list_in rule_in (get (codes "validations") d))
+    (list_in validation_in (get (codes "validations") d))
 
 -- no field is unknown, and those that are not looked at are objects or absent
 unfoldable pub has_spec_form : json.Data → Bool
@@ -137,7 +138,7 @@ has_spec_form d =
     && (is_object_or_absent (get (codes "matchConstraints") d) && is_object_or_absent (get (codes "paramKind") d))
 
 -- what a specification says, if it has the form
-abbrev pub spec_in : Option json.Data → Option Rules
+abbrev pub spec_in : Option json.Data → Option Policy
 spec_in (Some d) = if has_spec_form d then spec_parts d else None
 spec_in None = None
 
@@ -150,8 +151,8 @@ unfoldable pub has_top_form : json.Data → Bool
 has_top_form d = has_only top_keys d && is_object_or_absent (get (codes "metadata") d)
 
 -- what the document says in its `spec`
-abbrev pub rules_in : json.Data → Option Rules
-rules_in d = if has_top_form d then spec_in (get (codes "spec") d) else None
+abbrev pub policy_parts_in : json.Data → Option Policy
+policy_parts_in d = if has_top_form d then spec_in (get (codes "spec") d) else None
 
 -- the document is one of this API and kind
 unfoldable pub has_head : json.Data → Bool
@@ -161,19 +162,15 @@ has_head d =
 
 -- ---- the refusals in their order
 
--- the most conditions, variables and validations, of each kind
-abbrev pub most_parts : ℕ
-most_parts = 64
-
--- there is nothing to decide by (K4)
-abbrev pub has_no_validation : Rules → Bool
+-- there is nothing to decide by (`NoValidations`)
+abbrev pub has_no_validation : Policy → Bool
 has_no_validation p = nat_eq (length p.validations) 0
 
--- there are more than 64 of a kind (K5)
-abbrev pub has_too_many : Rules → Bool
+-- there are more than 64 of a kind (`TooManyParts`)
+abbrev pub has_too_many : Policy → Bool
 has_too_many p =
-    nat_lt most_parts (length p.conditions)
-    || (nat_lt most_parts (length p.variables) || nat_lt most_parts (length p.validations))
+    nat_lt part_limit (length p.conditions)
+    || (nat_lt part_limit (length p.variables) || nat_lt part_limit (length p.validations))
 
 -- a line feed or a carriage return
 abbrev pub is_line_break : ℕ → Bool
@@ -183,53 +180,53 @@ is_line_break b = nat_eq b 10 || nat_eq b 13
 abbrev pub has_line_break : List ℕ → Bool
 has_line_break text = list_any is_line_break text
 
--- a message has a line break (K8)
-abbrev pub has_broken_message : Rules → Bool
+-- a message has a line break (`MessageWithLineBreak`)
+abbrev pub has_broken_message : Policy → Bool
 has_broken_message p = list_any (λ r. has_line_break r.message) p.validations
 
--- a policy that has the form, or the first of K4, K5 and K8
-abbrev pub judged : Rules → Result Rules PolicyError
+-- a policy that has the form, or the first of `NoValidations`, `TooManyParts` and `MessageWithLineBreak`
+abbrev pub judged : Policy → Result Policy PolicyError
 judged p =
-    if has_no_validation p then Err K4
-    else (if has_too_many p then Err K5
-    else (if has_broken_message p then Err K8
+    if has_no_validation p then Err NoValidations
+    else (if has_too_many p then Err TooManyParts
+    else (if has_broken_message p then Err MessageWithLineBreak
     else Ok p))
 
--- or K3 where it has not the form
-abbrev pub judged_form : Option Rules → Result Rules PolicyError
+-- or `InvalidField` if it has not the form
+abbrev pub judged_form : Option Policy → Result Policy PolicyError
 judged_form (Some p) = judged p
-judged_form None = Err K3
+judged_form None = Err InvalidField
 
--- or K2 before it, where the document is of another API or kind
-unfoldable pub policy_of : json.Data → Result Rules PolicyError
-policy_of d = if has_head d then judged_form (rules_in d) else Err K2
+-- or `NotAPolicy` before it, if the document is of another API or kind
+unfoldable pub policy_of : json.Data → Result Policy PolicyError
+policy_of d = if has_head d then judged_form (policy_parts_in d) else Err NotAPolicy
 
--- or K1 before it, where the bytes are no JSON text
-abbrev pub policy_said : Option json.Data → Result Rules PolicyError
-policy_said (Some d) = policy_of d
-policy_said None = Err K1
+-- or `NotJson` before it, if the bytes are no JSON text
+abbrev pub policy_read : Option json.Data → Result Policy PolicyError
+policy_read (Some d) = policy_of d
+policy_read None = Err NotJson
 
 -- what every policy passed
-pub record IsAccepted (p : Rules) : Type 0 where
+pub record IsAcceptedPolicy (p : Policy) : Type 0 where
   pub validations : has_no_validation p ≡ false
   pub counts : has_too_many p ≡ false
   pub messages : has_broken_message p ≡ false
 
 -- the policy in some bytes, or the first refusal
-unfoldable pub policy_in : List ℕ → Result Rules PolicyError
-policy_in bytes = policy_said (document_of bytes)
+unfoldable pub policy_in : List ℕ → Result Policy PolicyError
+policy_in bytes = policy_read (document_of bytes)
 
 -- ---- what is answered
 
--- a part of the form is answered as it is, and K3 where it has not the form; or the host has no memory for it
+-- a part of the form is answered as it is, and `InvalidField` if it has not the form; or the host has no memory for it
 abbrev pub Forms : {A B : Type 0} → (B → A) → Option A → Result B PolicyError → Type 0
 Forms see part (Ok b) = part ≡ Some (see b)
-Forms see part (Err K3) = part ≡ None
+Forms see part (Err InvalidField) = part ≡ None
 Forms see part (Err Memory) = Unit {0}
 Forms see part (Err _) = ⊥
 
 -- the policy or the first refusal is answered; or the host has no memory for it
-abbrev pub Reads : Result Rules PolicyError → Result Rules PolicyError → Type 0
-Reads due (Ok p) = due ≡ Ok p
-Reads due (Err Memory) = Unit {0}
-Reads due (Err e) = due ≡ Err e
+abbrev pub PolicyReadReturns : Result Policy PolicyError → Result Policy PolicyError → Type 0
+PolicyReadReturns due (Ok p) = due ≡ Ok p
+PolicyReadReturns due (Err Memory) = Unit {0}
+PolicyReadReturns due (Err e) = due ≡ Err e

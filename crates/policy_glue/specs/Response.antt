@@ -3,9 +3,10 @@ use Rattle.std.specs.Prelude.{ℕ, ◌&&◌, Bool, true, false, not, List, [], �
 use Rattle.std.specs.List.{list_all}
 use Rattle.serde_json.specs.Data as json
 use Rattle.serde_json.specs.Written.{compact_text}
-use Rattle.policy_glue.specs.Policy.{Rule, Rules, reason_name, reason_code}
+use Rattle.policy_glue.specs.Policy.{Validation, Policy, reason_name, reason_code}
 use Rattle.policy_glue.specs.Reading.{has_line_break}
-use Rattle.policy_glue.specs.Verdict.{Finding, Verdict, Outcome, Skipped, Admitted, Rejected, Denied, is_denial}
+use Rattle.policy_glue.specs.Verdict.{Finding, Verdict, is_denial}
+use Rattle.policy_glue.specs.declared.outcome.Outcome.{Outcome, TheVariants.Skipped, TheVariants.Admitted, TheVariants.Rejected, TheVariants.Denied}
 use Rattle.policy_glue.specs.declared.failure_policy.FailurePolicy.{FailurePolicy}
 use Rattle.policy_glue.specs.declared.reason.Reason.{Reason, TheVariants.Invalid}
 
@@ -13,11 +14,11 @@ use Rattle.policy_glue.specs.declared.reason.Reason.{Reason, TheVariants.Invalid
 
 -- a validation that denies, with the text of its message expression, if it gave one
 pub record Denial : Type 0 where
-  pub rule : Rule
+  pub rule : Validation
   pub message : Option (List ℕ)
 
 -- the validations that deny, in their order, each beside what it came to
-abbrev pub denials_of : FailurePolicy → List Rule → List Finding → List Denial
+abbrev pub denials_of : FailurePolicy → List Validation → List Finding → List Denial
 denials_of f [] xs = []
 denials_of f (r ∷ rs) [] = []
 denials_of f (r ∷ rs) (x ∷ xs) =
@@ -29,7 +30,7 @@ set_message [] expression = codes "failed expression: " ++ expression
 set_message (b ∷ message) expression = b ∷ message
 
 -- what a validation says without its message expression
-abbrev pub plain_message : Rule → List ℕ
+abbrev pub plain_message : Validation → List ℕ
 plain_message r = set_message r.message r.expression
 
 -- a text serves as a message if it is not spaces alone, nor empty, and has no line break
@@ -105,7 +106,7 @@ tree_of Skipped ds uid = allowed_tree uid
 tree_of Admitted ds uid = allowed_tree uid
 
 -- the text of the response to a verdict of the policy on the request with this uid
-unfoldable pub response_of : Rules → Verdict → List ℕ → List ℕ
+unfoldable pub response_of : Policy → Verdict → List ℕ → List ℕ
 response_of p verdict uid =
     compact_text (review_tree (tree_of verdict.outcome (denials_of p.failure_policy p.validations verdict.findings) uid))
 

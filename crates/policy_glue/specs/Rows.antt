@@ -1,55 +1,58 @@
 -- Policies, verdicts and responses worked by hand.
 use Rattle.std.specs.Prelude.{◌≡◌, ℕ, pos, Bool, true, false, List, [], ◌∷◌, ◌++◌, Option, Some, None, Result, Ok, Err, codes}
 use Rattle.value_store.specs.Value.{ValueOrError, error, value, boolean, int, text}
-use Rattle.policy_glue.specs.Policy.{Rule, Rules}
+use Rattle.policy_glue.specs.Policy.{Validation, Policy}
 use Rattle.policy_glue.specs.Reading.{policy_in}
 use Rattle.policy_glue.specs.Response.{response_of}
-use Rattle.policy_glue.specs.Verdict.{Verdict, Holds, Fails, Errs, Skipped, Rejected, Denied, Admitted, verdict_of}
+use Rattle.policy_glue.specs.Verdict.{Verdict, Holds, Fails, Errs, verdict_of}
+use Rattle.policy_glue.specs.declared.outcome.Outcome.{TheVariants.Skipped, TheVariants.Rejected, TheVariants.Denied, TheVariants.Admitted}
 use Rattle.policy_glue.specs.declared.failure_policy.FailurePolicy.{FailurePolicy, TheVariants.Fail, TheVariants.Ignore}
-use Rattle.policy_glue.specs.declared.policy_error.PolicyError.{PolicyError, TheVariants.K1, TheVariants.K2, TheVariants.K3, TheVariants.K4, TheVariants.K8}
+use Rattle.policy_glue.specs.declared.policy_error.PolicyError.{PolicyError, TheVariants.NotJson, TheVariants.NotAPolicy, TheVariants.InvalidField, TheVariants.NoValidations, TheVariants.MessageWithLineBreak}
 use Rattle.policy_glue.specs.declared.reason.Reason.TheVariants.{Forbidden, Invalid}
 
 -- ---- documents
 
 -- a policy with this specification
-abbrev pub said : List ℕ → Result Rules PolicyError
+abbrev pub said : List ℕ → Result Policy PolicyError
 said spec =
     policy_in (codes "{\"apiVersion\":\"admissionregistration.k8s.io/v1\",\"kind\":\"ValidatingAdmissionPolicy\",\"spec\":"
     ++ (spec ++ codes "}"))
 
-abbrev pub rule : List ℕ → Rule
+abbrev pub rule : List ℕ → Validation
 rule expression = record { expression = expression; message = []; reason = Invalid; message_expression = None }
 
-abbrev pub with_rules : FailurePolicy → List Rule → Rules
+abbrev pub with_rules : FailurePolicy → List Validation → Policy
 with_rules f rules = record { failure_policy = f; conditions = []; variables = []; validations = rules }
 
-abbrev pub few_replicas : Rule
+abbrev pub few_replicas : Validation
 few_replicas = rule (codes "object.spec.replicas <= 3")
 
 pub record PolicyRowsStand : Type 0 where
   pub one_validation : said (codes "{\"validations\":[{\"expression\":\"object.spec.replicas <= 3\"}]}")
       ≡ Ok (with_rules Fail (few_replicas ∷ []))
   pub all_keys : said
-      (codes "{\"failurePolicy\":\"Ignore\",\"paramKind\":{},\"matchConditions\":[{\"name\":\"c\",\"expression\":\"a\"}],\"variables\":[{\"expression\":\"b\",\"name\":\"v\"}],\"matchConstraints\":{\"x\":1},\"validations\":[{\"message\":\"m\",\"reason\":\"Forbidden\",\"messageExpression\":\"\",\"expression\":\"d\"}]}")
+      (codes "{\"failurePolicy\":\"Ignore\",\"paramKind\":{},\"matchConditions\":[{\"name\":\"c\",\"expression\":\"a\"}],"
+      ++ (codes "\"variables\":[{\"expression\":\"b\",\"name\":\"v\"}],\"matchConstraints\":{\"x\":1},"
+      ++ codes "\"validations\":[{\"message\":\"m\",\"reason\":\"Forbidden\",\"messageExpression\":\"\",\"expression\":\"d\"}]}"))
       ≡ Ok (record {
         failure_policy = Ignore;
         conditions = record { name = codes "c"; expression = codes "a" } ∷ [];
         variables = record { name = codes "v"; expression = codes "b" } ∷ [];
         validations = record { expression = codes "d"; message = codes "m"; reason = Forbidden; message_expression = Some [] } ∷ [];
       })
-  pub no_text : policy_in (codes "{") ≡ Err K1
-  pub list : policy_in (codes "[]") ≡ Err K2
-  pub other_kind : policy_in (codes "{\"apiVersion\":\"admissionregistration.k8s.io/v1\",\"kind\":\"Policy\",\"spec\":1}") ≡ Err K2
-  pub unknown_key : said (codes "{\"validations\":[{\"expression\":\"a\"}],\"x\":1}") ≡ Err K3
-  pub null_message : said (codes "{\"validations\":[{\"expression\":\"a\",\"message\":null}]}") ≡ Err K3
-  pub no_reason : said (codes "{\"validations\":[{\"expression\":\"a\",\"reason\":\"\"}]}") ≡ Err K3
+  pub no_text : policy_in (codes "{") ≡ Err NotJson
+  pub list : policy_in (codes "[]") ≡ Err NotAPolicy
+  pub other_kind : policy_in (codes "{\"apiVersion\":\"admissionregistration.k8s.io/v1\",\"kind\":\"Policy\",\"spec\":1}") ≡ Err NotAPolicy
+  pub unknown_key : said (codes "{\"validations\":[{\"expression\":\"a\"}],\"x\":1}") ≡ Err InvalidField
+  pub null_message : said (codes "{\"validations\":[{\"expression\":\"a\",\"message\":null}]}") ≡ Err InvalidField
+  pub no_reason : said (codes "{\"validations\":[{\"expression\":\"a\",\"reason\":\"\"}]}") ≡ Err InvalidField
   pub two_of_a_name :
       said (codes "{\"variables\":[{\"name\":\"v\",\"expression\":\"a\"},{\"name\":\"v\",\"expression\":\"b\"}],\"validations\":[{\"expression\":\"a\"}]}")
-      ≡ Err K3
-  pub reserved_name : said (codes "{\"variables\":[{\"name\":\"if\",\"expression\":\"a\"}],\"validations\":[]}") ≡ Err K3
-  pub no_validations : said (codes "{}") ≡ Err K3
-  pub empty_validations : said (codes "{\"validations\":[]}") ≡ Err K4
-  pub line_feed : said (codes "{\"validations\":[{\"expression\":\"a\",\"message\":\"a\\nb\"}]}") ≡ Err K8
+      ≡ Err InvalidField
+  pub reserved_name : said (codes "{\"variables\":[{\"name\":\"if\",\"expression\":\"a\"}],\"validations\":[]}") ≡ Err InvalidField
+  pub no_validations : said (codes "{}") ≡ Err InvalidField
+  pub empty_validations : said (codes "{\"validations\":[]}") ≡ Err NoValidations
+  pub line_feed : said (codes "{\"validations\":[{\"expression\":\"a\",\"message\":\"a\\nb\"}]}") ≡ Err MessageWithLineBreak
 
 -- ---- verdicts
 
@@ -107,7 +110,7 @@ abbrev pub plain : List ℕ
 plain = denied_as (codes "{\"code\":422,\"message\":\"failed expression: object.spec.replicas <= 3\",\"reason\":\"Invalid\"}")
 
 -- false with a message and a reason, and then an error
-abbrev pub two_denials : List Rule
+abbrev pub two_denials : List Validation
 two_denials =
     record { expression = codes "false"; message = codes "a"; reason = Forbidden; message_expression = None } ∷ rule (codes "1/0 == 1") ∷ []
 

@@ -8,7 +8,7 @@ pub record VariableTree : Type 0 where
   pub expression : Tree
 
 -- a validation, and its message expression, if it has one
-pub record RuleTree : Type 0 where
+pub record ValidationTree : Type 0 where
   pub expression : Tree
   pub message : Option Tree
 
@@ -16,4 +16,4 @@ pub record RuleTree : Type 0 where
 pub record PolicyTree : Type 0 where
   pub variables : List VariableTree
   pub conditions : List Tree
-  pub validations : List RuleTree
+  pub validations : List ValidationTree

@@ -5,25 +5,19 @@ use Rattle.std.specs.List.{list_any, list_all}
 use Rattle.value_store.specs.Value.{ValueOrError, value, boolean}
 use Rattle.value_store.specs.Calls.{text_at}
 use Rattle.policy_glue.specs.declared.failure_policy.FailurePolicy.{FailurePolicy, TheVariants.Fail, TheVariants.Ignore}
+use Rattle.policy_glue.specs.declared.outcome.Outcome.{Outcome, TheVariants.Skipped, TheVariants.Rejected, TheVariants.Denied, TheVariants.Admitted}
 
 -- ---- what is decided
 
--- the conditions skip the policy; they are in error, which denies; a validation denies; none does
-pub data Outcome : Type 0 where
-  Skipped : Outcome
-  Rejected : Outcome
-  Denied : Outcome
-  Admitted : Outcome
-
--- what a condition or a validation comes to
-pub data Truth : Type 0 where
-  Holds : Truth
-  Fails : Truth
-  Errs : Truth
+-- the result of a condition or a validation
+pub data CheckResult : Type 0 where
+  Holds : CheckResult
+  Fails : CheckResult
+  Errs : CheckResult
 
 -- what a validation came to, and for a denial the text of its message expression, if it gave one
 pub record Finding : Type 0 where
-  pub truth : Truth
+  pub truth : CheckResult
   pub message : Option (List ℕ)
 
 -- the outcome, and what each validation came to, nothing where the policy did not run
@@ -34,18 +28,18 @@ pub record Verdict : Type 0 where
 -- ---- how it is decided
 
 -- an error, and a value that is no bool, are errors
-abbrev pub truth_of : ValueOrError → Truth
+abbrev pub truth_of : ValueOrError → CheckResult
 truth_of (value (boolean true)) = Holds
 truth_of (value (boolean false)) = Fails
 truth_of _ = Errs
 
 -- a condition that is false
-abbrev pub is_failed : Truth → Bool
+abbrev pub is_failed : CheckResult → Bool
 is_failed Fails = true
 is_failed _ = false
 
 -- a condition that is true
-abbrev pub is_held : Truth → Bool
+abbrev pub is_held : CheckResult → Bool
 is_held Holds = true
 is_held _ = false
 
@@ -55,13 +49,13 @@ undecided Fail = Rejected
 undecided Ignore = Skipped
 
 -- what the conditions decide, and nothing where all of them hold, so that the policy runs
-abbrev pub decided_before : FailurePolicy → List Truth → Option Outcome
+abbrev pub decided_before : FailurePolicy → List CheckResult → Option Outcome
 decided_before f conditions =
     if list_any is_failed conditions then Some Skipped
     else (if list_all is_held conditions then None else Some (undecided f))
 
 -- whether a validation denies
-abbrev pub denies : FailurePolicy → Truth → Bool
+abbrev pub denies : FailurePolicy → CheckResult → Bool
 denies f Holds = false
 denies f Fails = true
 denies Fail Errs = true
@@ -95,7 +89,7 @@ abbrev pub decided : Option Outcome → Verdict → Verdict
 decided (Some outcome) running = record { outcome = outcome; findings = [] }
 decided None running = running
 
--- the verdict under a failure policy, from what the conditions and the validations come to
+-- the verdict under a failure policy, from the results of the conditions and the validations
 unfoldable pub verdict_of : FailurePolicy → List ValueOrError → List (ValueOrError × Option ValueOrError) → Verdict
 verdict_of f conditions validations =
     decided (decided_before f (map truth_of conditions)) (judged_by f (map (finding_of f) validations))

@@ -2,8 +2,8 @@
 
 ghost use Rattle.std.specs.Prelude.{◌≡◌, None, Ok, map, option_map, string_bytes};
 ghost use Rattle.cel_macros.specs.CoreView.{core_view};
-ghost use Rattle.policy_glue.specs.Checked.{Adds, Checks, ChecksConditions, ChecksRule, ChecksRules, ChecksVariables, SortsMessage};
-ghost use Rattle.policy_glue.specs.Policy.{named_view, rule_view, rules_view};
+ghost use Rattle.policy_glue.specs.Checked.{AddsVariable, Checks, ChecksConditions, ChecksValidation, ChecksValidations, ChecksVariables, SortsMessage};
+ghost use Rattle.policy_glue.specs.Policy.{named_view, validation_view, policy_view};
 
 use crate::checked::Checked;
 use crate::checked_validation::CheckedValidation;
@@ -18,8 +18,9 @@ use cel_macros::Core;
 use cel_types::Scope;
 use std::alloc::Global;
 
-/// The policy with its expressions checked, or its first refusal: of its variables, match conditions
-/// and validations in this order, each with its place, a message expression behind its validation.
+/// The policy with its expressions checked, or its first refusal: of its variables, match
+/// conditions and validations in this order, each with its place, a message expression behind its
+/// validation.
 pub(crate) fn checked(alloc: Global, policy: &Policy) -> Result<Checked, CompileError>
     ensures { Checks policy.now result }
 {
@@ -27,7 +28,7 @@ pub(crate) fn checked(alloc: Global, policy: &Policy) -> Result<Checked, Compile
 }
 
 fn parts_checked(alloc: Global, parts: &Parts) -> Result<Checked, CompileError>
-    ensures { Checks (rules_view parts.now) result }
+    ensures { Checks (policy_view parts.now) result }
 {
     let (scope, variables) = variables(alloc, parts.variables.as_slice())?;
     let conditions = conditions(alloc, parts.conditions.as_slice())?;
@@ -60,7 +61,7 @@ fn add_variable(
     scope: &mut Scope,
     cores: &mut Vec<Core>,
 ) -> Result<(), CompileError>
-    ensures { Adds (named_view variable.now) place scope.old scope.new (map core_view cores.old.items) (map core_view cores.new.items) result }
+    ensures { AddsVariable (named_view variable.now) place scope.old scope.new (map core_view cores.old.items) (map core_view cores.new.items) result }
 {
     let text = variable.expression.as_str();
     let (core, cel_type, depth) = variable_judged(alloc, place, text, scope)?;
@@ -89,7 +90,7 @@ fn validations(
     validations: &[Validation],
     scope: &Scope,
 ) -> Result<Vec<CheckedValidation>, CompileError>
-    ensures { ChecksRules scope.now (map rule_view validations.now) result }
+    ensures { ChecksValidations scope.now (map validation_view validations.now) result }
 {
     let mut checked = Vec::new(alloc);
     for (place, validation) in validations.iter().enumerate() {
@@ -106,7 +107,7 @@ fn validation_at(
     validation: &Validation,
     scope: &Scope,
 ) -> Result<CheckedValidation, CompileError>
-    ensures { ChecksRule scope.now place (rule_view validation.now) result }
+    ensures { ChecksValidation scope.now place (validation_view validation.now) result }
 {
     let text = validation.expression.as_str();
     let expression = part_judged(alloc, PartKind::Validation, place, text, scope)?;

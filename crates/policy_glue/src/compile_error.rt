@@ -6,40 +6,64 @@ ghost use Rattle.policy_glue.specs.declared.compile_error.CompileError.TheVarian
 
 use crate::expression_error::ExpressionError;
 use crate::part_kind::PartKind;
+use codegen::CodeError;
 use std::alloc::{AllocError, AllocFailed};
 use std::error::Error;
 use std::fmt;
 
-/// Why a policy is not compiled. Where several hold, the first one counts: of its parts in their order
-/// K6, K7 and K9, then G3, then G4.
+/// Why a policy is not compiled. If several causes hold, the first is reported: the parts are
+/// tested in their order, each for the first three causes of this list, and then the policy for the
+/// next two.
 #[derive(Clone, Copy, Debug, PartialEq, Eq)]
 pub enum CompileError {
-    /// An expression is refused: that of the part at this place of its list, counted from 0.
-    K6(PartKind, usize, ExpressionError),
-    /// A condition or a validation is no bool.
-    K7,
-    /// A message expression is no text.
-    K9,
-    /// The policy's nodes, 128 slots for each, are more than an image of 65,536 slots has room for.
-    G3,
-    /// Its texts are more than an image of 1,048,576 bytes of constants has room for.
-    G4,
-    /// There is no memory for the program.
+    /// The expression of a part is refused: the part's kind, its place in its list, counted from 0,
+    /// and why.
+    InvalidExpression(PartKind, usize, ExpressionError),
+    /// The type of a condition or a validation is neither `Bool` nor `Dyn`.
+    NotABool,
+    /// The type of a message expression is neither `String` nor `Dyn`.
+    MessageNotAString,
+    /// The policy has more than 512 nodes, for each of which an image of 65,536 slots has 128.
+    TooManyNodes,
+    /// The distinct texts of the policy have more than 1,048,576 bytes together, the most that the
+    /// constants of an image can have.
+    TooManyTextBytes,
+    /// An allocation failed.
     Memory,
 }
 
-/// The refusal's number, and for an expression its part, its place and why it is refused.
+impl CompileError {
+    ghost use Rattle.std.specs.Prelude.{◌≤◌, length};
+    ghost use Rattle.policy_glue.specs.ErrorCodes.{compile_error_code};
+
+    /// The error's code: `K6`, `K7`, `K9`, `G3`, `G4` or `memory`.
+    pub fn code(&self) -> &'static str
+        ensures text { result.now ≡ compile_error_code self.now }
+        ensures length { length result.now ≤ 6 }
+    {
+        match self {
+            CompileError::InvalidExpression(_, _, _) => "K6",
+            CompileError::NotABool => "K7",
+            CompileError::MessageNotAString => "K9",
+            CompileError::TooManyNodes => CodeError::TooManyNodes.code(),
+            CompileError::TooManyTextBytes => CodeError::TooManyTextBytes.code(),
+            CompileError::Memory => "memory",
+        }
+    }
+}
+
+/// The code, and for an expression the part and why it is refused: `K6 validation 0 P4 at 13`.
 impl fmt::Display for CompileError {
     ghost output = { λ e. Some (compile_text e) };
 
     fn fmt<W: fmt::Write>(&self, f: &mut fmt::Formatter<W>) -> fmt::Result {
+        let code = self.code();
         match *self {
-            CompileError::K6(part, place, error) => write!(f, "K6 {part} {place} {error}"),
-            CompileError::K7 => f.write_str("K7"),
-            CompileError::K9 => f.write_str("K9"),
-            CompileError::G3 => f.write_str("G3"),
-            CompileError::G4 => f.write_str("G4"),
-            CompileError::Memory => f.write_str("memory"),
+            CompileError::InvalidExpression(part, place, error) => write!(
+                f,
+                "{code} {part} {place} {error}"
+            ),
+            _ => f.write_str(code),
         }
     }
 }

@@ -14,14 +14,14 @@ use crate::program::program;
 use loader::Image;
 use std::alloc::Global;
 
-/// The image of the policy's program, of version 2. From its start on the roots of a request it leaves the
-/// verdict in the words of its verdict region and exits with the outcome, or is stopped for its charge or
-/// for a value that is too deep.
+/// The image of the policy's program, of version 2. From its start on the roots of a request it
+/// leaves the verdict in the words of its verdict region and exits with the outcome, or is stopped
+/// for its charge or for a value that is too deep.
 ///
 /// # Errors
 ///
-/// The first refusal in the order of [`CompileError`]; `Memory` where memory runs out, which says nothing
-/// of the policy.
+/// The first refusal in the order of [`CompileError`]; `Memory` where memory runs out, which says
+/// nothing of the policy.
 pub fn compile(alloc: Global, policy: &Policy) -> Result<Image, CompileError>
     ensures compiles { CompilesTo policy.now result }
     // Which image it is, of those that do this.

@@ -2,7 +2,7 @@
 
 ghost use Rattle.std.specs.Prelude.{◌≡◌, string_bytes, IfOk};
 ghost use Rattle.std.specs.List.{list_all};
-ghost use Rattle.policy_glue.specs.Policy.{rule_view};
+ghost use Rattle.policy_glue.specs.Policy.{validation_view};
 ghost use Rattle.policy_glue.specs.Denials.{denial_view};
 ghost use Rattle.policy_glue.specs.Response.{denial_text, is_space, plain_message, serves};
 
@@ -32,7 +32,7 @@ impl<'a> Denial<'a> {
 
 /// The message that is set, and else that the expression failed.
 fn plain_message(alloc: Global, validation: &Validation) -> Result<String, AllocError>
-    ensures { IfOk result (λ s. string_bytes s ≡ plain_message (rule_view validation.now)) }
+    ensures { IfOk result (λ s. string_bytes s ≡ plain_message (validation_view validation.now)) }
 {
     if validation.message.is_empty() {
         format!(in alloc; "failed expression: {}", validation.expression)

@@ -1,8 +1,8 @@
 //! The denials of a verdict.
 
 ghost use Rattle.std.specs.Prelude.{◌≡◌, ◌≤◌, length, map, string_bytes, IfOk};
-ghost use Rattle.policy_glue.specs.Policy.{rule_view};
-ghost use Rattle.policy_glue.specs.Layout.{most_validations, words_view};
+ghost use Rattle.policy_glue.specs.Policy.{validation_view, part_limit};
+ghost use Rattle.policy_glue.specs.Layout.{words_view};
 ghost use Rattle.policy_glue.specs.Denials.{denial_view, denials_told, denies_word};
 ghost use Rattle.policy_glue.specs.Response.{denial_text, first_reason, joined, separator_of};
 
@@ -20,8 +20,8 @@ pub fn denials<'a>(
     validations: &'a [Validation],
     verdict: &'a Verdict<'a>,
 ) -> Result<Vec<Denial<'a>>, AllocError>
-    requires { length validations.now ≤ most_validations }
-    ensures { IfOk result (λ ds. map denial_view ds.items ≡ denials_told failure_policy (map rule_view validations.now) (words_view verdict.now) 0) }
+    requires { length validations.now ≤ part_limit }
+    ensures { IfOk result (λ ds. map denial_view ds.items ≡ denials_told failure_policy (map validation_view validations.now) (words_view verdict.now) 0) }
 {
     let mut denials = Vec::new(alloc);
     for (i, validation) in validations.iter().enumerate() {

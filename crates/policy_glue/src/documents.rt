@@ -79,7 +79,7 @@ pub fn text(alloc: Global, value: Option<&Value>) -> Result<String, PolicyError>
 {
     match value {
         Some(Value::String(found)) => Ok(String::from_str(alloc, found.as_str())?),
-        _ => Err(PolicyError::K3),
+        _ => Err(PolicyError::InvalidField),
     }
 }
 
@@ -90,7 +90,7 @@ pub fn optional_text(alloc: Global, value: Option<&Value>) -> Result<Option<Stri
     match value {
         None => Ok(None),
         Some(Value::String(found)) => Ok(Some(String::from_str(alloc, found.as_str())?)),
-        Some(_) => Err(PolicyError::K3),
+        Some(_) => Err(PolicyError::InvalidField),
     }
 }
 
@@ -101,6 +101,6 @@ pub fn text_or_empty(alloc: Global, value: Option<&Value>) -> Result<String, Pol
     match value {
         None => Ok(String::new(alloc)),
         Some(Value::String(found)) => Ok(String::from_str(alloc, found.as_str())?),
-        Some(_) => Err(PolicyError::K3),
+        Some(_) => Err(PolicyError::InvalidField),
     }
 }

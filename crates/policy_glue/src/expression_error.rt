@@ -1,7 +1,8 @@
 //! Why a policy's expression is refused.
 
-ghost use Rattle.std.specs.Prelude.{◌≡◌, ◌≤◌, ◌++◌, codes, decimal, length, IfSome, None, Some};
+ghost use Rattle.std.specs.Prelude.{◌≡◌, ◌≤◌, length, Some};
 ghost use Rattle.policy_glue.specs.CompileErrors.{expression_text, from_macros, from_reader, in_part};
+ghost use Rattle.policy_glue.specs.ErrorCodes.{expression_error_code, expression_error_place};
 ghost use Rattle.policy_glue.specs.declared.expression_error.ExpressionError.TheVariants.{Memory, Untyped};
 
 use crate::compile_error::CompileError;
@@ -9,50 +10,54 @@ use crate::part_kind::PartKind;
 use cel_macros::MacroError;
 use cel_reader::ReadError;
 use cel_types::TypeError;
+use codegen::CodeError;
 use std::fmt;
 
-/// Why an expression is refused. Where several hold, the first one counts.
+/// Why an expression is refused. If several causes hold, the first of this list is reported.
 #[derive(Clone, Copy, Debug, PartialEq, Eq)]
 pub enum ExpressionError {
-    /// The text is no expression.
+    /// The text is not an expression.
     Unread(ReadError),
     /// A macro is not well formed.
     Unexpanded(MacroError),
-    /// A part has no type.
+    /// The expression has no type.
     Untyped(TypeError),
     /// The expression needs more than 60 words of the stack.
-    G1,
-    /// The variable's depth is above 6.
-    G2,
-    /// There is no memory for the expression.
+    NeedsTooManyWords,
+    /// The variable's depth is above 6. (1 more than the greatest depth of the variables that it
+    /// names)
+    VariableTooDeep,
+    /// An allocation failed.
     Memory,
 }
 
 impl ExpressionError {
-    /// The refusal's number, and the byte where a text is refused.
-    pub fn code(self) -> (&'static str, Option<usize>)
-        ensures at { IfSome result.1 (λ place. expression_text self ≡ result.0.now ++ (codes " at " ++ decimal place)) }
-        ensures alone { result.1 ≡ None → expression_text self ≡ result.0.now }
-        ensures length { length result.0.now ≤ 6 }
+    /// The error's code: that of the text, the macro or the type, or `G1`, `G2` or `memory`.
+    pub fn code(&self) -> &'static str
+        ensures text { result.now ≡ expression_error_code self.now }
+        ensures length { length result.now ≤ 6 }
     {
         match self {
-            ExpressionError::Unread(ReadError::P1(place)) => ("P1", Some(place)),
-            ExpressionError::Unread(ReadError::P2(place)) => ("P2", Some(place)),
-            ExpressionError::Unread(ReadError::P3(place)) => ("P3", Some(place)),
-            ExpressionError::Unread(ReadError::P4(place)) => ("P4", Some(place)),
-            ExpressionError::Unread(ReadError::P5(place)) => ("P5", Some(place)),
-            ExpressionError::Unread(ReadError::P6(place)) => ("P6", Some(place)),
-            ExpressionError::Unexpanded(MacroError::M1) => ("M1", None),
-            ExpressionError::Unexpanded(MacroError::M2) => ("M2", None),
-            ExpressionError::Unexpanded(MacroError::M3) => ("M3", None),
-            ExpressionError::Untyped(TypeError::Y1) => ("Y1", None),
-            ExpressionError::Untyped(TypeError::Y2) => ("Y2", None),
-            ExpressionError::Untyped(TypeError::Y3) => ("Y3", None),
-            ExpressionError::G1 => ("G1", None),
-            ExpressionError::G2 => ("G2", None),
-            ExpressionError::Unread(ReadError::Memory)
-            | ExpressionError::Unexpanded(MacroError::Memory)
-            | ExpressionError::Memory => ("memory", None),
+            ExpressionError::Unread(error) => error.code(),
+            ExpressionError::Unexpanded(error) => error.code(),
+            ExpressionError::Untyped(error) => error.code(),
+            ExpressionError::NeedsTooManyWords => CodeError::NeedsTooManyWords.code(),
+            ExpressionError::VariableTooDeep => CodeError::VariableTooDeep.code(),
+            ExpressionError::Memory => "memory",
+        }
+    }
+
+    /// The byte at which the text is refused, counted from 0.
+    pub fn place(&self) -> Option<usize>
+        ensures { result ≡ expression_error_place self.now }
+    {
+        match self {
+            ExpressionError::Unread(error) => error.place(),
+            ExpressionError::Unexpanded(_)
+            | ExpressionError::Untyped(_)
+            | ExpressionError::NeedsTooManyWords
+            | ExpressionError::VariableTooDeep
+            | ExpressionError::Memory => None,
         }
     }
 
@@ -62,19 +67,20 @@ impl ExpressionError {
     {
         match self {
             ExpressionError::Memory => CompileError::Memory,
-            _ => CompileError::K6(part, place, self),
+            _ => CompileError::InvalidExpression(part, place, self),
         }
     }
 }
 
-/// The refusal's number, and the byte where the text is refused.
+/// The code, and the byte at which the text is refused: `P4 at 13`.
 impl fmt::Display for ExpressionError {
     ghost output = { λ e. Some (expression_text e) };
 
     fn fmt<W: fmt::Write>(&self, f: &mut fmt::Formatter<W>) -> fmt::Result {
-        match self.code() {
-            (code, Some(place)) => write!(f, "{code} at {place}"),
-            (code, None) => f.write_str(code),
+        let code = self.code();
+        match self.place() {
+            Some(place) => write!(f, "{code} at {place}"),
+            None => f.write_str(code),
         }
     }
 }

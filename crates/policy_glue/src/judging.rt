@@ -7,7 +7,7 @@ ghost use Rattle.cel_types.specs.Declarations.{scope_of};
 ghost use Rattle.cel_types.specs.Types.{allowed};
 ghost use Rattle.cel_types.specs.Typing.{typing};
 ghost use Rattle.cel_measures.specs.Measures.{need};
-ghost use Rattle.policy_glue.specs.Checked.{Expands, IsExpanded, Judges, JudgesVariable, Sorts};
+ghost use Rattle.policy_glue.specs.Checked.{ReadsAndExpands, IsExpanded, Judges, JudgesVariable, Sorts};
 ghost use Rattle.policy_glue.specs.Checking.{expression_judged, other_type, types_of, with_typing};
 
 use crate::compile_error::CompileError;
@@ -17,17 +17,12 @@ use cel_macros::{Core, expand};
 use cel_measures::{depth, need};
 use cel_reader::read;
 use cel_types::{CelType, Scope, check};
+use expression_code::limits::{VARIABLE_DEPTH_LIMIT, WORD_LIMIT};
 use std::alloc::Global;
-
-/// The most words of the stack that an expression may need.
-const MOST_NEED: u64 = 60;
-
-/// The greatest depth of a variable.
-const MOST_DEPTH: u64 = 6;
 
 /// The expression in a text, with its macros expanded.
 fn expression(alloc: Global, text: &str) -> Result<Core, ExpressionError>
-    ensures { Expands text.now result }
+    ensures { ReadsAndExpands text.now result }
 {
     let tree = read(alloc, text)?;
     Ok(expand(alloc, tree)?)
@@ -38,8 +33,8 @@ fn type_of(core: &Core, scope: &Scope) -> Result<CelType, ExpressionError>
     ensures { (a : Tree) → IsExpanded core.now a → result ≡ with_typing (typing a (scope_of scope.now)) (need (expanded a)) }
 {
     let cel_type = check(core, scope)?;
-    if need(core) > MOST_NEED {
-        return Err(ExpressionError::G1);
+    if need(core) > WORD_LIMIT {
+        return Err(ExpressionError::NeedsTooManyWords);
     }
     Ok(cel_type)
 }
@@ -67,8 +62,8 @@ pub fn variable_judged(
     match judged(alloc, text, scope) {
         Ok((core, cel_type)) => {
             let depth = depth(&core, scope);
-            if depth > MOST_DEPTH {
-                Err(ExpressionError::G2.at(PartKind::Variable, place))
+            if depth > VARIABLE_DEPTH_LIMIT {
+                Err(ExpressionError::VariableTooDeep.at(PartKind::Variable, place))
             } else {
                 Ok((core, cel_type, depth))
             }
@@ -92,8 +87,8 @@ fn other_type(part: PartKind) -> CompileError
     ensures { result ≡ other_type part }
 {
     match part {
-        PartKind::Message => CompileError::K9,
-        _ => CompileError::K7,
+        PartKind::Message => CompileError::MessageNotAString,
+        _ => CompileError::NotABool,
     }
 }
 

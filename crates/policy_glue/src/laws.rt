@@ -1,8 +1,8 @@
-//! Policies, verdicts and responses worked by hand, and what is proved of policies and of their code, each
-//! the clause of a function that does nothing.
+//! Policies, verdicts and responses worked by hand, and what is proved of policies and of their
+//! code, each the clause of a function that does nothing.
 ghost use Rattle.policy_glue.specs.BudgetRows.{BudgetRowsStand};
 ghost use Rattle.policy_glue.specs.DecisionRows.{CheckingRowsStand, DecisionRowsStand};
-ghost use Rattle.policy_glue.specs.OneAnswer.{HasOneAnswer, HasOneImage};
+ghost use Rattle.policy_glue.specs.OneAnswer.{CompileHasOneResult, HasOneImage};
 ghost use Rattle.policy_glue.specs.ProgramLaws.{PolicyDecides};
 ghost use Rattle.policy_glue.specs.ProgramTrees.{ProgramDecides, ProgramIsCode, ProgramIsShort, ProgramStops};
 ghost use Rattle.policy_glue.specs.RunRows.{RunRowsStand};
@@ -46,8 +46,9 @@ pub fn budget_rows_stand()
     ensures { BudgetRowsStand }
 {}
 
-/// The code of a policy, made of code for its expressions, leaves the policy's verdict in its words and
-/// its outcome in R0, or has stopped for its charge or a depth, after its steps and those of its variables.
+/// The code of a policy, made of code for its expressions, leaves the policy's verdict in its words
+/// and its outcome in R0, or has stopped for its charge or a depth, after its steps and those of
+/// its variables.
 pub fn policy_decides()
     ensures { PolicyDecides }
 {
@@ -60,16 +61,18 @@ pub fn run_rows_stand()
     ensures { RunRowsStand }
 {}
 
-/// The program of a policy has at most 128 slots for each of the policy's nodes, and can be spelled.
+/// The program of a policy has at most 128 slots for each of the policy's nodes, and can be
+/// spelled.
 #[tactic(auto, using(crate::proofs::Programs::Sizes::program_is_short, crate::proofs::Programs::Sizes::program_is_code))]
 pub fn program_is_code()
     ensures short { ProgramIsShort }
     ensures code { ProgramIsCode }
 {}
 
-/// The program of a policy, run from the start, has decided as the policy does after 128 steps for each
-/// unit of the policy's work, and wherever it stands stopped: it left the verdict, or it was stopped where
-/// 16 of charge for each unit of what is spent pass the limit, or where a value is too deep.
+/// The program of a policy, run from the start, has decided as the policy does after 128 steps for
+/// each unit of the policy's work, and wherever it stands stopped: it left the verdict, or it was
+/// stopped where 16 of charge for each unit of what is spent pass the limit, or where a value is
+/// too deep.
 #[tactic(auto, using(crate::proofs::Programs::Runs::program_decides, crate::proofs::Programs::Sizes::program_is_code, crate::proofs::Programs::Runs::program_stops))]
 pub fn program_decides()
     ensures decides { ProgramDecides }
@@ -81,6 +84,6 @@ pub fn program_decides()
 /// A policy has one answer at most, its trees or its first refusal, and one image.
 #[tactic(auto, using(crate::proofs::OneAnswer::compiled_once, crate::proofs::OneAnswer::one_image))]
 pub fn compiles_once()
-    ensures answer { HasOneAnswer }
+    ensures answer { CompileHasOneResult }
     ensures image { HasOneImage }
 {}

@@ -24,7 +24,7 @@ pub fn named_list(
 {
     let list = optional_list(alloc, value, rule)?;
     if !are_distinct(alloc, list.as_slice())? {
-        return Err(PolicyError::K3);
+        return Err(PolicyError::InvalidField);
     }
     Ok(list)
 }
@@ -39,7 +39,7 @@ fn optional_list(
     match value {
         None => Ok(Vec::new(alloc)),
         Some(Value::Array(items)) => list_of(alloc, items, rule),
-        Some(_) => Err(PolicyError::K3),
+        Some(_) => Err(PolicyError::InvalidField),
     }
 }
 
@@ -62,11 +62,11 @@ fn named(alloc: Global, value: &Value, rule: NameRule) -> Result<NamedExpression
     ensures { Forms named_view (named_in rule (view value.now)) result }
 {
     if !has_only_keys(value, ["name", "expression"].as_slice()) {
-        return Err(PolicyError::K3);
+        return Err(PolicyError::InvalidField);
     }
     let named = named_parts(alloc, value)?;
     if !rule.allows(named.name.as_str()) {
-        return Err(PolicyError::K3);
+        return Err(PolicyError::InvalidField);
     }
     Ok(named)
 }

@@ -3,8 +3,8 @@
 ghost use Rattle.std.specs.Prelude.{◌≡◌, ◌≢◌, Err, string_bytes};
 ghost use Rattle.std.specs.List.{list_any};
 ghost use Rattle.serde_json.specs.View.{view};
-ghost use Rattle.policy_glue.specs.Policy.{rules_view};
-ghost use Rattle.policy_glue.specs.Reading.{has_broken_message, has_line_break, has_too_many, judged, policy_in, policy_of, Reads};
+ghost use Rattle.policy_glue.specs.Policy.{policy_view};
+ghost use Rattle.policy_glue.specs.Reading.{has_broken_message, has_line_break, has_too_many, judged, policy_in, policy_of, PolicyReadReturns};
 ghost use Rattle.policy_glue.specs.declared.policy_error.PolicyError.TheVariants.{Memory};
 
 use crate::documents::document;
@@ -16,8 +16,9 @@ use serde_json::Value;
 use std::alloc::Global;
 use std::marker::Model;
 
-/// The most conditions, variables and validations, of each kind.
-const MOST_PARTS: usize = 64;
+/// The most conditions, variables and validations, of each kind; a verdict has words for as many
+/// validations.
+pub(crate) const PART_LIMIT: usize = 64;
 
 /// A policy: at most 64 match conditions, 64 variables and 64 validations, of these at least one,
 /// and no message with a line break. Its expressions are not read yet.
@@ -27,14 +28,14 @@ pub struct Policy {
 }
 
 impl Model for Policy {
-    ghost use Rattle.policy_glue.specs.Policy.{Rules, rules_view};
-    ghost use Rattle.policy_glue.specs.Reading.{IsAccepted};
+    ghost use Rattle.policy_glue.specs.Policy.{Policy, policy_view};
+    ghost use Rattle.policy_glue.specs.Reading.{IsAcceptedPolicy};
 
-    ghost Value = { Rules };
+    ghost Value = { Policy };
 
-    ghost view = { λ p. rules_view p.parts };
+    ghost view = { λ p. policy_view p.parts };
 
-    ghost invariant = { λ p. IsAccepted (rules_view p.parts) };
+    ghost invariant = { λ p. IsAcceptedPolicy (policy_view p.parts) };
 }
 
 impl Policy {
@@ -42,57 +43,57 @@ impl Policy {
     ///
     /// # Errors
     ///
-    /// The first refusal in the order of [`PolicyError`]; `Memory` where memory runs out, which says
-    /// nothing of the document.
+    /// The first refusal in the order of [`PolicyError`]; `Memory` where memory runs out, which
+    /// says nothing of the document.
     #[tactic(auto, unfolding(crate::specs::Reading::policy_in))]
     pub fn read(alloc: Global, bytes: &[u8]) -> Result<Policy, PolicyError>
-        ensures { Reads (policy_in bytes.now) result }
+        ensures { PolicyReadReturns (policy_in bytes.now) result }
     {
         match document(alloc, bytes)? {
             Some(value) => policy_of(alloc, &value),
-            None => Err(PolicyError::K1),
+            None => Err(PolicyError::NotJson),
         }
     }
 }
 
 #[tactic(auto, unfolding(crate::specs::Reading::policy_of))]
 fn policy_of(alloc: Global, value: &Value) -> Result<Policy, PolicyError>
-    ensures { Reads (policy_of (view value.now)) result }
+    ensures { PolicyReadReturns (policy_of (view value.now)) result }
 {
     if !has_head(value) {
-        return Err(PolicyError::K2);
+        return Err(PolicyError::NotAPolicy);
     }
     judged(parts(alloc, value)?)
 }
 
 /// The policy with these parts.
 fn judged(parts: Parts) -> Result<Policy, PolicyError>
-    ensures reads { Reads (judged (rules_view parts)) result }
+    ensures reads { PolicyReadReturns (judged (policy_view parts)) result }
     ensures no_memory { result ≢ Err Memory }
 {
     if parts.validations.is_empty() {
-        return Err(PolicyError::K4);
+        return Err(PolicyError::NoValidations);
     }
     if has_too_many(&parts) {
-        return Err(PolicyError::K5);
+        return Err(PolicyError::TooManyParts);
     }
     if has_broken_message(&parts) {
-        return Err(PolicyError::K8);
+        return Err(PolicyError::MessageWithLineBreak);
     }
     Ok(Policy { parts })
 }
 
 fn has_too_many(parts: &Parts) -> bool
-    ensures { result ≡ has_too_many (rules_view parts.now) }
+    ensures { result ≡ has_too_many (policy_view parts.now) }
 {
-    parts.conditions.len() > MOST_PARTS
-        || parts.variables.len() > MOST_PARTS
-        || parts.validations.len() > MOST_PARTS
+    parts.conditions.len() > PART_LIMIT
+        || parts.variables.len() > PART_LIMIT
+        || parts.validations.len() > PART_LIMIT
 }
 
 #[tactic(auto, using(crate::proofs::Lists::breaks_in_views))]
 fn has_broken_message(parts: &Parts) -> bool
-    ensures { result ≡ has_broken_message (rules_view parts.now) }
+    ensures { result ≡ has_broken_message (policy_view parts.now) }
 {
     is_one_broken(parts.validations.as_slice())
 }

@@ -1,4 +1,4 @@
-//! Why a document is no policy.
+//! Why a document is not a policy.
 
 ghost use Rattle.std.specs.Prelude.{◌≡◌};
 ghost use Rattle.policy_glue.specs.declared.policy_error.PolicyError.TheVariants.{Memory};
@@ -6,30 +6,52 @@ ghost use Rattle.policy_glue.specs.declared.policy_error.PolicyError.TheVariants
 use std::alloc::{AllocError, AllocFailed};
 use thiserror::Error;
 
-/// Why a document is no policy. Where several hold, the first one counts.
+/// Why a document is not a policy. If several causes hold, the first of this list is reported.
 #[derive(Clone, Copy, Debug, PartialEq, Eq, Error)]
 pub enum PolicyError {
-    /// It is no JSON text.
+    /// It is not a JSON text.
     #[error("the policy is no JSON text")]
-    K1,
-    /// It is no object, or has another `apiVersion` or `kind`, or none.
+    NotJson,
+    /// It is not an object, or its `apiVersion` or `kind` is missing or another one.
     #[error("the document is no ValidatingAdmissionPolicy")]
-    K2,
-    /// A key is unknown, missing or of another type, or a name, the failure policy or a reason is not allowed.
+    NotAPolicy,
+    /// A key is unknown, missing or has a value of another type; or a name, the failure policy or a
+    /// reason is not allowed.
     #[error("the policy has not the form of a ValidatingAdmissionPolicy")]
-    K3,
+    InvalidField,
     /// It has no validation.
     #[error("the policy has no validation")]
-    K4,
+    NoValidations,
     /// It has more than 64 match conditions, variables or validations.
     #[error("the policy has more than 64 conditions, variables or validations")]
-    K5,
-    /// A message has a line feed or a carriage return.
+    TooManyParts,
+    /// The message of a validation has a line feed or a carriage return.
     #[error("a message of the policy has a line break")]
-    K8,
-    /// There is no memory for the policy.
+    MessageWithLineBreak,
+    /// An allocation failed.
     #[error("out of memory")]
     Memory,
+}
+
+impl PolicyError {
+    ghost use Rattle.std.specs.Prelude.{◌≤◌, length};
+    ghost use Rattle.policy_glue.specs.ErrorCodes.{policy_error_code};
+
+    /// The error's code: `K1` to `K5`, `K8`, or `memory`.
+    pub fn code(&self) -> &'static str
+        ensures text { result.now ≡ policy_error_code self.now }
+        ensures length { length result.now ≤ 6 }
+    {
+        match self {
+            PolicyError::NotJson => "K1",
+            PolicyError::NotAPolicy => "K2",
+            PolicyError::InvalidField => "K3",
+            PolicyError::NoValidations => "K4",
+            PolicyError::TooManyParts => "K5",
+            PolicyError::MessageWithLineBreak => "K8",
+            PolicyError::Memory => "memory",
+        }
+    }
 }
 
 impl From<AllocError> for PolicyError {

@@ -2,12 +2,13 @@
 
 ghost use Rattle.std.specs.Prelude.{◌≡◌, IfOk};
 ghost use Rattle.policy_glue.specs.Checked.{IsChecked};
-ghost use Rattle.policy_glue.specs.Emission.{emitted, Emits, HasTrees};
+ghost use Rattle.policy_glue.specs.Emission.{emitted, EmitsProgram, HasTrees};
 ghost use Rattle.policy_glue.specs.Trees.{PolicyTree};
 
 mod conditions;
 mod pieces;
 mod tails;
+mod validation_place;
 mod validations;
 mod variables;
 
@@ -26,20 +27,21 @@ use variables::variables;
 ///
 /// # Errors
 ///
-/// `G3` where the policy has too many nodes, else `G4` where it has too many bytes of texts; `Memory`.
+/// `TooManyNodes` if the policy has too many nodes, else `TooManyTextBytes` if it has too many
+/// bytes of texts; `Memory`.
 pub(crate) fn program(
     alloc: Global,
     failure_policy: FailurePolicy,
     checked: &Checked,
 ) -> Result<(Vec<u8>, Vec<u8>), CompileError>
     requires { HasTrees checked.now }
-    ensures { (t : PolicyTree) → IsChecked checked.now t → Emits failure_policy t result }
+    ensures { (t : PolicyTree) → IsChecked checked.now t → EmitsProgram failure_policy t result }
 {
     let emitter = emitted(alloc, failure_policy, checked)?;
     match emitter.finish() {
         Ok(program) => Ok(program),
-        Err(CodeError::G3) => Err(CompileError::G3),
-        Err(CodeError::G4) => Err(CompileError::G4),
+        Err(CodeError::TooManyNodes) => Err(CompileError::TooManyNodes),
+        Err(CodeError::TooManyTextBytes) => Err(CompileError::TooManyTextBytes),
         Err(CodeError::Memory) => Err(CompileError::Memory),
         Err(_) => unreachable!(),
     }

@@ -3,8 +3,8 @@
 ghost use Rattle.std.specs.Prelude.{◌≡◌, ◌≢◌, Err, option_map};
 ghost use Rattle.serde_json.specs.View.{view};
 ghost use Rattle.policy_glue.specs.Documents.{is_object_or_absent};
-ghost use Rattle.policy_glue.specs.Policy.{rules_view};
-ghost use Rattle.policy_glue.specs.Reading.{failure_in, has_head, has_spec_form, has_top_form, rules_in, spec_in, spec_parts, Forms};
+ghost use Rattle.policy_glue.specs.Policy.{policy_view};
+ghost use Rattle.policy_glue.specs.Reading.{failure_in, has_head, has_spec_form, has_top_form, policy_parts_in, spec_in, spec_parts, Forms};
 ghost use Rattle.policy_glue.specs.declared.policy_error.PolicyError.TheVariants.{Memory};
 
 use crate::documents::{has_only_keys, is_object_or_absent, is_the_text};
@@ -28,10 +28,10 @@ pub fn has_head(value: &Value) -> bool
 
 /// The parts of a policy's document.
 pub fn parts(alloc: Global, value: &Value) -> Result<Parts, PolicyError>
-    ensures { Forms rules_view (rules_in (view value.now)) result }
+    ensures { Forms policy_view (policy_parts_in (view value.now)) result }
 {
     if !has_top_form(value) {
-        return Err(PolicyError::K3);
+        return Err(PolicyError::InvalidField);
     }
     spec(alloc, value.get("spec"))
 }
@@ -45,11 +45,11 @@ fn has_top_form(value: &Value) -> bool
 }
 
 fn spec(alloc: Global, value: Option<&Value>) -> Result<Parts, PolicyError>
-    ensures { Forms rules_view (spec_in (option_map (λ v. view v.now) value.entry)) result }
+    ensures { Forms policy_view (spec_in (option_map (λ v. view v.now) value.entry)) result }
 {
     match value {
         Some(value) if has_spec_form(value) => spec_parts(alloc, value),
-        _ => Err(PolicyError::K3),
+        _ => Err(PolicyError::InvalidField),
     }
 }
 
@@ -72,7 +72,7 @@ fn has_spec_form(value: &Value) -> bool
 
 #[tactic(auto, unfolding(crate::specs::Reading::spec_parts))]
 fn spec_parts(alloc: Global, value: &Value) -> Result<Parts, PolicyError>
-    ensures { Forms rules_view (spec_parts (view value.now)) result }
+    ensures { Forms policy_view (spec_parts (view value.now)) result }
 {
     let failure_policy = failure_policy(value.get("failurePolicy"))?;
     let conditions = named_list(alloc, value.get("matchConditions"), NameRule::NotEmpty)?;
@@ -95,8 +95,8 @@ fn failure_policy(value: Option<&Value>) -> Result<FailurePolicy, PolicyError>
         Some(Value::String(name)) => match name.as_str() {
             "Fail" => Ok(FailurePolicy::Fail),
             "Ignore" => Ok(FailurePolicy::Ignore),
-            _ => Err(PolicyError::K3),
+            _ => Err(PolicyError::InvalidField),
         },
-        Some(_) => Err(PolicyError::K3),
+        Some(_) => Err(PolicyError::InvalidField),
     }
 }

@@ -3,20 +3,20 @@
 ghost use Rattle.std.specs.Prelude.{◌≡◌, option_map, IfOk};
 ghost use Rattle.serde_json.specs.View.{view};
 ghost use Rattle.policy_glue.specs.Verdict as decided;
-ghost use Rattle.policy_glue.specs.Layout.{words_view, Tell};
-ghost use Rattle.policy_glue.specs.Objections.{objected_tree, objection_view, response_text};
+ghost use Rattle.policy_glue.specs.Layout.{words_view, Encodes};
+ghost use Rattle.policy_glue.specs.Rejections.{objected_tree, rejection_view, response_text};
 ghost use Rattle.policy_glue.specs.Response.{allowed_tree, denied_tree, response_of, review_tree, status_tree};
 
-use crate::objecting::objection_of;
-use crate::objection::Objection;
 use crate::policy::Policy;
 use crate::reason::Reason;
+use crate::rejecting::rejection_of;
+use crate::rejection::Rejection;
 use crate::verdict::Verdict;
 use serde_json::{Value, json};
 use std::alloc::{AllocError, Global};
 
-/// The text of the response to a verdict of the policy (AdmissionReview, `admission.k8s.io/v1`), for the
-/// request with this uid. The error says that there is no memory for it.
+/// The text of the response to a verdict of the policy (AdmissionReview, `admission.k8s.io/v1`),
+/// for the request with this uid. The error says that there is no memory for it.
 #[tactic(auto, using(crate::proofs::Told::responded))]
 pub fn respond(
     alloc: Global,
@@ -24,33 +24,33 @@ pub fn respond(
     verdict: &Verdict,
     uid: &str,
 ) -> Result<Vec<u8>, AllocError>
-    ensures { (v : decided.Verdict) → Tell policy.now.failure_policy v (words_view verdict.now) → IfOk result (λ bytes. bytes.items ≡ response_of policy.now v uid.now) }
+    ensures { (v : decided.Verdict) → Encodes policy.now.failure_policy v (words_view verdict.now) → IfOk result (λ bytes. bytes.items ≡ response_of policy.now v uid.now) }
 {
-    let said = objection_of(alloc, policy, verdict)?;
+    let said = rejection_of(alloc, policy, verdict)?;
     response_text(alloc, &said, uid)
 }
 
-/// The text of the response by what is said against the request with this uid, and the one that allows
-/// it where nothing is (AdmissionReview, `admission.k8s.io/v1`). The error says that there is no memory
-/// for it.
-#[tactic(auto, unfolding(crate::specs::Objections::response_text, crate::specs::Response::review_tree))]
+/// The text of the response by what is said against the request with this uid, and the one that
+/// allows it where nothing is (AdmissionReview, `admission.k8s.io/v1`). The error says that there
+/// is no memory for it.
+#[tactic(auto, unfolding(crate::specs::Rejections::response_text, crate::specs::Response::review_tree))]
 pub fn response_text(
     alloc: Global,
-    said: &Option<Objection>,
+    said: &Option<Rejection>,
     uid: &str,
 ) -> Result<Vec<u8>, AllocError>
-    ensures { IfOk result (λ bytes. bytes.items ≡ response_text (option_map objection_view said.now) uid.now) }
+    ensures { IfOk result (λ bytes. bytes.items ≡ response_text (option_map rejection_view said.now) uid.now) }
 {
     let response = response(alloc, said, uid)?;
     let review = review(alloc, response)?;
     review.to_vec(alloc)
 }
 
-fn response(alloc: Global, said: &Option<Objection>, uid: &str) -> Result<Value, AllocError>
-    ensures { IfOk result (λ v. view v ≡ objected_tree (option_map objection_view said.now) uid.now) }
+fn response(alloc: Global, said: &Option<Rejection>, uid: &str) -> Result<Value, AllocError>
+    ensures { IfOk result (λ v. view v ≡ objected_tree (option_map rejection_view said.now) uid.now) }
 {
     match said {
-        Some(objection) => denied(alloc, uid, objection.message.as_str(), objection.reason),
+        Some(rejection) => denied(alloc, uid, rejection.message.as_str(), rejection.reason),
         None => allowed(alloc, uid),
     }
 }

@@ -3,8 +3,8 @@
 ghost use Rattle.std.specs.Prelude.{◌≡◌, ◌≢◌, Err, map, option_map};
 ghost use Rattle.serde_json.specs.View.{view, items_view};
 ghost use Rattle.policy_glue.specs.Documents.{each, list_in};
-ghost use Rattle.policy_glue.specs.Policy.{rule_view};
-ghost use Rattle.policy_glue.specs.Reading.{reason_in, rule_in, rule_parts, Forms};
+ghost use Rattle.policy_glue.specs.Policy.{validation_view};
+ghost use Rattle.policy_glue.specs.Reading.{reason_in, validation_in, validation_parts, Forms};
 ghost use Rattle.policy_glue.specs.declared.policy_error.PolicyError.TheVariants.{Memory};
 
 use crate::documents::{has_only_keys, optional_text, text, text_or_empty};
@@ -16,16 +16,16 @@ use std::alloc::Global;
 
 /// The validations that have to stand there.
 pub fn validations(alloc: Global, value: Option<&Value>) -> Result<Vec<Validation>, PolicyError>
-    ensures { Forms (λ v. map rule_view v.items) (list_in rule_in (option_map (λ v. view v.now) value.entry)) result }
+    ensures { Forms (λ v. map validation_view v.items) (list_in validation_in (option_map (λ v. view v.now) value.entry)) result }
 {
     match value {
         Some(Value::Array(items)) => validations_of(alloc, items),
-        _ => Err(PolicyError::K3),
+        _ => Err(PolicyError::InvalidField),
     }
 }
 
 fn validations_of(alloc: Global, items: &Vec<Value>) -> Result<Vec<Validation>, PolicyError>
-    ensures { Forms (λ v. map rule_view v.items) (each rule_in (items_view items.now.items)) result }
+    ensures { Forms (λ v. map validation_view v.items) (each validation_in (items_view items.now.items)) result }
 {
     let mut list = Vec::new(alloc);
     for item in items {
@@ -34,20 +34,20 @@ fn validations_of(alloc: Global, items: &Vec<Value>) -> Result<Vec<Validation>, 
     Ok(list)
 }
 
-#[tactic(auto, unfolding(crate::specs::Reading::rule_keys))]
+#[tactic(auto, unfolding(crate::specs::Reading::validation_keys))]
 fn validation(alloc: Global, value: &Value) -> Result<Validation, PolicyError>
-    ensures { Forms rule_view (rule_in (view value.now)) result }
+    ensures { Forms validation_view (validation_in (view value.now)) result }
 {
     let known = ["expression", "message", "messageExpression", "reason"];
     if !has_only_keys(value, known.as_slice()) {
-        return Err(PolicyError::K3);
+        return Err(PolicyError::InvalidField);
     }
     validation_parts(alloc, value)
 }
 
-#[tactic(auto, unfolding(crate::specs::Reading::rule_parts))]
+#[tactic(auto, unfolding(crate::specs::Reading::validation_parts))]
 fn validation_parts(alloc: Global, value: &Value) -> Result<Validation, PolicyError>
-    ensures { Forms rule_view (rule_parts (view value.now)) result }
+    ensures { Forms validation_view (validation_parts (view value.now)) result }
 {
     let expression = text(alloc, value.get("expression"))?;
     let message = text_or_empty(alloc, value.get("message"))?;
@@ -73,8 +73,8 @@ fn reason(value: Option<&Value>) -> Result<Reason, PolicyError>
             "Forbidden" => Ok(Reason::Forbidden),
             "Invalid" => Ok(Reason::Invalid),
             "RequestEntityTooLarge" => Ok(Reason::RequestEntityTooLarge),
-            _ => Err(PolicyError::K3),
+            _ => Err(PolicyError::InvalidField),
         },
-        Some(_) => Err(PolicyError::K3),
+        Some(_) => Err(PolicyError::InvalidField),
     }
 }

@@ -4,17 +4,12 @@ ghost use Rattle.std.specs.Prelude.{◌≡◌, ◌<◌, ◌≤◌, ◌*◌, ◌+
 ghost use Rattle.guest_memory.specs.Memory.{IsMemory};
 ghost use Rattle.policy_glue.specs.Verdict as decided;
 ghost use Rattle.policy_glue.specs.Denials.{lent};
-ghost use Rattle.policy_glue.specs.Layout.{most_validations, message_at, result_at, text_named, verdict_word, words_view, AreRead, IsLayout, Tell};
+ghost use Rattle.policy_glue.specs.Layout.{message_at, result_at, text_named, verdict_word, words_view, AreRead, IsLayout, Encodes};
+ghost use Rattle.policy_glue.specs.Policy.{part_limit};
 
-use crate::policy::Policy;
-use guest_memory::{Regions, Size};
+use crate::policy::{PART_LIMIT, Policy};
+use guest_memory::{Regions, Size, VERDICT};
 use value_store::ValueStore;
-
-/// The most validations of a policy.
-const MOST_VALIDATIONS: usize = 64;
-
-/// The first address of the region in which a program leaves its verdict.
-pub(crate) const VERDICT: u64 = 0x3_0000_0000;
 
 /// The word from which on there is one for what each validation came to.
 pub(crate) const FIRST_RESULT: u64 = 2;
@@ -48,9 +43,9 @@ pub struct Verdict<'v> {
     /// How many validations deny.
     pub denials: u64,
     /// For each validation 0 where it is true, 1 false, 2 an error.
-    pub results: [u64; 64],
+    pub results: [u64; PART_LIMIT],
     /// For each denial the text of its message expression, if it gave one.
-    pub messages: [Option<&'v str>; 64],
+    pub messages: [Option<&'v str>; PART_LIMIT],
 }
 
 /// Word i of the verdict, 0 where the memory has none.
@@ -67,7 +62,7 @@ fn word<M: Regions>(memory: &M, i: u64) -> u64
 
 /// What validation i came to, 0 where there are not so many.
 fn result_at<M: Regions>(memory: &M, count: usize, i: usize) -> u64
-    requires { i < most_validations }
+    requires { i < part_limit }
     ensures { result ≡ result_at (M.bytes memory.now) count i }
 {
     if i < count {
@@ -78,11 +73,11 @@ fn result_at<M: Regions>(memory: &M, count: usize, i: usize) -> u64
 }
 
 /// What each of the first `count` validations came to, and 0 behind them.
-fn results<M: Regions>(memory: &M, count: usize) -> [u64; 64]
-    ensures { (i : ℕ) → i < most_validations → slice_index result i ≡ result_at (M.bytes memory.now) count i }
+fn results<M: Regions>(memory: &M, count: usize) -> [u64; PART_LIMIT]
+    ensures { (i : ℕ) → i < part_limit → slice_index result i ≡ result_at (M.bytes memory.now) count i }
 {
-    let mut results = [0; MOST_VALIDATIONS];
-    for i in 0..MOST_VALIDATIONS {
+    let mut results = [0; PART_LIMIT];
+    for i in 0..PART_LIMIT {
         results[i] = result_at(memory, count, i);
     }
     results
@@ -102,7 +97,7 @@ fn message_at<'v, M: Regions, V: ValueStore>(
     count: usize,
     i: usize,
 ) -> Option<&'v str>
-    requires { i < most_validations }
+    requires { i < part_limit }
     ensures { option_map (λ t. t.now) result ≡ message_at (M.bytes memory.now) (V.values values.now) count i }
 {
     if i < count {
@@ -117,11 +112,11 @@ fn messages<'v, M: Regions, V: ValueStore>(
     memory: &M,
     values: &'v V,
     count: usize,
-) -> [Option<&'v str>; 64]
-    ensures { (i : ℕ) → i < most_validations → slice_get (map (option_map (λ t. t.now)) result) i ≡ Some (message_at (M.bytes memory.now) (V.values values.now) count i) }
+) -> [Option<&'v str>; PART_LIMIT]
+    ensures { (i : ℕ) → i < part_limit → slice_get (map (option_map (λ t. t.now)) result) i ≡ Some (message_at (M.bytes memory.now) (V.values values.now) count i) }
 {
-    let mut messages = [None; MOST_VALIDATIONS];
-    for i in 0..MOST_VALIDATIONS {
+    let mut messages = [None; PART_LIMIT];
+    for i in 0..PART_LIMIT {
         messages[i] = message_at(memory, values, count, i);
     }
     messages
@@ -140,19 +135,19 @@ fn read<'v, M: Regions, V: ValueStore>(memory: &M, values: &'v V, count: usize) 
 }
 
 impl<'v> Verdict<'v> {
-    /// The verdict that a program has left for a policy, in the words of its verdict region; the texts of
-    /// its messages are lent from the values. It takes no memory.
+    /// The verdict that a program has left for a policy, in the words of its verdict region; the
+    /// texts of its messages are lent from the values. It takes no memory.
     pub fn of<M: Regions, V: ValueStore>(memory: &M, values: &'v V, policy: &Policy) -> Verdict<'v>
         ensures read { AreRead (M.bytes memory.now) (V.values values.now) (length policy.now.validations) (words_view result) }
         ensures told { (v : decided.Verdict) → IsMemory (M.bytes memory.now) → length v.findings ≤ length policy.now.validations
-            → IsLayout policy.now.failure_policy v (V.values values.now) (M.bytes memory.now).verdict → Tell policy.now.failure_policy v (words_view result) }
+            → IsLayout policy.now.failure_policy v (V.values values.now) (M.bytes memory.now).verdict → Encodes policy.now.failure_policy v (words_view result) }
     {
         read(memory, values, policy.parts.validations.len())
     }
 
     /// The word for what validation i came to.
     pub(crate) fn result_at(&self, i: usize) -> u64
-        requires { i < most_validations }
+        requires { i < part_limit }
         ensures { result ≡ slice_index (words_view self.now).results i }
     {
         self.results[i]
@@ -161,7 +156,7 @@ impl<'v> Verdict<'v> {
     /// The text of the message of validation i.
     #[tactic(auto, using(crate::proofs::Lists::read_lent))]
     pub(crate) fn message_at(&self, i: usize) -> Option<&'v str>
-        requires { i < most_validations }
+        requires { i < part_limit }
         ensures { option_map (λ t. t.now) result ≡ lent (slice_get (words_view self.now).messages i) }
     {
         self.messages[i]

@@ -1,7 +1,7 @@
 -- Texts that are assembled to the file of an image.
-use Rattle.review_runner.proofs.Prelude.{◌≡◌, ℕ, List, [], Result, Ok, Err, Option, Vec, refl, sym, subst, inl, inr, arith, IsOk, IsUtf8, Global, Answers, FirstLineSays, lines_of, Item, EachSays, Source, StandFor, AsmError, image_from, First, OneImage, Reading, Assembled, FileBy, MadeBy, MayRunOut, file_from, no_program, program, program_refusal, Refusal, ProgramText}
+use Rattle.review_runner.proofs.Prelude.{◌≡◌, ℕ, List, [], Result, Ok, Err, Option, Vec, refl, sym, subst, inl, inr, arith, IsOk, IsUtf8, Global, AssembleReturns, FirstLineSays, lines_of, SourceItem, EachSays, Source, StandFor, AsmError, image_from, First, OneImage, FileRead, Assembled, FileBy, MadeBy, MayRunOut, file_from, no_program, program, program_refusal, Refusal, ProgramText}
 use Rattle.assembler.specs.declared.asm_error.AsmError.TheVariants as asm_error
-use Rattle.review_runner.proofs.Results.{ok_same}
+use Rattle.admission.proofs.Results.{ok_same}
 
 -- ---- the image's file
 
@@ -14,7 +14,7 @@ unfolding image_from
 no_code some = cc
 
 -- code that an image can have has a source whose first line says something
-first_of : (labels : List ℕ → Option ℕ) (lines : List (List ℕ)) (items : List Item) (code : List ℕ) → EachSays lines items → StandFor labels 0 items code
+first_of : (labels : List ℕ → Option ℕ) (lines : List (List ℕ)) (items : List SourceItem) (code : List ℕ) → EachSays lines items → StandFor labels 0 items code
     → IsOk (file_from (image_from First code [])) → FirstLineSays lines
 first_of labels lines items code each stand some = grind (arith, no_code)
 
@@ -28,11 +28,11 @@ of_code held code (Err r) utf8 source (inl is) = inl (subst (Assembled (Ok held)
 of_code held code (Err r) utf8 source (inr lacks) = inr (lacks.0, text_alone held utf8 (of_source held code source lacks.1))
 
 -- the refusal of a text
-pub of_cause : (held : List ℕ) (e : AsmError) → IsUtf8 held → Answers held (Err e) → MadeBy OneImage ProgramText (Ok held) (Err (program_refusal e))
+pub of_cause : (held : List ℕ) (e : AsmError) → IsUtf8 held → AssembleReturns held (Err e) → MadeBy OneImage ProgramText (Ok held) (Err (program_refusal e))
 of_cause held asm_error.Memory utf8 answer = inr (refl, text_alone held utf8 answer)
 of_cause held e utf8 answer = inl (no_program utf8 answer)
 
 -- memory may run out once the image's file is made
-pub may_run_out : (reading : Reading) (due : Result (List ℕ) Refusal) (file : List ℕ) → Assembled reading due → due ≡ Ok file → MayRunOut ProgramText reading
+pub may_run_out : (reading : FileRead) (due : Result (List ℕ) Refusal) (file : List ℕ) → Assembled reading due → due ≡ Ok file → MayRunOut ProgramText reading
 may_run_out reading due file (program utf8 source) is = text_alone _ utf8 (of_source _ _ source (subst IsOk (sym is) refl))
 may_run_out reading due file made is = cc

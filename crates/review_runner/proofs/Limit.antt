@@ -1,5 +1,5 @@
 -- The steps of an order whose words are taken are at most 1,000,000,000.
-use Rattle.review_runner.proofs.Prelude.{◌≡◌, ◌≤◌, List, [], ◌∷◌, ◌++◌, Option, Some, None, Result, IfOk, Bool, true, false, subst, arith, codes, if◌then◌else◌, find, unwrap_or, option_map, option_and_then, slice_get, digits_value, without_leading_plus, option_map_or, bytes_eq-Decides, is_unsigned_in, values_kinds, App, Shape, built, label_of, rows_at, read_as, Row, Rule, Text, answers_to, at_row, default_rows, nothing_held, one_of, reading_by, row_text, rows_after, walk, walk_from, with_default, with_values, entered_fault, level_fault, ErrorKind, ValueSource, CommandLine, file_rule, option_rule, required_option_rule, list_app, steps_rule, making_app, with_documents, review_app, deciding_app, running_app, run_image_app, debug_app, bare_app, celbpf_app, faults, entered, number_of, number_written, Ordered, IsWithinLimits, assemble_in, compile_in, debug_in, list_in, order_in, order_view, review_in, run_image_in, task_named, Order, OrderError}
+use Rattle.review_runner.proofs.Prelude.{◌≡◌, ◌≤◌, List, [], ◌∷◌, ◌++◌, Option, Some, None, Result, IfOk, Bool, true, false, subst, arith, codes, if◌then◌else◌, find, unwrap_or, option_map, option_and_then, slice_get, digits_value, without_leading_plus, option_map_or, bytes_eq-Decides, is_unsigned_in, values_kinds, App, Shape, built, label_of, rows_at, read_as, Row, Rule, Text, answers_to, at_row, default_rows, nothing_held, one_of, reading_by, row_text, rows_after, walk, walk_from, with_default, with_values, entered_fault, level_fault, ErrorKind, ValueSource, CommandLine, file_rule, option_rule, required_option_rule, list_app, steps_rule, making_app, with_documents, review_app, deciding_app, running_app, run_image_app, debug_app, bare_app, celbpf_app, faults, entered, number_of, number_written, OrderReturns, IsWithinLimits, assemble_in, compile_in, debug_in, list_in, order_in, order_view, review_in, run_image_in, task_named, CodeOrder, OrderError, step_limit, default_steps}
 use Rattle.std.specs.Str.{bytes_eq}
 use Rattle.clap.specs.Simple.{entered as entered_of}
 use Rattle.clap.specs.Walk.{without}
@@ -11,7 +11,7 @@ use Rattle.review_runner.proofs.Kept.{AtOption, Each, Keeps, defaults_keep, foun
 -- ---- rows
 
 abbrev Within : Text → Type 0
-Within t = is_unsigned_in 0 1000000000 t ≡ true
+Within t = is_unsigned_in 0 step_limit t ≡ true
 
 abbrev RowOk : Row → Type 0
 RowOk r = bytes_eq r.id (codes "steps") ≡ true → Each Within r.values × (r.reading ≡ reading.AsWritten)
@@ -52,9 +52,9 @@ passed : (b : Bool) (k : ErrorKind) → (if b then [] else k ∷ []) ≡ [] → 
 passed b k e = grind arith
 
 values_within : (ic : Bool) (vs : List Text)
-    → values_kinds ic (parser.Unsigned 0 1000000000) vs ≡ [] → Each Within vs
+    → values_kinds ic (parser.Unsigned 0 step_limit) vs ≡ [] → Each Within vs
 values_within ic [] e = tt
-values_within ic (v ∷ vs) e = let p = nothing _ _ e in (passed (is_unsigned_in 0 1000000000 v) _ p.0, values_within ic vs p.1)
+values_within ic (v ∷ vs) e = let p = nothing _ _ e in (passed (is_unsigned_in 0 step_limit v) _ p.0, values_within ic vs p.1)
 
 default_rows_keep : (id : Text) (how : Reading) (values : List Text) (rows : List Row)
     → (bytes_eq id (codes "steps") ≡ true → Each Within values × (how ≡ reading.AsWritten))
@@ -98,26 +98,26 @@ found_so : {X : Type 0} (Q : X → Type 0) (p : X → Bool) (c : List X) → Eac
 found_so Q p [] h = tt
 found_so Q p (x ∷ xs) h = grind (arith, found_so Q p xs h.1)
 
-small : (v : Text) → Within v → digits_value 10 (without_leading_plus v) ≤ 1000000000
+small : (v : Text) → Within v → digits_value 10 (without_leading_plus v) ≤ step_limit
 small v w = grind arith
 
-written_within : (t : Text) → digits_value 10 t ≤ 1000000000
-    → unwrap_or (number_written t) 10000000 ≤ 1000000000
+written_within : (t : Text) → digits_value 10 t ≤ step_limit
+    → unwrap_or (number_written t) default_steps ≤ step_limit
 written_within t h = grind arith
 
 of_values : (how : Reading) (vs : List Text) → Each Within vs → how ≡ reading.AsWritten
-    → unwrap_or (number_of (option_map (read_as how) (slice_get vs 0))) 10000000 ≤ 1000000000
+    → unwrap_or (number_of (option_map (read_as how) (slice_get vs 0))) default_steps ≤ step_limit
 unfolding number_of
 of_values how [] h is = omega arith
 of_values how (v ∷ vs) h is = rw is (written_within (without_leading_plus v) (small v h.0))
 
 of_row : (o : Option Row) → AtOption (λ r. RowOk r × (bytes_eq r.id (codes "steps") ≡ true)) o
-    → unwrap_or (number_of (option_and_then row_text o)) 10000000 ≤ 1000000000
+    → unwrap_or (number_of (option_and_then row_text o)) default_steps ≤ step_limit
 unfolding number_of
 of_row o h = grind (arith, of_values)
 
 of_rows : (rows : List Row) → RowsOk rows
-    → unwrap_or (number_of (one_of (codes "steps") rows)) 10000000 ≤ 1000000000
+    → unwrap_or (number_of (one_of (codes "steps") rows)) default_steps ≤ step_limit
 of_rows rows g = of_row (find (λ r. bytes_eq r.id (codes "steps")) rows) (found_so RowOk (λ r. bytes_eq r.id (codes "steps")) rows g)
 
 of_task : (name : Text) (rows : List Row) → RowsOk rows → IsWithinLimits (task_named name rows)
@@ -143,6 +143,6 @@ of_order : (o : Option (Text × List Row)) → AtOption (λ q. RowsOk q.1) o
 of_order o h = grind (arith, of_task)
 
 -- the answer's order is within the limits
-pub within_limits : (words : List Text) (r : Result Order OrderError) → Ordered words r
+pub within_limits : (words : List Text) (r : Result CodeOrder OrderError) → OrderReturns words r
     → IfOk r (λ o. IsWithinLimits (order_view o))
 within_limits words r h = grind (arith, of_words, of_order, AtOption)

@@ -1,21 +1,10 @@
 -- How the program ends.
-use Rattle.review_runner.proofs.Prelude.{◌≡◌, ◌∙◌, ℕ, ◌<◌, ◌==◌, ◌∷◌, ◌++◌, Bool, true, false, List, [], length, take, Option, Result, Ok, Err, Some, refl, sym, ap, subst, inl, inr, arith, append-nil, OnErr, OnOk, OneImage, AddsBytes, Stream, one_more, FileSystem, Ordered, Task, Outcome, output_by, output_of, IsDone, Performs, performs, AnswersOrder, Asks, AsksNothing, Does, DoesTask, Ending, EndsBy, Given, Puts, System, Writes, WritesPart, cut, ending_line, no_memory, not_taken, order, order_refusal, task, whole, Done, OrderError, U1, Refusal, File}
-use Rattle.clap.specs.Words.{Text}
-use Rattle.debugger.specs.declared.failed.Failed.{Failed}
-use Rattle.review_runner.specs.Output.{Output}
-use Rattle.review_runner.specs.Program.{Ends, Says, refused}
-use Rattle.review_runner.specs.declared.refusals.order_error.OrderError.TheVariants as order_error
-
-pub says : (old new : Stream) (bytes : List ℕ) (ending : Ending) (result : Result (Unit {0}) Failed) → bytes ≡ ending_line ending → OnOk result (AddsBytes old.bytes new.bytes bytes)
-    → OnOk result (new.failed ≡ old.failed) → OnErr result ((many : ℕ) × (many < length bytes) × AddsBytes old.bytes new.bytes (take many bytes)) → OnErr result (new.failed ≡ one_more old.failed) → Says old new ending
-says old new bytes ending (Ok u) line adds failed part fails = inl (subst (Writes old new) line (record { adds = adds; failed = failed }))
-says old new bytes ending (Err e) line adds failed part fails =
-    inr (subst (WritesPart old new) line (record { many = part.0; is_cut = part.1; adds = part.2; failed = fails }))
-
--- the words give no order
-pub words_refused : (words : List Text) (e : OrderError) → Ordered words (Err e) → AsksNothing (Ok words) (order_refusal e)
-words_refused words U1 bad = not_taken bad
-words_refused words order_error.Memory u = no_memory
+use Rattle.review_runner.proofs.Prelude.{◌≡◌, ◌∙◌, ℕ, ◌<◌, ◌==◌, ◌∷◌, ◌++◌, Bool, true, false, List, [], length, take, Option, Result, Ok, Err, Some, refl, sym, ap, subst, arith, append-nil, OnErr, OnOk, OneImage, AddsBytes, Stream, one_more, FileSystem, Order, OrderOutcome, output_by, output_of, IsDone, Performs, performs, AnswersOrder, AsksOrder, ProgramEffect, DoesTask, Ending, EndsBy, Given, Puts, System, WritesBytes, WritesPart, cut, ending_line, order, task, whole, Done as CodeDone, Refusal, File}
+use Rattle.streams.specs.declared.failed.Failed.{Failed}
+use Rattle.review_runner.specs.Output.{Done}
+use Rattle.review_runner.specs.Program.{ProgramResult, refused}
+use Rattle.cli.specs.Ending.{WritesError}
+use Rattle.cli.proofs.Endings.{says}
 
 -- ---- standard output
 
@@ -42,49 +31,49 @@ puts_all old new bytes (Err e) some adds failed part fails = record { many = par
 
 -- ---- what comes of an order
 
-module _ (files files_after : Option FileSystem) (asked : Task) (old new : Stream) where
+module _ (files files_after : Option FileSystem) (asked : Order) (old new : Stream) where
   abbrev Answers : Ending → Type 0
   Answers = AnswersOrder OneImage files files_after asked old new
 
-  whole_by : (d : Done) (outcome : Outcome) → Performs OneImage files asked files_after outcome → output_of d ≡ output_by outcome → Puts old new d.out.items (Ok tt) → EndsBy Answers (Ok d)
+  whole_by : (d : CodeDone) (outcome : OrderOutcome) → Performs OneImage files asked files_after outcome → output_of d ≡ output_by outcome → Puts old new d.out.items (Ok tt) → EndsBy Answers (Ok d)
   whole_by d (Ok report) p is puts = (
     Ok report.status,
-    record { outcome = Ok report; performs = performs p; delivers = whole (subst (Writes old new) (ap (λ (o : Output). o.out) is) puts.0) },
-    record { status = ap (λ (o : Output). o.status) is; line = ap (λ (o : Output). o.err) is },
+    record { outcome = Ok report; performs = performs p; delivers = whole (subst (WritesBytes old new) (ap (λ (o : Done). o.out) is) puts.0) },
+    record { status = ap (λ (o : Done). o.status) is; line = ap (λ (o : Done). o.err) is },
   )
   whole_by d (Err r) p is puts = (
     Err r,
-    record { outcome = Err r; performs = performs p; delivers = refused (puts.1 (ap (λ (o : Output). o.out) is)) },
-    record { status = ap (λ (o : Output). o.status) is; line = ap (λ (o : Output). o.err) is },
+    record { outcome = Err r; performs = performs p; delivers = refused (puts.1 (ap (λ (o : Done). o.out) is)) },
+    record { status = ap (λ (o : Done). o.status) is; line = ap (λ (o : Done). o.err) is },
   )
 
   -- an order was done, and what it leaves for standard output was written
-  pub was_put : (d : Done) → IsDone OneImage files asked files_after (output_of d) → Puts old new d.out.items (Ok tt) → EndsBy Answers (Ok d)
+  pub was_put : (d : CodeDone) → IsDone OneImage files asked files_after (output_of d) → Puts old new d.out.items (Ok tt) → EndsBy Answers (Ok d)
   was_put d done puts = whole_by d done.outcome done.performs done.output_is puts
 
-  cut_by : (d : Done) (outcome : Outcome) → Performs OneImage files asked files_after outcome → output_of d ≡ output_by outcome → WritesPart old new d.out.items → Answers (Err File)
+  cut_by : (d : CodeDone) (outcome : OrderOutcome) → Performs OneImage files asked files_after outcome → output_of d ≡ output_by outcome → WritesPart old new d.out.items → Answers (Err File)
   cut_by d (Ok report) p is part =
-      record { outcome = Ok report; performs = performs p; delivers = cut (subst (WritesPart old new) (ap (λ (o : Output). o.out) is) part) }
-  cut_by d (Err r) p is part = absurd (omega (arith, part.is_cut, ap length (ap (λ (o : Output). o.out) is)))
+      record { outcome = Ok report; performs = performs p; delivers = cut (subst (WritesPart old new) (ap (λ (o : Done). o.out) is) part) }
+  cut_by d (Err r) p is part = absurd (omega (arith, part.is_cut, ap length (ap (λ (o : Done). o.out) is)))
 
   -- and the same where a write failed
-  pub was_cut : (d : Done) → IsDone OneImage files asked files_after (output_of d) → WritesPart old new d.out.items → Answers (Err File)
+  pub was_cut : (d : CodeDone) → IsDone OneImage files asked files_after (output_of d) → WritesPart old new d.out.items → Answers (Err File)
   was_cut d done part = cut_by d done.outcome done.performs done.output_is part
 
 -- ---- endings
 
-pub as_task : (old new : System) (asked : Task) (result : Result Done Refusal) → EndsBy (AnswersOrder OneImage old.files new.files asked old.output new.output) result → new.input ≡ old.input
+pub as_task : (old new : System) (asked : Order) (result : Result CodeDone Refusal) → EndsBy (AnswersOrder OneImage old.files new.files asked old.output new.output) result → new.input ≡ old.input
     → EndsBy (DoesTask OneImage old new asked) result
 as_task old new asked (Ok d) by same = (by.0, order by.1 same, by.2)
 as_task old new asked (Err r) by same = order by same
 
-pub as_asked : (given : Given) (old new : System) (asked : Task) (result : Result Done Refusal) → Asks given asked → EndsBy (DoesTask OneImage old new asked) result
-    → EndsBy (Does OneImage given old new) result
+pub as_asked : (given : Given) (old new : System) (asked : Order) (result : Result CodeDone Refusal) → AsksOrder given asked → EndsBy (DoesTask OneImage old new asked) result
+    → EndsBy (ProgramEffect OneImage given old new) result
 as_asked given old new asked (Ok d) asks by = (by.0, task asks by.1, by.2)
 as_asked given old new asked (Err r) asks by = task asks by
 
 -- what is left was written
-pub closes : (given : Given) (old new : System) (errors errors_after : Stream) (d : Done) (status : ℕ) → EndsBy (Does OneImage given old new) (Ok d) → status ≡ d.status
-    → ((ending : Ending) → d.err.items ≡ ending_line ending → Says errors errors_after ending) → Ends OneImage given old new errors errors_after status
+pub closes : (given : Given) (old new : System) (errors errors_after : Stream) (d : CodeDone) (status : ℕ) → EndsBy (ProgramEffect OneImage given old new) (Ok d) → status ≡ d.status
+    → ((ending : Ending) → d.err.items ≡ ending_line ending → WritesError errors errors_after ending) → ProgramResult OneImage given old new errors errors_after status
 closes given old new errors errors_after d status by is says =
     record { ending = by.0; does = by.1; status_is = is ∙ by.2.status; says = says by.0 by.2.line }

@@ -1,17 +1,17 @@
 -- What a session on the image of a policy tells of the policy's verdict.
-use Rattle.review_runner.proofs.Prelude.{◌≡◌, ℕ, ◌≤◌, false, List, [], ◌∷◌, ◌++◌, length, Some, Result, Ok, refl, sym, ap, ◌∙◌, subst, arith, codes, inl, inr, fold_push, version_number, image_in, LoadError, Contents, Roots, State, start_state, state_after, HasValues, IsProgram, Rules, Decides, Over, Left, policy_in, policy_of, PolicyTree, FailurePolicy, Line, World, answer_of, answer_to, command_of, form_of, Talk, granted, hear, talk_of, with_answer, verdict_lines, verdict_text, Documents, decision, started, start_of, started_on, opened_by, GivenHaveValues, Runs, held_with, IsDecided, TellsVerdict, VerdictIsTold, shown_after, start, world_after}
+use Rattle.review_runner.proofs.Prelude.{◌≡◌, ℕ, ◌≤◌, false, List, [], ◌∷◌, ◌++◌, length, Some, Result, Ok, refl, sym, ap, ◌∙◌, subst, arith, codes, inl, inr, fold_push, version_number, image_in, LoadError, Contents, Roots, State, start_state, state_after, HasValues, IsProgram, Policy, Decides, OutOfBudget, LeavesByExit, policy_in, policy_of, PolicyTree, FailurePolicy, Line, SessionState, answer_of, answer_to, command_of, form_of, Dialogue, granted, hear, dialogue_of, with_answer, verdict_lines, verdict_text, Documents, decision, started, start_of, started_on, opened_by, GivenHaveValues, PolicyRun, held_with, IsDecided, TellsVerdict, VerdictIsTold, shown_after, start, world_after}
 use Rattle.loader.specs.Contents as loader
 use Rattle.policy_glue.specs.Documents as policy
 use Rattle.debugger.specs.declared.command.Command.TheVariants.{Verdict}
 use Rattle.review_runner.specs.Debugging as debugging
-use Rattle.review_runner.proofs.Decided.{compiled_length, few_findings}
+use Rattle.admission.proofs.Decided.{compiled_length, few_findings}
 use Rattle.review_runner.proofs.ImageKept.{image_of_start}
-use Rattle.review_runner.proofs.OneReview.{roots_once}
+use Rattle.admission.proofs.OneReview.{roots_once}
 use Rattle.review_runner.proofs.ToldLines as lines
 
 -- ---- the number of findings
 
-few_validations : (document : List ℕ) (q : Rules) → policy_in document ≡ Ok q → length q.validations ≤ 64
+few_validations : (document : List ℕ) (q : Policy) → policy_in document ≡ Ok q → length q.validations ≤ 64
 unfolding policy_in policy_of
 few_validations document q e = grind arith
 
@@ -21,27 +21,27 @@ asks_verdict : command_of (codes "w") ≡ Verdict
 unfolding command_of form_of
 asks_verdict = refl
 
-answered : (s : State) (w : World) → (answer_to s w (granted (codes "w"))).text ≡ verdict_text (state_after w.place s)
+answered : (s : State) (w : SessionState) → (answer_to s w (granted (codes "w"))).text ≡ verdict_text (state_after w.place s)
 unfolding answer_to answer_of
 answered s w = rw asks_verdict refl
 
-heard : (s : State) (t : Talk) (l : Line) → t.world.ended ≡ false → hear s t l ≡ with_answer s t l
+heard : (s : State) (t : Dialogue) (l : Line) → t.world.ended ≡ false → hear s t l ≡ with_answer s t l
 unfolding hear
 heard s t l on = rw on refl
 
 -- what it writes behind these lines, where the session goes on
-written : (s : State) (lines : List Line) → (talk_of s lines).world.ended ≡ false
-    → (talk_of s (lines ++ granted (codes "w") ∷ [])).text ≡ (talk_of s lines).text ++ verdict_text (state_after (talk_of s lines).world.place s)
+written : (s : State) (lines : List Line) → (dialogue_of s lines).world.ended ≡ false
+    → (dialogue_of s (lines ++ granted (codes "w") ∷ [])).text ≡ (dialogue_of s lines).text ++ verdict_text (state_after (dialogue_of s lines).world.place s)
 written s lines on = grind (arith, answered, heard, fold_push)
 
 -- ---- a policy's image
 
 -- the image has version 2, in every state
-version_is : (f : FailurePolicy) (t : PolicyTree) (image : loader.Contents) (values : Contents) (k : ℕ) → IsProgram f t image
+version_is : (f : FailurePolicy) (t : PolicyTree) (image : loader.Image) (values : Contents) (k : ℕ) → IsProgram f t image
     → version_number (state_after k (start_state image values)).image.version ≡ 2
-version_is f t image values k program = ap (λ (i : loader.Contents). version_number i.version) (image_of_start image values k) ∙ ap version_number program.version
+version_is f t image values k program = ap (λ (i : loader.Image). version_number i.version) (image_of_start image values k) ∙ ap version_number program.version
 
-module _ (have : GivenHaveValues) (d : Documents) (run : Runs d) where
+module _ (have : GivenHaveValues) (d : Documents) (run : PolicyRun d) where
   has : HasValues run.case.roots (started run.case.roots)
   has =
       let own = have (Some d.review) d.namespace d.params (started run.case.roots) run.case.are_given in
@@ -54,14 +54,14 @@ module _ (have : GivenHaveValues) (d : Documents) (run : Runs d) where
       omega (arith, few_findings run.case.policy.rules.failure_policy trees run.case.roots, many, few_validations d.policy run.case.policy.rules run.case.policy.is_said)
 
   told : (seen : List Line) → (world_after run seen).ended ≡ false → Decides run.case.policy.rules.failure_policy run.case.policy.trees run.case.roots (started run.case.roots) (shown_after run seen) → TellsVerdict run seen
-  told seen on (Over is why) = TellsVerdict.over is why
-  told seen on (Left is layout) =
+  told seen on (OutOfBudget is why) = TellsVerdict.over is why
+  told seen on (LeavesByExit is layout) =
       let s = shown_after run seen in
       let f = run.case.policy.rules.failure_policy in
       let v = decision run.case in
       TellsVerdict.told (lines.references f v s.values.values s.memory layout few) is (lines.are f v s.values.values s.memory layout few)
       (written (start run) seen on
-      ∙ ap (λ (text : List ℕ). (talk_of (start run) seen).text ++ text) (ap (λ (n : ℕ). verdict_lines n s.memory) (version_is f run.case.policy.trees run.image (started run.case.roots) (world_after run seen).place run.program) ∙ lines.text_is f v s.values.values s.memory layout few))
+      ∙ ap (λ (text : List ℕ). (dialogue_of (start run) seen).text ++ text) (ap (λ (n : ℕ). verdict_lines n s.memory) (version_is f run.case.policy.trees run.image (started run.case.roots) (world_after run seen).place run.program) ∙ lines.text_is f v s.values.values s.memory layout few))
 
   decides : (seen : List Line) → IsDecided run seen → Decides run.case.policy.rules.failure_policy run.case.policy.trees run.case.roots (started run.case.roots) (shown_after run seen)
   decides seen is =
@@ -73,8 +73,8 @@ module _ (have : GivenHaveValues) (d : Documents) (run : Runs d) where
   tells : (seen : List Line) → IsDecided run seen → TellsVerdict run seen
   tells seen is = told seen is.goes_on (decides seen is)
 
-starts : (d : Documents) (run : Runs d) (file : List ℕ) → image_in file ≡ Ok run.image → start_of (Ok (held_with file d)) ≡ Ok (start run)
-starts d run file holds = ap (λ (r : Result loader.Contents LoadError). started_on (opened_by r) (held_with file d)) holds ∙ ap (debugging.started run.image) run.case.are_given
+starts : (d : Documents) (run : PolicyRun d) (file : List ℕ) → image_in file ≡ Ok run.image → start_of (Ok (held_with file d)) ≡ Ok (start run)
+starts d run file holds = ap (λ (r : Result loader.Image LoadError). started_on (opened_by r) (held_with file d)) holds ∙ ap (debugging.started run.image) run.case.are_given
 
 pub verdict_is_told : GivenHaveValues → VerdictIsTold
 verdict_is_told have = record { starts = starts; tells = tells have }

@@ -1,5 +1,5 @@
 -- The lines of words of the verdict region, by lists of words.
-use Rattle.review_runner.proofs.Prelude.{◌≡◌, ℕ, zero, suc, ◌+◌, ◌*◌, ◌<◌, ◌≤◌, List, [], ◌∷◌, ◌++◌, length, refl, sym, ap, ◌∙◌, subst, append_assoc, append-nil, arith, codes, decimal, map, slice_get, slice_index, word_in, part, word_of, ValueOrError, IsLayout, IsMessageWord, finding_word, message_in, outcome_word, truth_word, Finding, Verdict, FailurePolicy, verdict_line, verdict_lines, verdict_word, word_line, word_lines, AreReferences, numbered_lines, outcome_line, told_text}
+use Rattle.review_runner.proofs.Prelude.{◌≡◌, ℕ, zero, suc, ◌+◌, ◌*◌, ◌<◌, ◌≤◌, List, [], ◌∷◌, ◌++◌, length, refl, sym, ap, ◌∙◌, subst, append_assoc, append-nil, arith, codes, decimal, map, slice_get, slice_index, word_in, part, word_of, ValueOrError, IsLayout, IsMessageWord, finding_word, message_in, outcome_word, truth_word, Finding, Verdict, FailurePolicy, verdict_line, verdict_lines, verdict_word, word_line, word_lines, AreMessageReferences, numbered_lines, outcome_line, told_text}
 use Rattle.guest_memory.specs.Memory.{Memory}
 
 -- ---- numbered words
@@ -82,7 +82,7 @@ module _ (values : List ValueOrError) (words : ℕ → ℕ) where
   name_next : (n i : ℕ) (x : Finding) (xs : List Finding) → Name (suc n) i (x ∷ xs) → Name n (suc i) xs
   name_next n i x xs is j k e lt = is (suc j) k (omega (arith, e)) (omega (arith, lt))
 
-  pub are_references : (xs : List Finding) (n i : ℕ) → length xs ≤ n → Name n i xs → AreReferences values xs (references_from i xs)
+  pub are_references : (xs : List Finding) (n i : ℕ) → length xs ≤ n → Name n i xs → AreMessageReferences values xs (references_from i xs)
   unfolding references_from
   are_references [] n i short is = tt
   are_references (x ∷ xs) zero i short is = absurd (omega (arith, short))
@@ -114,7 +114,7 @@ module _ (f : FailurePolicy) (v : Verdict) (values : List ValueOrError) (m : Mem
   named : Name values message_word 64 0 v.findings
   named j k e lt = let same : k ≡ j = omega (arith, e) in subst (λ (i : ℕ). IsMessageWord values (message_word i) (message_in (slice_get v.findings j))) (sym same) (layout.messages j lt)
 
-  pub are : AreReferences values v.findings references
+  pub are : AreMessageReferences values v.findings references
   unfolding references
   are = are_references values message_word v.findings 64 0 few named
 

@@ -1,30 +1,14 @@
 -- The commands of celbpf in clap's own words, and what clap makes of a command line.
-use Rattle.std.specs.Prelude.{true, List, [], ◌∷◌, Option, Some, codes}
+use Rattle.std.specs.Prelude.{true, List, Option, codes}
 use Rattle.clap.specs.Words.{App, Kinds, Row, Rule, Text, fault_of, new_app, new_rule, subcommand_of, with_rule, with_subcommand}
 use Rattle.clap.specs.Simple.{on_top}
-use Rattle.clap.specs.declared.builder.value_parser.ValueParser.TheVariants as parser
+use Rattle.cli.specs.Arguments.{option_rule, required_option_rule, steps_rule, with_documents}
 
 -- ---- arguments
 
 -- a file's name, which has to be there
 unfoldable pub file_rule : Text → Rule
 file_rule name = record (new_rule name) { required = true }
-
--- an option with a file's name, which may be left out
-unfoldable pub option_rule : Text → Rule
-option_rule name = record (new_rule name) { long = Some name }
-
--- one that has to be there
-unfoldable pub required_option_rule : Text → Rule
-required_option_rule name = record (new_rule name) { long = Some name; required = true }
-
--- a number of steps, at most 1,000,000,000 of them
-unfoldable pub steps_rule : Rule
-steps_rule = record (new_rule (codes "steps")) {
-  long = Some (codes "steps");
-  defaults = codes "10000000" ∷ [];
-  parser = Some (parser.Unsigned 0 1000000000);
-}
 
 -- ---- commands
 
@@ -39,10 +23,6 @@ making_app name source = with_rule (with_rule (new_app name) (file_rule source))
 -- list IMAGE
 unfoldable pub list_app : App
 list_app = with_rule (new_app (codes "list")) (file_rule (codes "IMAGE"))
-
--- a command, and [--namespace F] [--params F]
-unfoldable pub with_documents : App → App
-with_documents app = with_rule (with_rule app (option_rule (codes "namespace"))) (option_rule (codes "params"))
 
 -- debug IMAGE [--review F] [--namespace F] [--params F]
 unfoldable pub debug_app : App

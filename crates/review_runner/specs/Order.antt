@@ -3,13 +3,15 @@ use Rattle.std.specs.Prelude.{◌≡◌, ◌≤◌, ℕ, Bool, true, false, List
 use Rattle.std.specs.Prelude.{codes, string_bytes, if◌then◌else◌}
 use Rattle.std.specs.Str.{bytes_eq}
 use Rattle.clap.specs.Words.{Row, Text, first_of, one_of}
-use Rattle.review_runner.specs.Number.{number_of}
+use Rattle.cli.specs.Number.{number_of}
+use Rattle.cli.specs.Parsing.{TakesWords}
+use Rattle.cli.specs.Limits.{default_steps, step_limit}
 use Rattle.review_runner.specs.Commands.{faults, entered}
 use Rattle.review_runner.specs.declared.documents.document_names.DocumentNames.{DocumentNames}
 use Rattle.review_runner.specs.declared.documents.review_names.ReviewNames.{ReviewNames}
-use Rattle.review_runner.specs.declared.command_line.order.Order.{Order}
+use Rattle.review_runner.specs.declared.command_line.order.Order.{Order as CodeOrder}
 use Rattle.review_runner.specs.declared.command_line.order.Order.TheVariants as code
-use Rattle.review_runner.specs.declared.refusals.order_error.OrderError.{OrderError, TheVariants.U1, TheVariants.Memory}
+use Rattle.host.specs.declared.order_error.OrderError.{OrderError, TheVariants.InvalidArguments, TheVariants.Memory}
 
 -- the file names of the documents of a review, which may be left out
 pub record DocumentFiles : Type 0 where
@@ -42,22 +44,22 @@ review_files_view names = record {
 }
 
 -- what is asked for, as plain data: a constructor for each command
-pub data Task : Type 0 where
+pub data Order : Type 0 where
   -- the file names of a policy and of its image
-  compile : Text → Text → Task
+  compile : Text → Text → Order
   -- the files of a policy and of a review's documents, and the most steps
-  review : ReviewFiles → ℕ → Task
+  review : ReviewFiles → ℕ → Order
   -- the image's file name, and the most steps
-  run_image : Text → ℕ → Task
+  run_image : Text → ℕ → Order
   -- the file names of a program's text and of its image
-  assemble : Text → Text → Task
+  assemble : Text → Text → Order
   -- the image's file name
-  list : Text → Task
+  list : Text → Order
   -- the image's file name, and those of the documents
-  debug : Text → DocumentFiles → Task
+  debug : Text → DocumentFiles → Order
 
 -- the code's order
-abbrev pub order_view : Order → Task
+abbrev pub order_view : CodeOrder → Order
 order_view (code.Compile policy image) = compile (string_bytes policy) (string_bytes image)
 order_view (code.Review files steps) = review (review_files_view files) steps
 order_view (code.RunImage image steps) = run_image (string_bytes image) steps
@@ -65,36 +67,36 @@ order_view (code.Assemble text image) = assemble (string_bytes text) (string_byt
 order_view (code.List image) = list (string_bytes image)
 order_view (code.Debug image names) = debug (string_bytes image) (files_view names)
 
--- ---- from the values of a command's arguments to its task
+-- ---- from the values of a command's arguments to its order
 
 -- a value that is not there is read as the empty name, or as the default number of steps
-unfoldable pub compile_in : List Row → Task
+unfoldable pub compile_in : List Row → Order
 compile_in rows = compile (unwrap_or (first_of (codes "POLICY") rows) []) (unwrap_or (first_of (codes "IMAGE") rows) [])
 
 -- `review`
-unfoldable pub review_in : List Row → Task
+unfoldable pub review_in : List Row → Order
 review_in rows = review (record {
   policy = unwrap_or (first_of (codes "policy") rows) [];
   review = unwrap_or (first_of (codes "review") rows) [];
   namespace = first_of (codes "namespace") rows;
   params = first_of (codes "params") rows;
-}) (unwrap_or (number_of (one_of (codes "steps") rows)) 10000000)
+}) (unwrap_or (number_of (one_of (codes "steps") rows)) default_steps)
 
 -- `run-image`
-unfoldable pub run_image_in : List Row → Task
+unfoldable pub run_image_in : List Row → Order
 run_image_in rows = run_image (unwrap_or (first_of (codes "IMAGE") rows) [])
-    (unwrap_or (number_of (one_of (codes "steps") rows)) 10000000)
+    (unwrap_or (number_of (one_of (codes "steps") rows)) default_steps)
 
 -- `asm`
-unfoldable pub assemble_in : List Row → Task
+unfoldable pub assemble_in : List Row → Order
 assemble_in rows = assemble (unwrap_or (first_of (codes "TEXT") rows) []) (unwrap_or (first_of (codes "IMAGE") rows) [])
 
 -- `list`
-unfoldable pub list_in : List Row → Task
+unfoldable pub list_in : List Row → Order
 list_in rows = list (unwrap_or (first_of (codes "IMAGE") rows) [])
 
 -- `debug`
-unfoldable pub debug_in : List Row → Task
+unfoldable pub debug_in : List Row → Order
 debug_in rows = debug (unwrap_or (first_of (codes "IMAGE") rows) []) (record {
   review = first_of (codes "review") rows;
   namespace = first_of (codes "namespace") rows;
@@ -102,7 +104,7 @@ debug_in rows = debug (unwrap_or (first_of (codes "IMAGE") rows) []) (record {
 })
 
 -- by the command's name; the last command is the one that is left
-abbrev pub task_named : Text → List Row → Task
+abbrev pub task_named : Text → List Row → Order
 task_named name rows =
     if bytes_eq name (codes "compile") then compile_in rows
     else (if bytes_eq name (codes "review") then review_in rows
@@ -111,30 +113,27 @@ task_named name rows =
     else (if bytes_eq name (codes "list") then list_in rows
     else debug_in rows))))
 
--- the task of a command that was entered
-abbrev pub order_in : Option (Text × List Row) → Option Task
+-- the order of a command that was entered
+abbrev pub order_in : Option (Text × List Row) → Option Order
 order_in (Some p) = Some (task_named p.0 p.1)
 order_in None = None
 
 -- ---- answers
 
--- of one command, whose words were taken: its task, unless memory runs out
-abbrev pub Gives : Task → Result Order OrderError → Type 0
-Gives task (Ok o) = task ≡ order_view o
-Gives task (Err U1) = ⊥
-Gives task (Err Memory) = Unit {0}
+-- of one command, whose words were taken: its order, unless memory runs out
+abbrev pub CommandReturns : Order → Result CodeOrder OrderError → Type 0
+CommandReturns task (Ok o) = task ≡ order_view o
+CommandReturns task (Err InvalidArguments) = ⊥
+CommandReturns task (Err Memory) = Unit {0}
 
--- of the whole command line: an order only where the words are taken, and then theirs; U1 only
--- where they are refused
-abbrev pub Ordered : List Text → Result Order OrderError → Type 0
-Ordered words (Ok o) = (faults words ≡ []) × (order_in (entered words) ≡ Some (order_view o))
-Ordered words (Err U1) = faults words ≡ [] → ⊥
-Ordered words (Err Memory) = Unit {0}
+-- of the whole command line: an order only where the words are taken, and then theirs
+abbrev pub OrderReturns : List Text → Result CodeOrder OrderError → Type 0
+OrderReturns words result = TakesWords (faults words) (λ o. order_in (entered words) ≡ Some (order_view o)) result
 
 -- ---- kinds
 
 -- a session, which reads and writes as it goes on
-abbrev pub is_session : Task → Bool
+abbrev pub is_session : Order → Bool
 is_session (compile policy image) = false
 is_session (review files steps) = false
 is_session (run_image image steps) = false
@@ -144,8 +143,8 @@ is_session (debug image documents) = true
 
 -- ---- limits
 
--- no task asks for more steps than a run may have
-abbrev pub IsWithinLimits : Task → Type 0
-IsWithinLimits (review files steps) = steps ≤ 1000000000
-IsWithinLimits (run_image image steps) = steps ≤ 1000000000
+-- no order asks for more steps than a run may have
+abbrev pub IsWithinLimits : Order → Type 0
+IsWithinLimits (review files steps) = steps ≤ step_limit
+IsWithinLimits (run_image image steps) = steps ≤ step_limit
 IsWithinLimits _ = Unit {0}

@@ -2,12 +2,12 @@
 use Rattle.std.specs.Prelude.{ℕ, List, [], Result, Ok, Err}
 use Rattle.loader.specs.declared.load_error.LoadError.{LoadError}
 use Rattle.bpf_machine.specs.declared.status.Status.{Status, TheVariants.Running, TheVariants.Exited, TheVariants.Fault}
-use Rattle.review_runner.specs.FileSystem.{Reading}
-use Rattle.review_runner.specs.Refusals.{file_refusal, load_refusal, refusal_line, refusal_status}
-use Rattle.review_runner.specs.Running.{Shown, run_of_file}
-use Rattle.review_runner.specs.declared.answer.Answer.{Answer}
-use Rattle.review_runner.specs.declared.done.Done.{Done}
-use Rattle.review_runner.specs.declared.refusals.refusal.Refusal.{Refusal}
+use Rattle.host.specs.FileSystem.{FileRead}
+use Rattle.cli.specs.Refusals.{file_refusal, load_refusal, refusal_line, refusal_status}
+use Rattle.review_runner.specs.Running.{RunShown, run_of_file}
+use Rattle.review_runner.specs.declared.report.Report.{Report as CodeReport}
+use Rattle.review_runner.specs.declared.done.Done.{Done as CodeDone}
+use Rattle.cli.specs.declared.refusal.Refusal.{Refusal}
 
 -- ---- outcomes
 
@@ -17,15 +17,15 @@ pub record Report : Type 0 where
   pub out : List ℕ
 
 -- what comes of an order
-abbrev pub Outcome : Type 0
-Outcome = Result Report Refusal
+abbrev pub OrderOutcome : Type 0
+OrderOutcome = Result Report Refusal
 
 -- the code's answer
-abbrev pub report_of : Answer → Report
+abbrev pub report_of : CodeReport → Report
 report_of a = record { status = a.status; out = a.out.items }
 
 -- the same of what the code answers
-abbrev pub outcome_of : Result Answer Refusal → Outcome
+abbrev pub outcome_of : Result CodeReport Refusal → OrderOutcome
 outcome_of (Ok a) = Ok (report_of a)
 outcome_of (Err r) = Err r
 
@@ -40,32 +40,32 @@ run_status (Fault f) = 1
 run_status Running = 4
 
 -- what comes of a run, or of a file that holds no image
-abbrev pub run_outcome : Result Shown LoadError → Outcome
+abbrev pub run_outcome : Result RunShown LoadError → OrderOutcome
 run_outcome (Ok shown) = Ok (record { status = run_status shown.status; out = shown.text })
 run_outcome (Err e) = Err (load_refusal e)
 
 -- `run-image`, by what a read of its file answered
-abbrev pub run_image_outcome : Reading → ℕ → Outcome
+abbrev pub run_image_outcome : FileRead → ℕ → OrderOutcome
 run_image_outcome (Ok file) n = run_outcome (run_of_file file n)
 run_image_outcome (Err e) n = Err (file_refusal e)
 
 -- ---- both outputs
 
 -- the status, and the bytes of standard output and of standard error
-pub record Output : Type 0 where
+pub record Done : Type 0 where
   pub status : ℕ
   pub out : List ℕ
   pub err : List ℕ
 
 -- the code's outputs
-abbrev pub output_of : Done → Output
+abbrev pub output_of : CodeDone → Done
 output_of d = record { status = d.status; out = d.out.items; err = d.err.items }
 
 -- a refusal has its line and its status, and nothing for standard output
-abbrev pub refused : Refusal → Output
+abbrev pub refused : Refusal → Done
 refused r = record { status = refusal_status r; out = []; err = refusal_line r }
 
 -- what is written by what comes of an order
-abbrev pub output_by : Outcome → Output
+abbrev pub output_by : OrderOutcome → Done
 output_by (Ok a) = record { status = a.status; out = a.out; err = [] }
 output_by (Err r) = refused r

@@ -1,42 +1,42 @@
 -- What an order other than a session does to the files, and what comes of it.
 use Rattle.std.specs.Prelude.{◌≡◌, ℕ, Bool, true, false, List, [], Result, Ok, Err, Option}
 use Rattle.insn_codec.specs.Statements.{Listing}
-use Rattle.loader.specs.Contents.{Contents}
-use Rattle.review_runner.specs.FileSystem.{FileSystem, Reading, IsReading, IsWriting, KeepsFiles}
-use Rattle.review_runner.specs.Making.{MadeFrom, RunsOut}
+use Rattle.loader.specs.Contents.{Image}
+use Rattle.host.specs.FileSystem.{FileSystem, FileRead, IsReading, IsWriting, KeepsFiles}
+use Rattle.review_runner.specs.Making.{ImageFileFrom, RunsOut}
 use Rattle.review_runner.specs.Opening.{OpensFile, opened}
-use Rattle.review_runner.specs.Order.{Task, assemble, compile, debug, list, review, run_image}
-use Rattle.review_runner.specs.Output.{Outcome, Output, output_by, run_image_outcome, succeeded}
+use Rattle.review_runner.specs.Order.{Order, assemble, compile, debug, list, review, run_image}
+use Rattle.review_runner.specs.Output.{OrderOutcome, Done, output_by, run_image_outcome, succeeded}
 use Rattle.review_runner.specs.PolicyFiles.{ReviewsFiles}
-use Rattle.review_runner.specs.Standing.{Images}
-use Rattle.review_runner.specs.declared.refusals.file_error.FileError.TheVariants.{Failed}
-use Rattle.review_runner.specs.declared.refusals.refusal.Refusal.{Refusal, TheVariants.File, TheVariants.Memory}
+use Rattle.admission.specs.Standing.{Images}
+use Rattle.host.specs.declared.file_error.FileError.TheVariants.{Failed}
+use Rattle.cli.specs.declared.refusal.Refusal.{Refusal, TheVariants.File, TheVariants.Memory}
 use Rattle.review_runner.specs.declared.images.source_kind.SourceKind.{SourceKind, TheVariants.PolicyDocument, TheVariants.ProgramText}
 
 -- ---- single orders
 
 -- `run-image`, whatever its file holds
-pub record RunsImage (old : Option FileSystem) (image : List ℕ) (n : ℕ) (new : Option FileSystem) (outcome : Outcome) : Type 0 where
-  pub reading : Reading
+pub record RunsImage (old : Option FileSystem) (image : List ℕ) (n : ℕ) (new : Option FileSystem) (outcome : OrderOutcome) : Type 0 where
+  pub reading : FileRead
   pub is_reading : IsReading old image reading
   pub stays : new ≡ old
   pub outcome_is : outcome ≡ run_image_outcome reading n
 
 -- the listing of an image's code, or why there is no image
-pub data Listed : Result Contents Refusal → Outcome → Type 0 where
-  unlisted : {r : Refusal} → Listed (Err r) (Err r)
-  listed : {image : Contents} {text : List ℕ} → Listing image.code text → Listed (Ok image) (Ok (succeeded text))
+pub data ListingOutcome : Result Image Refusal → OrderOutcome → Type 0 where
+  unlisted : {r : Refusal} → ListingOutcome (Err r) (Err r)
+  listed : {image : Image} {text : List ℕ} → Listing image.code text → ListingOutcome (Ok image) (Ok (succeeded text))
 
 -- `list`, whatever its file holds
-pub record ListsImage (old : Option FileSystem) (image : List ℕ) (new : Option FileSystem) (outcome : Outcome) : Type 0 where
-  pub reading : Reading
+pub record ListsImage (old : Option FileSystem) (image : List ℕ) (new : Option FileSystem) (outcome : OrderOutcome) : Type 0 where
+  pub reading : FileRead
   pub is_reading : IsReading old image reading
   pub stays : new ≡ old
-  pub is_listed : Listed (opened reading) outcome
+  pub is_listed : ListingOutcome (opened reading) outcome
 
 -- this file is written: a refusal before it leaves the files
 pub data WritesImage (old : Option FileSystem) (name : List ℕ)
-    : Result (List ℕ) Refusal → Option FileSystem → Outcome → Type 0 where
+    : Result (List ℕ) Refusal → Option FileSystem → OrderOutcome → Type 0 where
   nothing : {r : Refusal} → WritesImage old name (Err r) old (Err r)
   written : {bytes : List ℕ} {new : Option FileSystem} → IsWriting old name bytes new (Ok tt)
       → WritesImage old name (Ok bytes) new (Ok (succeeded []))
@@ -44,32 +44,32 @@ pub data WritesImage (old : Option FileSystem) (name : List ℕ)
       → WritesImage old name (Ok bytes) new (Err File)
 
 -- `compile` and `asm`, whatever their files hold
-pub record MakesFile (meant : Images) (kind : SourceKind) (old : Option FileSystem) (source image : List ℕ)
-    (new : Option FileSystem) (outcome : Outcome) : Type 0 where
-  pub reading : Reading
+pub record MakesFile (chosen : Images) (kind : SourceKind) (old : Option FileSystem) (source image : List ℕ)
+    (new : Option FileSystem) (outcome : OrderOutcome) : Type 0 where
+  pub reading : FileRead
   pub is_reading : IsReading old source reading
   pub file : Result (List ℕ) Refusal
-  pub made : MadeFrom meant kind reading file
+  pub made : ImageFileFrom chosen kind reading file
   pub writes : WritesImage old image file new outcome
 
--- the task that makes a file of a file
-abbrev pub making : SourceKind → List ℕ → List ℕ → Task
+-- the order that makes a file of a file
+abbrev pub making : SourceKind → List ℕ → List ℕ → Order
 making PolicyDocument source image = compile source image
 making ProgramText source image = assemble source image
 
 -- ---- all orders
 
--- what a task does: a session does not go this way
-abbrev pub Performs : Images → Option FileSystem → Task → Option FileSystem → Outcome → Type 0
-Performs meant old (compile policy image) new outcome = MakesFile meant PolicyDocument old policy image new outcome
-Performs meant old (review files n) new outcome = ReviewsFiles meant old files n new outcome
-Performs meant old (run_image image n) new outcome = RunsImage old image n new outcome
-Performs meant old (assemble text image) new outcome = MakesFile meant ProgramText old text image new outcome
-Performs meant old (list image) new outcome = ListsImage old image new outcome
-Performs meant old (debug image documents) new outcome = ⊥
+-- what an order does: a session does not go this way
+abbrev pub Performs : Images → Option FileSystem → Order → Option FileSystem → OrderOutcome → Type 0
+Performs chosen old (compile policy image) new outcome = MakesFile chosen PolicyDocument old policy image new outcome
+Performs chosen old (review files n) new outcome = ReviewsFiles chosen old files n new outcome
+Performs chosen old (run_image image n) new outcome = RunsImage old image n new outcome
+Performs chosen old (assemble text image) new outcome = MakesFile chosen ProgramText old text image new outcome
+Performs chosen old (list image) new outcome = ListsImage old image new outcome
+Performs chosen old (debug image documents) new outcome = ⊥
 
 -- memory ran out: known files stay, and in what some reading gave no refusal stood before anything grew
-abbrev pub LacksMemory : Option FileSystem → Task → Option FileSystem → Type 0
+abbrev pub LacksMemory : Option FileSystem → Order → Option FileSystem → Type 0
 LacksMemory old (compile policy image) new = KeepsFiles old new × RunsOut PolicyDocument old policy
 LacksMemory old (review files n) new = ⊥
 LacksMemory old (run_image image n) new = (new ≡ old) × OpensFile old image (Err Memory)
@@ -77,20 +77,20 @@ LacksMemory old (assemble text image) new = KeepsFiles old new × RunsOut Progra
 LacksMemory old (list image) new = (new ≡ old) × OpensFile old image (Err Memory)
 LacksMemory old (debug image documents) new = ⊥
 
--- what comes of a task, with memory or without
-pub data PerformsBy (meant : Images) (old : Option FileSystem) (task : Task) (new : Option FileSystem) : Outcome → Type 0 where
-  performs : {outcome : Outcome} → Performs meant old task new outcome → PerformsBy meant old task new outcome
-  lacks_memory : LacksMemory old task new → PerformsBy meant old task new (Err Memory)
+-- what comes of an order, with memory or without
+pub data PerformsBy (chosen : Images) (old : Option FileSystem) (task : Order) (new : Option FileSystem) : OrderOutcome → Type 0 where
+  performs : {outcome : OrderOutcome} → Performs chosen old task new outcome → PerformsBy chosen old task new outcome
+  lacks_memory : LacksMemory old task new → PerformsBy chosen old task new (Err Memory)
 
--- what is to be written once a task is done
-pub record IsDone (meant : Images) (old : Option FileSystem) (task : Task) (new : Option FileSystem) (output : Output) : Type 0 where
-  pub outcome : Outcome
-  pub performs : Performs meant old task new outcome
+-- what is to be written once an order is done
+pub record IsDone (chosen : Images) (old : Option FileSystem) (task : Order) (new : Option FileSystem) (output : Done) : Type 0 where
+  pub outcome : OrderOutcome
+  pub performs : Performs chosen old task new outcome
   pub has_memory : outcome ≡ Err Memory → ⊥
   pub output_is : output ≡ output_by outcome
 
--- the task writes no file
-abbrev pub only_reads : Task → Bool
+-- the order writes no file
+abbrev pub only_reads : Order → Bool
 only_reads (compile policy image) = false
 only_reads (review files n) = true
 only_reads (run_image image n) = true

@@ -2,15 +2,15 @@
 use Rattle.std.specs.Prelude.{◌≡◌, List, [], ◌∷◌, ◌++◌, Some, None, codes}
 use Rattle.clap.specs.Words.{Text}
 use Rattle.review_runner.specs.Commands.{faults, entered}
-use Rattle.review_runner.specs.Order.{DocumentFiles, ReviewFiles, Task, order_in}
+use Rattle.review_runner.specs.Order.{DocumentFiles, ReviewFiles, Order, order_in}
 
 -- the words are taken, and ask for this
-abbrev pub IsTakenAs : List Text → Task → Type 0
+abbrev pub IsTakenAs : List Text → Order → Type 0
 IsTakenAs words task = (faults words ≡ []) × (order_in (entered words) ≡ Some task)
 
 -- clap does not take the words
-abbrev pub IsRefused : List Text → Type 0
-IsRefused words = faults words ≡ [] → ⊥
+abbrev pub AreWordsRefused : List Text → Type 0
+AreWordsRefused words = faults words ≡ [] → ⊥
 
 -- celbpf run-image a.img
 abbrev pub without_steps : List Text

@@ -1,43 +1,43 @@
 -- What running an image answers.
 use Rattle.std.specs.Prelude.{◌≡◌, ℕ, List, ◌++◌, Result, Ok, Err, IsOk, Vec}
 use Rattle.std.specs.declared.alloc.Global.{Global}
-use Rattle.loader.specs.Contents.{Contents}
+use Rattle.loader.specs.Contents.{Image}
 use Rattle.loader.specs.Format.{image_in}
 use Rattle.loader.specs.declared.load_error.LoadError.{LoadError}
-use Rattle.loader.specs.declared.load_error.LoadError.TheVariants.{L1, L2, L3, L4, L5, Memory}
+use Rattle.loader.specs.declared.load_error.LoadError.TheVariants.{TooShort, UnknownMagic, BadSlotCount, ConstantsTooLong, BadLength, Memory}
 use Rattle.bpf_machine.specs.State.{State, null_values, start_state}
 use Rattle.bpf_machine.specs.Text.{move_text, registers_text}
 use Rattle.bpf_machine.specs.Trace.{state_after, stop_place}
 use Rattle.bpf_machine.specs.declared.status.Status.{Status}
 
 -- what a run shows, and how it stands
-pub record Shown : Type 0 where
+pub record RunShown : Type 0 where
   pub text : List ℕ
   pub status : Status
 
 -- the state after so many steps, as the debugger answers `r` and a move there
-abbrev pub shown : ℕ → State → Shown
-shown steps s = record { text = registers_text s ++ move_text steps s; status = s.status }
+abbrev pub run_shown : ℕ → State → RunShown
+run_shown steps s = record { text = registers_text s ++ move_text steps s; status = s.status }
 
 -- the same where a run of at most n steps stands
-unfoldable pub shown_after : ℕ → State → Shown
-shown_after n s = shown (stop_place n s) (state_after (stop_place n s) s)
+unfoldable pub shown_after : ℕ → State → RunShown
+shown_after n s = run_shown (stop_place n s) (state_after (stop_place n s) s)
 
 -- what a run of at most n steps shows of the image in a file, on five null roots, or why the file holds none
-abbrev pub run_of : Result Contents LoadError → ℕ → Result Shown LoadError
+abbrev pub run_of : Result Image LoadError → ℕ → Result RunShown LoadError
 run_of (Ok image) n = Ok (shown_after n (start_state image null_values))
 run_of (Err e) n = Err e
 
 -- the same of the bytes of a file
-unfoldable pub run_of_file : List ℕ → ℕ → Result Shown LoadError
+unfoldable pub run_of_file : List ℕ → ℕ → Result RunShown LoadError
 run_of_file file n = run_of (image_in file) n
 
 -- the answer is the one that is due, or that there is no memory where the file holds an image
-abbrev pub Runs : Result Shown LoadError → Result (Vec ℕ Global × Status) LoadError → Type 0
-Runs due (Ok r) = due ≡ Ok (record { text = r.0.items; status = r.1 })
-Runs due (Err L1) = due ≡ Err L1
-Runs due (Err L2) = due ≡ Err L2
-Runs due (Err L3) = due ≡ Err L3
-Runs due (Err L4) = due ≡ Err L4
-Runs due (Err L5) = due ≡ Err L5
-Runs due (Err Memory) = IsOk due
+abbrev pub RunImageReturns : Result RunShown LoadError → Result (Vec ℕ Global × Status) LoadError → Type 0
+RunImageReturns due (Ok r) = due ≡ Ok (record { text = r.0.items; status = r.1 })
+RunImageReturns due (Err TooShort) = due ≡ Err TooShort
+RunImageReturns due (Err UnknownMagic) = due ≡ Err UnknownMagic
+RunImageReturns due (Err BadSlotCount) = due ≡ Err BadSlotCount
+RunImageReturns due (Err ConstantsTooLong) = due ≡ Err ConstantsTooLong
+RunImageReturns due (Err BadLength) = due ≡ Err BadLength
+RunImageReturns due (Err Memory) = IsOk due

@@ -9,13 +9,13 @@ use Rattle.bpf_machine.specs.declared.status.Status.TheVariants.{Exited, Fault}
 use Rattle.policy_glue.specs.Layout.{IsMessageWord, outcome_word, truth_word}
 use Rattle.policy_glue.specs.Verdict.{Finding, Verdict, is_denial}
 use Rattle.policy_glue.specs.declared.failure_policy.FailurePolicy.{FailurePolicy}
-use Rattle.debugger.specs.Answers.{Line, World}
-use Rattle.debugger.specs.Session.{granted, talk_of}
+use Rattle.debugger.specs.Answers.{Line, SessionState}
+use Rattle.debugger.specs.Session.{granted, dialogue_of}
 use Rattle.debugger.specs.Verdict.{word_line}
-use Rattle.review_runner.specs.Deciding.{Documents, IsBeyond, decision, started, work}
+use Rattle.admission.specs.Deciding.{Documents, IsBeyond, decision, started, work}
 use Rattle.review_runner.specs.Debugging.{start_of}
 use Rattle.review_runner.specs.PolicyFiles.{held_with}
-use Rattle.review_runner.specs.Standing.{Runs, stands}
+use Rattle.admission.specs.Standing.{PolicyRun, stands}
 
 -- ---- the answer to `w`
 
@@ -37,21 +37,21 @@ told_text f v references =
     ++ numbered_lines (codes "message") 0 references)
 
 -- for each finding the reference of a text that is its message, and 0 where it has none
-abbrev pub AreReferences : List ValueOrError → List Finding → List ℕ → Type 0
-AreReferences values [] [] = Unit {0}
-AreReferences values (x ∷ xs) (h ∷ hs) = IsMessageWord values h x.message × AreReferences values xs hs
-AreReferences values _ _ = ⊥
+abbrev pub AreMessageReferences : List ValueOrError → List Finding → List ℕ → Type 0
+AreMessageReferences values [] [] = Unit {0}
+AreMessageReferences values (x ∷ xs) (h ∷ hs) = IsMessageWord values h x.message × AreMessageReferences values xs hs
+AreMessageReferences values _ _ = ⊥
 
 -- ---- sessions
 
-module _ {d : Documents} (run : Runs d) where
+module _ {d : Documents} (run : PolicyRun d) where
   -- the state at its start
   abbrev pub start : State
   start = start_state run.image (started run.case.roots)
 
   -- what the session knows after these lines
-  abbrev pub world_after : List Line → World
-  world_after lines = (talk_of start lines).world
+  abbrev pub world_after : List Line → SessionState
+  world_after lines = (dialogue_of start lines).world
 
   -- the state that it shows then
   abbrev pub shown_after : List Line → State
@@ -64,19 +64,19 @@ module _ {d : Documents} (run : Runs d) where
 
   -- one more line `w` writes this text
   abbrev pub Writes : List Line → List ℕ → Type 0
-  Writes lines text = (talk_of start (lines ++ granted (codes "w") ∷ [])).text ≡ (talk_of start lines).text ++ text
+  Writes lines text = (dialogue_of start (lines ++ granted (codes "w") ∷ [])).text ≡ (dialogue_of start lines).text ++ text
 
-  -- the program has exited with the policy's outcome, and `w` writes its verdict; or it was stopped by F8, beyond the bound
-  -- on its charge or at a value that is too deep
+  -- the program has exited with the policy's outcome, and `w` writes its verdict; or it was stopped by F8, beyond the
+  -- bound on its charge or at a value that is too deep
   pub data TellsVerdict (lines : List Line) : Type 0 where
     told : (references : List ℕ)
         → (shown_after lines).status ≡ Exited (outcome_word (decision run.case).outcome)
-        → AreReferences (shown_after lines).values.values (decision run.case).findings references
+        → AreMessageReferences (shown_after lines).values.values (decision run.case).findings references
         → Writes lines (told_text run.case.policy.rules.failure_policy (decision run.case) references) → TellsVerdict lines
     over : (shown_after lines).status ≡ Fault F8 → IsBeyond run.case → TellsVerdict lines
 
 -- whatever lines were answered before, of whatever moves forward and back
 pub record VerdictIsTold : Type 0 where
-  pub starts : (d : Documents) (run : Runs d) (file : List ℕ) → image_in file ≡ Ok run.image
+  pub starts : (d : Documents) (run : PolicyRun d) (file : List ℕ) → image_in file ≡ Ok run.image
       → start_of (Ok (held_with file d)) ≡ Ok (start run)
-  pub tells : (d : Documents) (run : Runs d) (lines : List Line) → IsDecided run lines → TellsVerdict run lines
+  pub tells : (d : Documents) (run : PolicyRun d) (lines : List Line) → IsDecided run lines → TellsVerdict run lines

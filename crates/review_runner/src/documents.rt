@@ -1,7 +1,5 @@
-//! The files that an order names, and the documents in them.
+//! The names of files, and what files hold.
 
-pub mod document;
 pub(crate) mod document_names;
-pub(crate) mod files;
-pub mod held_files;
+pub(crate) mod held_files;
 pub(crate) mod review_names;

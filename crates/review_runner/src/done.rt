@@ -1,8 +1,11 @@
 //! What a finished order leaves to be written.
-ghost use Rattle.std.specs.Prelude.{◌≡◌, []};
-ghost use Rattle.review_runner.specs.Output.{output_of};
+ghost use Rattle.std.specs.Prelude.{◌≡◌, ◌≢◌, ◌≤◌, [], vec_capacity, vec_len, IfOk, OnErr, OnOk};
+ghost use Rattle.cli.specs.Refusals.{longest_line};
+ghost use Rattle.cli.specs.declared.refusal.Refusal.TheVariants as cause;
+ghost use Rattle.review_runner.specs.Output.{output_of, refused};
 
-use std::alloc::Global;
+use cli::{Refusal, refusal_line};
+use std::alloc::{AllocError, Global};
 
 /// The program's exit status, and the bytes for standard output and standard error.
 #[derive(Debug, Drop)]
@@ -21,6 +24,41 @@ impl Done {
             status: 0,
             out: Vec::new(alloc),
             err: Vec::new(alloc),
+        }
+    }
+
+    /// What the program writes in place of an answer, of which want of memory is none: the
+    /// refusal's line, in the room that is given.
+    pub(crate) fn of_refusal(
+        alloc: Global,
+        refusal: Refusal,
+        room: Vec<u8>,
+    ) -> Result<Done, AllocError>
+        requires empty { room.items ≡ [] }
+        requires len { vec_len room ≡ 0 }
+        requires enough { longest_line ≤ vec_capacity room }
+        ensures done { IfOk result (λ d. output_of d ≡ refused refusal) }
+        ensures memory { OnErr result (refusal ≡ cause.Memory) }
+        ensures told { OnOk result (refusal ≢ cause.Memory) }
+    {
+        match refusal {
+            Refusal::Memory => Err(AllocError),
+            _ => Ok(Done::told(alloc, refusal, room)),
+        }
+    }
+
+    /// The refusal's line, in the room that is given, and its status.
+    fn told(alloc: Global, refusal: Refusal, room: Vec<u8>) -> Done
+        requires empty { room.items ≡ [] }
+        requires len { vec_len room ≡ 0 }
+        requires enough { longest_line ≤ vec_capacity room }
+        ensures { output_of result ≡ refused refusal }
+    {
+        let line = refusal_line(alloc, refusal);
+        Done {
+            status: refusal.status(),
+            out: Vec::new(alloc),
+            err: line.in_room(room),
         }
     }
 }

@@ -1,25 +1,24 @@
 //! Orders, done with files that the caller gives.
 ghost use Rattle.std.specs.Prelude.{◌≡◌, false, true, Err, IfOk, OnErr};
 ghost use Rattle.policy_glue.specs.OneImage.{OneImage};
-ghost use Rattle.review_runner.specs.FileSystem.{KeepsFiles};
-ghost use Rattle.review_runner.specs.Opening.{IsAnswer};
+ghost use Rattle.host.specs.FileSystem.{KeepsFiles};
+ghost use Rattle.review_runner.specs.Opening.{IsDueResult};
 ghost use Rattle.review_runner.specs.Order.{is_session, order_view, run_image};
 ghost use Rattle.review_runner.specs.Output.{outcome_of, output_by, output_of, report_of, run_image_outcome, run_status};
 ghost use Rattle.review_runner.specs.Performing.{IsDone, only_reads, PerformsBy};
-ghost use Rattle.review_runner.specs.declared.refusals.refusal.Refusal.TheVariants.{Memory};
+ghost use Rattle.cli.specs.declared.refusal.Refusal.TheVariants.{Memory};
 
-use crate::answer::Answer;
 use crate::command_line::order::Order;
-use crate::documents::files::Files;
 use crate::done::Done;
 use crate::images::listing::list_file;
 use crate::images::making::make_file;
 use crate::images::running::run_image;
 use crate::images::source_kind::SourceKind;
-use crate::refusals::refusal::Refusal;
-use crate::refusals::refusal_line::LONGEST_LINE;
-use crate::reviews::review_files::review_files;
+use crate::report::Report;
+use crate::review_files::review_files;
 use bpf_machine::Status;
+use cli::{LONGEST_LINE, Refusal};
+use host::Files;
 use std::alloc::{AllocError, Global};
 
 /// Does the order and answers what is to be written and the program's status. A refusal is an
@@ -27,7 +26,8 @@ use std::alloc::{AllocError, Global};
 pub fn perform<F: Files>(alloc: Global, order: &Order, files: &mut F) -> Result<Done, AllocError>
     requires { is_session (order_view order.now) ≡ false }
     ensures done { IfOk result (λ d. IsDone OneImage (F.known files.old) (order_view order.now) (F.known files.new) (output_of d)) }
-    // Memory runs out only where the order may lack it, so what is refused is answered as itself.
+    // Memory runs out only where the order may lack it. That a refusal behind a read is answered as itself is no
+    // clause, since no contract tells which reads were refused memory.
     ensures lacks { OnErr result (PerformsBy OneImage (F.known files.old) (order_view order.now) (F.known files.new) (Err Memory)) }
     ensures memory { OnErr result (KeepsFiles (F.known files.old) (F.known files.new)) }
     ensures stays { only_reads (order_view order.now) ≡ true → F.known files.new ≡ F.known files.old }
@@ -40,13 +40,13 @@ pub fn perform<F: Files>(alloc: Global, order: &Order, files: &mut F) -> Result<
             out: answer.out,
             err: room,
         }),
-        Err(refusal) => refusal.done(alloc, room),
+        Err(refusal) => Done::of_refusal(alloc, refusal, room),
     }
 }
 
-/// What is answered to an order, or its refusal. What is refused before anything grows is answered as
-/// itself.
-fn answer<F: Files>(alloc: Global, order: &Order, files: &mut F) -> Result<Answer, Refusal>
+/// What is answered to an order, or its refusal. What is refused before anything grows is answered
+/// as itself.
+fn answer<F: Files>(alloc: Global, order: &Order, files: &mut F) -> Result<Report, Refusal>
     requires { is_session (order_view order.now) ≡ false }
     ensures { PerformsBy OneImage (F.known files.old) (order_view order.now) (F.known files.new) (outcome_of result) }
 {
@@ -75,7 +75,7 @@ fn run_file<F: Files>(
     image: &str,
     steps: u64,
     files: &mut F,
-) -> Result<Answer, Refusal>
+) -> Result<Report, Refusal>
     ensures runs { PerformsBy OneImage (F.known files.old) (run_image image.now steps) (F.known files.new) (outcome_of result) }
     ensures known { F.known files.new ≡ F.known files.old }
 {
@@ -84,11 +84,11 @@ fn run_file<F: Files>(
 }
 
 /// Runs the image that the file holds, if it holds one.
-fn run_held(alloc: Global, file: &[u8], steps: u64) -> Result<Answer, Refusal>
-    ensures { IsAnswer (run_image_outcome (Ok file.now) steps) (outcome_of result) }
+fn run_held(alloc: Global, file: &[u8], steps: u64) -> Result<Report, Refusal>
+    ensures { IsDueResult (run_image_outcome (Ok file.now) steps) (outcome_of result) }
 {
     let (out, status) = run_image(alloc, file, steps)?;
-    Ok(Answer {
+    Ok(Report {
         status: run_status(status),
         out,
     })

@@ -1,9 +1,7 @@
-//! Command lines and documents written out, with the orders and the values that the definitions give
-//! for them.
+//! Command lines written out, with the orders that the definitions give for them.
 #![tactic(auto, using(crate::proofs::Shape::words_on_literals), unfolding(crate::proofs::Shape::words_on_literals))]
 
-ghost use Rattle.review_runner.specs.RootRows.{RootRowsStand};
-ghost use Rattle.review_runner.specs.Rows.{all_documents, asm_words, compile_words, debug_all_words, debug_words, four_files, list_words, no_documents, review_all_words, review_words, two_files, without_review, without_steps, with_steps, IsRefused, IsTakenAs};
+ghost use Rattle.review_runner.specs.Rows.{all_documents, asm_words, compile_words, debug_all_words, debug_words, four_files, list_words, no_documents, review_all_words, review_words, two_files, without_review, without_steps, with_steps, AreWordsRefused, IsTakenAs};
 ghost use Rattle.review_runner.specs.Order.{assemble, compile, debug, list, review, run_image};
 ghost use Rattle.std.specs.Prelude.{codes};
 
@@ -13,11 +11,11 @@ pub fn run_image_rows_stand()
     ensures given { IsTakenAs (with_steps (codes "5")) (run_image (codes "a.img") 5) }
     ensures left_out { IsTakenAs without_steps (run_image (codes "a.img") 10000000) }
     ensures most { IsTakenAs (with_steps (codes "1000000000")) (run_image (codes "a.img") 1000000000) }
-    ensures past_most { IsRefused (with_steps (codes "1000000001")) }
+    ensures past_most { AreWordsRefused (with_steps (codes "1000000001")) }
 {}
 
-/// `celbpf debug a.img` debugs `a.img` on null roots, and with `--review`, `--namespace` and `--params`
-/// on those of documents.
+/// `celbpf debug a.img` debugs `a.img` on null roots, and with `--review`, `--namespace` and
+/// `--params` on those of documents.
 pub fn debug_rows_stand()
     ensures alone { IsTakenAs debug_words (debug (codes "a.img") no_documents) }
     ensures all { IsTakenAs debug_all_words (debug (codes "a.img") all_documents) }
@@ -34,20 +32,15 @@ pub fn compile_row_stands()
 {}
 
 /// `celbpf review --policy p.json --review r.json` reviews `r.json` under `p.json`, for at most
-/// 10,000,000 steps, and with `--namespace`, `--params` and `--steps` on those documents and for so many.
-/// A review has to be there.
+/// 10,000,000 steps, and with `--namespace`, `--params` and `--steps` on those documents and for so
+/// many. A review has to be there.
 pub fn review_rows_stand()
     ensures alone { IsTakenAs review_words (review two_files 10000000) }
     ensures all { IsTakenAs review_all_words (review four_files 896) }
-    ensures none { IsRefused without_review }
+    ensures none { AreWordsRefused without_review }
 {}
 
 /// `celbpf list a.img` lists `a.img`.
 pub fn list_row_stands()
     ensures { IsTakenAs list_words (list (codes "a.img")) }
-{}
-
-/// Documents of reviews, with the values of their roots or their refusals.
-pub fn root_rows_stand()
-    ensures { RootRowsStand }
 {}

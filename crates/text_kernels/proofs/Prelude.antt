@@ -1,5 +1,21 @@
 -- The names that these proofs cite of the library, of the crates below and of the definitions here. Declares nothing.
-pub use Rattle.std.proofs.{Common.Bool, Common.Equal, Common.Fits, Common.Greater, Common.Less, Common.List, Common.Ordering, Common.ℕ, Common.[], Common.ap, Common.ap₂, Common.arith, Common.bit_or, Common.cond, Common.drop, Common.encode_utf8, Common.encode_utf8_all, Common.eqb, Common.false, Common.inl, Common.inr, Common.length, Common.map, Common.nat_cmp, Common.nat_lt, Common.not, Common.refl, Common.replicate, Common.sym, Common.take, Common.true, Common.w8, Common.◌%◌, Common.◌*◌, Common.◌++◌, Common.◌+◌, Common.◌-◌, Common.◌/◌, Common.◌<◌, Common.◌==◌, Common.◌^◌, Common.◌∙◌, Common.◌∷◌, Common.◌≡◌, Common.◌≤◌, Common.◌⊎◌, lemmas.Bool.agree_below, lemmas.Bool.agree_below_at, lemmas.Bool.eq-eqb, lemmas.Bool.ne_eqb, lemmas.Bool.Decides.nat_tests, lemmas.List.length-drop, lemmas.List.length-map, lemmas.List.length-take, lemmas.List.Folds.prefix_len-append, lemmas.List.Sums.common_prefix_len-le, lemmas.List.Sums.count_by-le-length, lemmas.List.Sums.prefix_len-le-length, lemmas.List.Sums.sum_by-append, lemmas.List.Sums.sum_by-cons, lemmas.Simd.chunk-drop, lemmas.Simd.leading_from_mask_l, lemmas.Simd.length-chunk, lemmas.Simd.length-zip2, lemmas.Simd.mask_l-mod, lemmas.Simd.ones-mask_l, lemmas.Simd.splat_is_map, lemmas.Simd.tops_compared, lemmas.Simd.trailing_mask_l, lemmas.Simd.zip2_of_maps, lemmas.Simd.zip2_splat}
-pub use Rattle.std.specs.{Cmp.nat_cmp_is, Cmp.ranks, Cmp.Lexicographic.slice_cmp, List.prefix_len, Ordering.MatchOrdering, Ordering.ordering_then}
-unfoldable pub use Rattle.std.specs.{Int.RustNames.count_ones}
-pub use Rattle.text_kernels.specs.{Scans.code_points_of, Scans.first_difference_of, Scans.is_leading, Scans.is_plain, Scans.is_special, Scans.skip_plain_of}
+pub use Rattle.std.proofs.Common.{Bool, Equal, Fits, Greater, Less, List, Ordering, ℕ, [], ap, ap₂, arith, bit_or}
+pub use Rattle.std.proofs.Common.{cond, drop, encode_utf8, encode_utf8_all, eqb, false, inl, inr, length, map}
+pub use Rattle.std.proofs.Common.{nat_cmp, nat_lt, not, refl, replicate, sym, take, true, w8, ◌%◌, ◌*◌, ◌++◌, ◌+◌}
+pub use Rattle.std.proofs.Common.{◌-◌, ◌/◌, ◌<◌, ◌==◌, ◌^◌, ◌∙◌, ◌∷◌, ◌≡◌, ◌≤◌, ◌⊎◌}
+pub use Rattle.std.proofs.lemmas.Bool.{agree_below, agree_below_at, eq-eqb, ne_eqb}
+pub use Rattle.std.proofs.lemmas.Bool.Decides.{nat_tests}
+pub use Rattle.std.proofs.lemmas.List.{length-drop, length-map, length-take}
+pub use Rattle.std.proofs.lemmas.List.Folds.{prefix_len-append}
+pub use Rattle.std.proofs.lemmas.List.Sums.{common_prefix_len-le, count_by-le-length, prefix_len-le-length}
+pub use Rattle.std.proofs.lemmas.List.Sums.{sum_by-append, sum_by-cons}
+pub use Rattle.std.proofs.lemmas.Simd.{chunk-drop, leading_from_mask_l, length-chunk, length-zip2, mask_l-mod}
+pub use Rattle.std.proofs.lemmas.Simd.{ones-mask_l, splat_is_map, tops_compared, trailing_mask_l, zip2_of_maps}
+pub use Rattle.std.proofs.lemmas.Simd.{zip2_splat}
+pub use Rattle.std.specs.Cmp.{nat_cmp_is, ranks}
+pub use Rattle.std.specs.Cmp.Lexicographic.{slice_cmp}
+pub use Rattle.std.specs.List.{prefix_len}
+pub use Rattle.std.specs.Ordering.{MatchOrdering, ordering_then}
+unfoldable pub use Rattle.std.specs.Int.RustNames.{count_ones}
+pub use Rattle.text_kernels.specs.Scans.{code_points_of, first_difference_of, is_leading, is_plain, is_special}
+pub use Rattle.text_kernels.specs.Scans.{skip_plain_of}

@@ -1,5 +1,5 @@
 -- The values of ordered documents, and of a table's trees.
-use Rattle.value_store.proofs.Prelude.{◌≡◌, ℕ, suc, List, [], ◌∷◌, ◌++◌, Some, Result, Ok, Err, map, Bool, false, BTreeMap, String, Global, refl, sym, subst, arith, rules, AllByRecursion, IsOk, slice_get, ⊤, nat_le, if◌then◌else◌, view, view-Object, Value, ValueOrError, value, keys_of, depth_of, IsOrdered, AreItemsOrdered, AreEntriesOrdered, AreOrdered, member_keys, IsDocumentOrdered, AreElementsOrdered, AreMembersOrdered, Contents, first_values, charge_limit, IsCanonicalAt, AreCanonical, has_other, roots_of, sizes, contents_of, plain_value, plain_items, plain_entries, stored_values, Node, TableError, V3, StartIsOrdered, StartIsCanonical}
+use Rattle.value_store.proofs.Prelude.{◌≡◌, ℕ, suc, List, [], ◌∷◌, ◌++◌, Some, Result, Ok, Err, map, Bool, false, BTreeMap, String, Global, refl, sym, subst, arith, rules, AllByRecursion, IsOk, slice_get, ⊤, nat_le, if◌then◌else◌, view, view-Object, Value, ValueOrError, value, keys_of, depth_of, IsOrdered, AreItemsOrdered, AreEntriesOrdered, AreOrdered, member_keys, IsDocumentOrdered, AreElementsOrdered, AreMembersOrdered, Contents, first_values, charge_limit, IsCanonicalAt, AreCanonical, has_other, roots_of, sizes, contents_of, plain_value, plain_items, plain_entries, stored_values, Node, TableError, RootsTooLarge, StartIsOrdered, StartIsCanonical}
 use Rattle.std.specs.List.Sorted.{IsStrictlySortedBy}
 use Rattle.serde_json.specs.Data as json
 use Rattle.serde_json.specs.declared.value.Value as document
@@ -54,7 +54,7 @@ free vs h x n r e = grind arith
 canonical_roots : (vs : List Value) → AllByRecursion IsRootValue vs → AreCanonical (first_values ++ map value vs)
 canonical_roots vs r h x e = grind (arith, free)
 
-limited_values : (b : Bool) (vs : List Value) (c : Contents) → (if b then Ok (record { values = first_values ++ map value vs; charge = sizes vs }) else Err V3) ≡ Ok c → first_values ++ map value vs ≡ c.values
+limited_values : (b : Bool) (vs : List Value) (c : Contents) → (if b then Ok (record { values = first_values ++ map value vs; charge = sizes vs }) else Err RootsTooLarge) ≡ Ok c → first_values ++ map value vs ≡ c.values
 limited_values b vs c e = grind arith
 
 canonical_by : (r : Result (List Value) TableError) (c : Contents) → ((vs : List Value) → r ≡ Ok vs → AllByRecursion IsRootValue vs) → contents_of r ≡ Ok c → AreCanonical c.values

@@ -1,5 +1,5 @@
 -- The values of the roots, one root after another.
-use Rattle.value_store.proofs.Prelude.{◌≡◌, ◌≤◌, ◌<◌, ℕ, suc, ◌+◌, ◌^◌, List, [], ◌∷◌, ◌++◌, map, Result, Ok, Err, false, refl, sym, ap, ◌∙◌, subst, arith, append_assoc, rules, IsOk, view, Value, ValueOrError, value, size_of, depth_of, items_size, items_depth, entries_size, entries_depth, Contents, IsStore, first_values, charge_limit, has_other, root_of, before, roots_of, sizes, start_contents, Starts, plain_value, saturated, size_in, charge_in, deepest, TableError, Memory}
+use Rattle.value_store.proofs.Prelude.{◌≡◌, ◌≤◌, ◌<◌, ℕ, suc, ◌+◌, ◌^◌, List, [], ◌∷◌, ◌++◌, map, Result, Ok, Err, false, refl, sym, ap, ◌∙◌, subst, arith, append_assoc, rules, IsOk, view, Value, ValueOrError, value, size_of, depth_of, items_size, items_depth, entries_size, entries_depth, Contents, IsStore, first_values, charge_limit, has_other, root_of, before, roots_of, sizes, start_contents, StoreStarts, plain_value, saturated, size_in, charge_in, deepest, TableError, Memory}
 use Rattle.serde_json.specs.Data as json
 use Rattle.serde_json.specs.declared.value.Value as document
 use Rattle.value_store.specs.Value as kind
@@ -92,7 +92,7 @@ no_memory_roots place [] e = cc
 no_memory_roots place (d ∷ ds) e = grind (arith, no_memory_roots (suc place) ds)
 
 -- a refusal is answered as it is due
-pub refused : {S : Type 0} (contents : S → Contents) (ds : List json.Data) (x : TableError) → Err x ≡ charge_in (start_contents ds) → Starts contents (start_contents ds) (Err x)
+pub refused : {S : Type 0} (contents : S → Contents) (ds : List json.Data) (x : TableError) → Err x ≡ charge_in (start_contents ds) → StoreStarts contents (start_contents ds) (Err x)
 refused contents ds x e = grind (arith, no_memory_roots)
 
 -- ---- the whole table

@@ -3,6 +3,8 @@ use Rattle.value_store.proofs.Prelude.{◌≡◌, ℕ, ◌+◌, List, [], ◌∷
 use Rattle.serde_json.specs.Data as json
 use Rattle.serde_json.specs.declared.value.Value as document
 use Rattle.value_store.specs.Value as kind
+use Rattle.value_store.specs.Nodes.{tree_value}
+use Rattle.value_store.specs.declared.tree.Tree.{Tree}
 
 -- a document is whole and as deep as is said, and has the value that is due
 pub record Gives (d : json.Data) (depth : ℕ) (due : Option kind.Value) : Type 0 where
@@ -44,15 +46,22 @@ pub join_depth : (is js : kind.Items) → items_depth (items_join is js) ≡ max
 join_depth kind.no_items js = omega arith
 join_depth (kind.item v is) js = grind (arith, join_depth is js)
 
-pub join_lists : (v w u : Vec document.Value Global) (a b : document.Value) (m n : ℕ) → view (document.Array v) ≡ view a → view (document.Array w) ≡ view b → u.items ≡ v.items ++ w.items
-    → has_other (view a) ≡ false → has_other (view b) ≡ false → m ≡ depth_of (plain_value (view a)) → n ≡ depth_of (plain_value (view b))
-    → Gives (view (document.Array u)) (max m n) (join_of (plain_value (view a)) (plain_value (view b)))
-join_lists v w u a b m n first second is whole1 whole2 deep1 deep2 = grind (arith, view-Array, items_view-append, joined_whole, join_depth, joined_value)
+pub join_lists : (v w u : Vec document.Value Global) (a b : Tree) → view (document.Array v) ≡ view a.document → view (document.Array w) ≡ view b.document
+    → u.items ≡ v.items ++ w.items → Gives (view (document.Array u)) (max a.depth b.depth) (join_of (tree_value a) (tree_value b))
+join_lists v w u a b first second is =
+    let whole1 = a.whole in
+    let whole2 = b.whole in
+    let deep1 = a.deep in
+    let deep2 = b.deep in
+    grind (arith, view-Array, items_view-append, joined_whole, join_depth, joined_value)
 
-pub push_list : (v u : Vec document.Value Global) (x a b : document.Value) (m n : ℕ) → view (document.Array v) ≡ view a → view x ≡ view b → u.items ≡ v.items ++ x ∷ []
-    → has_other (view a) ≡ false → has_other (view b) ≡ false → m ≡ depth_of (plain_value (view a)) → n ≡ depth_of (plain_value (view b))
-    → Gives (view (document.Array u)) (max m (n + 1)) (push_of (plain_value (view a)) (plain_value (view b)))
-push_list v u x a b m n first second is whole1 whole2 deep1 deep2 =
+pub push_list : (v u : Vec document.Value Global) (x : document.Value) (a b : Tree) → view (document.Array v) ≡ view a.document → view x ≡ view b.document
+    → u.items ≡ v.items ++ x ∷ [] → Gives (view (document.Array u)) (max a.depth (b.depth + 1)) (push_of (tree_value a) (tree_value b))
+push_list v u x a b first second is =
+    let whole1 = a.whole in
+    let whole2 = b.whole in
+    let deep1 = a.deep in
+    let deep2 = b.deep in
     grind (arith, view-Array, items_view-append, joined_whole, join_depth, joined_value, join_push)
 
 put_value : (k : List ℕ) (d : json.Data) (ms : json.Members) → IsSome (inserted k (plain_value d) (plain_entries ms))
@@ -72,8 +81,12 @@ put_depth k d (json.member l e ms) there = grind (arith, put_depth k d ms)
 abbrev pub put_at : List ℕ → kind.Value → kind.Value → Option kind.Value
 put_at key x m = option_and_then (λ es. put_of es key x) (entries_part m)
 
-pub put_map : (v u : BTreeMap (String Global) document.Value) (key : List ℕ) (x a b : document.Value) (m n : ℕ) → view (document.Object v) ≡ view a → view x ≡ view b
-    → members_view u.entries ≡ json.put key (view x) (members_view v.entries) → has_other (view a) ≡ false → has_other (view b) ≡ false → m ≡ depth_of (plain_value (view a))
-    → n ≡ depth_of (plain_value (view b)) → IsSome (put_at key (plain_value (view b)) (plain_value (view a)))
-    → Gives (view (document.Object u)) (max m (n + 1)) (put_at key (plain_value (view b)) (plain_value (view a)))
-put_map v u key x a b m n first second is whole1 whole2 deep1 deep2 there = grind (arith, view-Object, put_depth, put_whole, put_value)
+pub put_map : (v u : BTreeMap (String Global) document.Value) (key : List ℕ) (x : document.Value) (a b : Tree) → view (document.Object v) ≡ view a.document
+    → view x ≡ view b.document → members_view u.entries ≡ json.put key (view x) (members_view v.entries) → IsSome (put_at key (tree_value b) (tree_value a))
+    → Gives (view (document.Object u)) (max a.depth (b.depth + 1)) (put_at key (tree_value b) (tree_value a))
+put_map v u key x a b first second is there =
+    let whole1 = a.whole in
+    let whole2 = b.whole in
+    let deep1 = a.deep in
+    let deep2 = b.deep in
+    grind (arith, view-Object, put_depth, put_whole, put_value)

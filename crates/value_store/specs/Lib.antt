@@ -11,6 +11,7 @@ pub mod Calls
 pub mod Seen
 pub mod Json
 pub mod Roots
+pub mod ErrorCodes
 pub mod Plain
 pub mod Nodes
 pub mod Laws

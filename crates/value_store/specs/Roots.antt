@@ -7,10 +7,11 @@ use Rattle.value_store.specs.Value as kind
 use Rattle.value_store.specs.Value.{Value, value}
 use Rattle.value_store.specs.Size.{size_of}
 use Rattle.value_store.specs.Placing.{Contents, first_values, charge_limit}
-use Rattle.value_store.specs.declared.table_error.TableError.{TableError, TheVariants.V1, TheVariants.V2, TheVariants.V3, TheVariants.Memory}
+use Rattle.value_store.specs.declared.table_error.TableError.{TableError, TheVariants.NotAnObject, TheVariants.NumberOutOfInt64, TheVariants.RootsTooLarge, TheVariants.Memory}
 
 abbrev mutual
-  -- the value of a JSON document, the members of its objects as they stand; none where a number is no integer of 64 bits signed
+  -- the value of a JSON document, the members of its objects as they stand; none where a number is no integer of 64
+  -- bits signed
   pub value_of : json.Data → Option Value
   value_of json.null = Some kind.null
   value_of (json.boolean b) = Some (kind.boolean b)
@@ -41,11 +42,11 @@ is_root (json.object ms) = true
 -- the value of the root at a reference; where it has none, it is refused for a number
 abbrev pub root_value : ℕ → Option Value → Result Value TableError
 root_value place (Some v) = Ok v
-root_value place None = Err (V2 place)
+root_value place None = Err (NumberOutOfInt64 place)
 
 -- the value of the root at a reference; it is refused where it is no object and not null, or for a number
 abbrev pub root_of : ℕ → json.Data → Result Value TableError
-root_of place d = if is_root d then root_value place (value_of d) else Err (V1 place)
+root_of place d = if is_root d then root_value place (value_of d) else Err (NotAnObject place)
 
 -- a value before those behind it, or their refusal
 abbrev pub before : Value → Result (List Value) TableError → Result (List Value) TableError
@@ -67,11 +68,12 @@ abbrev pub sizes : List Value → ℕ
 sizes [] = 0
 sizes (v ∷ vs) = size_of v + sizes vs
 
--- the contents of a store with the values behind its first four, charged with their sizes, or refused where these exceed the limit
+-- the contents of a store with the values behind its first four, charged with their sizes, or refused where these
+-- exceed the limit
 abbrev pub within_limit : List Value → Result Contents TableError
 within_limit vs =
     if nat_le (sizes vs) charge_limit then Ok (record { values = first_values ++ map value vs; charge = sizes vs })
-    else Err V3
+    else Err RootsTooLarge
 
 -- the same where each root has a value, and else the refusal
 abbrev pub contents_of : Result (List Value) TableError → Result Contents TableError
@@ -110,9 +112,9 @@ abbrev mutual
 
 -- the answer of a call that makes a store of five roots: the store, or the refusal that is due, or
 -- that the host had no memory for a store that was due
-abbrev pub Starts : {S : Type 0} → (S → Contents) → Result Contents TableError → Result S TableError → Type 0
-Starts contents due (Ok store) = due ≡ Ok (contents store)
-Starts contents due (Err (V1 place)) = due ≡ Err (V1 place)
-Starts contents due (Err (V2 place)) = due ≡ Err (V2 place)
-Starts contents due (Err V3) = due ≡ Err V3
-Starts contents due (Err Memory) = IsOk due
+abbrev pub StoreStarts : {S : Type 0} → (S → Contents) → Result Contents TableError → Result S TableError → Type 0
+StoreStarts contents due (Ok store) = due ≡ Ok (contents store)
+StoreStarts contents due (Err (NotAnObject place)) = due ≡ Err (NotAnObject place)
+StoreStarts contents due (Err (NumberOutOfInt64 place)) = due ≡ Err (NumberOutOfInt64 place)
+StoreStarts contents due (Err RootsTooLarge) = due ≡ Err RootsTooLarge
+StoreStarts contents due (Err Memory) = IsOk due

@@ -11,7 +11,7 @@ use Rattle.value_store.specs.Keys.{IsOrdered, IsDocumentOrdered}
 use Rattle.value_store.specs.Placing.{first_values, is_appended, place, placed}
 use Rattle.value_store.specs.Json.{json_text, shown_text}
 use Rattle.value_store.specs.Roots.{root_of, start_contents}
-use Rattle.value_store.specs.declared.table_error.TableError.TheVariants.{V1, V2}
+use Rattle.value_store.specs.declared.table_error.TableError.TheVariants.{NotAnObject, NumberOutOfInt64}
 
 -- {"spec":{"replicas":5}}
 abbrev pub replicas : Value
@@ -85,7 +85,7 @@ abbrev pub nulls : List json.Data
 nulls = json.null ∷ json.null ∷ json.null ∷ []
 
 -- values, calls and documents, each with what is worked out
-pub record RowsStand : Type 0 where
+pub record StoreRowsHold : Type 0 where
   pub size_null : size_of null ≡ 1
   pub size_least : size_of least ≡ 1
   pub size_text : size_of (text e_acute) ≡ 3
@@ -162,20 +162,23 @@ pub record RowsStand : Type 0 where
   pub shown_error : shown_text error ≡ codes "error"
   pub root_null : root_of 4 json.null ≡ Ok null
   pub root_object : root_of 4 replicas_document ≡ Ok replicas
-  pub root_number : root_of 7 (json.number (json.unsigned 1)) ≡ Err (V1 7)
-  pub root_list : root_of 5 (json.array json.no_items) ≡ Err (V1 5)
+  pub root_number : root_of 7 (json.number (json.unsigned 1)) ≡ Err (NotAnObject 7)
+  pub root_list : root_of 5 (json.array json.no_items) ≡ Err (NotAnObject 5)
   -- 1.5 and -0 are floats
-  pub root_float : (x : Float) → root_of 4 (with_a (json.number (json.float x))) ≡ Err (V2 4)
-  pub root_large : root_of 8 (with_a (json.number (json.unsigned 9223372036854775808))) ≡ Err (V2 8)
+  pub root_float : (x : Float) → root_of 4 (with_a (json.number (json.float x))) ≡ Err (NumberOutOfInt64 4)
+  pub root_large : root_of 8 (with_a (json.number (json.unsigned 9223372036854775808))) ≡ Err (NumberOutOfInt64 8)
   pub root_greatest : root_of 8 (with_a (json.number (json.unsigned 9223372036854775807)))
       ≡ Ok (kind.map (entry (codes "a") greatest no_entries))
-  pub root_deep : root_of 6 (with_a (json.array (json.item (json.number (json.unsigned 9223372036854775808)) json.no_items))) ≡ Err (V2 6)
+  pub root_deep : root_of 6 (with_a (json.array (json.item (json.number (json.unsigned 9223372036854775808)) json.no_items)))
+      ≡ Err (NumberOutOfInt64 6)
   pub start_nulls : start_contents (json.null ∷ json.null ∷ nulls)
       ≡ Ok (record { values = behind (map value (null ∷ null ∷ null ∷ null ∷ null ∷ [])); charge = 5 })
   pub start_review : start_contents (replicas_document ∷ nulls ++ uid_document ∷ [])
       ≡ Ok (record { values = behind (map value (replicas ∷ null ∷ null ∷ null ∷ uid ∷ [])); charge = 28 })
   -- the first root with a refusal counts, whichever it is
   pub start_first : (x : Float)
-      → start_contents (json.null ∷ with_a (json.number (json.float x)) ∷ json.boolean true ∷ json.null ∷ json.null ∷ []) ≡ Err (V2 5)
+      → start_contents (json.null ∷ with_a (json.number (json.float x)) ∷ json.boolean true ∷ json.null ∷ json.null ∷ [])
+      ≡ Err (NumberOutOfInt64 5)
   pub start_second : (x : Float)
-      → start_contents (json.null ∷ json.boolean true ∷ with_a (json.number (json.float x)) ∷ json.null ∷ json.null ∷ []) ≡ Err (V1 5)
+      → start_contents (json.null ∷ json.boolean true ∷ with_a (json.number (json.float x)) ∷ json.null ∷ json.null ∷ [])
+      ≡ Err (NotAnObject 5)

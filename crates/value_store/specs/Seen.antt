@@ -15,24 +15,24 @@ pub data Seen : Type 0 where
   sees_map : ℕ → Seen
 
 -- what is seen of what stands at a reference
-abbrev pub seen : ValueOrError → Seen
-seen error = sees_error
-seen (value null) = sees_null
-seen (value (boolean b)) = sees_bool b
-seen (value (int n)) = sees_int n
-seen (value (text s)) = sees_text s
-seen (value (list is)) = sees_list (length (list_of is))
-seen (value (map es)) = sees_map (length (keys_of es))
+abbrev pub outcome_view : ValueOrError → Seen
+outcome_view error = sees_error
+outcome_view (value null) = sees_null
+outcome_view (value (boolean b)) = sees_bool b
+outcome_view (value (int n)) = sees_int n
+outcome_view (value (text s)) = sees_text s
+outcome_view (value (list is)) = sees_list (length (list_of is))
+outcome_view (value (map es)) = sees_map (length (keys_of es))
 
 -- the same of the code's shape, which lends a text
-abbrev pub shown : Shape → Seen
-shown shape.Error = sees_error
-shown shape.Null = sees_null
-shown (shape.Bool b) = sees_bool b
-shown (shape.Int n) = sees_int n
-shown (shape.Text s) = sees_text s.now
-shown (shape.List n) = sees_list n
-shown (shape.Map n) = sees_map n
+abbrev pub shape_view : Shape → Seen
+shape_view shape.Error = sees_error
+shape_view shape.Null = sees_null
+shape_view (shape.Bool b) = sees_bool b
+shape_view (shape.Int n) = sees_int n
+shape_view (shape.Text s) = sees_text s.now
+shape_view (shape.List n) = sees_list n
+shape_view (shape.Map n) = sees_map n
 
 -- how many bytes a text has, how many items a list, and how many entries a map; 0 of all else
 abbrev pub seen_size : Seen → ℕ

@@ -3,7 +3,8 @@ use Rattle.std.specs.Prelude.{ℕ, ◌+◌, max, length}
 use Rattle.value_store.specs.Value.{Value, null, boolean, int, text, list, map, Items, no_items, item, Entries, no_entries, entry, ValueOrError, error, value}
 
 abbrev mutual
-  -- the size of a value: 1, and the bytes of a text, the sizes of items, and for each entry 1, the bytes of its key and its value's size
+  -- the size of a value: 1, and the bytes of a text, the sizes of items, and for each entry 1, the bytes of its key and
+  -- its value's size
   pub size_of : Value → ℕ
   size_of null = 1
   size_of (boolean b) = 1

@@ -4,6 +4,7 @@
 
 mod equality;
 pub mod laws;
+mod limits;
 mod measure;
 mod members;
 mod membership;
@@ -17,6 +18,7 @@ mod store;
 mod table_error;
 mod tree;
 
+pub use limits::CHARGE_LIMIT;
 pub use plain_table::PlainTable;
 pub use roots::start_charge;
 pub use shape::Shape;

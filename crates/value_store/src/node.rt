@@ -4,7 +4,7 @@ ghost use Rattle.std.specs.Prelude.{◌≡◌, ◌<◌, ◌^◌, option_map, str
 ghost use Rattle.value_store.specs.Size.{result_depth};
 ghost use Rattle.value_store.specs.Calls.{value_part};
 ghost use Rattle.value_store.specs.Json.{shown_text};
-ghost use Rattle.value_store.specs.Seen.{seen, shown, seen_size};
+ghost use Rattle.value_store.specs.Seen.{outcome_view, shape_view, seen_size};
 
 use crate::shape::Shape;
 use crate::tree::Tree;
@@ -51,8 +51,8 @@ impl Node {
     }
 
     pub(crate) fn shape(&self) -> Shape<'_>
-        ensures shape { shown result ≡ seen (stored self.now) }
-        ensures short { seen_size (shown result) < 2 ^ 63 }
+        ensures shape { shape_view result ≡ outcome_view (stored self.now) }
+        ensures short { seen_size (shape_view result) < 2 ^ 63 }
     {
         match self {
             Node::Error => Shape::Error,

@@ -4,7 +4,7 @@ ghost use Rattle.std.specs.Prelude.{◌≡◌, ◌≤◌, ◌<◌, ◌+◌, List
 ghost use Rattle.value_store.specs.Placing.{first_values, charge_limit, is_appended};
 ghost use Rattle.value_store.specs.Calls.{Places, value_at, text_at, entries_at, part_at, key_at, joined, pushed, put_in};
 ghost use Rattle.serde_json.specs.View.{view};
-ghost use Rattle.value_store.specs.Roots.{has_other, start_contents, Starts};
+ghost use Rattle.value_store.specs.Roots.{has_other, start_contents, StoreStarts};
 ghost use Rattle.value_store.specs.Size.{depth_of};
 ghost use Rattle.value_store.specs.declared.node.Node.TheVariants as node;
 ghost use Rattle.value_store.specs.Nodes.{stored, stored_values, tree_value};
@@ -40,12 +40,13 @@ impl PlainTable {
     /// namespaceObject and request, at the references 4 to 8, charged with their sizes. It goes as
     /// deep as the documents.
     ///
-    /// The first root that is refused counts: `V1` where it is neither an object nor null, `V2` where
-    /// it holds a number that is no integer of 64 bits signed (`-0` is none). Then `V3` where the
-    /// charge is above 16,777,216. All this is tested before any memory is taken.
+    /// The first root that is refused counts: `NotAnObject` if it is neither an object nor null,
+    /// `NumberOutOfInt64` if it holds a number that is no integer of 64 bits signed (`-0` is none).
+    /// Then `RootsTooLarge` if the charge is above 16,777,216. All this is tested before any memory
+    /// is taken.
     #[tactic(auto, using(crate::proofs::Starting::opened, crate::proofs::Starting::refused))]
     pub fn of_roots(alloc: Global, roots: &[Value; 5]) -> Result<PlainTable, TableError>
-        ensures { Starts (λ t. record { values = ⟦<PlainTable as ValueStore>⟧.values t; charge = ⟦<PlainTable as ValueStore>⟧.charge t }) (start_contents (map view roots.now)) result }
+        ensures { StoreStarts (λ t. record { values = ⟦<PlainTable as ValueStore>⟧.values t; charge = ⟦<PlainTable as ValueStore>⟧.charge t }) (start_contents (map view roots.now)) result }
     {
         let charge = start_charge(roots)?;
         let nodes = start_nodes(alloc, roots)?;
@@ -136,7 +137,10 @@ impl PlainTable {
 
     fn with_entry(&self, m: u64, k: u64, x: u64) -> Result<Tree, AllocError>
         requires { IsSome (put_in (slice_get (stored_values self.now.nodes.items) m) (slice_get (stored_values self.now.nodes.items) k) (slice_get (stored_values self.now.nodes.items) x)) }
-        ensures value { IfOk result (λ t. put_in (slice_get (stored_values self.now.nodes.items) m) (slice_get (stored_values self.now.nodes.items) k) (slice_get (stored_values self.now.nodes.items) x) ≡ Some (tree_value t)) }
+        ensures value { IfOk result (λ t. put_in
+            (slice_get (stored_values self.now.nodes.items) m)
+            (slice_get (stored_values self.now.nodes.items) k)
+            (slice_get (stored_values self.now.nodes.items) x) ≡ Some (tree_value t)) }
         ensures shallow { IfOk result (λ t. t.depth ≤ charge_limit + length (stored_values self.now.nodes.items) + 1) }
     {
         let key = self.value(k).text().unwrap();

@@ -10,6 +10,7 @@ ghost use Rattle.value_store.specs.Roots.{root_of, start_contents, is_root as ma
 ghost use Rattle.value_store.specs.Plain.{plain_value, size_in, charge_in};
 ghost use Rattle.value_store.specs.Nodes.{stored_values};
 
+use crate::limits::CHARGE_LIMIT;
 use crate::measure::measure_document;
 use crate::node::Node;
 use crate::table_error::TableError;
@@ -17,11 +18,9 @@ use crate::tree::Tree;
 use serde_json::Value;
 use std::alloc::{AllocError, Global};
 
-const CHARGE_LIMIT: u64 = 16_777_216;
-
-/// What a store of a review's five roots, in the order of `PlainTable::of_roots`, is charged at first,
-/// or the refusal that is due there. It takes no memory, and goes as deep as the documents. The keys
-/// of each object in roots that are not refused stand in byte order, each once.
+/// What a store of a review's five roots, in the order of `PlainTable::of_roots`, is charged at
+/// first, or the refusal that is due there. It takes no memory, and goes as deep as the documents.
+/// The keys of each object in roots that are not refused stand in byte order, each once.
 #[tactic(auto, using(crate::proofs::Starting::judging_step, std::proofs::lemmas::List::drop_all, std::proofs::lemmas::List::drop_more))]
 pub fn start_charge(roots: &[Value; 5]) -> Result<u64, TableError>
     ensures charge { result ≡ charge_in (start_contents (map view roots.now)) }
@@ -36,7 +35,7 @@ pub fn start_charge(roots: &[Value; 5]) -> Result<u64, TableError>
         place += 1;
     }
     if charge > CHARGE_LIMIT {
-        return Err(TableError::V3);
+        return Err(TableError::RootsTooLarge);
     }
     Ok(charge)
 }
@@ -48,11 +47,11 @@ fn root_size(place: u64, root: &Value) -> Result<u64, TableError>
     ensures ordered { OnOk result (IsDocumentOrdered (view root.now)) }
 {
     if !is_root(root) {
-        return Err(TableError::V1(place));
+        return Err(TableError::NotAnObject(place));
     }
     match measure_document(root) {
         Some(measure) => Ok(measure.size),
-        None => Err(TableError::V2(place)),
+        None => Err(TableError::NumberOutOfInt64(place)),
     }
 }
 

@@ -7,7 +7,7 @@ ghost use Rattle.value_store.specs.Placing.{first_values, charge_limit};
 ghost use Rattle.value_store.specs.Json.{shown_text};
 ghost use Rattle.value_store.specs.Keys.{AreOrdered};
 ghost use Rattle.value_store.specs.Calls.{Places, text_at, equal_at, less_at, member_at, find_at, part_at, key_at, joined, pushed, put_in};
-ghost use Rattle.value_store.specs.Seen.{seen, shown, seen_size};
+ghost use Rattle.value_store.specs.Seen.{outcome_view, shape_view, seen_size};
 
 use crate::shape::Shape;
 use std::alloc::AllocError;
@@ -15,8 +15,8 @@ use std::alloc::AllocError;
 /// Values in a list, each named by its place in it, a reference. The first four are the error,
 /// null, false and true. A value never changes, and none is taken away. A call that places a value
 /// answers the reference that null, false or true has, and puts any other value behind the last.
-/// Where such a call answers an error, the host has no memory for a value that comes behind the last, and
-/// nothing is changed.
+/// Where such a call answers an error, the host has no memory for a value that comes behind the
+/// last, and nothing is changed.
 pub trait ValueStore: Drop {
     /// What stands at each reference.
     ghost values: { Self → List ValueOrError };
@@ -24,8 +24,8 @@ pub trait ValueStore: Drop {
     /// What was charged: at the start the sizes of the roots, and then what was spent.
     ghost charge: { Self → ℕ };
 
-    /// How many references there are. The error, null, false and true stand at the first four, and the
-    /// keys of every map in the store in byte order, each once.
+    /// How many references there are. The error, null, false and true stand at the first four, and
+    /// the keys of every map in the store in byte order, each once.
     fn len(&self) -> u64
         ensures count { result ≡ length (values self.now) }
         ensures first { (more : List ValueOrError) × (values self.now ≡ first_values ++ more) }
@@ -42,11 +42,11 @@ pub trait ValueStore: Drop {
         ensures charge { charge self.new ≡ charge self.old + n }
         ensures values { values self.new ≡ values self.old };
 
-    /// What stands at a reference, if it is one. A text has fewer than 2^63 bytes, a list fewer items
-    /// and a map fewer entries.
+    /// What stands at a reference, if it is one. A text has fewer than 2^63 bytes, a list fewer
+    /// items and a map fewer entries.
     fn at(&self, h: u64) -> Option<Shape<'_>>
-        ensures shape { option_map shown result ≡ option_map seen (slice_get (values self.now) h) }
-        ensures short { IfSome result (λ s. seen_size (shown s) < 2 ^ 63) };
+        ensures shape { option_map shape_view result ≡ option_map outcome_view (slice_get (values self.now) h) }
+        ensures short { IfSome result (λ s. seen_size (shape_view s) < 2 ^ 63) };
 
     /// The text at a reference, if there is one.
     fn text(&self, h: u64) -> Option<&str>
@@ -65,26 +65,28 @@ pub trait ValueStore: Drop {
         ensures values { values self.new ≡ values self.old }
         ensures charge { charge self.new ≡ charge self.old };
 
-    /// Whether the first of two ints, texts or bools is below the second: texts by code points, false
-    /// below true.
+    /// Whether the first of two ints, texts or bools is below the second: texts by code points,
+    /// false below true.
     fn less(&self, a: u64, b: u64) -> bool
         requires { IsSome (less_at (slice_get (values self.now) a) (slice_get (values self.now) b)) }
         ensures { Some result ≡ less_at (slice_get (values self.now) a) (slice_get (values self.now) b) };
 
-    /// Whether an item of the list `c` equals the value `x`, or the map `c` has the text `x` as a key.
+    /// Whether an item of the list `c` equals the value `x`, or the map `c` has the text `x` as a
+    /// key.
     fn member(&mut self, x: u64, c: u64) -> bool
         requires { IsSome (member_at (slice_get (values self.old) x) (slice_get (values self.old) c)) }
         ensures answer { Some result ≡ member_at (slice_get (values self.old) x) (slice_get (values self.old) c) }
         ensures values { values self.new ≡ values self.old }
         ensures charge { charge self.new ≡ charge self.old };
 
-    /// The place of a key in the map `m`, if the map has it. Bytes that are no text are no map's key.
+    /// The place of a key in the map `m`, if the map has it. Bytes that are no text are no map's
+    /// key.
     fn find(&self, m: u64, key: &[u8]) -> Option<u64>
         requires { IsSome (find_at (slice_get (values self.now) m) key.now) }
         ensures { Some result ≡ find_at (slice_get (values self.now) m) key.now };
 
-    /// What stands at a reference as JSON (RFC 8259), compact and with the keys in byte order; `error`
-    /// for the error.
+    /// What stands at a reference as JSON (RFC 8259), compact and with the keys in byte order;
+    /// `error` for the error.
     fn json(&self, h: u64) -> Result<String, AllocError>
         requires { h < length (values self.now) }
         ensures { IfOk result (λ s. Some (string_bytes s) ≡ option_map shown_text (slice_get (values self.now) h)) };

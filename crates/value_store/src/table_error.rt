@@ -6,21 +6,39 @@ ghost use Rattle.value_store.specs.declared.table_error.TableError.TheVariants.{
 use std::alloc::{AllocError, AllocFailed};
 use thiserror::Error;
 
-/// Why five documents give no table. The reference is that of the root: 4 to 8.
+/// Why five documents give no table. The number of a variant is the reference of the root, 4 to 8.
 #[derive(Clone, Copy, Debug, PartialEq, Eq, Error)]
 pub enum TableError {
-    /// The root is neither an object nor null.
+    /// The root at this reference is neither an object nor null.
     #[error("root {0} is neither an object nor null")]
-    V1(u64),
-    /// The root holds a number that is no integer of 64 bits signed.
+    NotAnObject(u64),
+    /// The root at this reference has a number that is not an integer of 64 bits signed.
     #[error("root {0} holds a number that is no integer of 64 bits")]
-    V2(u64),
-    /// The roots together are larger than the charge may be.
+    NumberOutOfInt64(u64),
+    /// The sizes of the roots together are above 16,777,216, the most that the charge can be.
     #[error("the roots are too large")]
-    V3,
-    /// There is no memory for the table.
+    RootsTooLarge,
+    /// An allocation failed.
     #[error("out of memory")]
     Memory,
+}
+
+impl TableError {
+    ghost use Rattle.std.specs.Prelude.{◌≤◌, length};
+    ghost use Rattle.value_store.specs.ErrorCodes.{table_error_code};
+
+    /// The error's code: `V1` to `V3`, or `memory`.
+    pub fn code(&self) -> &'static str
+        ensures text { result.now ≡ table_error_code self.now }
+        ensures length { length result.now ≤ 6 }
+    {
+        match self {
+            TableError::NotAnObject(_) => "V1",
+            TableError::NumberOutOfInt64(_) => "V2",
+            TableError::RootsTooLarge => "V3",
+            TableError::Memory => "memory",
+        }
+    }
 }
 
 impl From<AllocError> for TableError {

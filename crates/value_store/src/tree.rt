@@ -10,7 +10,7 @@ ghost use Rattle.value_store.specs.Plain.{plain_value, part_of};
 ghost use Rattle.value_store.specs.Lookup.{place_of_key, text_part};
 ghost use Rattle.value_store.specs.Json.{json_text};
 ghost use Rattle.value_store.specs.Keys.{IsOrdered};
-ghost use Rattle.value_store.specs.Seen.{seen, shown, seen_size};
+ghost use Rattle.value_store.specs.Seen.{outcome_view, shape_view, seen_size};
 ghost use Rattle.value_store.specs.Value.{keys_of};
 ghost use Rattle.value_store.specs.Propositions.{ordered_prop};
 
@@ -122,8 +122,8 @@ impl Tree {
 
     /// What is seen of the value at first.
     pub(crate) fn shape(&self) -> Shape<'_>
-        ensures shape { shown result ≡ seen (kind.value (tree_value self.now)) }
-        ensures short { seen_size (shown result) < 2 ^ 63 }
+        ensures shape { shape_view result ≡ outcome_view (kind.value (tree_value self.now)) }
+        ensures short { seen_size (shape_view result) < 2 ^ 63 }
     {
         match &self.document {
             Value::Null => Shape::Null,

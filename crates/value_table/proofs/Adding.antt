@@ -1,5 +1,5 @@
 -- A heap with one more cell, and one whose backings have grown.
-use Rattle.value_table.proofs.Prelude.{◌≡◌, ℕ, ◌+◌, ◌<◌, ◌≤◌, List, [], ◌∷◌, ◌++◌, length, refl, sym, ap, ◌∙◌, arith, length-append, append-nil, slice_get, subst, Option, Some, Ok, get_or_append_left, slice_get-get_or, slice_index_or, vec_capacity, Value, meaning, grown, AreSame, Extends, heap_values, content_at, IsHeap, IsAsBefore, Gains, AreIndexes, Heap, Cell, Backings}
+use Rattle.value_table.proofs.Prelude.{◌≡◌, ℕ, ◌+◌, ◌<◌, ◌≤◌, List, [], ◌∷◌, ◌++◌, length, refl, sym, ap, ◌∙◌, arith, length-append, append-nil, slice_get, subst, Option, Some, Ok, get_or_append_left, slice_get-get_or, slice_index_or, vec_capacity, Value, meaning, grown, AreSame, ExtendsBackings, heap_values, content_at, IsHeap, IsUnchangedHeap, Gains, AreIndexes, Heap, Cell, Content, Backings}
 use Rattle.value_store.specs.Value as kind
 use Rattle.value_table.specs.declared.content.Content.TheVariants as cell
 use Rattle.value_table.proofs.Growth.{grown_kept, cells_kept, grown_one, cells_one, count_values}
@@ -17,30 +17,44 @@ same_more vs ws same h = grind (arith, length-append, get_front)
 pub values_added : (bs : Backings) (xs ys : List Cell) (c : Cell) → ys ≡ xs ++ c ∷ [] → grown bs [] ys ≡ grown bs [] xs ++ meaning bs (grown bs [] xs) c.content ∷ []
 values_added bs xs ys c e = rw e (grown_one bs [] xs c)
 
-pub extends_same : (bs : Backings) → Extends bs bs
+pub extends_same : (bs : Backings) → ExtendsBackings bs bs
 extends_same bs = record { bytes = ([], sym (append-nil bs.bytes)); keys = ([], sym (append-nil bs.keys)); lists = omega arith; items = λ b h. ([], sym (append-nil (slice_index_or bs.lists b []))) }
 
 -- ---- a call that makes room first
 
 -- where it is refused
-pub heap_before : (old new : Heap) → IsHeap old → IsAsBefore old new → vec_capacity old.same ≤ vec_capacity new.same → new.indexes ≡ old.indexes → IsHeap new
+pub heap_before : (old new : Heap) → IsHeap old → IsUnchangedHeap old new → vec_capacity old.same ≤ vec_capacity new.same → new.indexes ≡ old.indexes → IsHeap new
 heap_before old new h b longer indexes = grind arith
 
 -- backings that have grown alone
-pub values_grown : (old : Heap) (bs : Backings) (cells : List Cell) → IsHeap old → Extends old.backings bs → cells ≡ old.cells → grown bs [] cells ≡ heap_values old
+pub values_grown : (old : Heap) (bs : Backings) (cells : List Cell) → IsHeap old → ExtendsBackings old.backings bs → cells ≡ old.cells → grown bs [] cells ≡ heap_values old
 values_grown old bs cells h e same = ap (grown bs []) same ∙ grown_kept old.backings bs [] old.cells e h.cells
 
-pub heap_grown : (old new : Heap) → IsHeap old → Extends old.backings new.backings → new.cells ≡ old.cells → new.same ≡ old.same → new.indexes ≡ old.indexes → IsHeap new
+pub heap_grown : (old new : Heap) → IsHeap old → ExtendsBackings old.backings new.backings → new.cells ≡ old.cells → new.same ≡ old.same → new.indexes ≡ old.indexes → IsHeap new
 heap_grown old new h e cells same indexes =
     let kept = values_grown old new.backings new.cells h e cells in
     let all = subst (λ vs. AreIndexes new.backings vs old.indexes.all.items) (append-nil (heap_values old)) (indexes_kept old.backings new.backings (heap_values old) [] old.indexes.all.items e h.indexes) in
     record { cells = rw cells (cells_kept old.backings new.backings [] old.cells e h.cells); same = rw (kept, same) h.same; room = rw (cells, same) h.room; indexes = rw (kept, indexes) all }
 
+-- one more cell behind the others, which were `mid` once there was room, at place `i`; nothing else is changed
+pub record IsAppended (old new : Heap) (mid : List Cell) (c : Cell) (i : ℕ) : Type 0 where
+  pub words : new.same.items ≡ old.same.items
+  pub fits : length old.cells + 1 ≤ vec_capacity new.same
+  pub same : mid ≡ old.cells
+  pub cells : new.cells ≡ mid ++ c ∷ []
+  pub at : i ≡ length mid
+  pub indexes : new.indexes ≡ old.indexes
+
 -- and where it is not
-pub gained : (old new : Heap) (mid : List Cell) (c : Cell) (i : ℕ) (due : Option Value) → IsHeap old → Extends old.backings new.backings
-    → new.same.items ≡ old.same.items → length old.cells + 1 ≤ vec_capacity new.same → mid ≡ old.cells → new.cells ≡ mid ++ c ∷ [] → i ≡ length mid
-    → new.indexes ≡ old.indexes → Made new.backings (heap_values old) c due → Gains old due (Ok i) new
-gained old new mid c i due h e words fits same cells at indexes made =
+pub gained : (old new : Heap) (mid : List Cell) (c : Cell) (i : ℕ) (due : Option Value) → IsHeap old → ExtendsBackings old.backings new.backings
+    → IsAppended old new mid c i → Made new.backings (heap_values old) c due → Gains old due (Ok i) new
+gained old new mid c i due h e appended made =
+    let words = appended.words in
+    let fits = appended.fits in
+    let same = appended.same in
+    let cells = appended.cells in
+    let at = appended.at in
+    let indexes = appended.indexes in
     let kept = grown_kept old.backings new.backings [] old.cells e h.cells in
     let v = meaning new.backings (heap_values old) c.content in
     let all : new.cells ≡ old.cells ++ c ∷ [] = cells ∙ ap (λ xs. xs ++ c ∷ []) same in
@@ -61,8 +75,20 @@ get_last : (xs : List Cell) (c : Cell) → slice_get (xs ++ c ∷ []) (length xs
 get_last [] c = refl
 get_last (x ∷ xs) c = get_last xs c
 
-pub shared_put : (old : Heap) (bs : Backings) (ys mid : List Cell) (c lc : Cell) (l b n p i : ℕ) → slice_get old.cells l ≡ Some lc
-    → lc.content ≡ cell.List b n → c.content ≡ cell.List p (n + 1) → ys ≡ mid ++ c ∷ [] → i ≡ length mid
-    → (n ≡ length (slice_index_or old.backings.lists b []) → (p ≡ b) × (length bs.lists ≡ length old.backings.lists))
-    → (b' n' : ℕ) → content_at old.cells l ≡ Some (cell.List b' n') → n' ≡ length (slice_index_or old.backings.lists b' []) → (content_at ys i ≡ Some (cell.List b' (n' + 1))) × (length bs.lists ≡ length old.backings.lists)
-shared_put old bs ys mid c lc l b n p i get is made cells at shared h h1 e end = grind (arith, slice_get, get_last)
+-- the content of a cell, and that of the last one
+pub content_is : (xs : List Cell) (c : Cell) (r : ℕ) (x : Content) → slice_get xs r ≡ Some c → c.content ≡ x → content_at xs r ≡ Some x
+content_is xs c r x get is = grind arith
+
+pub content_last : (ys xs : List Cell) (c : Cell) (i : ℕ) → ys ≡ xs ++ c ∷ [] → i ≡ length xs → content_at ys i ≡ Some c.content
+content_last ys xs c i cells at = grind (arith, slice_get, get_last)
+
+-- if a list has the whole of its backing, the list with one more item at `i` has the same backing
+abbrev pub IsShared : Heap → Backings → List Cell → ℕ → ℕ → Type 0
+IsShared old bs ys l i =
+    (b n : ℕ) → content_at old.cells l ≡ Some (cell.List b n) → n ≡ length (slice_index_or old.backings.lists b [])
+    → (content_at ys i ≡ Some (cell.List b (n + 1))) × (length bs.lists ≡ length old.backings.lists)
+
+pub shared_put : (old : Heap) (bs : Backings) (ys : List Cell) (l b n p i : ℕ) → content_at old.cells l ≡ Some (cell.List b n)
+    → content_at ys i ≡ Some (cell.List p (n + 1))
+    → (n ≡ length (slice_index_or old.backings.lists b []) → (p ≡ b) × (length bs.lists ≡ length old.backings.lists)) → IsShared old bs ys l i
+shared_put old bs ys l b n p i list longer shared b' n' e end = grind arith

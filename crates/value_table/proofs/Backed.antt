@@ -1,5 +1,5 @@
 -- Backings that grow.
-use Rattle.value_table.proofs.Prelude.{◌≡◌, ℕ, zero, suc, ◌+◌, ◌-◌, ◌<◌, ◌≤◌, List, [], ◌∷◌, ◌++◌, length, get_or, take, drop, refl, sym, ap, ◌∙◌, arith, length-append, length-drop, append_assoc, append-nil, slice_range, slice_set, IsUtf8-append, drop-append_seam, get_or-append_seam, take_all, length-set, quoted, saturated, part_of, IsText, Extends, Holds, with_one, Part, Backings}
+use Rattle.value_table.proofs.Prelude.{◌≡◌, ℕ, zero, suc, ◌+◌, ◌-◌, ◌<◌, ◌≤◌, List, [], ◌∷◌, ◌++◌, length, get_or, take, drop, refl, sym, ap, ◌∙◌, arith, length-append, length-drop, append_assoc, append-nil, slice_range, slice_set, IsUtf8-append, drop-append_seam, get_or-append_seam, take_all, length-set, quoted, saturated, part_of, IsText, ExtendsBackings, HoldsItems, with_one, Part, Backings}
 use Rattle.std.proofs.lemmas.List.{length-take}
 use Rattle.value_table.proofs.Growth.{text_kept}
 
@@ -11,12 +11,12 @@ more_set (y ∷ bs) (suc b) (suc c) ws h = more_set bs b c ws (omega arith)
 more_set (y ∷ bs) _ _ ws h = ([], sym (append-nil _))
 
 -- the bytes have grown
-pub bytes_more : (old : Backings) (bytes rest : List ℕ) → bytes ≡ old.bytes ++ rest → Extends old (record old { bytes = bytes })
+pub bytes_more : (old : Backings) (bytes rest : List ℕ) → bytes ≡ old.bytes ++ rest → ExtendsBackings old (record old { bytes = bytes })
 bytes_more old bytes rest e = record { bytes = (rest, e); keys = ([], sym (append-nil old.keys)); lists = omega arith; items = λ b h. ([], sym (append-nil (get_or old.lists b []))) }
 
 -- one backing grows in place
 pub items_pushed : (old : Backings) (lists : List (List ℕ)) (b : ℕ) (ws : List ℕ) → lists ≡ slice_set old.lists b (get_or old.lists b [] ++ ws)
-    → Extends old (record old { lists = lists })
+    → ExtendsBackings old (record old { lists = lists })
 items_pushed old lists b ws e =
     record {
       bytes = ([], sym (append-nil old.bytes));
@@ -26,7 +26,7 @@ items_pushed old lists b ws e =
     }
 
 -- a backing behind the others
-pub items_behind : (old new : List (List ℕ)) (b n : ℕ) (xs : List ℕ) → b ≡ length old → length xs ≡ n → new ≡ old ++ xs ∷ [] → Holds new b n xs
+pub items_behind : (old new : List (List ℕ)) (b n : ℕ) (xs : List ℕ) → b ≡ length old → length xs ≡ n → new ≡ old ++ xs ∷ [] → HoldsItems new b n xs
 items_behind old new b n xs at long e = grind (arith, get_or, get_or-append_seam, length-append, take_all)
 
 pub length_one : (xs : List ℕ) (n place x : ℕ) → place ≤ n → n ≤ length xs → length (with_one place x (take n xs)) ≡ n + 1
@@ -35,12 +35,21 @@ length_one xs n place x low long = grind (arith, take, length-take, length-drop,
 whole_behind : (bs ws : List ℕ) (a b : ℕ) → a ≡ length bs → b ≡ length (bs ++ ws) → slice_range (bs ++ ws) a b ≡ ws
 whole_behind bs ws a b p q = rw (p, drop-append_seam bs ws) (take_all (b - length bs) ws (omega (arith, length-append bs ws)))
 
+-- the part of the bytes behind a number of them
+pub record IsRest (bytes : List ℕ) (front : ℕ) (r : Part) : Type 0 where
+  pub from : r.from ≡ front
+  pub to : r.to ≡ length bytes
+  pub json : r.json ≡ saturated (length (quoted (slice_range bytes r.from r.to)))
+
 -- two texts behind all others, as one
-pub texts_joined : (bs ms ns : List ℕ) (p q : Part) (from to json : ℕ) → IsText bs p → IsText bs q → ms ≡ bs ++ part_of bs p → ns ≡ ms ++ part_of ms q
-    → from ≡ length bs → to ≡ length ns
-    → json ≡ saturated (length (quoted (slice_range ns from to)))
-    → IsText ns (record { from = from; to = to; json = json }) × (part_of ns (record { from = from; to = to; json = json }) ≡ part_of bs p ++ part_of bs q)
-texts_joined bs ms ns p q from to json hp hq em en ef et ej =
+pub texts_joined : (bs ms ns : List ℕ) (p q r : Part) → IsText bs p → IsText bs q → ms ≡ bs ++ part_of bs p → ns ≡ ms ++ part_of ms q
+    → IsRest ns (length bs) r → IsText ns r × (part_of ns r ≡ part_of bs p ++ part_of bs q)
+texts_joined bs ms ns p q r hp hq em en rest =
+    let from = r.from in
+    let to = r.to in
+    let ef = rest.from in
+    let et = rest.to in
+    let ej = rest.json in
     let kept = text_kept bs (part_of bs p) q hq in
     let same : part_of ms q ≡ part_of bs q = rw em kept.0 in
     let all : ns ≡ bs ++ (part_of bs p ++ part_of bs q) = en ∙ rw (same, em) (append_assoc bs (part_of bs p) (part_of bs q)) in

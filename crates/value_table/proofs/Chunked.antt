@@ -13,13 +13,25 @@ pub full_one : {A : Type 0} (xss : List (List A)) (xs : List A) → AreFull xss 
 full_one [] xs h e = (e, tt)
 full_one (ys ∷ xss) xs h e = (h.0, full_one xss xs h.1 e)
 
+-- place `k` of all items is place `j` in chunk `i` of so many
+pub record IsPlaceIn (chunks i j k : ℕ) : Type 0 where
+  pub chunk : i < chunks
+  pub inside : j < 256
+  pub is : k ≡ 256 * i + j
+
 -- an item of a full chunk
-pub item_at : {A : Type 0} (xss : List (List A)) (ys : List A) (i j k : ℕ) (e : List A) (d : A) → AreFull xss → i < length xss → j < 256 → k ≡ 256 * i + j
+pub item_at : {A : Type 0} (xss : List (List A)) (ys : List A) (i j k : ℕ) (e : List A) (d : A) → AreFull xss → IsPlaceIn (length xss) i j k
     → get_or (joined xss ++ ys) k d ≡ get_or (get_or xss i e) j d
-item_at [] ys i j k e d h low less is = absurd (omega arith)
-item_at {A} (xs ∷ xss) ys zero j k e d h low less is = grind (arith, get_or, append_assoc, get_or_append_left)
-item_at {A} (xs ∷ xss) ys (suc i) j k e d h low less is =
-    grind (arith, append_assoc, get_or-append_right, item_at xss ys i j (k - 256) e d h.1 (omega (arith, low)) less (omega (arith, is)))
+item_at [] ys i j k e d h at = let low = at.chunk in absurd (omega arith)
+item_at {A} (xs ∷ xss) ys zero j k e d h at =
+    let less = at.inside in
+    let is = at.is in
+    grind (arith, get_or, append_assoc, get_or_append_left)
+item_at {A} (xs ∷ xss) ys (suc i) j k e d h at =
+    let low = at.chunk in
+    let less = at.inside in
+    let is = at.is in
+    grind (arith, append_assoc, get_or-append_right, item_at xss ys i j (k - 256) e d h.1 (record { chunk = omega (arith, low); inside = less; is = omega (arith, is) }))
 
 -- each full chunk has its number of items
 pub chunk_long : {A : Type 0} (xss : List (List A)) (i : ℕ) (e : List A) → AreFull xss → i < length xss → length (get_or xss i e) ≡ 256

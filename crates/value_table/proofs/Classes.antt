@@ -107,7 +107,8 @@ unites old a b down root = grind (arith, set, unites_by)
 
 -- ---- parts that were compared so far
 
--- these parts have the same values, what was one class is one still, words behind both places are as before, and the root that stands behind is one still
+-- these parts have the same values, what was one class is one still, words behind both places are as before, and the
+-- root that stands behind is one still
 pub record Matches (vs : List Value) (old now : List ℕ) (xs ys : List ℕ) (a b x y : ℕ) : Type 0 where
   pub known : AreSame vs now
   pub values : values_at vs xs ≡ values_at vs ys

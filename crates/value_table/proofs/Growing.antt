@@ -1,5 +1,5 @@
 -- Documents become values one by one.
-use Rattle.value_table.proofs.Prelude.{◌≡◌, ℕ, false, List, [], ◌∷◌, ◌++◌, length, refl, ap, ap₂, ◌∙◌, arith, length-append, append_assoc, append-nil, Result, Ok, Some, or_parts, map-append, AllocError, Value, Items, no_items, item, items_push, items_join, Entries, no_entries, entry, keys_of, values_of, AreItemsOrdered, AreEntriesOrdered, items_have_other, members_have_other, plain_value, plain_items, plain_entries, part_of, items_at, entries_at, Adds, IsText, AreTexts, AreBelow, Extends, texts_of, values_at, entries_of, Part, Backings, HasGrown, Stands, Enters, heap_values, Gains, Heap}
+use Rattle.value_table.proofs.Prelude.{◌≡◌, ℕ, false, List, [], ◌∷◌, ◌++◌, length, refl, ap, ap₂, ◌∙◌, arith, length-append, append_assoc, append-nil, Result, Ok, Some, or_parts, map-append, AllocError, Value, Items, no_items, item, items_push, items_join, Entries, no_entries, entry, keys_of, values_of, AreItemsOrdered, AreEntriesOrdered, items_have_other, members_have_other, plain_value, plain_items, plain_entries, part_of, items_at, entries_at, AddsValue, IsText, AreTexts, AreBelow, ExtendsBackings, texts_of, values_at, entries_of, Part, Backings, HasGrown, IsValueAt, Enters, heap_values, Gains, Heap}
 use Rattle.serde_json.specs.Data as json
 use Rattle.value_table.proofs.Growth.{value_stable, mapped_stable, items_stable, text_kept, texts_kept}
 use Rattle.value_table.proofs.Listed.{below_le, below_append, items_more}
@@ -9,10 +9,10 @@ use Rattle.value_table.proofs.Named.{place_added}
 pub grown_more : (us vs ws : List Value) → HasGrown us vs → HasGrown vs ws → HasGrown us ws
 grown_more us vs ws a b = (a.0 ++ b.0, b.1 ∙ ap (λ xs. xs ++ b.0) a.1 ∙ append_assoc us a.0 b.0)
 
-pub grown_added : (vs ws : List Value) (v : Value) (r : Result ℕ AllocError) → Adds vs v r ws → HasGrown vs ws
+pub grown_added : (vs ws : List Value) (v : Value) (r : Result ℕ AllocError) → AddsValue vs v r ws → HasGrown vs ws
 grown_added vs ws v r a = grind (arith, append-nil)
 
-pub stands_added : (vs ws : List Value) (v : Value) (i : ℕ) → Adds vs v (Ok i) ws → Stands ws i v
+pub stands_added : (vs ws : List Value) (v : Value) (i : ℕ) → AddsValue vs v (Ok i) ws → IsValueAt ws i v
 stands_added vs ws v i a = let p = place_added vs ws v i a in record { inside = p.0; is = p.1 }
 
 -- one more value
@@ -24,7 +24,7 @@ pub enters_on : (first old new : Heap) (v w : Value) (r : Result ℕ AllocError)
     → Enters first v r new
 enters_on first old new v w r g e h = record { heap = h.heap; grown = grown_more _ _ _ g h.grown; value = rw (← e) h.value }
 
-pub stands_on : (vs ws : List Value) (r : ℕ) (v : Value) → HasGrown vs ws → Stands vs r v → Stands ws r v
+pub stands_on : (vs ws : List Value) (r : ℕ) (v : Value) → HasGrown vs ws → IsValueAt vs r v → IsValueAt ws r v
 stands_on vs ws r v g s = grind (arith, length-append, value_stable)
 
 -- ---- lists
@@ -44,9 +44,9 @@ pub record ItemsStand (all : Items) (vs : List Value) (places : List ℕ) (rest 
   pub whole : items_have_other rest ≡ false
   pub ordered : AreItemsOrdered (plain_items rest)
 
-pub items_step : (all : Items) (us vs : List Value) (places places' : List ℕ) (r : ℕ) (d : json.Data) (rest : json.Items) → places' ≡ places ++ r ∷ []
-    → HasGrown us vs → Stands vs r (plain_value d) → ItemsStand all us places (json.item d rest) → ItemsStand all vs places' rest
-items_step all us vs places places' r d rest e up s g =
+pub items_step : (all : Items) (us vs : List Value) (places : List ℕ) (r : ℕ) (d : json.Data) (rest : json.Items) → HasGrown us vs
+    → IsValueAt vs r (plain_value d) → ItemsStand all us places (json.item d rest) → ItemsStand all vs (places ++ r ∷ []) rest
+items_step all us vs places r d rest up s g =
     grind (arith, items_stable, items_more, length-append, join_pushed, below_append, below_le, or_parts)
 
 pub items_end : (all : Items) (vs : List Value) (places : List ℕ) (rest : json.Items) → ItemsStand all vs places rest → rest ≡ json.no_items
@@ -68,10 +68,9 @@ texts_append : (bytes : List ℕ) (ks : List Part) (k : Part) → AreTexts bytes
 texts_append bytes [] k h t = (t, tt)
 texts_append bytes (j ∷ ks) k h t = (h.0, texts_append bytes ks k h.1 t)
 
-pub keys_step : (bs cs : Backings) (keys keys' : List (List ℕ)) (parts parts' : List Part) (k : Part) (key : List ℕ) → keys' ≡ keys ++ key ∷ []
-    → parts' ≡ parts ++ k ∷ [] → Extends bs cs → IsText cs.bytes k → part_of cs.bytes k ≡ key → KeysStand keys bs.bytes parts
-    → KeysStand keys' cs.bytes parts'
-keys_step bs cs keys keys' parts parts' k key d e up t is g = grind (arith, texts_same, map-append, ap₂, texts_append, texts_kept)
+pub keys_step : (bs cs : Backings) (keys : List (List ℕ)) (parts : List Part) (k : Part) (key : List ℕ) → ExtendsBackings bs cs → IsText cs.bytes k
+    → part_of cs.bytes k ≡ key → KeysStand keys bs.bytes parts → KeysStand (keys ++ key ∷ []) cs.bytes (parts ++ k ∷ [])
+keys_step bs cs keys parts k key up t is g = grind (arith, texts_same, map-append, ap₂, texts_append, texts_kept)
 
 -- the entries with these keys
 pub entries_stand : (bytes : List ℕ) (us vs : List Value) (keys all : List (List ℕ)) (parts : List Part) (places : List ℕ) → keys ≡ all
@@ -89,10 +88,16 @@ pub record MembersStand (all : Entries) (vs : List Value) (keys : List (List ℕ
   pub whole : members_have_other rest ≡ false
   pub ordered : AreEntriesOrdered (plain_entries rest)
 
-pub members_step : (all : Entries) (us vs : List Value) (keys keys' : List (List ℕ)) (places places' : List ℕ) (r : ℕ) (key : List ℕ) (d : json.Data) (rest : json.Members)
-    → keys' ≡ keys ++ key ∷ [] → places' ≡ places ++ r ∷ [] → HasGrown us vs → Stands vs r (plain_value d)
-    → MembersStand all us keys places (json.member key d rest) → MembersStand all vs keys' places' rest
-members_step all us vs keys keys' places places' r key d rest k e up s m =
+-- the values have grown, and a value is among them
+pub record HasAdded (us vs : List Value) (r : ℕ) (v : Value) : Type 0 where
+  pub grown : HasGrown us vs
+  pub value : IsValueAt vs r v
+
+pub members_step : (all : Entries) (us vs : List Value) (keys : List (List ℕ)) (places : List ℕ) (r : ℕ) (key : List ℕ) (d : json.Data) (rest : json.Members)
+    → HasAdded us vs r (plain_value d) → MembersStand all us keys places (json.member key d rest) → MembersStand all vs (keys ++ key ∷ []) (places ++ r ∷ []) rest
+members_step all us vs keys places r key d rest added m =
+    let up = added.grown in
+    let s = added.value in
     let left = values_of (plain_entries rest) in
     let kept : values_at vs places ≡ values_at us places = ap (λ ws. values_at ws places) up.1 ∙ mapped_stable (λ v. v) us up.0 places m.below in
     grind (arith, map-append, length-append, append_assoc, below_append, below_le, or_parts)

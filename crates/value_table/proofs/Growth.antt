@@ -1,5 +1,5 @@
 -- Values stay when backings grow and when values come behind them.
-use Rattle.value_table.proofs.Prelude.{◌≡◌, ℕ, zero, suc, ◌+◌, ◌<◌, ◌≤◌, List, [], ◌∷◌, ◌++◌, length, get_or, take, drop, map, refl, sym, ap, ap₂, ◌∙◌, arith, length-append, append_assoc, append-nil, subst, zero-add, length-drop, Some, slice_get, slice_range, take-append-le, drop-append-le, get_or_append_left, get_or-append_seam, Value, part_of, value_in, items_at, entries_at, refs_at, keys_at, meaning, grown, IsText, AreTexts, AreBelow, IsRange, AreKeys, IsContent, IsCell, AreCells, Extends, Found, Part, Content, Cell, Backings}
+use Rattle.value_table.proofs.Prelude.{◌≡◌, ℕ, zero, suc, ◌+◌, ◌<◌, ◌≤◌, List, [], ◌∷◌, ◌++◌, length, get_or, take, drop, map, refl, sym, ap, ap₂, ◌∙◌, arith, length-append, append_assoc, append-nil, subst, zero-add, length-drop, Some, slice_get, slice_range, take-append-le, drop-append-le, get_or_append_left, get_or-append_seam, Value, part_of, value_in, items_at, entries_at, refs_at, keys_at, meaning, grown, IsText, AreTexts, AreBelow, IsRange, AreKeys, IsContent, IsCell, AreCells, ExtendsBackings, CellFound, Part, Content, Cell, Backings}
 use Rattle.value_store.specs.Value as kind
 use Rattle.value_table.specs.declared.content.Content.TheVariants as cell
 
@@ -20,22 +20,22 @@ entries_kept : (bytes rest : List ℕ) (vs : List Value) (ks : List Part) (rs : 
 entries_kept bytes rest vs (k ∷ ks) (r ∷ rs) h = rw ((text_kept bytes rest k h.0).0, entries_kept bytes rest vs ks rs h.1)
 entries_kept bytes rest vs _ _ h = refl
 
-refs_kept : (bs cs : Backings) (i b n : ℕ) → Extends bs cs → IsRange bs.lists i b n → refs_at cs.lists b n ≡ refs_at bs.lists b n
+refs_kept : (bs cs : Backings) (i b n : ℕ) → ExtendsBackings bs cs → IsRange bs.lists i b n → refs_at cs.lists b n ≡ refs_at bs.lists b n
 refs_kept bs cs i b n e h = let m = e.items b h.inside in rw m.1 (take-append-le n (get_or bs.lists b []) m.0 h.long)
 
-range_stays : (bs cs : Backings) (i b n : ℕ) → Extends bs cs → IsRange bs.lists i b n → IsRange cs.lists i b n
+range_stays : (bs cs : Backings) (i b n : ℕ) → ExtendsBackings bs cs → IsRange bs.lists i b n → IsRange cs.lists i b n
 range_stays bs cs i b n e h =
     let m = e.items b h.inside in
     let longer = length-append (get_or bs.lists b []) m.0 in
     record { inside = omega (arith, h.inside, e.lists); long = rw m.1 (omega (arith, h.long, longer)); below = rw (refs_kept bs cs i b n e h) h.below }
 
-keys_kept : (bs cs : Backings) (k n : ℕ) → Extends bs cs → AreKeys bs.bytes bs.keys k n → keys_at cs.keys k n ≡ keys_at bs.keys k n
+keys_kept : (bs cs : Backings) (k n : ℕ) → ExtendsBackings bs cs → AreKeys bs.bytes bs.keys k n → keys_at cs.keys k n ≡ keys_at bs.keys k n
 keys_kept bs cs k n e h = let m = e.keys in rw m.1 (range_kept bs.keys m.0 k (k + n) (omega arith) h.inside)
 
-keys_stay : (bs cs : Backings) (k n : ℕ) → Extends bs cs → AreKeys bs.bytes bs.keys k n → AreKeys cs.bytes cs.keys k n
+keys_stay : (bs cs : Backings) (k n : ℕ) → ExtendsBackings bs cs → AreKeys bs.bytes bs.keys k n → AreKeys cs.bytes cs.keys k n
 keys_stay bs cs k n e h = grind (arith, length-append, keys_kept, texts_kept)
 
-pub meaning_kept : (bs cs : Backings) (i : ℕ) (vs : List Value) (c : Content) → Extends bs cs → IsContent bs i c → meaning cs vs c ≡ meaning bs vs c
+pub meaning_kept : (bs cs : Backings) (i : ℕ) (vs : List Value) (c : Content) → ExtendsBackings bs cs → IsContent bs i c → meaning cs vs c ≡ meaning bs vs c
 meaning_kept bs cs i vs (cell.Text p) e h = rw e.bytes.1 (ap kind.text (text_kept bs.bytes e.bytes.0 p h).0)
 meaning_kept bs cs i vs (cell.List b n) e h = rw (refs_kept bs cs i b n e h)
 meaning_kept bs cs i vs (cell.Map k b n) e h =
@@ -43,21 +43,21 @@ meaning_kept bs cs i vs (cell.Map k b n) e h =
     (ap kind.map (entries_kept bs.bytes e.bytes.0 vs (keys_at bs.keys k n) (refs_at bs.lists b n) h.1.texts))
 meaning_kept bs cs i vs _ e h = refl
 
-pub content_kept : (bs cs : Backings) (i : ℕ) (c : Content) → Extends bs cs → IsContent bs i c → IsContent cs i c
+pub content_kept : (bs cs : Backings) (i : ℕ) (c : Content) → ExtendsBackings bs cs → IsContent bs i c → IsContent cs i c
 content_kept bs cs i (cell.Text p) e h = rw e.bytes.1 (text_kept bs.bytes e.bytes.0 p h).1
 content_kept bs cs i (cell.List b n) e h = range_stays bs cs i b n e h
 content_kept bs cs i (cell.Map k b n) e h = (range_stays bs cs i b n e h.0, keys_stay bs cs k n e h.1)
 content_kept bs cs i _ e h = tt
 
-cell_kept : (bs cs : Backings) (vs : List Value) (c : Cell) → Extends bs cs → IsCell bs vs c → IsCell cs vs c
+cell_kept : (bs cs : Backings) (vs : List Value) (c : Cell) → ExtendsBackings bs cs → IsCell bs vs c → IsCell cs vs c
 cell_kept bs cs vs c e h = grind (arith, meaning_kept, content_kept)
 
 -- every old value stays when backings grow
-pub grown_kept : (bs cs : Backings) (vs : List Value) (xs : List Cell) → Extends bs cs → AreCells bs vs xs → grown cs vs xs ≡ grown bs vs xs
+pub grown_kept : (bs cs : Backings) (vs : List Value) (xs : List Cell) → ExtendsBackings bs cs → AreCells bs vs xs → grown cs vs xs ≡ grown bs vs xs
 grown_kept bs cs vs [] e h = refl
 grown_kept bs cs vs (c ∷ xs) e h = grind (arith, meaning_kept, grown_kept bs cs (vs ++ meaning bs vs c.content ∷ []) xs e h.1)
 
-pub cells_kept : (bs cs : Backings) (vs : List Value) (xs : List Cell) → Extends bs cs → AreCells bs vs xs → AreCells cs vs xs
+pub cells_kept : (bs cs : Backings) (vs : List Value) (xs : List Cell) → ExtendsBackings bs cs → AreCells bs vs xs → AreCells cs vs xs
 cells_kept bs cs vs [] e h = tt
 cells_kept bs cs vs (c ∷ xs) e h = grind (arith, cell_kept, meaning_kept, cells_kept bs cs (vs ++ meaning bs vs c.content ∷ []) xs e h.1)
 
@@ -106,22 +106,22 @@ pub grows : (bs : Backings) (vs : List Value) (xs : List Cell) → (more : List 
 grows bs vs [] = ([], sym (append-nil vs))
 grows bs vs (c ∷ xs) = grind (arith, append_assoc, grows bs (vs ++ meaning bs vs c.content ∷ []) xs)
 
-here : (bs : Backings) (vs : List Value) (xs : List Cell) (c : Cell) → AreCells bs vs (c ∷ xs) → Found bs (grown bs vs (c ∷ xs)) (length vs) c
+here : (bs : Backings) (vs : List Value) (xs : List Cell) (c : Cell) → AreCells bs vs (c ∷ xs) → CellFound bs (grown bs vs (c ∷ xs)) (length vs) c
 here bs vs xs c h =
     let g = grows bs (vs ++ meaning bs vs c.content ∷ []) xs in
     grind (arith, append_assoc, meaning_stable, length-append, get_or-append_seam)
 
 found_at : (bs : Backings) (vs : List Value) (xs : List Cell) (r : ℕ) (c : Cell) → slice_get xs r ≡ Some c → AreCells bs vs xs
-    → Found bs (grown bs vs xs) (length vs + r) c
+    → CellFound bs (grown bs vs xs) (length vs + r) c
 found_at bs vs [] r c e h = absurd (cc)
 found_at bs vs (d ∷ xs) zero c e h =
     let s : d ≡ c = cc in
     let k : length vs ≡ length vs + zero = omega arith in
-    subst (λ i. Found bs (grown bs vs (d ∷ xs)) i c) k (subst (Found bs (grown bs vs (d ∷ xs)) (length vs)) s (here bs vs xs d h))
+    subst (λ i. CellFound bs (grown bs vs (d ∷ xs)) i c) k (subst (CellFound bs (grown bs vs (d ∷ xs)) (length vs)) s (here bs vs xs d h))
 found_at bs vs (d ∷ xs) (suc r) c e h =
     let n : length (vs ++ meaning bs vs d.content ∷ []) ≡ length vs + 1 = length-append vs (meaning bs vs d.content ∷ []) in
     let k : length (vs ++ meaning bs vs d.content ∷ []) + r ≡ length vs + suc r = omega (arith, n) in
-    subst (λ i. Found bs (grown bs vs (d ∷ xs)) i c) k (found_at bs (vs ++ meaning bs vs d.content ∷ []) xs r c e h.1)
+    subst (λ i. CellFound bs (grown bs vs (d ∷ xs)) i c) k (found_at bs (vs ++ meaning bs vs d.content ∷ []) xs r c e h.1)
 
-pub found : (bs : Backings) (xs : List Cell) (r : ℕ) (c : Cell) → slice_get xs r ≡ Some c → AreCells bs [] xs → Found bs (grown bs [] xs) r c
-found bs xs r c e h = subst (λ i. Found bs (grown bs [] xs) i c) (zero-add r) (found_at bs [] xs r c e h)
+pub found : (bs : Backings) (xs : List Cell) (r : ℕ) (c : Cell) → slice_get xs r ≡ Some c → AreCells bs [] xs → CellFound bs (grown bs [] xs) r c
+found bs xs r c e h = subst (λ i. CellFound bs (grown bs [] xs) i c) (zero-add r) (found_at bs [] xs r c e h)

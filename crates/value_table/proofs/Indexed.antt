@@ -1,5 +1,5 @@
 -- What an index knows of items, and what a search passes by it.
-use Rattle.value_table.proofs.Prelude.{◌≡◌, ℕ, zero, suc, ◌+◌, ◌<◌, ◌≤◌, min, List, [], ◌∷◌, ◌++◌, length, get_or, take, drop, set, Bool, true, false, cond, bytes_eq, Option, Some, None, slice_get, refl, sym, ap, ◌∙◌, subst, arith, true≢false, length-append, if◌then◌else◌, option_map, is_some, nat_le, ◌||◌, slice_index_or, get_by_text, update, drop-nil, false_from_ne_true, nat_tests, take_more, take-append-le, map-append, get_or-take, length-take-le, slice_get-get_or, bytes_eq-Decides as bytes_decides, Value, json_text, equal, has_item, equal_decides, value_in, items_at, refs_at, grown, json_length, AreBelow, IsRange, AreCells, Extends, place_among, looked_up_by, texts_at, IsIndex, Covers, IsIndexed, AreIndexes, AreKnown, Cell, Index, Backings}
+use Rattle.value_table.proofs.Prelude.{◌≡◌, ℕ, zero, suc, ◌+◌, ◌<◌, ◌≤◌, min, List, [], ◌∷◌, ◌++◌, length, get_or, take, drop, set, Bool, true, false, cond, bytes_eq, Option, Some, None, slice_get, refl, sym, ap, ◌∙◌, subst, arith, true≢false, length-append, if◌then◌else◌, option_map, is_some, nat_le, ◌||◌, slice_index_or, get_by_text, update, drop-nil, false_from_ne_true, nat_tests, take_more, take-append-le, map-append, get_or-take, length-take-le, slice_get-get_or, bytes_eq-Decides as bytes_decides, Value, json_text, equal, has_item, equal_decides, value_in, items_at, refs_at, grown, json_length, AreBelow, IsRange, AreCells, ExtendsBackings, place_among, looked_up_by, texts_at, IsIndex, Covers, IsIndexed, AreIndexes, AreKnown, Cell, Index, Backings}
 use Rattle.value_table.proofs.Growth.{mapped_stable, found, count_values}
 use Rattle.value_table.proofs.Walks.{below_here}
 use Rattle.value_table.proofs.Listed.{below_le, below_append}
@@ -73,10 +73,17 @@ skips_from vs x rs n k s o h e f = skips vs x rs n k h ∙ ap (λ i. has_item x 
 
 -- ---- one more item
 
+-- an index with one more text
+pub record AddsText (old new : Index) (k : List ℕ) : Type 0 where
+  pub backing : new.backing ≡ old.backing
+  pub count : new.count ≡ old.count + 1
+  pub texts : (ts : List (List ℕ)) → IsIndex old ts → IsIndex new (ts ++ k ∷ [])
+
 pub covers_more : (vs : List Value) (rs : List ℕ) (old new : Index) (d : ℕ) (k : List ℕ) → Covers vs rs old → old.count < length rs
-    → get_or rs old.count d < length vs → new.count ≡ old.count + 1 → k ≡ looked_up_by (value_in vs (get_or rs old.count d))
-    → ((ts : List (List ℕ)) → IsIndex old ts → IsIndex new (ts ++ k ∷ [])) → Covers vs rs new
-covers_more vs rs old new d k h inside low n is more =
+    → get_or rs old.count d < length vs → k ≡ looked_up_by (value_in vs (get_or rs old.count d)) → AddsText old new k → Covers vs rs new
+covers_more vs rs old new d k h inside low is adds =
+    let n = adds.count in
+    let more = adds.texts in
     let r = get_or rs old.count d in
     let t : take new.count rs ≡ take old.count rs ++ r ∷ [] = ap (λ c. take c rs) n ∙ take_more rs old.count d inside in
     grind (arith, map-append, below_append)
@@ -90,7 +97,7 @@ ref_below lists i b n k d h l = below_here i (refs_at lists b n) k d h.below (om
 
 -- ---- indexes stay when backings and values grow
 
-indexed_kept : (bs cs : Backings) (vs ws : List Value) (x : Index) → Extends bs cs → IsIndexed bs vs x → IsIndexed cs (vs ++ ws) x
+indexed_kept : (bs cs : Backings) (vs ws : List Value) (x : Index) → ExtendsBackings bs cs → IsIndexed bs vs x → IsIndexed cs (vs ++ ws) x
 indexed_kept bs cs vs ws x e h =
     let m = e.items x.backing h.inside in
     let old = get_or bs.lists x.backing [] in
@@ -103,25 +110,39 @@ indexed_kept bs cs vs ws x e h =
 pub new_indexed : (bs : Backings) (vs : List Value) (x : Index) (b : ℕ) → b < length bs.lists → x.backing ≡ b → IsIndex x [] → IsIndexed bs vs x
 new_indexed bs vs x b inside is h = grind arith
 
+-- an index of the first `n` items of a backing that is not full yet
+pub record IsFilling (bs : Backings) (vs : List Value) (index : Index) (i b n : ℕ) : Type 0 where
+  pub indexed : IsIndexed bs vs index
+  pub range : IsRange bs.lists i b n
+  pub long : length vs ≡ i
+  pub at : index.backing ≡ b
+  pub left : index.count < n
+
 -- one with one more text
-pub entered : (bs : Backings) (vs : List Value) (old new : Index) (i b n : ℕ) (k : List ℕ) → IsIndexed bs vs old → IsRange bs.lists i b n → length vs ≡ i
-    → old.backing ≡ b → old.count < n → new.backing ≡ old.backing → new.count ≡ old.count + 1
-    → k ≡ looked_up_by (value_in vs (get_or (refs_at bs.lists b n) old.count 0)) → ((ts : List (List ℕ)) → IsIndex old ts → IsIndex new (ts ++ k ∷ []))
-    → IsIndexed bs vs new
-entered bs vs old new i b n k h range long at lt same more is put =
+pub entered : (bs : Backings) (vs : List Value) (old new : Index) (i b n : ℕ) (k : List ℕ) → IsFilling bs vs old i b n
+    → k ≡ looked_up_by (value_in vs (get_or (refs_at bs.lists b n) old.count 0)) → AddsText old new k → IsIndexed bs vs new
+entered bs vs old new i b n k fills is adds =
+    let h = fills.indexed in
+    let range = fills.range in
+    let long = fills.long in
+    let at = fills.at in
+    let lt = fills.left in
+    let same = adds.backing in
+    let more = adds.count in
     let it = item_at bs.lists i b n old.count 0 range lt in
     let c : Covers vs (get_or bs.lists b []) old = subst (λ j. Covers vs (get_or bs.lists j []) old) at h.covers in
-    let d = covers_more vs (get_or bs.lists b []) old new 0 k c it.2 (omega arith) more (is ∙ ap (λ r. looked_up_by (value_in vs r)) it.0) put in
+    let d = covers_more vs (get_or bs.lists b []) old new 0 k c it.2 (omega arith) (is ∙ ap (λ r. looked_up_by (value_in vs r)) it.0) adds in
     grind arith
 
 -- what a search passes
-pub skips_by : (bs : Backings) (vs : List Value) (x : Value) (y : Index) (b n s : ℕ) (o : Option ℕ) (t : List ℕ) → IsIndexed bs vs y → y.backing ≡ b
-    → n ≤ y.count → t ≡ looked_up_by x → ((ts : List (List ℕ)) → IsIndex y ts → o ≡ place_among t ts) → s ≡ start_of o n
-    → has_item x (items_at vs (refs_at bs.lists b n)) ≡ has_item x (items_at vs (drop s (refs_at bs.lists b n)))
-skips_by bs vs x y b n s o t h is long e find f =
-    let rs = get_or bs.lists b [] in
-    let c : Covers vs rs y = subst (λ j. Covers vs (get_or bs.lists j []) y) is h.covers in
-    skips_from vs x rs n y.count s o long (find _ c.index ∙ ap (λ u. place_among u (texts_at vs (take y.count rs))) e) f
+-- the place of a text by an index
+abbrev pub IsFoundBy : Index → List ℕ → Option ℕ → Type 0
+IsFoundBy y text o = (ts : List (List ℕ)) → IsIndex y ts → o ≡ place_among text ts
+
+pub skips_by : (bs : Backings) (vs : List Value) (x : Value) (y : Index) (n s : ℕ) (o : Option ℕ) → IsIndexed bs vs y → n ≤ y.count
+    → IsFoundBy y (looked_up_by x) o → s ≡ start_of o n
+    → has_item x (items_at vs (refs_at bs.lists y.backing n)) ≡ has_item x (items_at vs (drop s (refs_at bs.lists y.backing n)))
+skips_by bs vs x y n s o h long find f = skips_from vs x (get_or bs.lists y.backing []) n y.count s o long (find _ h.covers.index) f
 
 pub below_drop : (i s : ℕ) (rs : List ℕ) → AreBelow i rs → AreBelow i (drop s rs)
 below_drop i zero rs h = h
@@ -146,7 +167,7 @@ was_set bs vs (z ∷ xs) zero y h k (suc i) x e = h (suc i) x e
 was_set bs vs (z ∷ xs) (suc s) y h k zero x e = h zero x e
 was_set bs vs (z ∷ xs) (suc s) y h k (suc i) x e = was_set bs vs xs s y (λ j w f. h (suc j) w f) k i x e
 
-pub indexes_kept : (bs cs : Backings) (vs ws : List Value) (xs : List Index) → Extends bs cs → AreIndexes bs vs xs → AreIndexes cs (vs ++ ws) xs
+pub indexes_kept : (bs cs : Backings) (vs ws : List Value) (xs : List Index) → ExtendsBackings bs cs → AreIndexes bs vs xs → AreIndexes cs (vs ++ ws) xs
 indexes_kept bs cs vs ws xs e h = record { each = λ i x at. indexed_kept bs cs vs ws x e (h.each i x at) }
 
 pub indexes_push : (bs : Backings) (vs : List Value) (xs ys : List Index) (y : Index) → ys ≡ xs ++ y ∷ [] → AreIndexes bs vs xs → IsIndexed bs vs y

@@ -1,9 +1,9 @@
 -- Lists made of others.
-use Rattle.value_table.proofs.Prelude.{◌≡◌, ℕ, suc, ◌+◌, ◌-◌, ◌<◌, ◌≤◌, List, [], ◌∷◌, ◌++◌, length, refl, ap, arith, subst, max, Option, Some, IfSome, Value, item, list_of, items_push, items_join, items_depth, IsOrdered, saturated, push_of, join_of, push_ordered, join_ordered, push_depth, join_depth, value_in, items_at, refs_at, meaning, AreBelow, IsRange, IsCell, Found, Holds, commas, Cell, Backings}
+use Rattle.value_table.proofs.Prelude.{◌≡◌, ℕ, suc, ◌+◌, ◌-◌, ◌<◌, ◌≤◌, List, [], ◌∷◌, ◌++◌, length, refl, ap, arith, subst, max, Option, Some, IfSome, Value, item, list_of, items_push, items_join, items_depth, IsOrdered, saturated, push_of, join_of, push_ordered, join_ordered, push_depth, join_depth, value_in, items_at, refs_at, meaning, AreBelow, IsRange, IsCell, CellFound, HoldsItems, commas, Cell, Content, Backings}
 use Rattle.value_store.specs.Value as kind
 use Rattle.value_table.proofs.Heads.{taken_long}
 use Rattle.value_table.proofs.TextLengths.{push_long, join_long, list_long}
-use Rattle.value_table.specs.declared.content.Content.TheVariants as cell
+use Rattle.value_table.specs.declared.content.Content.TheVariants as content
 
 -- a cell that may be placed, and what is due
 pub record Made (bs : Backings) (vs : List Value) (c : Cell) (due : Option Value) : Type 0 where
@@ -43,19 +43,41 @@ pub record ListFound (bs : Backings) (vs : List Value) (l b n deep : ℕ) : Type
   pub ordered : IsOrdered (value_in vs l)
   pub count : length (list_of (items_at vs (refs_at bs.lists b n))) ≡ n
 
-pub list_found : (bs : Backings) (vs : List Value) (l b n : ℕ) (c : Cell) → Found bs vs l c → c.content ≡ cell.List b n → ListFound bs vs l b n c.depth
+pub list_found : (bs : Backings) (vs : List Value) (l b n : ℕ) (c : Cell) → CellFound bs vs l c → c.content ≡ content.List b n → ListFound bs vs l b n c.depth
 list_found bs vs l b n c f e = grind (arith, items_length, taken_long)
 
 -- a list's text has its two brackets
-pub list_brackets : (bs : Backings) (vs : List Value) (l b n : ℕ) (c : Cell) → Found bs vs l c → c.content ≡ cell.List b n → 2 ≤ c.json
+pub list_brackets : (bs : Backings) (vs : List Value) (l b n : ℕ) (c : Cell) → CellFound bs vs l c → c.content ≡ content.List b n → 2 ≤ c.json
 list_brackets bs vs l b n c f e = grind (arith, list_long)
 
-pub list_pushed : (bs cs : Backings) (vs : List Value) (l x b n c d j : ℕ) (lc xc : Cell) → Found bs vs l lc → Found bs vs x xc → lc.content ≡ cell.List b n → Holds cs.lists c (n + 1) (refs_at bs.lists b n ++ x ∷ []) → d ≡ max lc.depth (xc.depth + 1) → j ≡ saturated (lc.json + commas n 1 + xc.json)
-    → Made cs vs (record { content = cell.List c (n + 1); depth = d; json = j }) (push_of (value_in vs l) (value_in vs x))
-list_pushed bs cs vs l x b n c d j lc xc fl fx e h deep long =
-    grind (arith, list_found, items_more, below_le, if_made, push_ordered, below_append, push_depth, push_long)
+-- a cell that stands for a list
+pub record ListCell (bs : Backings) (vs : List Value) (l b n : ℕ) : Type 0 where
+  pub cell : Cell
+  pub found : CellFound bs vs l cell
+  pub is : cell.content ≡ content.List b n
 
-pub lists_joined : (bs cs : Backings) (vs : List Value) (l x b n b' n' c d j : ℕ) (lc xc : Cell) → Found bs vs l lc → Found bs vs x xc → lc.content ≡ cell.List b n → xc.content ≡ cell.List b' n' → Holds cs.lists c (n + n') (refs_at bs.lists b n ++ refs_at bs.lists b' n') → d ≡ max lc.depth xc.depth → j ≡ saturated (lc.json + commas n n' + (xc.json - 2))
-    → Made cs vs (record { content = cell.List c (n + n'); depth = d; json = j }) (join_of (value_in vs l) (value_in vs x))
-lists_joined bs cs vs l x b n b' n' c d j lc xc fl fx e e' h deep long =
-    grind (arith, list_found, items_both, list_long, below_le, if_made, join_ordered, below_append, join_depth, join_long)
+-- a cell may be measured anew by equal numbers
+pub made_by : {bs : Backings} {vs : List Value} {x : Content} {d e j k : ℕ} {due : Option Value} → d ≡ e → j ≡ k
+    → Made bs vs (record { content = x; depth = e; json = k }) due → Made bs vs (record { content = x; depth = d; json = j }) due
+made_by deep long made = rw (deep, long) made
+
+-- lists made of those at two places
+module _ (bs cs : Backings) (vs : List Value) where
+  pub list_pushed : (l x b n c : ℕ) (xc : Cell) (list : ListCell bs vs l b n) → CellFound bs vs x xc → HoldsItems cs.lists c (n + 1) (refs_at bs.lists b n ++ x ∷ [])
+      → Made cs vs (record { content = content.List c (n + 1); depth = max list.cell.depth (xc.depth + 1); json = saturated (list.cell.json + commas n 1 + xc.json) }) (push_of (value_in vs l) (value_in vs x))
+  list_pushed l x b n c xc list fx h =
+      let lc = list.cell in
+      let fl = list.found in
+      let e = list.is in
+      grind (arith, list_found, items_more, below_le, if_made, push_ordered, below_append, push_depth, push_long)
+
+  pub lists_joined : (l x b n b' n' c : ℕ) (first : ListCell bs vs l b n) (second : ListCell bs vs x b' n') → HoldsItems cs.lists c (n + n') (refs_at bs.lists b n ++ refs_at bs.lists b' n')
+      → Made cs vs (record { content = content.List c (n + n'); depth = max first.cell.depth second.cell.depth; json = saturated (first.cell.json + commas n n' + (second.cell.json - 2)) }) (join_of (value_in vs l) (value_in vs x))
+  lists_joined l x b n b' n' c first second h =
+      let lc = first.cell in
+      let xc = second.cell in
+      let fl = first.found in
+      let fx = second.found in
+      let e = first.is in
+      let e' = second.is in
+      grind (arith, list_found, items_both, list_long, below_le, if_made, join_ordered, below_append, join_depth, join_long)

@@ -1,5 +1,5 @@
 -- The place of a key that a search finds.
-use Rattle.value_table.proofs.Prelude.{◌≡◌, ℕ, zero, suc, ◌<◌, List, [], ◌∷◌, inl, inr, length, get_or, Some, None, slice_get, false, true≢false, refl, sym, ap, ◌∙◌, subst, arith, bytes_eq, if◌then◌else◌, option_map, Less, nat_cmp, is_eq, slice_cmp, cases_lt, cond-false, cond-true, false_from_ne_true, is_eq-slice_cmp, bytes_eq-Decides, same_Some, get_or_from_slice_get, Ascend, IsOrdered, Value, Entries, no_entries, entry, keys_of, entries_part, place_of_key, value_in, entries_at, refs_at, keys_at, meaning, IsContent, Found, texts_of, Cell, Backings, IsAt, IsGap, place_among}
+use Rattle.value_table.proofs.Prelude.{◌≡◌, ℕ, zero, suc, ◌<◌, List, [], ◌∷◌, inl, inr, length, get_or, Some, None, slice_get, false, true≢false, refl, sym, ap, ◌∙◌, subst, arith, bytes_eq, if◌then◌else◌, option_map, Less, nat_cmp, is_eq, slice_cmp, cases_lt, cond-false, cond-true, false_from_ne_true, is_eq-slice_cmp, bytes_eq-Decides, same_Some, get_or_from_slice_get, Ascend, IsOrdered, Value, Entries, no_entries, entry, keys_of, entries_part, place_of_key, value_in, entries_at, refs_at, keys_at, meaning, IsContent, CellFound, texts_of, Cell, Backings, IsKeyAt, IsInsertionPlace, place_among}
 use Rattle.std.specs.List.Sorted.{IsStrictlySortedBy}
 use Rattle.value_store.specs.Value.{map}
 use Rattle.value_table.specs.declared.content.Content.TheVariants as cell
@@ -30,7 +30,7 @@ at_place key (k ∷ ks) (suc i) a h e =
     let less : slice_cmp nat_cmp k key ≡ Less = ap (slice_cmp nat_cmp k) (sym here) ∙ below in
     cond-false (bytes_eq k key) _ _ (unequal k key (ordered_apart k key (ap is_eq less))) ∙ ap (option_map suc) (at_place key ks i a.1 (omega arith) e)
 
-pub found_place : (key : List ℕ) (ks : List (List ℕ)) (i : ℕ) → Ascend ks → IsAt ks key i → place_among key ks ≡ Some i
+pub found_place : (key : List ℕ) (ks : List (List ℕ)) (i : ℕ) → Ascend ks → IsKeyAt ks key i → place_among key ks ≡ Some i
 found_place key ks i a h = at_place key ks i a h.inside h.is
 
 -- ---- a key that is not there
@@ -41,7 +41,7 @@ no_place key (k ∷ ks) f =
     let apart = λ (s : k ≡ key). ordered_apart key k (f 0 [] (omega arith)) (sym s) in
     cond-false (bytes_eq k key) _ _ (unequal k key apart) ∙ ap (option_map suc) (no_place key ks (λ j d h. f (suc j) d (omega arith)))
 
-pub missing_place : (key : List ℕ) (ks : List (List ℕ)) (i : ℕ) → IsGap ks key i → place_among key ks ≡ None
+pub missing_place : (key : List ℕ) (ks : List (List ℕ)) (i : ℕ) → IsInsertionPlace ks key i → place_among key ks ≡ None
 missing_place key ks i g = no_place key ks (λ j d h. elim (cases_lt j i) [ inl b ↦ ap is_eq (g.before j d b) | inr b ↦ ap is_eq (g.behind j d b h) ])
 
 -- ---- the map of a cell
@@ -52,7 +52,7 @@ pub record MapHere (bs : Backings) (v : Value) (k n : ℕ) : Type 0 where
   pub keys : keys_of entries ≡ texts_of bs.bytes (keys_at bs.keys k n)
   pub ordered : Ascend (texts_of bs.bytes (keys_at bs.keys k n))
 
-pub map_here : (bs : Backings) (vs : List Value) (r : ℕ) (c : Cell) (k b n : ℕ) → Found bs vs r c → c.content ≡ cell.Map k b n → MapHere bs (value_in vs r) k n
+pub map_here : (bs : Backings) (vs : List Value) (r : ℕ) (c : Cell) (k b n : ℕ) → CellFound bs vs r c → c.content ≡ cell.Map k b n → MapHere bs (value_in vs r) k n
 map_here bs vs r c k b n f e =
     let m = ap (meaning bs vs) e in
     let keys = map_keys bs vs r k b n (subst (IsContent bs r) e f.content) in

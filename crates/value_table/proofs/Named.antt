@@ -1,5 +1,5 @@
 -- Values by reference, as cells and references come.
-use Rattle.value_table.proofs.Prelude.{◌≡◌, ℕ, zero, suc, ◌+◌, ◌<◌, true, List, [], ◌∷◌, ◌++◌, length, get_or, refl, sym, ap, ap₂, ◌∙◌, arith, length-append, append_assoc, subst, Option, Some, None, Ok, slice_get, IfSome, IsSome, option_map, slice_get-get_or, get_or-append_seam, Value, ValueOrError, error, value, put_values, result_depth, IsOrdered, AreOrdered, place, placed, is_appended, Places, value_at, text_at, key_at, push_of, join_of, pushed, put_in, part_at, parts_of, value_in, grown, key_in, meaning, reference_of, AreBelow, AreCells, Adds, heap_values, IsHeap, Gains, named, place_at, reference_values, AreReferences, IsPlace, Content, Cell, Backings, Heap}
+use Rattle.value_table.proofs.Prelude.{◌≡◌, ℕ, zero, suc, ◌+◌, ◌<◌, true, List, [], ◌∷◌, ◌++◌, length, get_or, refl, sym, ap, ap₂, ◌∙◌, arith, length-append, append_assoc, subst, Option, Some, None, Ok, slice_get, IfSome, IsSome, option_map, slice_get-get_or, get_or-append_seam, Value, ValueOrError, error, value, put_values, result_depth, IsOrdered, AreOrdered, place, placed, is_appended, Places, value_at, text_at, key_at, push_of, join_of, pushed, put_in, part_at, parts_of, value_in, grown, key_in, meaning, reference_of, AreBelow, AreCells, AddsValue, heap_values, IsHeap, Gains, named, place_at, reference_values, AreReferences, IsPlace, Content, Cell, Backings, Heap}
 use Rattle.value_store.specs.Value as kind
 use Rattle.value_store.specs.Calls.{joined}
 use Rattle.value_table.specs.References.{values_at}
@@ -63,7 +63,7 @@ pub record Grows (t : Heap) (qs : List ℕ) (h : Heap) : Type 0 where
 pub grows_by : (t : Heap) (qs : List ℕ) (h : Heap) (ws : List Value) → AreReferences t qs → IsHeap h → heap_values h ≡ heap_values t ++ ws → Grows t qs h
 grows_by t qs h ws a k e = grind (arith, values_stable, below_le, length-append)
 
-pub place_added : (vs ws : List Value) (v : Value) (i : ℕ) → Adds vs v (Ok i) ws → (i < length ws) × (value_in ws i ≡ v)
+pub place_added : (vs ws : List Value) (v : Value) (i : ℕ) → AddsValue vs v (Ok i) ws → (i < length ws) × (value_in ws i ≡ v)
 place_added vs ws v i e = grind (arith, length-append, get_or-append_seam)
 
 -- ---- one more reference
@@ -91,17 +91,18 @@ pub record Due (given due : Option Value) : Type 0 where
 
 -- ---- a call that makes room first
 
-pub added_some : {t h : Heap} {qs mid ps : List ℕ} {v : Value} {i : ℕ} → AreReferences t qs → Gains t (Some v) (Ok i) h → mid ≡ qs → ps ≡ mid ++ i ∷ []
-    → AreReferences h ps
-added_some {t} {h} {qs} {mid} {ps} {v} {i} a g still e =
-    let grows = grows_by t qs h (v ∷ []) a g.heap g.added.1 in
-    let p = place_added (heap_values t) (heap_values h) v i g.added in
-    name_sound h qs ps i grows.sound p.0 (e ∙ ap (λ rs. rs ++ i ∷ []) still)
+module _ {t h : Heap} {qs mid ps : List ℕ} where
+  pub added_some : {v : Value} {i : ℕ} → AreReferences t qs → Gains t (Some v) (Ok i) h → mid ≡ qs → ps ≡ mid ++ i ∷ []
+      → AreReferences h ps
+  added_some {v} {i} a g still e =
+      let grows = grows_by t qs h (v ∷ []) a g.heap g.added.1 in
+      let p = place_added (heap_values t) (heap_values h) v i g.added in
+      name_sound h qs ps i grows.sound p.0 (e ∙ ap (λ rs. rs ++ i ∷ []) still)
 
-pub added_sound : {t h : Heap} {qs mid ps : List ℕ} {given due : Option Value} {i : ℕ} → Due given due → IsSome given → AreReferences t qs
-    → Gains t due (Ok i) h → mid ≡ qs → ps ≡ mid ++ i ∷ [] → AreReferences h ps
-added_sound {due = None} d is a g still e = absurd (let same = d.same in cc)
-added_sound {due = Some v} d is a g still e = added_some a g still e
+  pub added_sound : {given due : Option Value} {i : ℕ} → Due given due → IsSome given → AreReferences t qs
+      → Gains t due (Ok i) h → mid ≡ qs → ps ≡ mid ++ i ∷ [] → AreReferences h ps
+  added_sound {due = None} d is a g still e = absurd (let same = d.same in cc)
+  added_sound {due = Some v} d is a g still e = added_some a g still e
 
 pub added_placed : (t h : Heap) (qs mid ps : List ℕ) (old : List ValueOrError) (v : Value) (i j : ℕ) → reference_values t qs ≡ old → AreReferences t qs
     → is_appended v ≡ true → Gains t (Some v) (Ok i) h → mid ≡ qs → ps ≡ mid ++ i ∷ [] → j ≡ length mid → Places old v (Ok (j + 1)) (reference_values h ps)
@@ -163,14 +164,15 @@ pub no_depth : (t : Heap) (qs : List ℕ) (h : ℕ) → h < length (reference_va
     → Some 0 ≡ option_map result_depth (slice_get (reference_values t qs) h)
 no_depth t qs h l e = ap (option_map result_depth) (sym (no_place t qs h l e))
 
--- the key of a map by reference
-pub key_due : {t : Heap} {qs : List ℕ} {old : List ValueOrError} {h p : ℕ} (i : ℕ) (s : List ℕ) → reference_values t qs ≡ old → IsPlace t qs h p
-    → key_in (value_in (heap_values t) p) i ≡ Some s → Due (key_at (slice_get old h) i) (Some (kind.text s))
-key_due i s e a k = record { same = ap (λ o. key_at o i) (standing _ _ _ _ _ e a) ∙ ap (option_map kind.text) k; appends = refl }
+module _ {t : Heap} {qs : List ℕ} {old : List ValueOrError} where
+  -- the key of a map by reference
+  pub key_due : {h p : ℕ} (i : ℕ) (s : List ℕ) → reference_values t qs ≡ old → IsPlace t qs h p
+      → key_in (value_in (heap_values t) p) i ≡ Some s → Due (key_at (slice_get old h) i) (Some (kind.text s))
+  key_due i s e a k = record { same = ap (λ o. key_at o i) (standing _ _ _ _ _ e a) ∙ ap (option_map kind.text) k; appends = refl }
 
--- ---- maps
+  -- ---- maps
 
-pub put_due : {t : Heap} {qs : List ℕ} {old : List ValueOrError} {m k x p q r : ℕ} → reference_values t qs ≡ old → IsPlace t qs m p → IsPlace t qs k q
-    → IsPlace t qs x r → Due (put_in (slice_get old m) (slice_get old k) (slice_get old x))
-    (put_values (value_in (heap_values t) p) (value_in (heap_values t) q) (value_in (heap_values t) r))
-put_due e a b c = record { same = rw (standing _ _ _ _ _ e a, standing _ _ _ _ _ e b, standing _ _ _ _ _ e c); appends = grind arith }
+  pub put_due : {m k x p q r : ℕ} → reference_values t qs ≡ old → IsPlace t qs m p → IsPlace t qs k q
+      → IsPlace t qs x r → Due (put_in (slice_get old m) (slice_get old k) (slice_get old x))
+      (put_values (value_in (heap_values t) p) (value_in (heap_values t) q) (value_in (heap_values t) r))
+  put_due e a b c = record { same = rw (standing _ _ _ _ _ e a, standing _ _ _ _ _ e b, standing _ _ _ _ _ e c); appends = grind arith }

@@ -1,11 +1,97 @@
 -- The names that these proofs cite of the library, of the crates below and of the definitions here. Declares nothing.
-pub use Rattle.std.proofs.{Common.Bool, Common.Decides, Common.Err, Common.Global, Common.IfSome, Common.IsSome, Common.List, Common.None, Common.Ok, Common.Option, Common.Result, Common.Some, Common.Vec, Common.ℕ, Common.[], Common.add-one, Common.ap, Common.append-nil, Common.append_assoc, Common.ap₂, Common.arith, Common.bytes_eq, Common.cond, Common.decimal, Common.drop, Common.drop-cons, Common.false, Common.get_or, Common.if◌then◌else◌, Common.inl, Common.inr, Common.is_some, Common.length, Common.length-append, Common.length-drop, Common.length-take, Common.map, Common.max, Common.min, Common.nat_le, Common.nat_lt, Common.not, Common.option_map, Common.refl, Common.rules, Common.set, Common.slice_get, Common.slice_index_or, Common.slice_range, Common.slice_set, Common.string_bytes, Common.subst, Common.suc, Common.sym, Common.take, Common.true, Common.true≢false, Common.unwrap_or, Common.vec_capacity, Common.vec_len, Common.w64, Common.zero, Common.zero-add, Common.◌%◌, Common.◌*◌, Common.◌++◌, Common.◌+◌, Common.◌-◌, Common.◌/◌, Common.◌<◌, Common.◌^◌, Common.◌||◌, Common.◌∙◌, Common.◌∷◌, Common.◌≡◌, Common.◌≤◌, Common.◌⊎◌, Math.Seq.drop-append_seam, Math.Seq.drop-nil, Math.Seq.get_or-append_seam, lemmas.Bool.cases_eq, lemmas.Bool.cases_lt, lemmas.Bool.cond-false, lemmas.Bool.cond-true, lemmas.Bool.false_from_ne_true, lemmas.Bool.ltb-false, lemmas.Bool.ltb-true, lemmas.Bool.or_parts, lemmas.Bool.Decides.nat_tests, lemmas.Cmp.nat_list_cmp_total, lemmas.Fmt.decimal_digit, lemmas.Fmt.decimal_step, lemmas.Fmt.length-decimal-le, lemmas.Int.to_z-of_z, lemmas.List.drop-append-le, lemmas.List.drop_all, lemmas.List.get_or-append_right, lemmas.List.get_or-drop, lemmas.List.get_or-map, lemmas.List.get_or-set_other, lemmas.List.get_or-set_same, lemmas.List.get_or-take, lemmas.List.get_or_append_left, lemmas.List.get_or_default, lemmas.List.length-map, lemmas.List.length-set, lemmas.List.length-take-le, lemmas.List.map-append, lemmas.List.nil_from_length, lemmas.List.take-append-le, lemmas.List.take_all, lemmas.List.take_more, lemmas.Map.Lookups.exact_bytes, lemmas.Map.Text.btree_map_updates_text, lemmas.Map.Text.is_eq-slice_cmp, lemmas.Option.get_or_from_slice_get, lemmas.Option.same_Some, lemmas.Option.slice_get-get_or, lemmas.Option.slice_get-map, lemmas.Option.slice_get_within, lemmas.Option.unwrap_or-slice_get, lemmas.Result.IfOk-weaker, lemmas.Slice.Eq.bytes_eq-Decides, lemmas.Str.IsUtf8-append}
-pub use Rattle.std.specs.{Array.Iter.array_into_iter_items, BTreeMap.get_by_text, Bool.one_answer, Cmp.Lexicographic.slice_cmp, List.AllByRecursion, Map.update, Ordering.is_eq, Ordering.nat_cmp, Ordering.ordering_reverse, Prelude.⊤, Vec.Iter.into_iter_items, Vec.Iter.into_iter_len, declared.alloc.AllocError.AllocError, declared.cmp.Ordering.Ordering, declared.cmp.Ordering.TheVariants.Greater, declared.cmp.Ordering.TheVariants.Less}
-unfoldable pub use Rattle.std.specs.{List.Sorted.IsStrictlySortedBy}
-pub use Rattle.json.specs.{Print.escape, Print.print, Print.quoted, Token.Token}
-unfoldable pub use Rattle.json.specs.{Print.print_from}
-pub use Rattle.serde_json.specs.{View.items_view, View.members_view, View.view, declared.value.Value.the_lemmas}
-pub use Rattle.value_store.proofs.{Equal.equal_decides, Keys.inserted_once, Keys.join_ordered, Keys.push_ordered, Keys.put_ordered, Ordered.value_ordered, Places.has_key_place, Starting.AllWhole, Starting.charged_ok, Starting.due, Starting.refused, Starting.started, Trees.join_depth, Trees.push_depth}
-pub use Rattle.value_store.specs.{Calls.Places, Calls.entries_part, Calls.join_of, Calls.key_at, Calls.part_at, Calls.parts_of, Calls.push_of, Calls.pushed, Calls.put_in, Calls.put_of, Calls.text_at, Calls.value_at, Equality.equal, Json.comma_after, Json.entries_text, Json.items_text, Json.json_text, Json.shown_text, Keys.AreEntriesOrdered, Keys.AreItemsOrdered, Keys.AreOrdered, Keys.Ascend, Keys.IsDocumentOrdered, Keys.IsOrdered, Lookup.has_item, Lookup.inserted, Lookup.inserted_by, Lookup.member, Lookup.place_of_key, Placing.Contents, Placing.first_values, Placing.is_appended, Placing.place, Placing.placed, Plain.charge_in, Plain.plain_entries, Plain.plain_items, Plain.plain_value, Plain.saturated, Roots.Starts, Roots.items_have_other, Roots.members_have_other, Roots.start_contents, Seen.seen, Seen.sees_list, Seen.sees_map, Size.depth_of, Size.entries_depth, Size.items_depth, Size.result_depth, Value.Entries, Value.Items, Value.Value, Value.ValueOrError, Value.boolean, Value.entry, Value.error, Value.int, Value.item, Value.items_join, Value.items_of, Value.items_push, Value.keys_of, Value.list, Value.list_of, Value.no_entries, Value.no_items, Value.text, Value.value, Value.values_of, declared.table_error.TableError.TableError, declared.table_error.TableError.TheVariants.Memory}
-pub use Rattle.value_table.specs.{Chunks.AreChunks, Chunks.AreFull, Chunks.joined, Entries.HoldsKeys, Entries.put_values, Entries.with_one, Equality.AreContents, Equality.AreMeanings, Equality.AreOneClass, Equality.ClassesStay, Equality.Compares, Equality.Finds, Equality.IsRoot, Equality.LeadDown, Equality.Shortens, Equality.way_down, Growing.Enters, Growing.HasGrown, Growing.Stands, Heads.Head, Heads.built, Heads.entries, Heads.entries_of, Heads.head, Heads.items, Heads.parts, Heads.simple, Heads.texts_of, Heads.values_at, Heap.Gains, Heap.IsAsBefore, Heap.IsHeap, Heap.content_at, Heap.heap_values, Heaps.Adds, Heaps.AreBelow, Heaps.AreCells, Heaps.AreKeys, Heaps.AreSame, Heaps.AreTexts, Heaps.Extends, Heaps.Found, Heaps.Holds, Heaps.IsCell, Heaps.IsContent, Heaps.IsRange, Heaps.IsText, Held.Held, Index.AreIndexes, Index.AreKnown, Index.Covers, Index.IsIndex, Index.IsIndexed, Index.texts_at, Lengths.commas, Lengths.json_length, Meaning.entries_at, Meaning.grown, Meaning.items_at, Meaning.key_in, Meaning.keys_at, Meaning.meaning, Meaning.part_of, Meaning.reference_of, Meaning.refs_at, Meaning.value_in, Measures.IsMeasure, References.AreReferences, References.IsPlace, References.named, References.place_at, References.reference_values, Search.IsAt, Search.IsGap, Search.place_among, Start.IsWelcome, Start.StartsWith, Tokens.closing, Tokens.entries_tokens, Tokens.head_keys, Tokens.items_tokens, Tokens.name_tokens, Tokens.opening, Tokens.row_tokens, Tokens.value_tokens, declared.backings.Backings.Backings, declared.cell.Cell.Cell, declared.content.Content.Content, declared.heap.Heap.Heap, declared.index.Index.Index, declared.measure.Measure.Measure, declared.part.Part.Part}
-unfoldable pub use Rattle.value_table.specs.{Index.looked_up_by}
+pub use Rattle.std.proofs.Common.{Bool, Decides, Err, Global, IfSome, IsSome, List, None, Ok, Option, Result, Some}
+pub use Rattle.std.proofs.Common.{Vec, ℕ, [], add-one, ap, append-nil, append_assoc, ap₂, arith, bytes_eq, cond}
+pub use Rattle.std.proofs.Common.{decimal, drop, drop-cons, false, get_or, if◌then◌else◌, inl, inr, is_some, length}
+pub use Rattle.std.proofs.Common.{length-append, length-drop, length-take, map, max, min, nat_le, nat_lt, not}
+pub use Rattle.std.proofs.Common.{option_map, refl, rules, set, slice_get, slice_index_or, slice_range, slice_set}
+pub use Rattle.std.proofs.Common.{string_bytes, subst, suc, sym, take, true, true≢false, unwrap_or, vec_capacity}
+pub use Rattle.std.proofs.Common.{vec_len, w64, zero, zero-add, ◌%◌, ◌*◌, ◌++◌, ◌+◌, ◌-◌, ◌/◌, ◌<◌, ◌^◌, ◌||◌, ◌∙◌}
+pub use Rattle.std.proofs.Common.{◌∷◌, ◌≡◌, ◌≤◌, ◌⊎◌}
+pub use Rattle.std.proofs.Math.Seq.{drop-append_seam, drop-nil, get_or-append_seam}
+pub use Rattle.std.proofs.lemmas.Bool.{cases_eq, cases_lt, cond-false, cond-true, false_from_ne_true, ltb-false}
+pub use Rattle.std.proofs.lemmas.Bool.{ltb-true, or_parts}
+pub use Rattle.std.proofs.lemmas.Bool.Decides.{nat_tests}
+pub use Rattle.std.proofs.lemmas.Cmp.{nat_list_cmp_total}
+pub use Rattle.std.proofs.lemmas.Fmt.{decimal_digit, decimal_step, length-decimal-le}
+pub use Rattle.std.proofs.lemmas.Int.{to_z-of_z}
+pub use Rattle.std.proofs.lemmas.List.{drop-append-le, drop_all, get_or-append_right, get_or-drop, get_or-map}
+pub use Rattle.std.proofs.lemmas.List.{get_or-set_other, get_or-set_same, get_or-take, get_or_append_left}
+pub use Rattle.std.proofs.lemmas.List.{get_or_default, length-map, length-set, length-take-le, map-append}
+pub use Rattle.std.proofs.lemmas.List.{nil_from_length, take-append-le, take_all, take_more}
+pub use Rattle.std.proofs.lemmas.Map.Lookups.{exact_bytes}
+pub use Rattle.std.proofs.lemmas.Map.Text.{btree_map_updates_text, is_eq-slice_cmp}
+pub use Rattle.std.proofs.lemmas.Option.{get_or_from_slice_get, same_Some, slice_get-get_or, slice_get-map}
+pub use Rattle.std.proofs.lemmas.Option.{slice_get_within, unwrap_or-slice_get}
+pub use Rattle.std.proofs.lemmas.Result.{IfOk-weaker}
+pub use Rattle.std.proofs.lemmas.Slice.Eq.{bytes_eq-Decides}
+pub use Rattle.std.proofs.lemmas.Str.{IsUtf8-append}
+pub use Rattle.std.specs.Array.Iter.{array_into_iter_items}
+pub use Rattle.std.specs.BTreeMap.{get_by_text}
+pub use Rattle.std.specs.Bool.{one_answer}
+pub use Rattle.std.specs.Cmp.Lexicographic.{slice_cmp}
+pub use Rattle.std.specs.List.{AllByRecursion}
+pub use Rattle.std.specs.Map.{update}
+pub use Rattle.std.specs.Ordering.{is_eq, nat_cmp, ordering_reverse}
+pub use Rattle.std.specs.Prelude.{⊤}
+pub use Rattle.std.specs.Vec.Iter.{into_iter_items, into_iter_len}
+pub use Rattle.std.specs.declared.alloc.AllocError.{AllocError}
+pub use Rattle.std.specs.declared.cmp.Ordering.{Ordering}
+pub use Rattle.std.specs.declared.cmp.Ordering.TheVariants.{Greater, Less}
+unfoldable pub use Rattle.std.specs.List.Sorted.{IsStrictlySortedBy}
+pub use Rattle.json.specs.Print.{escape, print, quoted}
+pub use Rattle.json.specs.Token.{Token}
+unfoldable pub use Rattle.json.specs.Print.{print_from}
+pub use Rattle.serde_json.specs.View.{items_view, members_view, view}
+pub use Rattle.serde_json.specs.declared.value.Value.{the_lemmas}
+pub use Rattle.value_store.proofs.Equal.{equal_decides}
+pub use Rattle.value_store.proofs.Keys.{inserted_once, join_ordered, push_ordered, put_ordered}
+pub use Rattle.value_store.proofs.Ordered.{value_ordered}
+pub use Rattle.value_store.proofs.Places.{has_key_place}
+pub use Rattle.value_store.proofs.Starting.{AllWhole, charged_ok, due, refused, started}
+pub use Rattle.value_store.proofs.Trees.{join_depth, push_depth}
+pub use Rattle.value_store.specs.Calls.{Places, entries_part, join_of, key_at, part_at, parts_of, push_of, pushed}
+pub use Rattle.value_store.specs.Calls.{put_in, put_of, text_at, value_at}
+pub use Rattle.value_store.specs.Equality.{equal}
+pub use Rattle.value_store.specs.Json.{comma_after, entries_text, items_text, json_text, shown_text}
+pub use Rattle.value_store.specs.Keys.{AreEntriesOrdered, AreItemsOrdered, AreOrdered, Ascend, IsDocumentOrdered}
+pub use Rattle.value_store.specs.Keys.{IsOrdered}
+pub use Rattle.value_store.specs.Lookup.{has_item, inserted, inserted_by, member, place_of_key}
+pub use Rattle.value_store.specs.Placing.{Contents, first_values, is_appended, place, placed}
+pub use Rattle.value_store.specs.Plain.{charge_in, plain_entries, plain_items, plain_value, saturated}
+pub use Rattle.value_store.specs.Roots.{StoreStarts, items_have_other, members_have_other, start_contents}
+pub use Rattle.value_store.specs.Seen.{outcome_view, sees_list, sees_map}
+pub use Rattle.value_store.specs.Size.{depth_of, entries_depth, items_depth, result_depth}
+pub use Rattle.value_store.specs.Value.{Entries, Items, Value, ValueOrError, boolean, entry, error, int, item}
+pub use Rattle.value_store.specs.Value.{items_join, items_of, items_push, keys_of, list, list_of, no_entries}
+pub use Rattle.value_store.specs.Value.{no_items, text, value, values_of}
+pub use Rattle.value_store.specs.declared.table_error.TableError.{TableError}
+pub use Rattle.value_store.specs.declared.table_error.TableError.TheVariants.{Memory}
+pub use Rattle.value_table.specs.Chunks.{AreChunks, AreFull, joined}
+pub use Rattle.value_table.specs.Entries.{HoldsKeys, put_values, with_one}
+pub use Rattle.value_table.specs.Equality.{AreContents, AreMeanings, AreOneClass, ClassesStay, Compares, Finds}
+pub use Rattle.value_table.specs.Equality.{IsRoot, LeadDown, Shortens, way_down}
+pub use Rattle.value_table.specs.Growing.{Enters, HasGrown, IsValueAt}
+pub use Rattle.value_table.specs.Heads.{Head, built, entries, entries_of, head, items, parts, simple, texts_of}
+pub use Rattle.value_table.specs.Heads.{values_at}
+pub use Rattle.value_table.specs.Heap.{Gains, IsUnchangedHeap, IsHeap, content_at, heap_values}
+pub use Rattle.value_table.specs.Heaps.{AddsValue, AreBelow, AreCells, AreKeys, AreSame, AreTexts, ExtendsBackings}
+pub use Rattle.value_table.specs.Heaps.{CellFound, HoldsItems, IsCell, IsContent, IsRange, IsText}
+pub use Rattle.value_table.specs.Held.{Held}
+pub use Rattle.value_table.specs.Index.{AreIndexes, AreKnown, Covers, IsIndex, IsIndexed, texts_at}
+pub use Rattle.value_table.specs.Lengths.{commas, json_length}
+pub use Rattle.value_table.specs.Meaning.{entries_at, grown, items_at, key_in, keys_at, meaning, part_of}
+pub use Rattle.value_table.specs.Meaning.{reference_of, refs_at, value_in}
+pub use Rattle.value_table.specs.Measures.{IsMeasure}
+pub use Rattle.value_table.specs.References.{AreReferences, IsPlace, named, place_at, reference_values}
+pub use Rattle.value_table.specs.Search.{IsKeyAt, IsInsertionPlace, place_among}
+pub use Rattle.value_table.specs.Start.{IsWelcome, StartsWithValues}
+pub use Rattle.value_table.specs.Tokens.{closing, entries_tokens, head_keys, items_tokens, name_tokens, opening}
+pub use Rattle.value_table.specs.Tokens.{row_tokens, value_tokens}
+pub use Rattle.value_table.specs.declared.backings.Backings.{Backings}
+pub use Rattle.value_table.specs.declared.cell.Cell.{Cell}
+pub use Rattle.value_table.specs.declared.content.Content.{Content}
+pub use Rattle.value_table.specs.declared.heap.Heap.{Heap}
+pub use Rattle.value_table.specs.declared.index.Index.{Index}
+pub use Rattle.value_table.specs.declared.measure.Measure.{Measure}
+pub use Rattle.value_table.specs.declared.part.Part.{Part}
+unfoldable pub use Rattle.value_table.specs.Index.{looked_up_by}

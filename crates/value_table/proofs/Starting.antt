@@ -1,5 +1,5 @@
 -- The references that a table starts with.
-use Rattle.value_table.proofs.Prelude.{arith, ◌≡◌, ℕ, List, [], ◌∷◌, ◌++◌, map, ap, ap₂, append_assoc, false, true, Ok, Err, Result, AllByRecursion, map-append, view, Value, ValueOrError, value, IsDocumentOrdered, Contents, first_values, start_contents, Starts, TableError, Memory, plain_value, charge_in, AllWhole, started, charged_ok, refused, due, value_ordered, heap_values, IsHeap, Stands, Held, StartsWith, IsWelcome, Heap}
+use Rattle.value_table.proofs.Prelude.{arith, ◌≡◌, ℕ, List, [], ◌∷◌, ◌++◌, map, ap, ap₂, append_assoc, false, true, Ok, Err, Result, AllByRecursion, map-append, view, Value, ValueOrError, value, IsDocumentOrdered, Contents, first_values, start_contents, StoreStarts, TableError, Memory, plain_value, charge_in, AllWhole, started, charged_ok, refused, due, value_ordered, heap_values, IsHeap, IsValueAt, Held, StartsWithValues, IsWelcome, Heap}
 use Rattle.serde_json.specs.Data as json
 use Rattle.serde_json.specs.declared.value.Value as document
 use Rattle.value_store.specs.Value as kind
@@ -14,11 +14,11 @@ judged ds n e o = let start = started ds (charged_ok (start_contents ds) n e) in
 
 -- roots that have no charge, and a table that the host has no memory for
 pub refused_as : {S : Type 0} (contents : S → Contents) (ds : List json.Data) (x : TableError) (r : Result S TableError)
-    → Err x ≡ charge_in (start_contents ds) → r ≡ Err x → Starts contents (start_contents ds) r
+    → Err x ≡ charge_in (start_contents ds) → r ≡ Err x → StoreStarts contents (start_contents ds) r
 refused_as contents ds x r e is = rw is (refused contents ds x e)
 
 pub no_memory_for : {S : Type 0} (contents : S → Contents) (ds : List json.Data) (n : ℕ) (r : Result S TableError) → Ok n ≡ charge_in (start_contents ds)
-    → r ≡ Err Memory → Starts contents (start_contents ds) r
+    → r ≡ Err Memory → StoreStarts contents (start_contents ds) r
 no_memory_for contents ds n r e is = rw is (charged_ok (start_contents ds) n e)
 
 pub due_with : (ds es : List json.Data) (charge : ℕ) (t : Held) → Ok charge ≡ charge_in (start_contents ds) → es ≡ ds
@@ -27,8 +27,8 @@ pub due_with : (ds es : List json.Data) (charge : ℕ) (t : Held) → Ok charge 
 due_with ds es charge t e same is = rw is (due ds charge _ e (ap (λ xs. first_values ++ map value (map plain_value xs)) same))
 
 -- the error, null, false and true
-pub start_first : (h : Heap) (ps : List ℕ) (a b c : ℕ) → IsHeap h → ps ≡ a ∷ b ∷ c ∷ [] → Stands (heap_values h) a kind.null
-    → Stands (heap_values h) b (kind.boolean false) → Stands (heap_values h) c (kind.boolean true) → StartsWith h ps first_values
+pub start_first : (h : Heap) (ps : List ℕ) (a b c : ℕ) → IsHeap h → ps ≡ a ∷ b ∷ c ∷ [] → IsValueAt (heap_values h) a kind.null
+    → IsValueAt (heap_values h) b (kind.boolean false) → IsValueAt (heap_values h) c (kind.boolean true) → StartsWithValues h ps first_values
 start_first h ps a b c k e x y z = grind arith
 
 mapped_end : (ys : List document.Value) (x : document.Value)

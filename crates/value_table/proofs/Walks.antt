@@ -41,42 +41,44 @@ same_place bs vs cs r s m h k same =
 
 -- ---- the cells at two places
 
-met : (bs : Backings) (vs : List Value) (cs : List Cell) (x y : ℕ) (c d : Cell) → AreContents bs cs → AreMeanings bs vs cs → slice_get cs x ≡ Some c
-    → slice_get cs y ≡ Some d → slice_get vs x ≡ slice_get vs y
-    → Alike bs vs c.content d.content
-met bs vs cs x y c d s m h k e =
-    let v = m x c h in
-    let w = m y d k in
-    let same : meaning bs vs c.content ≡ meaning bs vs d.content = same_Some _ _ (sym v ∙ e ∙ w) in
-    meaning_apart bs vs x y c.content d.content (s x c h) (s y d k) same
+module _ (bs : Backings) (vs : List Value) (cs : List Cell) (x y : ℕ) (c d : Cell) where
+  met : AreContents bs cs → AreMeanings bs vs cs → slice_get cs x ≡ Some c
+      → slice_get cs y ≡ Some d → slice_get vs x ≡ slice_get vs y
+      → Alike bs vs c.content d.content
+  met s m h k e =
+      let v = m x c h in
+      let w = m y d k in
+      let same : meaning bs vs c.content ≡ meaning bs vs d.content = same_Some _ _ (sym v ∙ e ∙ w) in
+      meaning_apart bs vs x y c.content d.content (s x c h) (s y d k) same
 
--- equal values have one head
-pub same_heads : (bs : Backings) (vs : List Value) (cs : List Cell) (x y : ℕ) (c d : Cell) → AreContents bs cs → AreMeanings bs vs cs → slice_get cs x ≡ Some c
-    → slice_get cs y ≡ Some d → slice_get vs x ≡ slice_get vs y
-    → head bs c.content ≡ head bs d.content
-same_heads bs vs cs x y c d s m h k e = (met bs vs cs x y c d s m h k e).heads
+  -- equal values have one head
+  pub same_heads : AreContents bs cs → AreMeanings bs vs cs → slice_get cs x ≡ Some c
+      → slice_get cs y ≡ Some d → slice_get vs x ≡ slice_get vs y
+      → head bs c.content ≡ head bs d.content
+  same_heads s m h k e = (met s m h k e).heads
 
--- and their parts have equal values
-pub same_parts : (bs : Backings) (vs : List Value) (cs : List Cell) (x y : ℕ) (c d : Cell) (xs ys : List ℕ) → xs ≡ parts bs c.content → ys ≡ parts bs d.content
-    → AreContents bs cs → AreMeanings bs vs cs → slice_get cs x ≡ Some c → slice_get cs y ≡ Some d → slice_get vs x ≡ slice_get vs y
-    → values_at vs xs ≡ values_at vs ys
-same_parts bs vs cs x y c d xs ys p q s m h k e = ap (values_at vs) p ∙ (met bs vs cs x y c d s m h k e).values ∙ sym (ap (values_at vs) q)
+  -- and their parts have equal values
+  pub same_parts : (xs ys : List ℕ) → xs ≡ parts bs c.content → ys ≡ parts bs d.content
+      → AreContents bs cs → AreMeanings bs vs cs → slice_get cs x ≡ Some c → slice_get cs y ≡ Some d → slice_get vs x ≡ slice_get vs y
+      → values_at vs xs ≡ values_at vs ys
+  same_parts xs ys p q s m h k e = ap (values_at vs) p ∙ (met s m h k e).values ∙ sym (ap (values_at vs) q)
 
--- with one head and equal parts two values are equal
-pub same_cells : (bs : Backings) (vs : List Value) (cs : List Cell) (x y : ℕ) (c d : Cell) (xs ys : List ℕ) → xs ≡ parts bs c.content → ys ≡ parts bs d.content
-    → AreMeanings bs vs cs → slice_get cs x ≡ Some c → slice_get cs y ≡ Some d → head bs c.content ≡ head bs d.content → values_at vs xs ≡ values_at vs ys
-    → slice_get vs x ≡ slice_get vs y
-same_cells bs vs cs x y c d xs ys p q m h k e f =
-    let v = m x c h in
-    let w = m y d k in
-    v ∙ ap (λ u. Some u) (same_meaning bs vs c.content d.content e (sym (ap (values_at vs) p) ∙ f ∙ ap (values_at vs) q)) ∙ sym w
+  -- with one head and equal parts two values are equal
+  pub same_cells : (xs ys : List ℕ) → xs ≡ parts bs c.content → ys ≡ parts bs d.content
+      → AreMeanings bs vs cs → slice_get cs x ≡ Some c → slice_get cs y ≡ Some d → head bs c.content ≡ head bs d.content → values_at vs xs ≡ values_at vs ys
+      → slice_get vs x ≡ slice_get vs y
+  same_cells xs ys p q m h k e f =
+      let v = m x c h in
+      let w = m y d k in
+      v ∙ ap (λ u. Some u) (same_meaning bs vs c.content d.content e (sym (ap (values_at vs) p) ∙ f ∙ ap (values_at vs) q)) ∙ sym w
 
--- one head has as many parts
-pub same_long : (bs : Backings) (cs : List Cell) (x y : ℕ) (c d : Cell) (xs ys : List ℕ) → xs ≡ parts bs c.content → ys ≡ parts bs d.content
-    → AreContents bs cs → slice_get cs x ≡ Some c → slice_get cs y ≡ Some d → head bs c.content ≡ head bs d.content → length xs ≡ length ys
-same_long bs cs x y c d xs ys p q s h k e = grind (arith, parts_long)
+module _ (bs : Backings) (cs : List Cell) (x : ℕ) where
+  -- one head has as many parts
+  pub same_long : (y : ℕ) (c d : Cell) (xs ys : List ℕ) → xs ≡ parts bs c.content → ys ≡ parts bs d.content
+      → AreContents bs cs → slice_get cs x ≡ Some c → slice_get cs y ≡ Some d → head bs c.content ≡ head bs d.content → length xs ≡ length ys
+  same_long y c d xs ys p q s h k e = grind (arith, parts_long)
 
--- a part stands before its cell
-pub part_before : (bs : Backings) (cs : List Cell) (x : ℕ) (c : Cell) (xs : List ℕ) (k d : ℕ) → xs ≡ parts bs c.content → AreContents bs cs
-    → slice_get cs x ≡ Some c → k < length xs → get_or xs k d < x
-part_before bs cs x c xs k d p s h l = grind (arith, get_or, part_below)
+  -- a part stands before its cell
+  pub part_before : (c : Cell) (xs : List ℕ) (k d : ℕ) → xs ≡ parts bs c.content → AreContents bs cs
+      → slice_get cs x ≡ Some c → k < length xs → get_or xs k d < x
+  part_before c xs k d p s h l = grind (arith, get_or, part_below)

@@ -48,8 +48,8 @@ pub record Finds (old new : List ℕ) (place root : ℕ) : Type 0 where
   pub shorter : Shortens old new place
   pub ends : IsRoot new root
 
--- whether the values at a and b are equal, and the places that are known to have the same, among which equal ones are of one
--- class then, where each of so many cells has its word
+-- whether the values at a and b are equal, and the places that are known to have the same, among which equal ones are
+-- of one class then, where each of so many cells has its word
 pub record Compares (vs : List Value) (count : ℕ) (old new : List ℕ) (a b : ℕ) (answer : Bool) : Type 0 where
   pub known : AreSame vs new
   pub right : Decides answer (slice_get vs a ≡ slice_get vs b)

@@ -9,7 +9,7 @@ use Rattle.value_table.specs.declared.heap.Heap.{Heap}
 abbrev pub HasGrown : List Value → List Value → Type 0
 HasGrown old new = (more : List Value) × (new ≡ old ++ more)
 
-pub record Stands (vs : List Value) (r : ℕ) (v : Value) : Type 0 where
+pub record IsValueAt (vs : List Value) (r : ℕ) (v : Value) : Type 0 where
   pub inside : r < length vs
   pub is : value_in vs r ≡ v
 
@@ -17,4 +17,4 @@ pub record Stands (vs : List Value) (r : ℕ) (v : Value) : Type 0 where
 pub record Enters (old : Heap) (v : Value) (r : Result ℕ AllocError) (new : Heap) : Type 0 where
   pub heap : IsHeap new
   pub grown : HasGrown (heap_values old) (heap_values new)
-  pub value : IfOk r (λ i. Stands (heap_values new) i v)
+  pub value : IfOk r (λ i. IsValueAt (heap_values new) i v)

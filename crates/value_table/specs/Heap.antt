@@ -4,7 +4,7 @@ use Rattle.std.specs.Prelude.{IfOk, IfSome, OnErr}
 use Rattle.std.specs.declared.alloc.AllocError.{AllocError}
 use Rattle.value_store.specs.Value.{Value}
 use Rattle.value_table.specs.Meaning.{grown}
-use Rattle.value_table.specs.Heaps.{AreCells, AreSame, Adds}
+use Rattle.value_table.specs.Heaps.{AreCells, AreSame, AddsValue}
 use Rattle.value_table.specs.Index.{AreIndexes}
 use Rattle.value_table.specs.declared.cell.Cell.{Cell}
 use Rattle.value_table.specs.declared.content.Content.{Content}
@@ -22,16 +22,17 @@ pub record IsHeap (h : Heap) : Type 0 where
   pub indexes : AreIndexes h.backings (heap_values h) h.indexes.all.items
 
 -- the same cells, parts and words
-pub record IsAsBefore (old new : Heap) : Type 0 where
+pub record IsUnchangedHeap (old new : Heap) : Type 0 where
   pub cells : new.cells ≡ old.cells
   pub backings : new.backings ≡ old.backings
   pub words : new.same.items ≡ old.same.items
 
--- one more value, the one that is due, and the place of its cell; or the host had no memory for it, and all is as before
+-- one more value, the one that is due, and the place of its cell; or the host had no memory for it, and all is as
+-- before
 pub record Gains (old : Heap) (due : Option Value) (r : Result ℕ AllocError) (new : Heap) : Type 0 where
   pub heap : IsHeap new
-  pub added : IfSome due (λ v. Adds (heap_values old) v r (heap_values new))
-  pub kept : OnErr r (IsAsBefore old new)
+  pub added : IfSome due (λ v. AddsValue (heap_values old) v r (heap_values new))
+  pub kept : OnErr r (IsUnchangedHeap old new)
 
 abbrev pub content_at : List Cell → ℕ → Option Content
 content_at cs i = option_map (λ c. c.content) (slice_get cs i)

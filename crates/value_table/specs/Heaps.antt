@@ -62,7 +62,7 @@ AreCells bs vs [] = ⊤
 AreCells bs vs (c ∷ cs) = IsCell bs vs c × AreCells bs (vs ++ meaning bs vs c.content ∷ []) cs
 
 -- what stands at a cell's place
-pub record Found (bs : Backings) (vs : List Value) (r : ℕ) (c : Cell) : Type 0 where
+pub record CellFound (bs : Backings) (vs : List Value) (r : ℕ) (c : Cell) : Type 0 where
   pub inside : r < length vs
   pub is : value_in vs r ≡ meaning bs vs c.content
   pub content : IsContent bs r c.content
@@ -78,19 +78,19 @@ pub record AreSame (vs : List Value) (same : List ℕ) : Type 0 where
   pub equal : (i d : ℕ) → i < length same → slice_get vs (slice_index_or same i d) ≡ slice_get vs i
 
 -- backings that have grown: each part of the old ones is a part of the new ones
-pub record Extends (old new : Backings) : Type 0 where
+pub record ExtendsBackings (old new : Backings) : Type 0 where
   pub bytes : (rest : List ℕ) × (new.bytes ≡ old.bytes ++ rest)
   pub keys : (rest : List Part) × (new.keys ≡ old.keys ++ rest)
   pub lists : length old.lists ≤ length new.lists
   pub items : (b : ℕ) → b < length old.lists → (rest : List ℕ) × (slice_index_or new.lists b [] ≡ slice_index_or old.lists b [] ++ rest)
 
 -- the backing b has n items, which are these
-pub record Holds (lists : List (List ℕ)) (b n : ℕ) (rs : List ℕ) : Type 0 where
+pub record HoldsItems (lists : List (List ℕ)) (b n : ℕ) (rs : List ℕ) : Type 0 where
   pub inside : b < length lists
   pub long : length (slice_index_or lists b []) ≡ n
   pub items : refs_at lists b n ≡ rs
 
 -- one more value, and the place of its cell; or the host had no memory for it, and the values stay
-abbrev pub Adds : List Value → Value → Result ℕ AllocError → List Value → Type 0
-Adds old v (Ok i) new = (i ≡ length old) × (new ≡ old ++ v ∷ [])
-Adds old v (Err e) new = new ≡ old
+abbrev pub AddsValue : List Value → Value → Result ℕ AllocError → List Value → Type 0
+AddsValue old v (Ok i) new = (i ≡ length old) × (new ≡ old ++ v ∷ [])
+AddsValue old v (Err e) new = new ≡ old

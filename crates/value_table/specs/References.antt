@@ -25,7 +25,7 @@ abbrev pub reference_values : Heap → List ℕ → List ValueOrError
 reference_values h ps = named (heap_values h) ps
 
 -- the error, null, false and true stand first
-pub record Begins (vs : List ValueOrError) : Type 0 where
+pub record BeginsWithConstants (vs : List ValueOrError) : Type 0 where
   pub more : List ValueOrError
   pub is : vs ≡ first_values ++ more
 
@@ -33,7 +33,7 @@ pub record Begins (vs : List ValueOrError) : Type 0 where
 pub record AreReferences (h : Heap) (ps : List ℕ) : Type 0 where
   pub heap : IsHeap h
   pub places : AreBelow (length (heap_values h)) ps
-  pub first : Begins (reference_values h ps)
+  pub first : BeginsWithConstants (reference_values h ps)
 
 -- a reference's cell, and the value there
 pub record IsPlace (h : Heap) (ps : List ℕ) (reference place : ℕ) : Type 0 where

@@ -5,20 +5,20 @@ use Rattle.std.specs.declared.cmp.Ordering.TheVariants.{Less, Greater}
 use Rattle.std.specs.Ordering.{nat_cmp}
 use Rattle.std.specs.Cmp.Lexicographic.{slice_cmp}
 
-pub record IsAt (keys : List (List ℕ)) (key : List ℕ) (i : ℕ) : Type 0 where
+pub record IsKeyAt (keys : List (List ℕ)) (key : List ℕ) (i : ℕ) : Type 0 where
   pub inside : i < length keys
   pub is : slice_get keys i ≡ Some key
 
 -- those before i are below the key, and those from i on are above it
-pub record IsGap (keys : List (List ℕ)) (key : List ℕ) (i : ℕ) : Type 0 where
+pub record IsInsertionPlace (keys : List (List ℕ)) (key : List ℕ) (i : ℕ) : Type 0 where
   pub inside : i ≤ length keys
   pub before : (j : ℕ) (d : List ℕ) → j < i → slice_cmp nat_cmp key (slice_index_or keys j d) ≡ Greater
   pub behind : (j : ℕ) (d : List ℕ) → i ≤ j → j < length keys → slice_cmp nat_cmp key (slice_index_or keys j d) ≡ Less
 
 -- the place of a key, or the place at which it is put
 abbrev pub SearchAnswer : List (List ℕ) → List ℕ → Result ℕ ℕ → Type 0
-SearchAnswer keys key (Ok i) = IsAt keys key i
-SearchAnswer keys key (Err i) = IsGap keys key i
+SearchAnswer keys key (Ok i) = IsKeyAt keys key i
+SearchAnswer keys key (Err i) = IsInsertionPlace keys key i
 
 abbrev pub place_among : List ℕ → List (List ℕ) → Option ℕ
 place_among key [] = None

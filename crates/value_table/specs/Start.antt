@@ -9,7 +9,7 @@ use Rattle.value_table.specs.References.{reference_values, AreReferences}
 use Rattle.value_table.specs.declared.heap.Heap.{Heap}
 
 -- references to these values
-pub record StartsWith (h : Heap) (ps : List ℕ) (vs : List ValueOrError) : Type 0 where
+pub record StartsWithValues (h : Heap) (ps : List ℕ) (vs : List ValueOrError) : Type 0 where
   pub sound : AreReferences h ps
   pub values : reference_values h ps ≡ vs
 

@@ -21,11 +21,11 @@ pub(crate) struct Backings {
     pub(crate) lists: Lists,
 }
 
-// Each call lets the parts that stand stay as they are, and everything where memory is refused: room is
-// made for all that grows before anything does.
+// Each call lets the parts that stand stay as they are, and everything where memory is refused:
+// room is made for all that grows before anything does.
 impl Backings {
     ghost use Rattle.value_table.specs.Meaning.{part_of, refs_at};
-    ghost use Rattle.value_table.specs.Heaps.{IsText, Extends, Holds};
+    ghost use Rattle.value_table.specs.Heaps.{IsText, ExtendsBackings, HoldsItems};
 
     pub(crate) fn new(alloc: Global) -> Result<Backings, AllocError> {
         Ok(Backings {
@@ -49,7 +49,7 @@ impl Backings {
     /// Puts a text behind all others.
     pub(crate) fn add_text(&mut self, text: &[u8]) -> Result<Part, AllocError>
         requires { IsUtf8 text.now }
-        ensures grown { Extends self.old self.new }
+        ensures grown { ExtendsBackings self.old self.new }
         ensures part { IfOk result (λ p. IsText self.new.bytes p × (part_of self.new.bytes p ≡ text.now)) }
         ensures kept { OnErr result (self.new ≡ self.old) }
     {
@@ -64,7 +64,7 @@ impl Backings {
     pub(crate) fn join_texts(&mut self, first: Part, second: Part) -> Result<Part, AllocError>
         requires first { IsText self.old.bytes first }
         requires second { IsText self.old.bytes second }
-        ensures grown { Extends self.old self.new }
+        ensures grown { ExtendsBackings self.old self.new }
         ensures part { IfOk result (λ p. IsText self.new.bytes p × (part_of self.new.bytes p ≡ part_of self.old.bytes first ++ part_of self.old.bytes second)) }
         ensures kept { OnErr result (self.new ≡ self.old) }
     {
@@ -80,8 +80,8 @@ impl Backings {
 
     /// A new backing with these items.
     pub(crate) fn add_items(&mut self, items: Backing<u64>) -> Result<u64, AllocError>
-        ensures grown { Extends self.old self.new }
-        ensures items { IfOk result (λ b. Holds self.new.lists b (length items) items) }
+        ensures grown { ExtendsBackings self.old self.new }
+        ensures items { IfOk result (λ b. HoldsItems self.new.lists b (length items) items) }
         ensures kept { OnErr result (self.new ≡ self.old) }
     {
         let place = self.lists.backings().len() as u64;
@@ -99,9 +99,9 @@ impl Backings {
     ) -> Result<u64, AllocError>
         requires inside { backing < length self.old.lists }
         requires long { count ≤ length (slice_index_or self.old.lists backing []) }
-        ensures grown { Extends self.old self.new }
+        ensures grown { ExtendsBackings self.old self.new }
         ensures short { count < 2 ^ 63 }
-        ensures items { IfOk result (λ b. Holds self.new.lists b (count + 1) (refs_at self.old.lists backing count ++ item ∷ [])) }
+        ensures items { IfOk result (λ b. HoldsItems self.new.lists b (count + 1) (refs_at self.old.lists backing count ++ item ∷ [])) }
         ensures shared { count ≡ length (slice_index_or self.old.lists backing []) → IfOk result (λ b. (b ≡ backing) × (length self.new.lists ≡ length self.old.lists)) }
         ensures kept { OnErr result (self.new ≡ self.old) }
     {
@@ -126,9 +126,9 @@ impl Backings {
         requires first_long { first.1 ≤ length (slice_index_or self.old.lists first.0 []) }
         requires second_inside { second.0 < length self.old.lists }
         requires second_long { second.1 ≤ length (slice_index_or self.old.lists second.0 []) }
-        ensures grown { Extends self.old self.new }
+        ensures grown { ExtendsBackings self.old self.new }
         ensures short { OnOk result (first.1 + second.1 < 2 ^ 64) }
-        ensures items { IfOk result (λ b. Holds self.new.lists b (first.1 + second.1) (refs_at self.old.lists first.0 first.1 ++ refs_at self.old.lists second.0 second.1)) }
+        ensures items { IfOk result (λ b. HoldsItems self.new.lists b (first.1 + second.1) (refs_at self.old.lists first.0 first.1 ++ refs_at self.old.lists second.0 second.1)) }
         ensures kept { OnErr result (self.new ≡ self.old) }
     {
         let (backing, count) = first;

@@ -10,8 +10,8 @@ use std::rc::Rc;
 
 /// How many items a chunk has.
 const CHUNK: usize = 256;
-/// How many full chunks there are at most, so that a count of items never wraps. Items past them stay in one
-/// vector, which has a limit of its own.
+/// How many full chunks there are at most, so that a count of items never wraps. Items past them
+/// stay in one vector, which has a limit of its own.
 const MOST: usize = 1 << 50;
 
 /// Items, and for how many more there is room.

@@ -3,7 +3,7 @@
 ghost use Rattle.std.specs.Prelude.{◌≡◌, ◌≤◌, ◌<◌, ◌+◌, ◌^◌, length, [], slice_index_or, Some, IsSome, IfOk, OnErr};
 ghost use Rattle.value_store.specs.Value.{map, no_entries};
 ghost use Rattle.value_table.specs.Meaning.{value_in, refs_at, keys_at};
-ghost use Rattle.value_table.specs.Heaps.{Extends, Holds};
+ghost use Rattle.value_table.specs.Heaps.{ExtendsBackings, HoldsItems};
 ghost use Rattle.value_table.specs.Heap.{heap_values, IsHeap, Gains};
 ghost use Rattle.value_table.specs.Entries.{put_values, with_one, HoldsKeys};
 
@@ -80,10 +80,10 @@ impl Backings {
         keys: &[Part],
         values: Backing<u64>,
     ) -> Result<(u64, u64), AllocError>
-        ensures grown { Extends self.old self.new }
+        ensures grown { ExtendsBackings self.old self.new }
         ensures bytes { self.new.bytes ≡ self.old.bytes }
         ensures keys { IfOk result (λ r. HoldsKeys self.new.keys r.0 (length keys.now) keys.now) }
-        ensures values { IfOk result (λ r. Holds self.new.lists r.1 (length values) values) }
+        ensures values { IfOk result (λ r. HoldsItems self.new.lists r.1 (length values) values) }
         ensures kept { OnErr result (self.new ≡ self.old) }
     {
         let row = self.keys.len() as u64;
@@ -94,8 +94,8 @@ impl Backings {
         Ok((row, backing))
     }
 
-    // The keys in a row and the backing of a map with one more entry at a place: the same row where the
-    // key comes last and no other row follows, and else a new one behind all others.
+    // The keys in a row and the backing of a map with one more entry at a place: the same row where
+    // the key comes last and no other row follows, and else a new one behind all others.
     fn put_entry(
         &mut self,
         map: (u64, u64, u64),
@@ -107,11 +107,11 @@ impl Backings {
         requires inside { map.1 < length self.old.lists }
         requires long { map.2 ≤ length (slice_index_or self.old.lists map.1 []) }
         requires place { place ≤ map.2 }
-        ensures grown { Extends self.old self.new }
+        ensures grown { ExtendsBackings self.old self.new }
         ensures bytes { self.new.bytes ≡ self.old.bytes }
         ensures short { map.2 < 2 ^ 63 }
         ensures keys { IfOk result (λ r. HoldsKeys self.new.keys r.0 (map.2 + 1) (with_one place key (keys_at self.old.keys map.0 map.2))) }
-        ensures items { IfOk result (λ r. Holds self.new.lists r.1 (map.2 + 1) (with_one place item (refs_at self.old.lists map.1 map.2))) }
+        ensures items { IfOk result (λ r. HoldsItems self.new.lists r.1 (map.2 + 1) (with_one place item (refs_at self.old.lists map.1 map.2))) }
         ensures kept { OnErr result (self.new ≡ self.old) }
     {
         let (row, backing, count) = map;

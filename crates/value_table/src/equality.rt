@@ -28,8 +28,8 @@ const FEW: u64 = 16;
 
 // No comparison wants memory: there is room for a word of each cell, and hints go without.
 impl Heap {
-    /// Whether the values of two cells are equal in depth. Those that are found equal are of one class
-    /// from then on, so that they are not compared again.
+    /// Whether the values of two cells are equal in depth. Those that are found equal are of one
+    /// class from then on, so that they are not compared again.
     #[tactic(auto, using(crate::proofs::Comparisons::contents_of, crate::proofs::Growth::count_values, crate::proofs::Comparisons::meanings_of, std::proofs::lemmas::List::with_items_is))]
     pub(crate) fn equal(&mut self, a: u64, b: u64) -> bool
         requires heap { IsHeap self.old }
@@ -52,8 +52,8 @@ impl Heap {
         )
     }
 
-    /// Whether an item of the list at `c` is equal to the value at `x`, or the map at `c` has the text
-    /// at `x` as a key.
+    /// Whether an item of the list at `c` is equal to the value at `x`, or the map at `c` has the
+    /// text at `x` as a key.
     pub(crate) fn member(&mut self, x: u64, c: u64) -> bool
         requires heap { IsHeap self.old }
         requires value { x < length (heap_values self.old) }
@@ -92,8 +92,9 @@ impl Heap {
         )
     }
 
-    // A place among the first items of a backing before which none is equal to the value at `x`. An index
-    // is made where that many items are searched a second time, and where there is memory for it.
+    // A place among the first items of a backing before which none is equal to the value at `x`. An
+    // index is made where that many items are searched a second time, and where there is memory for
+    // it.
     #[tactic(auto, using(crate::proofs::Comparisons::contents_of, crate::proofs::Growth::count_values, crate::proofs::Indexed::known_of))]
     fn start(&mut self, x: u64, backing: u64, count: u64) -> u64
         requires heap { IsHeap self.old }
@@ -104,7 +105,10 @@ impl Heap {
         ensures backings { self.new.backings ≡ self.old.backings }
         ensures words { self.new.same.items ≡ self.old.same.items }
         ensures inside { result ≤ count }
-        ensures skips { has_item (value_in (heap_values self.old) x) (items_at (heap_values self.old) (refs_at self.old.backings.lists backing count)) ≡ has_item (value_in (heap_values self.old) x) (items_at (heap_values self.old) (drop result (refs_at self.old.backings.lists backing count))) }
+        ensures skips { has_item (value_in (heap_values self.old) x)
+            (items_at (heap_values self.old) (refs_at self.old.backings.lists backing count))
+            ≡ has_item (value_in (heap_values self.old) x)
+            (items_at (heap_values self.old) (drop result (refs_at self.old.backings.lists backing count))) }
     {
         if count < FEW {
             return 0;

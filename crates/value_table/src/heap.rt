@@ -4,7 +4,7 @@ ghost use Rattle.std.specs.Prelude.{◌≡◌, ◌<◌, ◌≤◌, ◌+◌, ◌^
 ghost use Rattle.std.specs.Borrow.{sem};
 ghost use Rattle.value_store.specs.Value.{null, boolean, int};
 ghost use Rattle.value_table.specs.Meaning.{meaning};
-ghost use Rattle.value_table.specs.Heaps.{IsCell, Found};
+ghost use Rattle.value_table.specs.Heaps.{IsCell, CellFound};
 ghost use Rattle.value_table.specs.Lending.{LendsCells};
 
 use crate::backings::Backings;
@@ -47,7 +47,8 @@ impl Heap {
         })
     }
 
-    /// An equal heap of its own, which shares what has not changed. It has to find equal values anew.
+    /// An equal heap of its own, which shares what has not changed. It has to find equal values
+    /// anew.
     pub(crate) fn copy(&self) -> Result<Heap, AllocError>
         requires { IsHeap self.now }
         ensures { IfOk result (λ h. IsHeap h × (heap_values h ≡ heap_values self.now)) }
@@ -66,7 +67,7 @@ impl Heap {
     pub(crate) fn cell(&self, place: u64) -> Cell
         requires heap { IsHeap self.now }
         requires inside { place < length (heap_values self.now) }
-        ensures found { Found self.now.backings (heap_values self.now) place result }
+        ensures found { CellFound self.now.backings (heap_values self.now) place result }
         ensures is { slice_get self.now.cells place ≡ Some result }
         ensures short { place < 2 ^ 63 + 2 ^ 58 }
     {

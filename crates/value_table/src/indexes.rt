@@ -28,8 +28,8 @@ impl Indexes {
         }
     }
 
-    /// Where the index of a backing stands, if it has one. Else it has one from then on, without items,
-    /// where there is memory.
+    /// Where the index of a backing stands, if it has one. Else it has one from then on, without
+    /// items, where there is memory.
     pub(crate) fn slot(&mut self, alloc: Global, backing: u64) -> Option<usize>
         ensures found { IfSome result (λ s. option_map (λ x. x.backing) (slice_get self.new.all.items s) ≡ Some backing) }
         ensures kept { (bs : Backings) (vs : List Value) → backing < length bs.lists → AreIndexes bs vs self.old.all.items → AreIndexes bs vs self.new.all.items }

@@ -2,7 +2,7 @@
 
 ghost use Rattle.std.specs.Prelude.{◌≡◌, ◌<◌, ◌≤◌, ◌+◌, [], ◌∷◌, ◌++◌, length, IfOk, OnOk, OnErr, slice_index_or, slice_set};
 ghost use Rattle.value_table.specs.Meaning.{refs_at};
-ghost use Rattle.value_table.specs.Heaps.{Extends, Holds};
+ghost use Rattle.value_table.specs.Heaps.{ExtendsBackings, HoldsItems};
 ghost use Rattle.value_table.specs.Entries.{with_one};
 ghost use Rattle.value_table.specs.declared.backings.Backings.{Backings};
 
@@ -82,8 +82,8 @@ impl Lists {
         requires inside { backing < length self.old }
         requires long { count ≤ length (slice_index_or self.old backing []) }
         requires place { place ≤ count }
-        ensures grown { (bs : Backings) → bs.lists ≡ self.old → Extends bs (record bs { lists = self.new }) }
-        ensures items { IfOk result (λ b. Holds self.new b (count + 1) (with_one place item (refs_at self.old backing count))) }
+        ensures grown { (bs : Backings) → bs.lists ≡ self.old → ExtendsBackings bs (record bs { lists = self.new }) }
+        ensures items { IfOk result (λ b. HoldsItems self.new b (count + 1) (with_one place item (refs_at self.old backing count))) }
         ensures kept { OnErr result (self.new ≡ self.old) }
     {
         let items = self.backings()[backing as usize].items();

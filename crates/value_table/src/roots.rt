@@ -7,7 +7,7 @@ ghost use Rattle.value_store.specs.Value.{value};
 ghost use Rattle.value_store.specs.Placing.{first_values};
 ghost use Rattle.value_store.specs.Plain.{plain_value};
 ghost use Rattle.value_table.specs.Heap.{IsHeap};
-ghost use Rattle.value_table.specs.Start.{StartsWith, IsWelcome};
+ghost use Rattle.value_table.specs.Start.{StartsWithValues, IsWelcome};
 
 use crate::documents::add_document;
 use crate::heap::Heap;
@@ -19,7 +19,7 @@ use std::alloc::AllocError;
 pub(crate) fn start_places(heap: &mut Heap, roots: [Value; 5]) -> Result<Sequence<u64>, AllocError>
     requires heap { IsHeap heap.old }
     requires welcome { AllByRecursion IsWelcome (map view roots) }
-    ensures { IfOk result (λ ps. StartsWith heap.new ps (first_values ++ map value (map plain_value (map view roots)))) }
+    ensures { IfOk result (λ ps. StartsWithValues heap.new ps (first_values ++ map value (map plain_value (map view roots)))) }
 {
     let mut places = first_places(heap)?;
     for root in roots {
@@ -46,7 +46,7 @@ pub(crate) fn copies(roots: &[Value; 5]) -> Result<[Value; 5], AllocError>
 // The places of null, false and true.
 fn first_places(heap: &mut Heap) -> Result<Sequence<u64>, AllocError>
     requires { IsHeap heap.old }
-    ensures { IfOk result (λ ps. StartsWith heap.new ps first_values) }
+    ensures { IfOk result (λ ps. StartsWithValues heap.new ps first_values) }
 {
     let mut places = Sequence::new(heap.cells.alloc())?;
     places.push(heap.add_null()?)?;

@@ -3,7 +3,7 @@
 ghost use Rattle.std.specs.Prelude.{◌≡◌, ◌<◌, ◌^◌, length, slice_get, Some, IsSome, option_map};
 ghost use Rattle.value_store.specs.Value.{value, text};
 ghost use Rattle.value_store.specs.Lookup.{text_part};
-ghost use Rattle.value_store.specs.Seen.{seen, shown, seen_size};
+ghost use Rattle.value_store.specs.Seen.{outcome_view, shape_view, seen_size};
 ghost use Rattle.value_store.specs.Calls.{parts_of as value_parts};
 ghost use Rattle.value_table.specs.Meaning.{part_of, value_in, keys_at, key_in};
 ghost use Rattle.value_table.specs.Heaps.{IsText, IsRange, AreKeys};
@@ -22,8 +22,8 @@ impl Heap {
     pub(crate) fn shape(&self, place: u64) -> Shape<'_>
         requires heap { IsHeap self.now }
         requires inside { place < length (heap_values self.now) }
-        ensures shape { shown result ≡ seen (value (value_in (heap_values self.now) place)) }
-        ensures short { seen_size (shown result) < 2 ^ 63 }
+        ensures shape { shape_view result ≡ outcome_view (value (value_in (heap_values self.now) place)) }
+        ensures short { seen_size (shape_view result) < 2 ^ 63 }
     {
         match self.cell(place).content {
             Content::Null => Shape::Null,

@@ -3,9 +3,9 @@
 ghost use Rattle.std.specs.Prelude.{◌≡◌, ◌≤◌, ◌++◌, map, IfOk};
 ghost use Rattle.std.specs.List.{AllByRecursion};
 ghost use Rattle.serde_json.specs.View.{view};
-ghost use Rattle.value_store.specs.Placing.{first_values};
+ghost use Rattle.value_store.specs.Placing.{charge_limit, first_values};
 ghost use Rattle.value_store.specs.Plain.{plain_value};
-ghost use Rattle.value_store.specs.Roots.{start_contents, Starts};
+ghost use Rattle.value_store.specs.Roots.{start_contents, StoreStarts};
 ghost use Rattle.value_store.specs.Value.{value};
 ghost use Rattle.value_table.specs.Meaning.{reference_of};
 ghost use Rattle.value_table.specs.Start.{IsWelcome};
@@ -40,11 +40,12 @@ impl Model for Table {
     ghost coded = { Prim.hlevel (codes, coded_stored) };
 
     ghost use Rattle.std.specs.Prelude.{◌≤◌};
+    ghost use Rattle.value_store.specs.Placing.{charge_limit};
     ghost use Rattle.value_table.specs.References.{reference_values, AreReferences};
 
     ghost view = { λ t. record { values = reference_values t.heap t.places; charge = t.charge } };
 
-    ghost invariant = { λ t. AreReferences t.heap t.places × (t.charge ≤ 16777216) };
+    ghost invariant = { λ t. AreReferences t.heap t.places × (t.charge ≤ charge_limit) };
 }
 
 impl Table {
@@ -52,23 +53,24 @@ impl Table {
     /// namespaceObject and request, at the references 4 to 8, charged with their sizes. It goes as
     /// deep as the documents.
     ///
-    /// The first root that is refused counts: `V1` where it is neither an object nor null, `V2` where
-    /// it holds a number that is no integer of 64 bits signed (`-0` is none). Then `V3` where the
-    /// charge is above 16,777,216. All this is tested before any memory is taken.
+    /// The first root that is refused counts: `NotAnObject` if it is neither an object nor null,
+    /// `NumberOutOfInt64` if it holds a number that is no integer of 64 bits signed (`-0` is none).
+    /// Then `RootsTooLarge` if the charge is above 16,777,216. All this is tested before any memory
+    /// is taken.
     #[tactic(auto, using(crate::proofs::Starting::refused_as, crate::proofs::Starting::no_memory_for, crate::proofs::Starting::judged))]
     pub fn of_roots(alloc: Global, roots: &[Value; 5]) -> Result<Table, TableError>
-        ensures { Starts (λ t. record { values = ⟦<Table as ValueStore>⟧.values t; charge = ⟦<Table as ValueStore>⟧.charge t }) (start_contents (map view roots.now)) result }
+        ensures { StoreStarts (λ t. record { values = ⟦<Table as ValueStore>⟧.values t; charge = ⟦<Table as ValueStore>⟧.charge t }) (start_contents (map view roots.now)) result }
     {
         let charge = start_charge(roots)?;
         let table = Table::charged(alloc, copies(roots)?, charge)?;
         Ok(table)
     }
 
-    /// The table of roots that are given, as `of_roots` makes it. They are dropped as their values are
-    /// made, so that no document is held twice.
+    /// The table of roots that are given, as `of_roots` makes it. They are dropped as their values
+    /// are made, so that no document is held twice.
     #[tactic(auto, using(crate::proofs::Starting::refused_as, crate::proofs::Starting::no_memory_for, crate::proofs::Starting::judged))]
     pub fn of_documents(alloc: Global, roots: [Value; 5]) -> Result<Table, TableError>
-        ensures { Starts (λ t. record { values = ⟦<Table as ValueStore>⟧.values t; charge = ⟦<Table as ValueStore>⟧.charge t }) (start_contents (map view roots)) result }
+        ensures { StoreStarts (λ t. record { values = ⟦<Table as ValueStore>⟧.values t; charge = ⟦<Table as ValueStore>⟧.charge t }) (start_contents (map view roots)) result }
     {
         let charge = start_charge(&roots)?;
         let table = Table::charged(alloc, roots, charge)?;
@@ -78,7 +80,7 @@ impl Table {
     // The table of documents that are charged with their sizes.
     fn charged(alloc: Global, roots: [Value; 5], charge: u64) -> Result<Table, AllocError>
         requires welcome { AllByRecursion IsWelcome (map view roots) }
-        requires limit { charge ≤ 16777216 }
+        requires limit { charge ≤ charge_limit }
         ensures { IfOk result (λ t. t ≡ record { values = first_values ++ map value (map plain_value (map view roots)); charge = charge }) }
     {
         let mut heap = Heap::new(alloc)?;

@@ -4,7 +4,7 @@ ghost use Rattle.std.specs.Prelude.{◌≡◌, ◌<◌, ◌++◌, List, length, 
 ghost use Rattle.value_store.specs.Value.{Value, text};
 ghost use Rattle.value_store.specs.Calls.{join_of};
 ghost use Rattle.value_table.specs.Meaning.{part_of, value_in};
-ghost use Rattle.value_table.specs.Heaps.{Extends, IsCell, IsText};
+ghost use Rattle.value_table.specs.Heaps.{ExtendsBackings, IsCell, IsText};
 ghost use Rattle.value_table.specs.Heap.{heap_values, IsHeap, Gains};
 ghost use Rattle.value_table.specs.declared.content.Content.TheVariants as cell;
 ghost use Rattle.value_table.specs.declared.backings.Backings.{Backings};
@@ -31,7 +31,7 @@ impl Heap {
         requires { IsHeap self.old }
         ensures heap { IsHeap self.new }
         ensures values { heap_values self.new ≡ heap_values self.old }
-        ensures grown { Extends self.old.backings self.new.backings }
+        ensures grown { ExtendsBackings self.old.backings self.new.backings }
         ensures part { IfOk result (λ p. IsText self.new.backings.bytes p × (part_of self.new.backings.bytes p ≡ key.now)) }
     {
         self.backings.add_text(key.as_bytes())

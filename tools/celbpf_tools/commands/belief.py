@@ -1,10 +1,12 @@
 """Prints what one has to believe of a contract: the definitions of the folders `specs` that it rests on.
 
-usage: tools/belief [FILE NAME]
+usage: tools/belief [FILE NAME | --page [--write]]
 
 FILE is one as review_runner/specs/Program.antt, and NAME a definition of it. Below each file stand the definitions
 of it that NAME rests on, itself among them, each with its line and how many lines it has; a star marks one without a
-sentence above it. The last line is the total. Without words it prints a total for each contract of docs/READING.md.
+sentence above it. The last line is the total. Without words it prints a total for each contract of docs/READING.md. With
+--page it compares the sizes in that page with these, and prints the lines of the page that differ; with --write it
+writes the page with the right ones.
 
 Names are followed as they stand and nothing is parsed, so it is near and not exact. What the toolchain declares, and
 the types that the code has, are not counted.
@@ -12,102 +14,26 @@ the types that the code has, are not counted.
 
 import re
 import sys
-from dataclasses import dataclass, field
-from typing import Any, Callable, Iterator, Optional
 
+from ..definitions import modules as read_modules
 from ..home import ROOT
+from ..pages.sizes import with_lines, with_totals
 
-CRATES = ROOT / "crates"
+PAGE = ROOT / "docs" / "READING.md"
 CONTRACTS = [
-    ("review_runner/specs/Program.antt", "Ends"),
-    ("gatekeeper_runner/specs/Program.antt", "Ends"),
-    ("review_runner/specs/Deciding.antt", "Reviews"),
-    ("review_runner/specs/Standing.antt", "StandsBy"),
+    ("review_runner/specs/Program.antt", "ProgramResult"),
+    ("gatekeeper_runner/specs/Program.antt", "GatekeeperResult"),
+    ("admission/specs/Deciding.antt", "Reviews"),
+    ("admission/specs/Standing.antt", "RunAgrees"),
     ("policy_glue/specs/Compiled.antt", "IsCompiled"),
     ("cel_macros/specs/Meaning.antt", "meaning"),
-    ("debugger/specs/Told.antt", "IsSession"),
-    ("assembler/specs/Answers.antt", "Answers"),
+    ("debugger/specs/Transcript.antt", "IsSession"),
+    ("assembler/specs/Answers.antt", "AssembleReturns"),
     ("assembler/specs/Source.antt", "Source"),
     ("disassembler/specs/Answers.antt", "GivesListing"),
 ]
 WIDEST = 140
-USE = re.compile(r"use (Rattle\.[\w.+\-]+?)(?:\.\{(.*)\})?(?: as ([\w◌]+))?$")
-MUTUAL = re.compile(r"(?:abbrev |unfoldable )?mutual")
-HEAD = re.compile(r"( {2})?(?! )(?:(?:abbrev|unfoldable|opaque|pub) )*(data |record )?([^\s:(){}]+).*? :")
-CASE = re.compile(r"\s+(?:pub )?([\w◌\-'?]+)(?: \(.*\))? :")
 WORD = re.compile(r"[A-Za-z_][\w\-']*(?:\.[A-Za-z_][\w\-']*)*")
-
-
-@dataclass
-class Definition:
-    """Where it begins, whether it has a sentence, and whether it is a type whose cases have names."""
-
-    place: int
-    has_sentence: bool
-    has_cases: bool
-    lines: list = field(default_factory=list)
-
-
-class Module:
-    """A file: its definitions, and what the names mean that it imports or gives to the cases of its types."""
-
-    def __init__(self, path: Any):
-        self.file = str(path.relative_to(CRATES))
-        self.name = "Rattle." + self.file.removesuffix(".antt").replace("/", ".")
-        self.definitions, self.names, self.modules, self.owners = {}, {}, {}, {}
-        for place, line, has_sentence, head in headed(path.read_text().splitlines(), self.take):
-            if head:
-                definition = Definition(place, has_sentence, head[2] == "data ")
-                current = self.definitions.setdefault(head[3], definition), head[3]
-                self.give(head[3], self.name, head[3])
-            if self.definitions:
-                self.add(line, *current)
-
-    def take(self, use: re.Match) -> None:
-        """What a line `use` imports."""
-        for name in use[2].split(", ") if use[2] else ():
-            self.give(name.split(" as ")[-1], use[1], name.split(" as ")[0])
-        if use[3] and not use[2]:
-            self.modules[use[3]] = use[1]
-
-    def give(self, word: str, module: str, name: str) -> None:
-        """What a word means, and of an operator also its sign alone."""
-        for given in {word, word.strip("◌")}:
-            self.names[given] = (module, name)
-
-    def add(self, line: str, definition: Definition, name: str) -> None:
-        case = CASE.match(line)
-        if definition.has_cases and definition.lines and case:
-            self.owners.setdefault(case[1], name)
-        definition.lines.append(line)
-
-    def named(self, word: str) -> Optional[tuple]:
-        """The module and the name of what a word, or the first word of a path, stands for, if that is a definition."""
-        first, *rest = word.split(".")
-        if rest and first in self.modules:
-            return self.modules[first], rest[0]
-        if first in self.definitions:
-            return self.name, first
-        if first in self.names:
-            return self.names[first]
-        return (self.name, self.owners[first]) if first in self.owners else None
-
-
-def headed(lines: list, take: Callable) -> Iterator:
-    """The lines of definitions: place, line, whether a sentence stands above, and the match of a head, if it is one."""
-    is_mutual = is_told = False
-    for place, line in enumerate(lines, 1):
-        if use := USE.match(line):
-            take(use)
-        elif MUTUAL.match(line):
-            is_mutual = True
-            continue
-        elif line and not line.startswith(("--", "use ", "pub mod")):
-            head = HEAD.match(line)
-            head = head if head and (is_mutual or not head[1]) else None
-            is_mutual = is_mutual and not (head and not head[1])
-            yield place, line, is_told, head
-        is_told = line.lstrip().startswith("--")
 
 
 def rests_on(modules: dict, file: str, name: str) -> set:
@@ -135,19 +61,63 @@ def print_list(modules: dict, found: set) -> None:
             print(f"{it.place:5} {len(it.lines):3} {' ' if it.has_sentence else '*'} {name}")
 
 
+def sizes(modules: dict, found: set) -> tuple:
+    """How many definitions, lines and files."""
+    return len(found), sum(len(modules[at].definitions[name].lines) for at, name in found), len({at for at, _ in found})
+
+
 def total(modules: dict, found: set) -> str:
     of = [modules[at].definitions[name] for at, name in found]
-    lines = [line for it in of for line in it.lines]
+    definitions, lines, files = sizes(modules, found)
     return (
-        f"{len(of)} definitions, {len(lines)} lines, {len({at for at, _ in found})} files; "
+        f"{definitions} definitions, {lines} lines, {files} files; "
         f"{sum(it.has_sentence for it in of)} with a sentence, "
-        f"{sum(len(line) > WIDEST for line in lines)} lines above {WIDEST} columns"
+        f"{sum(len(line) > WIDEST for it in of for line in it.lines)} lines above {WIDEST} columns"
     )
 
 
-def main() -> None:
+def right_page(modules: dict, text: str) -> tuple:
+    """The page with the sizes of the contracts, and what its walk lacks: files that count, or lines of those it has.
+
+    The walk counts for the program, and its last step for the gatekeeper.
+    """
+    found = {name: rests_on(modules, file, name) for file, name in CONTRACTS}
+    counts = {}
+
+    def lines_of(head: str, crate: str, file: str) -> int:
+        at = f"Rattle.{crate}.specs.{file.replace('/', '.')}"
+        of = found["GatekeeperResult" if "gatekeeper" in head else "ProgramResult"]
+        counts[at] = sum(len(modules[at].definitions[name].lines) for module, name in of if module == at)
+        return counts[at]
+
+    totals = with_totals(text, {name: sizes(modules, of) for name, of in found.items()})
+    right = with_lines(totals, lines_of)
+    counted = {at for name in ("ProgramResult", "GatekeeperResult") for at, _ in found[name]}
+    lacks = [f"the walk lacks {at}" for at in sorted(counted - set(counts))]
+    return right, lacks + [f"the walk has {at}, of which nothing counts" for at in counts if not counts[at]]
+
+
+def compare_page(modules: dict, is_written: bool) -> int:
+    text = PAGE.read_text()
+    right, lacks = right_page(modules, text)
+    differing = [pair for pair in zip(text.splitlines(), right.splitlines()) if pair[0] != pair[1]]
+    if is_written:
+        PAGE.write_text(right)
+    else:
+        lacks += [f"page:    {old}\nsources: {new}" for old, new in differing]
+    if lacks:
+        print(*lacks, sep="\n")
+        print("docs/READING.md differs from the definitions; tools/belief --page --write writes the numbers")
+        return 1
+    print("docs/READING.md has the sizes of the definitions and each file")
+    return 0
+
+
+def main() -> int:
     words = sys.argv[1:]
-    modules = {module.name: module for module in map(Module, sorted(CRATES.glob("*/specs/**/*.antt")))}
+    modules = {module.name: module for module in read_modules()}
+    if words[:1] == ["--page"] and words[1:] in ([], ["--write"]):
+        return compare_page(modules, bool(words[1:]))
     if words and (len(words) != 2 or not rests_on(modules, *words)):
         sys.exit(__doc__.split("\n\n")[1] if len(words) != 2 else f"belief: no definition {words[1]} in {words[0]}")
     for file, name in [words] if words else CONTRACTS:
@@ -155,3 +125,4 @@ def main() -> None:
         if words:
             print_list(modules, found)
         print(f"{name} of {file.split('/')[0]}: {total(modules, found)}")
+    return 0

@@ -2,9 +2,10 @@
 
 ghost use Rattle.std.specs.Prelude.{◌≡◌, ◌≢◌, ◌≤◌, [], ◌++◌, ℕ, List, IfSome, OnErr, OnOk, map};
 ghost use Rattle.std.specs.BTreeMap.{get_by_text};
-ghost use Rattle.assembler.specs.Answers.{Emits};
+ghost use Rattle.assembler.specs.Answers.{SecondPass};
 ghost use Rattle.assembler.specs.Items.{item_of, slots_of};
 ghost use Rattle.assembler.specs.SecondPass.{bytes_of, code_bytes, line_statement};
+ghost use Rattle.insn_codec.specs.Limits.{slot_limit};
 
 use crate::asm_error::AsmError;
 use crate::lines::line::Line;
@@ -18,15 +19,15 @@ use std::alloc::{AllocError, Global};
 ///
 /// # Errors
 ///
-/// A3 where a label has no slot, A5 where it is too far away.
+/// `UnknownLabel` if a label has no slot, `JumpTooFar` if it is too far away.
 fn resolve(
     line: &Line<'_>,
     number: usize,
     slot: u32,
     labels: &Labels,
 ) -> Result<Option<Statement>, AsmError>
-    requires slot { slot ≤ 65536 }
-    requires labels { (q : List ℕ) → IfSome (get_by_text labels.now q) (λ t. t ≤ 65536) }
+    requires slot { slot ≤ slot_limit }
+    requires labels { (q : List ℕ) → IfSome (get_by_text labels.now q) (λ t. t ≤ slot_limit) }
     ensures { result ≡ line_statement (λ q. get_by_text labels.now q) number slot (item_of line.now) }
 {
     match *line {
@@ -58,11 +59,12 @@ fn push_statement(out: &mut Vec<u8>, statement: Option<Statement>) -> Result<(),
 ///
 /// # Errors
 ///
-/// Of the first line that has one: A3 where its label has no slot, A5 where it is too far away.
+/// The error of the first line that has one: `UnknownLabel` if its label has no slot, `JumpTooFar`
+/// if it is too far away.
 pub(crate) fn emit(alloc: Global, lines: &[Line<'_>], labels: &Labels) -> Result<Vec<u8>, AsmError>
-    requires room { slots_of (map item_of lines.now) ≤ 65536 }
-    requires labels { (q : List ℕ) → IfSome (get_by_text labels.now q) (λ t. t ≤ 65536) }
-    ensures emits { Emits (code_bytes (λ q. get_by_text labels.now q) 1 0 (map item_of lines.now)) result }
+    requires room { slots_of (map item_of lines.now) ≤ slot_limit }
+    requires labels { (q : List ℕ) → IfSome (get_by_text labels.now q) (λ t. t ≤ slot_limit) }
+    ensures emits { SecondPass (code_bytes (λ q. get_by_text labels.now q) 1 0 (map item_of lines.now)) result }
     ensures some { OnErr result (lines.now ≢ []) }
 {
     let mut out = Vec::new(alloc);

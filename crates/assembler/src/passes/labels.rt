@@ -24,7 +24,7 @@ pub(crate) fn slot_of(labels: &Labels, name: &str) -> Option<u32>
 ///
 /// # Errors
 ///
-/// A4 where the label has a slot already.
+/// `DuplicateLabel` if the label has a slot already.
 pub(crate) fn add_label(
     alloc: Global,
     labels: &mut Labels,
@@ -38,7 +38,7 @@ pub(crate) fn add_label(
         return Ok(());
     };
     match slot_of(labels, name) {
-        Some(_) => Err(AsmError::A4(number)),
+        Some(_) => Err(AsmError::DuplicateLabel(number)),
         None => {
             let key = String::from_str(alloc, name)?;
             labels.insert(key, slot)?;

@@ -2,6 +2,7 @@
 
 ghost use Rattle.std.specs.Prelude.{◌≡◌, ◌≤◌, IfSome};
 ghost use Rattle.assembler.specs.SecondPass.{jump_at, offset_to};
+ghost use Rattle.insn_codec.specs.Limits.{slot_limit};
 
 use crate::asm_error::AsmError;
 use crate::lines::jump::Jump;
@@ -10,8 +11,8 @@ use insn_codec::Statement;
 /// The offset from a jump in this slot to the target's: the target's slot less the slot after the
 /// jump.
 fn offset_between(slot: u32, target: u32) -> i32
-    requires slot { slot ≤ 65536 }
-    requires target { target ≤ 65536 }
+    requires slot { slot ≤ slot_limit }
+    requires target { target ≤ slot_limit }
     ensures { result ≡ offset_to slot target }
 {
     target as i32 - slot as i32 - 1
@@ -21,22 +22,22 @@ fn offset_between(slot: u32, target: u32) -> i32
 ///
 /// # Errors
 ///
-/// A3 where the label has no slot, A5 where it is too far away.
+/// `UnknownLabel` if the label has no slot, `JumpTooFar` if it is too far away.
 pub(crate) fn jump_to(
     jump: Jump,
     slot: u32,
     number: usize,
     target: Option<u32>,
 ) -> Result<Option<Statement>, AsmError>
-    requires slot { slot ≤ 65536 }
-    requires target { IfSome target (λ t. t ≤ 65536) }
+    requires slot { slot ≤ slot_limit }
+    requires target { IfSome target (λ t. t ≤ slot_limit) }
     ensures { result ≡ jump_at number slot jump target }
 {
     let Some(target) = target else {
-        return Err(AsmError::A3(number));
+        return Err(AsmError::UnknownLabel(number));
     };
     match jump.with_offset(offset_between(slot, target)) {
         Some(statement) => Ok(Some(statement)),
-        None => Err(AsmError::A5(number)),
+        None => Err(AsmError::JumpTooFar(number)),
     }
 }

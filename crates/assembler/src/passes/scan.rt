@@ -11,11 +11,9 @@ use crate::lines::line_error::LineError;
 use crate::lines::reading::read_line;
 use crate::passes::cutting::next_line;
 use crate::passes::labels::{Labels, add_label};
+use insn_codec::SLOT_LIMIT;
 use std::alloc::Global;
 use std::collections::BTreeMap;
-
-/// How many slots of code there can be.
-const MAX_SLOTS: u32 = 65_536;
 
 /// What the first pass finds in a text.
 #[derive(Drop)]
@@ -32,8 +30,8 @@ fn read_at(line: &str, number: usize) -> Result<Line<'_>, AsmError>
 {
     match read_line(line) {
         Ok(found) => Ok(found),
-        Err(LineError::NoForm) => Err(AsmError::A1(number)),
-        Err(LineError::OutOfRange) => Err(AsmError::A2(number)),
+        Err(LineError::NoForm) => Err(AsmError::UnknownLine(number)),
+        Err(LineError::OutOfRange) => Err(AsmError::NumberOutOfRange(number)),
     }
 }
 
@@ -52,8 +50,9 @@ pub(crate) fn slots(line: &Line<'_>) -> u32
 ///
 /// # Errors
 ///
-/// Of the first line that has one, its first of: A1 no form, A2 a number out of range, A4 a label
-/// named a second time, A6 more than 65,536 slots.
+/// The error of the first line that has one, and its first of these: `UnknownLine` (it has no
+/// form), `NumberOutOfRange`, `DuplicateLabel` (it names a label again), `TooManySlots` (the code
+/// has more than 65,536 slots).
 pub(crate) fn scan(alloc: Global, text: &str) -> Result<Scanned<'_>, AsmError>
     ensures { FirstPass (lines_of text.now) result }
 {
@@ -71,8 +70,8 @@ pub(crate) fn scan(alloc: Global, text: &str) -> Result<Scanned<'_>, AsmError>
             return Err(error);
         }
         slot += slots(&line);
-        if slot > MAX_SLOTS {
-            return Err(AsmError::A6(number));
+        if slot > SLOT_LIMIT {
+            return Err(AsmError::TooManySlots(number));
         }
         lines.push(line)?;
         rest = more;

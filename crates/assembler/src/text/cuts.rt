@@ -2,12 +2,12 @@
 ghost use Rattle.std.specs.Prelude.{◌≡◌, ◌<◌, ℕ, ℤ, List, ◌∷◌, ◌++◌, IfSome, IsNone, MatchOption};
 ghost use Rattle.insn_codec.specs.Lines.{address_text, offset_text, register_text};
 ghost use Rattle.insn_codec.specs.declared.register.Register.{Register};
-ghost use Rattle.assembler.specs.Forms.{Lacks, operand_list};
+ghost use Rattle.assembler.specs.Forms.{HasNoByte, operand_list};
 
 /// What stands before the first comma and, where a space follows it, after that space.
 pub(crate) fn cut(text: &str) -> Option<(&str, &str)>
     ensures cuts { IfSome result (λ x. text.now ≡ operand_list x.0.now x.1.now) }
-    ensures only { (xs ys : List ℕ) → Lacks 44 xs → text.now ≡ operand_list xs ys → MatchOption result ⊥ (λ x. (x.0.now ≡ xs) × (x.1.now ≡ ys)) }
+    ensures only { (xs ys : List ℕ) → HasNoByte 44 xs → text.now ≡ operand_list xs ys → MatchOption result ⊥ (λ x. (x.0.now ≡ xs) × (x.1.now ≡ ys)) }
 {
     let (first, rest) = text.split_once(',')?;
     let second = rest.strip_prefix(' ')?;
@@ -18,8 +18,8 @@ pub(crate) fn cut(text: &str) -> Option<(&str, &str)>
 fn cut_before(text: &str, sign: char) -> Option<(&str, &str)>
     requires { sign < 128 }
     ensures cuts { IfSome result (λ x. text.now ≡ x.0.now ++ x.1.now) }
-    ensures only { (xs ys : List ℕ) → Lacks sign xs → text.now ≡ xs ++ sign ∷ ys → MatchOption result ⊥ (λ x. (x.0.now ≡ xs) × (x.1.now ≡ sign ∷ ys)) }
-    ensures none { Lacks sign text.now → IsNone result }
+    ensures only { (xs ys : List ℕ) → HasNoByte sign xs → text.now ≡ xs ++ sign ∷ ys → MatchOption result ⊥ (λ x. (x.0.now ≡ xs) × (x.1.now ≡ sign ∷ ys)) }
+    ensures none { HasNoByte sign text.now → IsNone result }
 {
     let position = text.find(sign)?;
     Some(text.split_at(position))

@@ -1,10 +1,11 @@
 //! Names of labels.
 ghost use Rattle.std.specs.Prelude.{◌≡◌, ◌↔◌, true};
-ghost use Rattle.assembler.specs.Items.{IsName, all_go_on, begins_name, goes_on_name};
+ghost use Rattle.assembler.specs.Items.{IsLabel, all_go_on, begins_name, goes_on_name};
 
-/// Whether the text is an identifier: a letter or an underscore, and then any of letters, underscores and digits.
+/// Whether the text is an identifier: a letter or an underscore, and then any of letters,
+/// underscores and digits.
 pub(crate) fn is_name(text: &str) -> bool
-    ensures { (result ≡ true) ↔ IsName text.now }
+    ensures { (result ≡ true) ↔ IsLabel text.now }
 {
     match text.as_bytes() {
         [] => false,

@@ -1,7 +1,7 @@
 //! What jumps go to.
 ghost use Rattle.std.specs.Prelude.{◌≡◌, ℤ, MatchOption};
 ghost use Rattle.insn_codec.specs.Lines.{offset_text};
-ghost use Rattle.assembler.specs.Items.{IsName};
+ghost use Rattle.assembler.specs.Items.{IsLabel};
 ghost use Rattle.assembler.specs.Targets.{TargetIs};
 
 use crate::text::names::is_name;
@@ -18,7 +18,7 @@ pub(crate) enum Target<'a> {
 
 /// The target of this text: an offset or a name.
 pub(crate) fn target_of(text: &str) -> Option<Target<'_>>
-    ensures { MatchOption result (((z : ℤ) → text.now ≡ offset_text z → ⊥) × (IsName text.now → ⊥)) (λ t. TargetIs t text.now) }
+    ensures { MatchOption result (((z : ℤ) → text.now ≡ offset_text z → ⊥) × (IsLabel text.now → ⊥)) (λ t. TargetIs t text.now) }
 {
     if is_name(text) {
         return Some(Target::Name(text));

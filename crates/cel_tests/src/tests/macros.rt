@@ -1,7 +1,7 @@
 //! Macros that are expanded, and why others are not, worked by hand.
 
 use super::cells;
-use MacroError::{M1, M2, M3};
+use MacroError::{HasWithoutSelection, InvalidIterationName, WrongArgumentCount};
 use cel_macros::{MacroError, expand};
 use cel_reader::read;
 use std::alloc::Global;
@@ -9,24 +9,27 @@ use std::test::Fail;
 
 /// Texts, and why they are not expanded.
 const REFUSED: [(&str, Option<MacroError>); 22] = [
-    ("[1].all(x)", Some(M1)),
-    ("has()", Some(M1)),
-    ("[1].all(x, true, true)", Some(M1)),
-    ("[1].map(x)", Some(M1)),
-    ("[1].map(x, 1, 2, 3)", Some(M1)),
-    ("[1].all(1, true)", Some(M2)),
-    ("[1].all(object, true)", Some(M2)),
-    ("[1].exists(oldObject, true)", Some(M2)),
-    ("[1].exists_one(params, true)", Some(M2)),
-    ("[1].filter(namespaceObject, true)", Some(M2)),
-    ("[1].map(request, true)", Some(M2)),
-    ("[1].map(variables, true, 1)", Some(M2)),
-    ("has(object)", Some(M3)),
-    ("has(has())", Some(M3)),
-    ("has() + has(object)", Some(M1)),
-    ("{1: has()}", Some(M1)),
-    ("[1].all(x, has())", Some(M1)),
-    ("true ? 1 : [has(x)]", Some(M3)),
+    ("[1].all(x)", Some(WrongArgumentCount)),
+    ("has()", Some(WrongArgumentCount)),
+    ("[1].all(x, true, true)", Some(WrongArgumentCount)),
+    ("[1].map(x)", Some(WrongArgumentCount)),
+    ("[1].map(x, 1, 2, 3)", Some(WrongArgumentCount)),
+    ("[1].all(1, true)", Some(InvalidIterationName)),
+    ("[1].all(object, true)", Some(InvalidIterationName)),
+    ("[1].exists(oldObject, true)", Some(InvalidIterationName)),
+    ("[1].exists_one(params, true)", Some(InvalidIterationName)),
+    (
+        "[1].filter(namespaceObject, true)",
+        Some(InvalidIterationName),
+    ),
+    ("[1].map(request, true)", Some(InvalidIterationName)),
+    ("[1].map(variables, true, 1)", Some(InvalidIterationName)),
+    ("has(object)", Some(HasWithoutSelection)),
+    ("has(has())", Some(HasWithoutSelection)),
+    ("has() + has(object)", Some(WrongArgumentCount)),
+    ("{1: has()}", Some(WrongArgumentCount)),
+    ("[1].all(x, has())", Some(WrongArgumentCount)),
+    ("true ? 1 : [has(x)]", Some(HasWithoutSelection)),
     ("[1].all((x), true)", None),
     ("has((object.x))", None),
     ("all(1)", None),
@@ -39,8 +42,8 @@ const EXPANDED: &str = r#"variables.v¦Variable("v")
 variables['v']¦Index(Name("variables"), Literal(Text("v")))
 has(x.y)¦Has(Name("x"), "y")
 has(variables.y)¦Has(Name("variables"), "y")
-x.has(y)¦Method(Name("x"), "has", [Name("y")])
-size(x)¦Call("size", [Name("x")])
+x.has(y)¦Method(Name("x"), Unknown("has"), [Name("y")])
+size(x)¦Call(Function(Size), [Name("x")])
 x.all(i, true)¦Fold(All, "i", Name("x"), Literal(Bool(true)))
 x.exists_one(i, i)¦Fold(ExistsOne, "i", Name("x"), Name("i"))
 x.map(i, null)¦Fold(Map, "i", Name("x"), Literal(Null))

@@ -1,7 +1,7 @@
 //! Tokens of texts, and why others have none, worked by hand.
 
 use super::repeated;
-use ReadError::{P1, P2, P3, P6};
+use ReadError::{IntOutOfRange, InvalidTextLiteral, TextTooLong, UnknownCharacter};
 use cel_tokens::{ReadError, Token, tokens};
 use std::alloc::{AllocError, Global};
 use std::test::Fail;
@@ -26,18 +26,18 @@ const READ: [(&str, &str); 14] = [
 
 /// Texts that have no tokens, and why.
 const REFUSED: [(&str, ReadError); 12] = [
-    ("a # b", P1(2)),
-    ("a | b", P1(2)),
-    ("\u{e9}", P1(0)),
-    ("'ab", P2(0)),
-    (" r'a", P2(1)),
-    ("'\\400'", P2(0)),
-    ("'\\ud800'", P2(0)),
-    ("1 '\\x4'", P2(2)),
-    ("'a\nb'", P2(0)),
-    ("-(9223372036854775808)", P3(2)),
-    ("9223372036854775808", P3(0)),
-    ("- 9223372036854775809", P3(2)),
+    ("a # b", UnknownCharacter(2)),
+    ("a | b", UnknownCharacter(2)),
+    ("\u{e9}", UnknownCharacter(0)),
+    ("'ab", InvalidTextLiteral(0)),
+    (" r'a", InvalidTextLiteral(1)),
+    ("'\\400'", InvalidTextLiteral(0)),
+    ("'\\ud800'", InvalidTextLiteral(0)),
+    ("1 '\\x4'", InvalidTextLiteral(2)),
+    ("'a\nb'", InvalidTextLiteral(0)),
+    ("-(9223372036854775808)", IntOutOfRange(2)),
+    ("9223372036854775808", IntOutOfRange(0)),
+    ("- 9223372036854775809", IntOutOfRange(2)),
 ];
 
 /// The token in words.
@@ -79,11 +79,11 @@ fn refuses_texts(rt: HostRuntime) {
 /// How often a text stands before another, and why both have no tokens.
 const LIMITS: [(&str, usize, &str, Option<ReadError>); 6] = [
     ("(", 4_096, "", None),
-    ("(", 65_536, "", Some(P6(4_096))),
-    ("(", 4_096, " 'a", Some(P6(4_097))),
-    ("(", 4_096, " #", Some(P1(4_097))),
+    ("(", 65_536, "", Some(TextTooLong(4_096))),
+    ("(", 4_096, " 'a", Some(TextTooLong(4_097))),
+    ("(", 4_096, " #", Some(UnknownCharacter(4_097))),
     (" ", 65_536, "", None),
-    (" ", 65_537, "", Some(P6(65_536))),
+    (" ", 65_537, "", Some(TextTooLong(65_536))),
 ];
 
 #[test]

@@ -1,10 +1,15 @@
 -- Literals without parts. A text stands among the constants of the image.
-use Rattle.std.specs.Prelude.{ℕ, ◌+◌, List, length, Option, Some, None, unwrap_or, option_map}
+use Rattle.std.specs.Prelude.{ℕ, ℤ, ◌+◌, ◌∷◌, List, length, Option, Some, None, unwrap_or, option_map}
 use Rattle.insn_codec.specs.declared.insn.Insn.{Insn}
+use Rattle.insn_codec.specs.declared.register.Register.TheVariants.{R1}
 use Rattle.cel_measures.specs.Saturated.{saturated}
 use Rattle.cel_reader.specs.Tree as tree
-use Rattle.codegen_base.specs.Code.Literals.{null_code, null_leaf, truth_code, truth_leaf, int_code, text_code}
-use Rattle.codegen_base.specs.declared.leaf.Leaf.{Leaf}
+use Rattle.expression_code.specs.Code.Literals.{null_code, null_leaf, truth_code, truth_leaf, int_code, text_code}
+use Rattle.expression_code.specs.Code.Leaves.{leaf_insn}
+use Rattle.expression_code.specs.Code.Names.{root_reference}
+use Rattle.expression_code.specs.Code.Selection.{call_with_text, field_tail}
+use Rattle.expression_code.specs.Paths.{RootField}
+use Rattle.expression_code.specs.declared.simple_operand.SimpleOperand.{SimpleOperand, TheVariants.Reference}
 use Rattle.codegen.specs.Constants.{place_of}
 
 -- where the constants begin in memory
@@ -15,6 +20,14 @@ constants_base = 0x4_0000_0000
 abbrev pub address_of : List (List ℕ) → List ℕ → ℕ
 address_of texts t = saturated (constants_base + unwrap_or (option_map saturated (place_of t texts)) 0)
 
+-- a helper's call on what R1 names and a text among these
+abbrev pub call_on_text : ℤ → List (List ℕ) → List ℕ → List Insn
+call_on_text helper texts t = call_with_text helper (address_of texts t) (length t)
+
+-- the code that walks a path: its root, and the field, whose text is among these
+abbrev pub path_code : List (List ℕ) → RootField → List Insn
+path_code texts path = leaf_insn (Reference (root_reference path.root)) R1 ∷ field_tail (address_of texts path.field) (length path.field)
+
 -- a literal: null and a truth by its reference, an int by its word, a text by its address and its length in bytes
 abbrev pub literal_code : List (List ℕ) → tree.Literal → List Insn
 literal_code texts tree.null = null_code
@@ -22,8 +35,8 @@ literal_code texts (tree.truth b) = truth_code b
 literal_code texts (tree.int z) = int_code z
 literal_code texts (tree.text t) = text_code (address_of texts t) (length t)
 
--- null and truths are leaves
-abbrev pub literal_leaf : tree.Literal → Option Leaf
+-- null and truths are simple operands
+abbrev pub literal_leaf : tree.Literal → Option SimpleOperand
 literal_leaf tree.null = Some null_leaf
 literal_leaf (tree.truth b) = Some (truth_leaf b)
 literal_leaf _ = None

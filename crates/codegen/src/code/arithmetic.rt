@@ -1,40 +1,59 @@
 //! Arithmetic on ints of 64 bits, and the joining of texts and lists.
+//! Listed in `Code/Arithmetic` of `expression_code/specs`, with laws in `Gives/Arithmetic`.
 
 ghost use Rattle.std.specs.Prelude.{◌≡◌, ◌<◌, ◌≤◌, IfOk};
-ghost use Rattle.codegen_base.specs.Code.Arithmetic as specs;
+ghost use Rattle.expression_code.specs.Code.Arithmetic as specs;
 
 use crate::code::Code;
-use crate::instructions::{compute, skip, skip_where};
+use crate::instructions::{compute, ja, jump_if_reg};
 use Register::{R0, R1, R2, R6, R7};
-use codegen_base::helpers::{self, INT_KIND};
-use codegen_base::instructions::{call, copy, load_wide, put, skip_if};
-use codegen_base::references::ERROR;
+use expression_code::helpers::{self, INT_KIND};
+use expression_code::instructions::{call, jump_if_imm, lddw, mov_imm, mov_reg};
+use expression_code::references::ERROR;
 use insn_codec::{AluOp, Comparison, Insn, Register, Width};
 use std::alloc::Global;
 
 /// The word of the least int.
 const LEAST: u64 = 1 << 63;
 
+/// The slots of `int_operands` after its test of R6.
+const AFTER_LEFT_KIND: usize = 9;
+
+/// The slots of `int_operands` after its test of R7.
+const AFTER_RIGHT_KIND: usize = 6;
+
+/// The slot after the operands of a sum at which operands that are no ints are joined.
+const SUM_JOIN_SLOT: usize = 10;
+
+/// The slot after the operands of a difference at which the error is loaded.
+const DIFFERENCE_ERROR_SLOT: usize = 8;
+
+/// The slot after the operands of a product at which the error is loaded.
+const PRODUCT_ERROR_SLOT: usize = 12;
+
+/// The slot after the operands of a quotient or a remainder at which the error is loaded.
+const DIVIDED_ERROR_SLOT: usize = 9;
+
 /// The ints that R6 and R7 name, into these; where they name no ints, on to the slot so many behind
 /// these.
-#[tactic(auto, unfolding(codegen_base::specs::Code::Arithmetic::int_operands))]
+#[tactic(auto, unfolding(expression_code::specs::Code::Arithmetic::int_operands))]
 fn int_operands(slots: usize) -> [Insn; 12]
     requires { slots ≤ 100 }
     ensures { result ≡ specs.int_operands slots }
 {
     [
-        copy(R1, R6),
+        mov_reg(R1, R6),
         call(helpers::KIND),
-        skip_if(Comparison::Ne, R0, INT_KIND, slots + 9),
-        copy(R1, R7),
+        jump_if_imm(Comparison::Ne, R0, INT_KIND, slots + AFTER_LEFT_KIND),
+        mov_reg(R1, R7),
         call(helpers::KIND),
-        skip_if(Comparison::Ne, R0, INT_KIND, slots + 6),
-        copy(R1, R6),
+        jump_if_imm(Comparison::Ne, R0, INT_KIND, slots + AFTER_RIGHT_KIND),
+        mov_reg(R1, R6),
         call(helpers::INT_OF),
-        copy(R6, R0),
-        copy(R1, R7),
+        mov_reg(R6, R0),
+        mov_reg(R1, R7),
         call(helpers::INT_OF),
-        copy(R7, R0),
+        mov_reg(R7, R0),
     ]
 }
 
@@ -43,36 +62,36 @@ fn checked_tail(op: AluOp, below: Comparison, above: Comparison) -> [Insn; 9]
     ensures { result ≡ specs.checked_tail op below above }
 {
     [
-        copy(R1, R6),
+        mov_reg(R1, R6),
         compute(op, R1, R7),
-        skip_if(Comparison::Slt, R7, 0, 2),
-        skip_where(above, R1, R6, 4),
-        skip(1),
-        skip_where(below, R1, R6, 2),
+        jump_if_imm(Comparison::Slt, R7, 0, 2),
+        jump_if_reg(above, R1, R6, 4),
+        ja(1),
+        jump_if_reg(below, R1, R6, 2),
         call(helpers::INT_NEW),
-        skip(1),
-        put(R0, ERROR),
+        ja(1),
+        mov_imm(R0, ERROR),
     ]
 }
 
 /// The product of R6 and R7, and the error where it does not fit.
-#[tactic(auto, unfolding(codegen_base::specs::Code::Arithmetic::product_tail))]
+#[tactic(auto, unfolding(expression_code::specs::Code::Arithmetic::product_tail))]
 fn product_tail() -> [Insn; 12]
     ensures { result ≡ specs.product_tail }
 {
     [
-        copy(R1, R6),
+        mov_reg(R1, R6),
         compute(AluOp::Mul, R1, R7),
-        skip_if(Comparison::Eq, R7, 0, 7),
-        skip_if(Comparison::Ne, R7, -1, 3),
-        load_wide(R2, LEAST),
-        skip_where(Comparison::Eq, R6, R2, 5),
-        copy(R2, R1),
+        jump_if_imm(Comparison::Eq, R7, 0, 7),
+        jump_if_imm(Comparison::Ne, R7, -1, 3),
+        lddw(R2, LEAST),
+        jump_if_reg(Comparison::Eq, R6, R2, 5),
+        mov_reg(R2, R1),
         compute(AluOp::Sdiv, R2, R7),
-        skip_where(Comparison::Ne, R2, R6, 2),
+        jump_if_reg(Comparison::Ne, R2, R6, 2),
         call(helpers::INT_NEW),
-        skip(1),
-        put(R0, ERROR),
+        ja(1),
+        mov_imm(R0, ERROR),
     ]
 }
 
@@ -81,15 +100,15 @@ fn divided_tail(op: AluOp) -> [Insn; 9]
     ensures { result ≡ specs.divided_tail op }
 {
     [
-        skip_if(Comparison::Eq, R7, 0, 8),
-        skip_if(Comparison::Ne, R7, -1, 3),
-        load_wide(R2, LEAST),
-        skip_where(Comparison::Eq, R6, R2, 4),
-        copy(R1, R6),
+        jump_if_imm(Comparison::Eq, R7, 0, 8),
+        jump_if_imm(Comparison::Ne, R7, -1, 3),
+        lddw(R2, LEAST),
+        jump_if_reg(Comparison::Eq, R6, R2, 4),
+        mov_reg(R1, R6),
         compute(op, R1, R7),
         call(helpers::INT_NEW),
-        skip(1),
-        put(R0, ERROR),
+        ja(1),
+        mov_imm(R0, ERROR),
     ]
 }
 
@@ -97,9 +116,9 @@ fn divided_tail(op: AluOp) -> [Insn; 9]
 pub(crate) fn sum(alloc: Global) -> Code
     ensures { IfOk result (λ code. code.items ≡ specs.sum_code) }
 {
-    let mut code = int_operands(10).to_vec(alloc)?;
+    let mut code = int_operands(SUM_JOIN_SLOT).to_vec(alloc)?;
     code.extend_from_slice(&checked_tail(AluOp::Add, Comparison::Sge, Comparison::Slt))?;
-    code.extend_from_slice(&[skip(3), copy(R1, R6), copy(R2, R7), call(helpers::JOIN)])?;
+    code.extend_from_slice(&[ja(3), mov_reg(R1, R6), mov_reg(R2, R7), call(helpers::JOIN)])?;
     Ok(code)
 }
 
@@ -107,7 +126,7 @@ pub(crate) fn sum(alloc: Global) -> Code
 pub(crate) fn difference(alloc: Global) -> Code
     ensures { IfOk result (λ code. code.items ≡ specs.difference_code) }
 {
-    let mut code = int_operands(8).to_vec(alloc)?;
+    let mut code = int_operands(DIFFERENCE_ERROR_SLOT).to_vec(alloc)?;
     code.extend_from_slice(&checked_tail(AluOp::Sub, Comparison::Sle, Comparison::Sgt))?;
     Ok(code)
 }
@@ -116,7 +135,7 @@ pub(crate) fn difference(alloc: Global) -> Code
 pub(crate) fn product(alloc: Global) -> Code
     ensures { IfOk result (λ code. code.items ≡ specs.product_code) }
 {
-    let mut code = int_operands(12).to_vec(alloc)?;
+    let mut code = int_operands(PRODUCT_ERROR_SLOT).to_vec(alloc)?;
     code.extend_from_slice(&product_tail())?;
     Ok(code)
 }
@@ -125,31 +144,31 @@ pub(crate) fn product(alloc: Global) -> Code
 pub(crate) fn divided(alloc: Global, op: AluOp) -> Code
     ensures { IfOk result (λ code. code.items ≡ specs.divided_code op) }
 {
-    let mut code = int_operands(9).to_vec(alloc)?;
+    let mut code = int_operands(DIVIDED_ERROR_SLOT).to_vec(alloc)?;
     code.extend_from_slice(&divided_tail(op))?;
     Ok(code)
 }
 
 /// The negative of R6, of what it names.
-#[tactic(auto, unfolding(codegen_base::specs::Code::Arithmetic::negation_tail))]
+#[tactic(auto, unfolding(expression_code::specs::Code::Arithmetic::negation_tail))]
 pub(crate) fn negation_tail() -> [Insn; 12]
     ensures { result ≡ specs.negation_tail }
 {
     [
-        copy(R1, R6),
+        mov_reg(R1, R6),
         call(helpers::KIND),
-        skip_if(Comparison::Ne, R0, INT_KIND, 9),
-        copy(R1, R6),
+        jump_if_imm(Comparison::Ne, R0, INT_KIND, 9),
+        mov_reg(R1, R6),
         call(helpers::INT_OF),
-        copy(R1, R0),
-        load_wide(R2, LEAST),
-        skip_where(Comparison::Eq, R1, R2, 3),
+        mov_reg(R1, R0),
+        lddw(R2, LEAST),
+        jump_if_reg(Comparison::Eq, R1, R2, 3),
         Insn::Neg {
             width: Width::W64,
             dst: R1,
         },
         call(helpers::INT_NEW),
-        skip(1),
-        put(R0, ERROR),
+        ja(1),
+        mov_imm(R0, ERROR),
     ]
 }

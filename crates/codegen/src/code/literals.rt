@@ -1,10 +1,12 @@
 //! Literals of null, truths, ints and texts.
+//! Listed in `Code/Literals` and `Code/Leaves` of `expression_code/specs`, with laws in
+//! `Gives/Leaves`.
 
 ghost use Rattle.std.specs.Prelude.{◌≡◌, ◌∷◌, [], length, map, string_bytes, IfOk, IfSome};
 ghost use Rattle.cel_reader.specs.Tree.{literal_view};
-ghost use Rattle.codegen_base.specs.Code.Leaves.{HasWord};
-ghost use Rattle.codegen_base.specs.Code.Literals as base;
-ghost use Rattle.codegen_base.specs.Instructions.{load_wide as load_wide_insn, put_length as put_length_insn};
+ghost use Rattle.expression_code.specs.Code.Leaves.{IsFrameWord};
+ghost use Rattle.expression_code.specs.Code.Literals as base;
+ghost use Rattle.expression_code.specs.Instructions.{lddw as load_wide_insn, put_length as put_length_insn};
 ghost use Rattle.codegen.specs.Code.Literals as specs;
 
 use crate::code::Code;
@@ -12,15 +14,13 @@ use crate::code::names::leaf;
 use crate::constants::place_of;
 use Register::{R1, R2};
 use cel_reader::Literal;
-use codegen_base::helpers;
-use codegen_base::instructions::{call, load_wide, put};
-use codegen_base::leaf::Leaf;
-use codegen_base::references::{NO, NULL, YES};
+use expression_code::helpers;
+use expression_code::instructions::{call, lddw, mov_imm};
+use expression_code::references::{NO, NULL, YES};
+use expression_code::simple_operand::SimpleOperand;
+use guest_memory::CONSTANTS;
 use insn_codec::{Insn, Register};
 use std::alloc::Global;
-
-/// Where the constants begin in memory.
-const CONSTANTS: u64 = 0x4_0000_0000;
 
 /// The greatest immediate. An image has no room for a text of as many bytes.
 const GREATEST_IMMEDIATE: usize = 0x7fff_ffff;
@@ -36,7 +36,7 @@ fn address_of(texts: &[String], text: &str) -> u64
 fn put_length(dst: Register, bytes: usize) -> Insn
     ensures { result ≡ put_length_insn dst bytes }
 {
-    put(dst, bytes.min(GREATEST_IMMEDIATE) as i32)
+    mov_imm(dst, bytes.min(GREATEST_IMMEDIATE) as i32)
 }
 
 /// The address and the length of a text into two registers.
@@ -49,26 +49,26 @@ pub(crate) fn text_range(
     ensures { result ≡ load_wide_insn address (specs.address_of (map string_bytes texts.now) text.now) ∷ put_length_insn bytes (length text.now) ∷ [] }
 {
     [
-        load_wide(address, address_of(texts, text)),
+        lddw(address, address_of(texts, text)),
         put_length(bytes, text.len()),
     ]
 }
 
 /// A truth, which has a reference of its own.
-fn truth_leaf(truth: bool) -> Leaf
+fn truth_leaf(truth: bool) -> SimpleOperand
     ensures leaf { result ≡ base.truth_leaf truth }
-    ensures word { HasWord result }
+    ensures word { IsFrameWord result }
 {
-    Leaf::Reference(if truth { YES } else { NO })
+    SimpleOperand::Reference(if truth { YES } else { NO })
 }
 
-/// The leaf that a literal is.
-pub(crate) fn literal_leaf(literal: &Literal) -> Option<Leaf>
+/// The simple operand that a literal is.
+pub(crate) fn literal_leaf(literal: &Literal) -> Option<SimpleOperand>
     ensures leaf { result ≡ specs.literal_leaf (literal_view literal.now) }
-    ensures word { IfSome result HasWord }
+    ensures word { IfSome result IsFrameWord }
 {
     match literal {
-        Literal::Null => Some(Leaf::Reference(NULL)),
+        Literal::Null => Some(SimpleOperand::Reference(NULL)),
         Literal::Bool(b) => Some(truth_leaf(*b)),
         Literal::Int(_) | Literal::Text(_) => None,
     }
@@ -78,7 +78,7 @@ pub(crate) fn literal_leaf(literal: &Literal) -> Option<Leaf>
 fn int(alloc: Global, n: i64) -> Code
     ensures { IfOk result (λ code. code.items ≡ base.int_code n) }
 {
-    [load_wide(R1, n.cast_unsigned()), call(helpers::INT_NEW)].to_vec(alloc)
+    [lddw(R1, n.cast_unsigned()), call(helpers::INT_NEW)].to_vec(alloc)
 }
 
 /// A text, from its bytes among the constants.
@@ -95,7 +95,7 @@ pub(crate) fn literal(alloc: Global, texts: &[String], literal: &Literal) -> Cod
     ensures { IfOk result (λ code. code.items ≡ specs.literal_code (map string_bytes texts.now) (literal_view literal.now)) }
 {
     match literal {
-        Literal::Null => leaf(alloc, Leaf::Reference(NULL)),
+        Literal::Null => leaf(alloc, SimpleOperand::Reference(NULL)),
         Literal::Bool(b) => leaf(alloc, truth_leaf(*b)),
         Literal::Int(n) => int(alloc, *n),
         Literal::Text(t) => text(alloc, texts, t.as_str()),

@@ -1,29 +1,44 @@
 //! Logical operators and the conditional.
+//! Listed in `Code/Logic` of `expression_code/specs`, with laws in `Gives/Logic`.
 
 ghost use Rattle.std.specs.Prelude.{◌≡◌, ◌<◌, ◌≤◌, ◌+◌, IfOk};
-ghost use Rattle.codegen_base.specs.Code.Logic as specs;
-ghost use Rattle.codegen_base.specs.Pieces.{size as size_of_piece};
+ghost use Rattle.expression_code.specs.Code.Logic as specs;
+ghost use Rattle.expression_code.specs.Pieces.{size as size_of_piece};
+ghost use Rattle.expression_code.specs.Limits.{frame_words, part_slot_limit};
 
 use crate::code::Code;
-use crate::instructions::{load, size, skip, store};
-use codegen_base::helpers;
-use codegen_base::instructions::{call, put, skip_if};
-use codegen_base::references::{ERROR, NO, YES};
+use crate::instructions::{ja, load, size, store};
+use crate::truths::Truths;
+use expression_code::helpers;
+use expression_code::instructions::{call, jump_if_imm, mov_imm};
+use expression_code::references::{ERROR, NO, YES};
 use insn_codec::{Comparison, Insn, Register};
 use std::alloc::Global;
+
+/// The slots between the sides of an operator.
+pub(crate) const LEFT_SLOTS: usize = 2;
+
+/// The slots after a condition.
+pub(crate) const CONDITION_SLOTS: usize = 2;
+
+/// The slot of the jump between two branches.
+pub(crate) const BRANCH_SLOTS: usize = 1;
+
+/// The slots that a left side which decides leaves out beside those of the right one.
+const ABSORBED_SLOTS: usize = 6;
 
 /// The operator for which the one truth decides, with its right side in R0 and its left side, which
 /// does not decide, in word k.
 fn absorbing_tail(decides: i32, other: i32, k: usize) -> [Insn; 5]
-    requires { k < 64 }
+    requires { k < frame_words }
     ensures { result ≡ specs.absorbing_tail decides other k }
 {
     [
         load(Register::R1, k),
-        skip_if(Comparison::Eq, Register::R0, decides, 3),
-        skip_if(Comparison::Ne, Register::R1, other, 1),
-        skip_if(Comparison::Eq, Register::R0, other, 1),
-        put(Register::R0, ERROR),
+        jump_if_imm(Comparison::Eq, Register::R0, decides, 3),
+        jump_if_imm(Comparison::Ne, Register::R1, other, 1),
+        jump_if_imm(Comparison::Eq, Register::R0, other, 1),
+        mov_imm(Register::R0, ERROR),
     ]
 }
 
@@ -32,19 +47,19 @@ fn absorbing_tail(decides: i32, other: i32, k: usize) -> [Insn; 5]
 #[tactic(auto, using(crate::proofs::Lengths::put_together))]
 pub(crate) fn absorbing(
     alloc: Global,
-    decides: i32,
-    other: i32,
+    truths: Truths,
     left: &[Insn],
     right: &[Insn],
     k: usize,
 ) -> Code
-    requires word { k < 64 }
-    requires near { size_of_piece right.now ≤ 32256 }
-    ensures { IfOk result (λ code. code.items ≡ specs.absorbing_code decides other left.now right.now k) }
+    requires word { k < frame_words }
+    requires near { size_of_piece right.now ≤ part_slot_limit }
+    ensures { IfOk result (λ code. code.items ≡ specs.absorbing_code truths.decides truths.other left.now right.now k) }
 {
-    let behind = size(right) + 6;
+    let Truths { decides, other } = truths;
+    let behind = size(right) + ABSORBED_SLOTS;
     let mut code = left.to_vec(alloc)?;
-    code.push(skip_if(Comparison::Eq, Register::R0, decides, behind))?;
+    code.push(jump_if_imm(Comparison::Eq, Register::R0, decides, behind))?;
     code.push(store(k, Register::R0))?;
     code.extend_from_slice(right)?;
     code.extend_from_slice(&absorbing_tail(decides, other, k))?;
@@ -60,18 +75,18 @@ pub(crate) fn not_tail() -> [Insn; 1]
 
 /// The chosen side, or the error where the condition is neither true nor false.
 pub(crate) fn ternary(alloc: Global, condition: &[Insn], yes: &[Insn], no: &[Insn]) -> Code
-    requires { size_of_piece yes.now + size_of_piece no.now ≤ 32256 }
+    requires { size_of_piece yes.now + size_of_piece no.now ≤ part_slot_limit }
     ensures { IfOk result (λ code. code.items ≡ specs.ternary_code condition.now yes.now no.now) }
 {
     let behind_yes = size(yes) + 2;
     let behind_no = size(no) + 2;
     let mut code = condition.to_vec(alloc)?;
-    code.push(skip_if(Comparison::Eq, Register::R0, NO, behind_yes))?;
-    code.push(skip_if(Comparison::Ne, Register::R0, YES, size(yes) + behind_no))?;
+    code.push(jump_if_imm(Comparison::Eq, Register::R0, NO, behind_yes))?;
+    code.push(jump_if_imm(Comparison::Ne, Register::R0, YES, size(yes) + behind_no))?;
     code.extend_from_slice(yes)?;
-    code.push(skip(behind_no))?;
+    code.push(ja(behind_no))?;
     code.extend_from_slice(no)?;
-    code.push(skip(1))?;
-    code.push(put(Register::R0, ERROR))?;
+    code.push(ja(1))?;
+    code.push(mov_imm(Register::R0, ERROR))?;
     Ok(code)
 }

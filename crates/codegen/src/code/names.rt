@@ -1,14 +1,17 @@
 //! Names, and the functions and tests that names stand for.
+//! Listed in `Code/Names` and `Code/Leaves` of `expression_code/specs`, with laws in
+//! `Gives/Leaves`.
 
 ghost use Rattle.std.specs.Prelude.{◌≡◌, ◌<◌, ◌++◌, IfOk, IfSome};
+ghost use Rattle.cel_macros.specs.Callee.{callee_view, function_in, test_in};
 ghost use Rattle.cel_macros.specs.Environment.{lookup};
-ghost use Rattle.cel_macros.specs.Functions.{function_named, test_named};
-ghost use Rattle.codegen_base.specs.Code.Calls.{operand_code};
-ghost use Rattle.codegen_base.specs.Code.Leaves.{leaf_code, HasWord};
-ghost use Rattle.codegen_base.specs.Code.Names as names;
-ghost use Rattle.codegen_base.specs.Code.Selection.{size_tail, string_tail as string_tail_code};
+ghost use Rattle.expression_code.specs.Code.Calls.{operand_code};
+ghost use Rattle.expression_code.specs.Code.Leaves.{leaf_code, IsFrameWord};
+ghost use Rattle.expression_code.specs.Code.Names as names;
+ghost use Rattle.expression_code.specs.Code.Selection.{size_tail, string_tail as string_tail_code, test_helper};
 ghost use Rattle.codegen.specs.Code.Expressions as specs;
 ghost use Rattle.codegen.specs.FrameWords.{words_of, AreItems, AreWords};
+ghost use Rattle.expression_code.specs.Limits.{word_limit, frame_words};
 
 use crate::code::Code;
 use crate::code::calls::{operand, operands};
@@ -16,10 +19,11 @@ use crate::code::selection::string_tail;
 use crate::frame_words::FrameWords;
 use crate::instructions::leaf_into;
 use crate::part::Part;
-use codegen_base::helpers;
-use codegen_base::instructions::call;
-use codegen_base::leaf::Leaf;
-use codegen_base::references::{ERROR, NAMESPACE_OBJECT, OBJECT, OLD_OBJECT, PARAMS, REQUEST};
+use cel_macros::{Callee, Function, TextTest};
+use expression_code::helpers;
+use expression_code::instructions::call;
+use expression_code::references::{ERROR, NAMESPACE_OBJECT, OBJECT, OLD_OBJECT, PARAMS, REQUEST};
+use expression_code::simple_operand::SimpleOperand;
 use insn_codec::Register;
 use std::alloc::Global;
 
@@ -27,7 +31,7 @@ use std::alloc::Global;
 fn word_named(name: &str, words: &FrameWords) -> Option<usize>
     requires { AreItems (words_of words.now).items }
     ensures value { result ≡ lookup name.now (words_of words.now).items }
-    ensures word { IfSome result (λ k. k < 60) }
+    ensures word { IfSome result (λ k. k < word_limit) }
 {
     match words {
         FrameWords::Outside | FrameWords::Keeping(_) => None,
@@ -42,7 +46,7 @@ fn word_named(name: &str, words: &FrameWords) -> Option<usize>
 }
 
 /// The reference of the root of this name, and the error's where there is none.
-#[tactic(auto, unfolding(codegen_base::specs::Code::Names::root_reference))]
+#[tactic(auto, unfolding(expression_code::specs::Code::Names::root_reference))]
 pub(crate) fn root_reference(name: &str) -> i32
     ensures { result ≡ names.root_reference name.now }
 {
@@ -56,23 +60,23 @@ pub(crate) fn root_reference(name: &str) -> i32
     }
 }
 
-/// A leaf as an expression.
-pub(crate) fn leaf(alloc: Global, leaf: Leaf) -> Code
-    requires { HasWord leaf }
+/// A simple operand as an expression.
+pub(crate) fn leaf(alloc: Global, leaf: SimpleOperand) -> Code
+    requires { IsFrameWord leaf }
     ensures { IfOk result (λ code. code.items ≡ leaf_code leaf) }
 {
     [leaf_into(leaf, Register::R0)].to_vec(alloc)
 }
 
 /// What a name stands for.
-pub(crate) fn name_leaf(name: &str, words: &FrameWords) -> Leaf
+pub(crate) fn name_leaf(name: &str, words: &FrameWords) -> SimpleOperand
     requires { AreWords (words_of words.now) }
     ensures leaf { result ≡ names.name_leaf name.now (words_of words.now).items }
-    ensures word { HasWord result }
+    ensures word { IsFrameWord result }
 {
     match word_named(name, words) {
-        Some(k) => Leaf::Word(k),
-        None => Leaf::Reference(root_reference(name)),
+        Some(k) => SimpleOperand::Word(k),
+        None => SimpleOperand::Reference(root_reference(name)),
     }
 }
 
@@ -80,7 +84,7 @@ pub(crate) fn name_leaf(name: &str, words: &FrameWords) -> Leaf
 pub(crate) fn nothing(alloc: Global) -> Code
     ensures { IfOk result (λ code. code.items ≡ specs.no_code) }
 {
-    leaf(alloc, Leaf::Reference(ERROR))
+    leaf(alloc, SimpleOperand::Reference(ERROR))
 }
 
 /// The number of code points, items or entries of a part.
@@ -101,44 +105,51 @@ fn text_of(alloc: Global, of: &Part) -> Code
     Ok(code)
 }
 
-/// The function of this name, of a part.
-#[tactic(auto, unfolding(cel_macros::specs::Functions::function_named))]
-pub(crate) fn function(alloc: Global, name: &str, of: &Part) -> Code
-    ensures { IfOk result (λ code. code.items ≡ specs.function_code (function_named name.now) of.now.leaf of.now.code.items) }
+/// The function that a call names, of a part.
+pub(crate) fn function(alloc: Global, callee: &Callee, of: &Part) -> Code
+    ensures { IfOk result (λ code. code.items ≡ specs.function_code (function_in (callee_view callee.now)) of.now.leaf of.now.code.items) }
 {
-    match name {
-        "size" => size_of(alloc, of),
-        "string" => text_of(alloc, of),
-        "dyn" => of.code.to_vec(alloc),
-        _ => nothing(alloc),
+    match callee {
+        Callee::Function(Function::Size) => size_of(alloc, of),
+        Callee::Function(Function::String) => text_of(alloc, of),
+        Callee::Function(Function::Dyn) => of.code.to_vec(alloc),
+        Callee::Test(_) | Callee::Unknown(_) => nothing(alloc),
     }
 }
 
-/// The method of this name and without arguments, of a part.
-#[tactic(auto, unfolding(cel_macros::specs::Functions::function_named))]
-pub(crate) fn method(alloc: Global, name: &str, of: &Part) -> Code
-    ensures { IfOk result (λ code. code.items ≡ specs.method_function_code (function_named name.now) of.now.leaf of.now.code.items) }
+/// The method without arguments that a call names, of a part.
+pub(crate) fn method(alloc: Global, callee: &Callee, of: &Part) -> Code
+    ensures { IfOk result (λ code. code.items ≡ specs.method_function_code (function_in (callee_view callee.now)) of.now.leaf of.now.code.items) }
 {
-    if "size" == name {
-        size_of(alloc, of)
-    } else {
-        nothing(alloc)
+    match callee {
+        Callee::Function(Function::Size) => size_of(alloc, of),
+        Callee::Function(Function::String | Function::Dyn) | Callee::Test(_) | Callee::Unknown(_) =>
+            nothing(alloc),
     }
 }
 
-/// The test of this name, of a text for a part.
-#[tactic(auto, unfolding(cel_macros::specs::Functions::test_named))]
-pub(crate) fn test(alloc: Global, name: &str, left: &Part, right: &Part, k: usize) -> Code
-    requires { k < 64 }
-    ensures { IfOk result (λ code. code.items ≡ specs.test_code (test_named name.now) left.now.leaf left.now.code.items right.now.leaf right.now.code.items k) }
+/// The helper that makes the test.
+fn test_helper(test: TextTest) -> i32
+    ensures { result ≡ test_helper test }
 {
-    let helper = match name {
-        "startsWith" => helpers::STARTS,
-        "endsWith" => helpers::ENDS,
-        "contains" => helpers::CONTAINS,
-        _ => return nothing(alloc),
-    };
-    let mut code = operands(alloc, left, right, k, Register::R1, Register::R2)?;
-    code.push(call(helper))?;
-    Ok(code)
+    match test {
+        TextTest::StartsWith => helpers::STARTS,
+        TextTest::EndsWith => helpers::ENDS,
+        TextTest::Contains => helpers::CONTAINS,
+    }
+}
+
+/// The test that a call names, of a text for a part.
+pub(crate) fn test(alloc: Global, callee: &Callee, left: &Part, right: &Part, k: usize) -> Code
+    requires { k < frame_words }
+    ensures { IfOk result (λ code. code.items ≡ specs.test_code (test_in (callee_view callee.now)) left.now.leaf left.now.code.items right.now.leaf right.now.code.items k) }
+{
+    match callee {
+        Callee::Test(test) => {
+            let mut code = operands(alloc, left, right, k, (Register::R1, Register::R2))?;
+            code.push(call(test_helper(*test)))?;
+            Ok(code)
+        }
+        Callee::Function(_) | Callee::Unknown(_) => nothing(alloc),
+    }
 }

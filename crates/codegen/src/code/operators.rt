@@ -1,21 +1,24 @@
 //! Operators.
+//! Listed in `Code/Comparison` of `expression_code/specs`, with laws in `Gives/Comparison`.
 
 ghost use Rattle.std.specs.Prelude.{◌≡◌, ◌<◌, ◌≤◌, ◌+◌, ◌++◌, ◌∷◌, [], IfOk};
 ghost use Rattle.codegen.specs.Code.Expressions as specs;
-ghost use Rattle.codegen_base.specs.Code.Comparison as comparison;
-ghost use Rattle.codegen_base.specs.Pieces.{size as size_of_piece};
+ghost use Rattle.expression_code.specs.Code.Comparison as comparison;
+ghost use Rattle.expression_code.specs.Pieces.{size as size_of_piece};
+ghost use Rattle.expression_code.specs.Limits.{part_slot_limit, frame_words};
 
 use crate::code::Code;
 use crate::code::arithmetic::{difference, divided, negation_tail, product, sum};
 use crate::code::calls::{kept_size, operand, operands};
-use crate::code::logic::{absorbing, not_tail};
+use crate::code::logic::{LEFT_SLOTS, absorbing, not_tail};
 use crate::instructions::size;
 use crate::part::Part;
+use crate::truths::Truths;
 use Register::{R0, R1, R2, R6, R7};
 use cel_reader::{BinaryOperator, UnaryOperator};
-use codegen_base::helpers::{EQUAL, LESS, MEMBER, NOT};
-use codegen_base::instructions::{call, copy};
-use codegen_base::references::{NO, YES};
+use expression_code::helpers::{EQUAL, LESS, MEMBER, NOT};
+use expression_code::instructions::{call, mov_reg};
+use expression_code::references::{NO, YES};
 use insn_codec::{AluOp, Insn, Register};
 use std::alloc::Global;
 
@@ -39,12 +42,12 @@ pub(crate) fn unary(alloc: Global, op: UnaryOperator, of: &Part) -> Code
 
 /// How many slots stand before the operator's right operand.
 pub(crate) fn left_size(op: BinaryOperator, left: &Part) -> usize
-    requires { size_of_piece left.now.code.items ≤ 32256 }
+    requires { size_of_piece left.now.code.items ≤ part_slot_limit }
     ensures size { result ≡ specs.left_size op left.now.leaf left.now.code.items }
     ensures near { result ≤ size_of_piece left.now.code.items + 2 }
 {
     match op {
-        BinaryOperator::Or | BinaryOperator::And => size(&left.code) + 2,
+        BinaryOperator::Or | BinaryOperator::And => size(&left.code) + LEFT_SLOTS,
         _ => kept_size(left),
     }
 }
@@ -69,7 +72,7 @@ fn registers(op: BinaryOperator) -> (Register, Register)
 fn opposite_of(helper: i32) -> [Insn; 3]
     ensures { result ≡ comparison.opposite_of (Insn.Call helper ∷ []) }
 {
-    [call(helper), copy(R1, R0), call(NOT)]
+    [call(helper), mov_reg(R1, R0), call(NOT)]
 }
 
 /// What the operator makes of both operands.
@@ -95,16 +98,27 @@ fn binary_tail(alloc: Global, op: BinaryOperator) -> Code
 
 /// The operator, of both sides.
 pub(crate) fn binary(alloc: Global, op: BinaryOperator, left: &Part, right: &Part, k: usize) -> Code
-    requires word { k < 64 }
-    requires near { size_of_piece right.now.code.items ≤ 32256 }
+    requires word { k < frame_words }
+    requires near { size_of_piece right.now.code.items ≤ part_slot_limit }
     ensures { IfOk result (λ code. code.items ≡ specs.binary_code op left.now.leaf left.now.code.items right.now.leaf right.now.code.items k) }
 {
     match op {
-        BinaryOperator::Or => absorbing(alloc, YES, NO, &left.code, &right.code, k),
-        BinaryOperator::And => absorbing(alloc, NO, YES, &left.code, &right.code, k),
+        BinaryOperator::Or => {
+            let truths = Truths {
+                decides: YES,
+                other: NO,
+            };
+            absorbing(alloc, truths, &left.code, &right.code, k)
+        }
+        BinaryOperator::And => {
+            let truths = Truths {
+                decides: NO,
+                other: YES,
+            };
+            absorbing(alloc, truths, &left.code, &right.code, k)
+        }
         _ => {
-            let (first, second) = registers(op);
-            let mut code = operands(alloc, left, right, k, first, second)?;
+            let mut code = operands(alloc, left, right, k, registers(op))?;
             code.extend_from_slice(&binary_tail(alloc, op)?)?;
             Ok(code)
         }

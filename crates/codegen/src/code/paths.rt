@@ -1,14 +1,11 @@
 //! Fields of roots whose values are kept.
+//! A path is in `Paths` of `expression_code/specs`, with laws in `Gives/Paths`.
 
-ghost use Rattle.std.specs.Prelude.{◌≡◌, ◌≤◌, ◌+◌, ◌∷◌, length, map, option_map, string_bytes, IfOk, IfSome};
-ghost use Rattle.insn_codec.specs.declared.register.Register.TheVariants as register;
+ghost use Rattle.std.specs.Prelude.{◌≡◌, map, option_map, string_bytes, IfOk, IfSome};
 ghost use Rattle.cel_macros.specs.CoreView.{core_view};
-ghost use Rattle.codegen_base.specs.Code.Leaves.{leaf_insn, HasWord};
-ghost use Rattle.codegen_base.specs.Code.Names.{root_reference as reference_of};
-ghost use Rattle.codegen_base.specs.Code.Selection.{field_tail};
-ghost use Rattle.codegen_base.specs.declared.leaf.Leaf.TheVariants as leaves;
+ghost use Rattle.expression_code.specs.Code.Leaves.{IsFrameWord};
 ghost use Rattle.codegen.specs.Code.Expressions as specs;
-ghost use Rattle.codegen.specs.Code.Literals.{address_of};
+ghost use Rattle.codegen.specs.Code.Literals.{path_code};
 ghost use Rattle.codegen.specs.Code.Whole as whole;
 ghost use Rattle.codegen.specs.FrameWords.{path_view, words_of};
 
@@ -19,18 +16,18 @@ use crate::frame_words::FrameWords;
 use crate::part::Part;
 use crate::path::Path;
 use cel_macros::Core;
-use codegen_base::leaf::Leaf;
+use expression_code::simple_operand::SimpleOperand;
 use std::alloc::Global;
 
 /// Word 0, where it keeps this field of the expression.
-pub(crate) fn field_leaf(of: &Core, field: &str, words: &FrameWords) -> Option<Leaf>
+pub(crate) fn field_leaf(of: &Core, field: &str, words: &FrameWords) -> Option<SimpleOperand>
     ensures leaf { result ≡ specs.field_leaf (words_of words.now).path (core_view of.now) field.now }
-    ensures word { IfSome result HasWord }
+    ensures word { IfSome result IsFrameWord }
 {
     match words {
         FrameWords::Keeping(path) => match of {
             Core::Name(name) if name.as_str() == path.root && field == path.field => Some(
-                Leaf::Word(0),
+                SimpleOperand::Word(0),
             ),
             _ => None,
         },
@@ -77,10 +74,10 @@ pub(crate) fn first_path(core: &Core) -> Option<Path<'_>>
 
 /// The code that walks the path, and leaves its value in R0.
 pub(crate) fn walk(alloc: Global, texts: &[String], path: Path) -> Code
-    ensures { IfOk result (λ code. code.items ≡ leaf_insn (leaves.Reference (reference_of path.entry.root.now)) register.R1 ∷ field_tail (address_of (map string_bytes texts.now) path.entry.field.now) (length path.entry.field.now)) }
+    ensures { IfOk result (λ code. code.items ≡ path_code (map string_bytes texts.now) (path_view path.entry)) }
 {
     let root = Part {
-        leaf: Some(Leaf::Reference(root_reference(path.root))),
+        leaf: Some(SimpleOperand::Reference(root_reference(path.root))),
         code: Vec::new(alloc),
     };
     select(alloc, &root, texts, path.field)

@@ -1,24 +1,25 @@
 //! Selection, indices, and functions of texts and sizes.
+//! Listed in `Code/Selection` of `expression_code/specs`, with laws in `Gives/Selection`.
 
 ghost use Rattle.std.specs.Prelude.{◌≡◌, ◌<◌, ◌++◌, length, map, string_bytes, IfOk};
-ghost use Rattle.codegen_base.specs.Code.Calls.{operand_code};
-ghost use Rattle.codegen_base.specs.Code.Selection as specs;
-ghost use Rattle.codegen.specs.Code.Literals.{address_of};
+ghost use Rattle.expression_code.specs.Code.Calls.{operand_code};
+ghost use Rattle.expression_code.specs.Code.Selection as specs;
+ghost use Rattle.codegen.specs.Code.Literals.{address_of, call_on_text};
 
 use crate::code::Code;
 use crate::code::calls::operand;
 use crate::code::literals::text_range;
-use crate::instructions::skip;
+use crate::instructions::ja;
 use crate::part::Part;
 use Register::{R0, R1, R2, R3, R6};
-use codegen_base::helpers::{self, TEXT_KIND};
-use codegen_base::instructions::{call, copy, skip_if};
+use expression_code::helpers::{self, TEXT_KIND};
+use expression_code::instructions::{call, jump_if_imm, mov_reg};
 use insn_codec::{Comparison, Insn, Register};
 use std::alloc::Global;
 
 /// The helper's answer on a part, and a text among these.
 fn call_with_text(alloc: Global, of: &Part, helper: i32, texts: &[String], text: &str) -> Code
-    ensures { IfOk result (λ code. code.items ≡ operand_code of.now.leaf of.now.code.items Register.R1 ++ specs.call_with_text helper (address_of (map string_bytes texts.now) text.now) (length text.now)) }
+    ensures { IfOk result (λ code. code.items ≡ operand_code of.now.leaf of.now.code.items Register.R1 ++ call_on_text helper (map string_bytes texts.now) text.now) }
 {
     let mut code = operand(alloc, of, R1)?;
     code.extend_from_slice(&text_range(texts, text, R2, R3))?;
@@ -45,12 +46,12 @@ pub(crate) fn string_tail() -> [Insn; 7]
     ensures { result ≡ specs.string_tail }
 {
     [
-        copy(R1, R6),
+        mov_reg(R1, R6),
         call(helpers::KIND),
-        skip_if(Comparison::Ne, R0, TEXT_KIND, 2),
-        copy(R0, R6),
-        skip(2),
-        copy(R1, R6),
+        jump_if_imm(Comparison::Ne, R0, TEXT_KIND, 2),
+        mov_reg(R0, R6),
+        ja(2),
+        mov_reg(R1, R6),
         call(helpers::TEXT_OF_INT),
     ]
 }

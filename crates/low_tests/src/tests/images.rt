@@ -1,6 +1,6 @@
 //! Files and parts that were made by hand.
 
-use LoadError::{L1, L2, L3, L4, L5};
+use LoadError::{BadLength, BadSlotCount, ConstantsTooLong, TooShort, UnknownMagic};
 use loader::{Image, LoadError};
 use std::alloc::{AllocError, Global};
 use std::test::Fail;
@@ -15,26 +15,32 @@ const SECOND: &[u8] =
 
 /// Files that hold no image, and why.
 const REFUSED: [(&[u8], LoadError); 14] = [
-    (b"", L1),
-    (b"CELBPF01\x01\0\0\0\0\0\0", L1),
-    (b"CELBPF03\x01\0\0\0\0\0\0\0\x95\0\0\0\0\0\0\0", L2),
-    (b"CELBPF00\x01\0\0\0\0\0\0\0\x95\0\0\0\0\0\0\0", L2),
+    (b"", TooShort),
+    (b"CELBPF01\x01\0\0\0\0\0\0", TooShort),
+    (
+        b"CELBPF03\x01\0\0\0\0\0\0\0\x95\0\0\0\0\0\0\0",
+        UnknownMagic,
+    ),
+    (
+        b"CELBPF00\x01\0\0\0\0\0\0\0\x95\0\0\0\0\0\0\0",
+        UnknownMagic,
+    ),
     (
         b"\0ELBPF01\x02\0\0\0\0\0\0\0\xb7\0\0\0\x05\0\0\0\x95\0\0\0\0\0\0\0",
-        L2,
+        UnknownMagic,
     ),
-    (b"CELBPF02\0\0\0\0\0\0\0\0", L3),
-    (b"CELBPF01\0\0\0\0\0\0\0\0", L3),
-    (b"CELBPF01\x01\0\x01\0\0\0\0\0", L3),
-    (b"CELBPF01\0\0\0\0\xff\xff\xff\xff", L3),
-    (b"CELBPF01\x01\0\0\0\x01\0\x10\0", L4),
+    (b"CELBPF02\0\0\0\0\0\0\0\0", BadSlotCount),
+    (b"CELBPF01\0\0\0\0\0\0\0\0", BadSlotCount),
+    (b"CELBPF01\x01\0\x01\0\0\0\0\0", BadSlotCount),
+    (b"CELBPF01\0\0\0\0\xff\xff\xff\xff", BadSlotCount),
+    (b"CELBPF01\x01\0\0\0\x01\0\x10\0", ConstantsTooLong),
     (
         b"CELBPF01\x02\0\0\0\x01\0\x10\0\xb7\0\0\0\x05\0\0\0\x95\0\0\0\0\0\0\0",
-        L4,
+        ConstantsTooLong,
     ),
-    (b"CELBPF01\x01\0\0\0\0\0\0\0\x95\0\0\0\0\0\0", L5),
-    (b"CELBPF01\x01\0\0\0\0\0\0\0\x95\0\0\0\0\0\0\0\0", L5),
-    (b"CELBPF01\x01\0\0\0\x01\0\0\0\x95\0\0\0\0\0\0\0", L5),
+    (b"CELBPF01\x01\0\0\0\0\0\0\0\x95\0\0\0\0\0\0", BadLength),
+    (b"CELBPF01\x01\0\0\0\0\0\0\0\x95\0\0\0\0\0\0\0\0", BadLength),
+    (b"CELBPF01\x01\0\0\0\x01\0\0\0\x95\0\0\0\0\0\0\0", BadLength),
 ];
 
 /// Why the file holds no image.
@@ -52,12 +58,13 @@ fn refuses_files(rt: HostRuntime) {
 /// The image of `r0 = 5` and `exit`, and one byte more.
 const LONGER: &[u8] = b"CELBPF01\x02\0\0\0\0\0\0\0\xb7\0\0\0\x05\0\0\0\x95\0\0\0\0\0\0\0\0";
 
-/// From the first of two lengths to before the second, what the beginnings of that file are refused for.
+/// From the first of two lengths to before the second, what the beginnings of that file are refused
+/// for.
 const BEGINNINGS: [(usize, usize, Option<LoadError>); 4] = [
-    (0, 16, Some(L1)),
-    (16, 32, Some(L5)),
+    (0, 16, Some(TooShort)),
+    (16, 32, Some(BadLength)),
     (32, 33, None),
-    (33, 34, Some(L5)),
+    (33, 34, Some(BadLength)),
 ];
 
 /// Whether the beginnings of these lengths are refused so.
@@ -161,11 +168,11 @@ fn refusals(
 
 /// Lengths of code and constants that are no parts, and why.
 const LENGTHS: [(usize, usize, LoadError); 5] = [
-    (12, 0, L5),
-    (524_292, 1_048_577, L5),
-    (0, 0, L3),
-    (524_296, 1_048_577, L3),
-    (524_288, 1_048_577, L4),
+    (12, 0, BadLength),
+    (524_292, 1_048_577, BadLength),
+    (0, 0, BadSlotCount),
+    (524_296, 1_048_577, BadSlotCount),
+    (524_288, 1_048_577, ConstantsTooLong),
 ];
 
 #[test]

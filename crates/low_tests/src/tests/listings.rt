@@ -168,10 +168,10 @@ fn a_line_begins_at_each_slot(rt: HostRuntime) -> Result<(), Fail> {
 #[test]
 fn refuses_lengths(rt: HostRuntime) -> Result<(), Fail> {
     let rows = [
-        (1, DisError::D1),
-        (12, DisError::D1),
-        (524_296, DisError::D2),
-        (524_300, DisError::D1),
+        (1, DisError::PartialSlot),
+        (12, DisError::PartialSlot),
+        (524_296, DisError::CodeTooLong),
+        (524_300, DisError::PartialSlot),
     ];
     for (length, error) in rows {
         let code = vec![in rt.alloc(); 0; length]?;
@@ -193,7 +193,12 @@ fn lists_the_longest_code(rt: HostRuntime) -> Result<(), Fail> {
 
 #[test]
 fn errors_are_told_in_words(rt: HostRuntime) -> Result<(), Fail> {
-    let text = format!(in rt.alloc(); "{}; {}; {}", DisError::D1, DisError::D2, DisError::Memory)?;
+    let text = format!(in rt.alloc();
+        "{}; {}; {}",
+        DisError::PartialSlot,
+        DisError::CodeTooLong,
+        DisError::Memory
+    )?;
     assert_eq!(rt;
         text.as_str(),
         "the code is not a whole number of slots; the code has more than 65536 slots; out of memory"

@@ -173,8 +173,8 @@ fn stores_nothing_around(rt: HostRuntime) -> Result<(), Fail> {
     Ok(())
 }
 
-/// Where 0x8877_6655_4433_2211 is stored near the border of two double words, the border, and the eight
-/// bytes before and behind it.
+/// Where 0x8877_6655_4433_2211 is stored near the border of two double words, the border, and the
+/// eight bytes before and behind it.
 #[rattlefmt::skip]
 const BORDERS: [(u64, Size, u64, u64, u64); 12] = [
     (0x1_0000_00f8, Dw, 0x1_0000_0100, 0x8877_6655_4433_2211, 0),
@@ -231,7 +231,8 @@ fn put(guest: &mut Guest, addr: u64, size: Size, word: u64) -> Result<(), WriteE
     guest.write(addr, size, word)
 }
 
-/// What a memory and its copy load, each of which has stored at one address after the copy was made.
+/// What a memory and its copy load, each of which has stored at one address after the copy was
+/// made.
 fn apart(alloc: Global, addr: u64) -> Result<[Option<u64>; 2], Fail> {
     let mut guest = start(alloc, b"")?;
     put(&mut guest, addr, Dw, 1)?;

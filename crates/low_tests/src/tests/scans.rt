@@ -2,7 +2,8 @@ use text_kernels::{code_points, first_difference, skip_plain};
 
 const SIZE: usize = 200;
 
-// Different bytes in a mixed order; among them are the ends of 0x80..=0xbf, every special byte and their neighbours.
+// Different bytes in a mixed order; among them are the ends of 0x80..=0xbf, every special byte and
+// their neighbours.
 fn mixed() -> [u8; SIZE] {
     let mut bytes = [0; SIZE];
     let mut byte: u8 = 1;

@@ -5,7 +5,7 @@ mod instructions;
 mod programs;
 mod refusals;
 
-use assembler::{AsmError, assemble};
+use assembler::assemble;
 use insn_codec::decode;
 use std::alloc::Global;
 use std::process::Abort;
@@ -71,16 +71,11 @@ fn line_of(alloc: Global, slot: u64) -> Result<String, Fail> {
     }
 }
 
-/// The number of the text's refusal, 1 for A1, and its line; 0 where there is none.
-fn refusal_of(alloc: Global, text: &str) -> (u8, usize) {
+/// The code and the line of the text's refusal, with no code and line 0 if it assembles.
+fn refusal_of(alloc: Global, text: &str) -> (&'static str, usize) {
     match assemble(alloc, text) {
-        Ok(_) | Err(AsmError::Memory) => (0, 0),
-        Err(AsmError::A1(line)) => (1, line),
-        Err(AsmError::A2(line)) => (2, line),
-        Err(AsmError::A3(line)) => (3, line),
-        Err(AsmError::A4(line)) => (4, line),
-        Err(AsmError::A5(line)) => (5, line),
-        Err(AsmError::A6(line)) => (6, line),
+        Ok(_) => ("", 0),
+        Err(error) => (error.code(), error.line().unwrap_or(0)),
     }
 }
 

@@ -1,17 +1,17 @@
+use AluOp::{Add, And, Arsh, Div, Lsh, Mod, Mov, Mul, Or, Rsh, Sdiv, Smod, Sub, Xor};
 use Comparison::{Eq, Ge, Gt, Le, Lt, Ne, Set, Sge, Sgt, Sle, Slt};
-use Operation::{Add, And, Arsh, Div, Lsh, Mod, Mov, Mul, Or, Rsh, Sdiv, Smod, Sub, Xor};
-use SignBits::{B8, B16, B32};
+use SignedSize::{B, H, W};
 use SwapWidth::{Bits16, Bits32, Bits64};
 use bpf_word::laws::{
     comparisons_tell, operations_are, results_are_words, rows_stand, sums_overflow,
     upper_half_is_zero,
 };
-use bpf_word::{Comparison, Operation, SignBits, SwapWidth, alu32, alu64, holds, sext, swap};
+use bpf_word::{AluOp, Comparison, SignedSize, SwapWidth, alu32, alu64, holds, sext, swap};
 
 const LEAST: u64 = 0x8000_0000_0000_0000;
 
 /// The operation, the destination's word, the operand's and the result.
-type Row = (Operation, u64, u64, u64);
+type Row = (AluOp, u64, u64, u64);
 
 /// Among them divisors of zero, the least value by -1, and amounts at and above the width.
 const ROWS_OF_64: [Row; 50] = [
@@ -119,15 +119,15 @@ fn operations_on_32_bits(rt: HostRuntime) {
 }
 
 /// The bits that are read, a word and the extended word.
-const EXTENSIONS: [(SignBits, u64, u64); 8] = [
-    (B8, 0x7f, 0x7f),
-    (B8, 0x80, 0xffff_ffff_ffff_ff80),
-    (B8, 0xabcd_ef01_2345_6701, 1),
-    (B16, 0x7fff, 0x7fff),
-    (B16, 0x1_8000, 0xffff_ffff_ffff_8000),
-    (B32, 0x7fff_ffff, 0x7fff_ffff),
-    (B32, 0x8000_0000, 0xffff_ffff_8000_0000),
-    (B32, 0xffff_ffff_0000_0001, 1),
+const EXTENSIONS: [(SignedSize, u64, u64); 8] = [
+    (B, 0x7f, 0x7f),
+    (B, 0x80, 0xffff_ffff_ffff_ff80),
+    (B, 0xabcd_ef01_2345_6701, 1),
+    (H, 0x7fff, 0x7fff),
+    (H, 0x1_8000, 0xffff_ffff_ffff_8000),
+    (W, 0x7fff_ffff, 0x7fff_ffff),
+    (W, 0x8000_0000, 0xffff_ffff_8000_0000),
+    (W, 0xffff_ffff_0000_0001, 1),
 ];
 
 #[test]
@@ -154,7 +154,8 @@ fn swaps_bytes(rt: HostRuntime) {
     }
 }
 
-/// A comparison, its left word, its right one and whether it holds. Signed, the greatest word is -1.
+/// A comparison, its left word, its right one and whether it holds. Signed, the greatest word is
+/// -1.
 const COMPARISONS: [(Comparison, u64, u64, bool); 25] = [
     (Eq, 5, 5, true),
     (Eq, 0x1_0000_0005, 5, false),

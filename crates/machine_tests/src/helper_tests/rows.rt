@@ -308,31 +308,44 @@ fn next_value(alloc: Global, table: &PlainTable) -> Result<String, AllocError> {
     }
 }
 
-/// Whether a call over a copy of the values ends so, costs so much and places this value alone.
+/// A call of a helper.
+#[derive(Clone, Copy)]
+struct Call {
+    id: i32,
+    args: [u64; 3],
+}
+
+/// How a call ends, what it costs, and the one value that it places, as JSON.
+#[derive(Clone, Copy)]
+struct Outcome<'a> {
+    end: HelperEnd,
+    cost: u64,
+    value: &'a str,
+}
+
+/// Whether the call has this outcome over a copy of the values.
 fn ends_so(
     alloc: Global,
     table: &PlainTable,
     memory: &Guest,
-    id: i32,
-    args: [u64; 3],
-    end: HelperEnd,
-    cost: u64,
-    value: &str,
+    call: Call,
+    wanted: Outcome<'_>,
 ) -> Result<bool, AllocError> {
     let mut copy = table.copy()?;
-    let found = called(id, args, &mut copy, memory)?;
+    let found = called(call.id, call.args, &mut copy, memory)?;
     let charged = copy.charge().saturating_sub(CHARGE);
     let next = next_value(alloc, &copy)?;
-    Ok(found == end && charged == cost && next.as_str() == value)
+    Ok(found == wanted.end && charged == wanted.cost && next.as_str() == wanted.value)
 }
 
 /// The first row that does not hold.
 fn wrong_row(alloc: Global, rows: &[Row]) -> Result<Option<usize>, Fail> {
     let memory = memory_of_constants(alloc)?;
     let table = values(alloc, &memory)?;
-    for (place, (id, args, word, cost, value)) in rows.iter().enumerate() {
-        let end = HelperEnd::Word(*word);
-        if !ends_so(alloc, &table, &memory, *id, *args, end, *cost, value)? {
+    for (place, &(id, args, word, cost, value)) in rows.iter().enumerate() {
+        let end = HelperEnd::Word(word);
+        let wanted = Outcome { end, cost, value };
+        if !ends_so(alloc, &table, &memory, Call { id, args }, wanted)? {
             return Ok(Some(place));
         }
     }
@@ -357,9 +370,13 @@ fn words(rt: HostRuntime) -> Result<(), Fail> {
 fn wrong_stop(alloc: Global, rows: &[(i32, [u64; 3], Fault)]) -> Result<Option<usize>, Fail> {
     let memory = memory_of_constants(alloc)?;
     let table = values(alloc, &memory)?;
-    for (place, (id, args, fault)) in rows.iter().enumerate() {
-        let end = HelperEnd::Stop(*fault);
-        if !ends_so(alloc, &table, &memory, *id, *args, end, 0, "")? {
+    for (place, &(id, args, fault)) in rows.iter().enumerate() {
+        let wanted = Outcome {
+            end: HelperEnd::Stop(fault),
+            cost: 0,
+            value: "",
+        };
+        if !ends_so(alloc, &table, &memory, Call { id, args }, wanted)? {
             return Ok(Some(place));
         }
     }

@@ -66,7 +66,8 @@ fn are_as_full(tables: &Tables) -> bool {
     tables.cells.len() == tables.plain.len() && tables.cells.charge() == tables.plain.charge()
 }
 
-/// Whether a call ends in the same word or fault on both tables, with the same number of values and charge.
+/// Whether a call ends in the same word or fault on both tables, with the same number of values and
+/// charge.
 fn ends_alike(tables: &mut Tables, made: Call, memory: &Guest) -> Result<bool, AllocError> {
     let expected = on_plain(made, &mut tables.plain, memory)?;
     let end = on_cells(made, &mut tables.cells, memory)?;
@@ -116,7 +117,8 @@ fn are_same(tables: &Tables) -> Result<bool, Fail> {
     Ok(are_as_full(tables))
 }
 
-/// The number of a round's calls that end alike, 0 if the tables then differ, and the number of values after them.
+/// The number of a round's calls that end alike, 0 if the tables then differ, and the number of
+/// values after them.
 fn round(alloc: Global, numbers: &mut Numbers) -> Result<(u64, u64), Fail> {
     let mut tables = of_roots(alloc)?;
     let memory = memory_of_constants(alloc)?;

@@ -33,9 +33,9 @@ fn wrong_row(alloc: Global, rows: &[Row]) -> Result<Option<usize>, Fail> {
     Ok(None)
 }
 
-/// Add, sub, mul, div, sdiv, or, and, lsh, rsh, mod, smod, xor, mov, arsh: the opcode of 64 bits with an
-/// immediate, the offset and the immediate, R1 and R2, and what R1 becomes by the immediate and by R2, of
-/// 64 bits and of the low halves.
+/// Add, sub, mul, div, sdiv, or, and, lsh, rsh, mod, smod, xor, mov, arsh: the opcode of 64 bits
+/// with an immediate, the offset and the immediate, R1 and R2, and what R1 becomes by the immediate
+/// and by R2, of 64 bits and of the low halves.
 #[rattlefmt::skip]
 const OPERATIONS: [((u8, u8, i32), (u64, u64), [u64; 2], [u64; 2]); 14] = [
     ((0x07, 0, -1), (0xffff_ffff_ffff_fff0, 0x20), [0xffff_ffff_ffff_ffef, 0x10], [0xffff_ffef, 0x10]),
@@ -109,8 +109,8 @@ fn signs_and_byte_order(rt: HostRuntime) -> Result<(), Fail> {
     Ok(())
 }
 
-/// Division by zero of every kind, the least value by -1, a large unsigned divisor, and shifts by the
-/// width and more.
+/// Division by zero of every kind, the least value by -1, a large unsigned divisor, and shifts by
+/// the width and more.
 #[rattlefmt::skip]
 const EDGES: [Row; 17] = [
     (0x1_0000_0007, 0, 0x3f21_0000_0000_0000, 0),

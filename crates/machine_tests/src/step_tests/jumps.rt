@@ -82,8 +82,8 @@ fn branches(rt: HostRuntime) -> Result<(), Fail> {
     Ok(())
 }
 
-/// Words, opcodes of `==` and `>` of 64 bits and of 32 with the immediate -2, which is extended by its
-/// sign, and whether they jump.
+/// Words, opcodes of `==` and `>` of 64 bits and of 32 with the immediate -2, which is extended by
+/// its sign, and whether they jump.
 const NEGATIVE: [(u64, u8, bool); 5] = [
     (0xffff_ffff_ffff_fffe, 0x15, true),
     (0x0000_0000_ffff_fffe, 0x15, false),

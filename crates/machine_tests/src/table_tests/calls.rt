@@ -21,8 +21,8 @@ pub(crate) enum Step {
 
 use Step::{Int, Item, Join, Key, List, Map, Push, Put, Text};
 
-/// What is placed behind the nine values of five null roots: the reference, the step, and the value as
-/// JSON when all of them stand.
+/// What is placed behind the nine values of five null roots: the reference, the step, and the value
+/// as JSON when all of them stand.
 const STEPS: [(u64, Step, &str); 20] = [
     (9, Text("a"), "\"a\""),
     (10, Text("b"), "\"b\""),

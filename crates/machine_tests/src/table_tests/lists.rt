@@ -35,7 +35,8 @@ fn twice<V: ValueStore>(table: &mut V, x: u64) -> Result<u64, Fail> {
     with_item(table, one, x)
 }
 
-/// A list of 250 levels, each twice in the next, and an int in the deepest: its text has 2^250 of them.
+/// A list of 250 levels, each twice in the next, and an int in the deepest: its text has 2^250 of
+/// them.
 fn shared<V: ValueStore>(table: &mut V, deepest: i64) -> Result<u64, Fail> {
     let mut part = table.place_int(deepest)?;
     for _ in 0..250 {
@@ -153,8 +154,8 @@ fn versions_of_a_list(rt: HostRuntime) -> Result<(), Fail> {
     Ok(())
 }
 
-/// Lists that are built apart are compared in as many steps as they have lists, not as their texts have
-/// ints.
+/// Lists that are built apart are compared in as many steps as they have lists, not as their texts
+/// have ints.
 #[test]
 fn equal_with_shared_parts(rt: HostRuntime) -> Result<(), Fail> {
     assert!(rt; nulls_stand(rt.alloc(), Case::Equality)?);

@@ -1,15 +1,15 @@
 -- The conditions of a policy's program, one behind another, and what they decide.
-use Rattle.policy_glue.proofs.Prelude.{◌≡◌, ℕ, ◌+◌, List, [], Some, refl, subst, sym, arith, ◌∷◌, ◌++◌, Bool, true, false, true≢false, None, Option, ap, ◌∙◌, pos, ◌||◌, map, if◌then◌else◌, w64, cast_unsigned, Exit, R0, R1, R2, ValueOrError, fetched, Body, set_register, Context, Setting, Comes, Stands, size, set_verdict, verdict_address, begins, load_wide, mov, no, yes, done, looser, and_then, into, to_place, outcome_word, condition_tail, conditions_code, decided_code, decided_tail, Finding, Outcome, Skipped, Holds, Fails, Errs, truth_of, undecided, Truth, is_failed, is_held, decided_before, FailurePolicy, list_any, list_all, Insn, size-append, stands_back, stands_front, ConditionsGive, Part, PartGives, codes_of, conditions_charge, conditions_steps, decided_slots, equal_no, equal_yes}
+use Rattle.policy_glue.proofs.Prelude.{◌≡◌, ℕ, ◌+◌, List, [], Some, refl, subst, sym, arith, ◌∷◌, ◌++◌, Bool, true, false, true≢false, None, Option, ap, ◌∙◌, pos, ◌||◌, map, if◌then◌else◌, w64, cast_unsigned, Exit, R0, R1, R2, ValueOrError, fetched, CpuState, set_register, Context, RunContext, RunsTo, IsCodeAt, size, set_verdict, verdict_address, begins, load_wide, mov, no, yes, done, looser, and_then, into, to_place, outcome_word, condition_tail, conditions_code, decided_code, decided_tail, Finding, Outcome, Skipped, Holds, Fails, Errs, truth_of, undecided, CheckResult, is_failed, is_held, decided_before, FailurePolicy, list_any, list_all, Insn, size-append, stands_back, stands_front, ConditionsGive, Part, PartGives, codes_of, conditions_charge, conditions_steps, decided_slots, equal_no, equal_yes}
 use Rattle.policy_glue.proofs.Programs.Words.{Judges, Marked, marks_registers, outcome_stored, tested, marks_shown, store_verdict, load_verdict}
 
 -- the outcome stands in the verdict region and in R0
-pub record Ends (c : Context) (f : FailurePolicy) (outcome : Outcome) (xs : List Finding) (b : Body) : Type 0 where
+pub record Ends (c : Context) (f : FailurePolicy) (outcome : Outcome) (xs : List Finding) (b : CpuState) : Type 0 where
   pub marked : Marked c f (outcome_word outcome) xs b
   pub answers : b.registers R0 ≡ outcome_word outcome
 
-module _ (s : Setting) (c : Context) (f : FailurePolicy) (o w : ℕ) (has : Stands s.image.code o (condition_tail f)) (x : ValueOrError) (b : Body) (judges : Judges c f w [] x b) where
-  -- a body with other registers, and then with another outcome
-  pub condition_holds : truth_of x ≡ Holds → Comes s 6 0 o b (o + 9) (Marked c f w [])
+module _ (s : RunContext) (c : Context) (f : FailurePolicy) (o w : ℕ) (has : IsCodeAt s.image.code o (condition_tail f)) (x : ValueOrError) (b : CpuState) (judges : Judges c f w [] x b) where
+  -- a CPU state with other registers, and then with another outcome
+  pub condition_holds : truth_of x ≡ Holds → RunsTo s 6 0 o b (o + 9) (Marked c f w [])
   unfolding condition_tail
   condition_holds is =
       let t = tested c x Holds b judges.marked.fits judges.named is in
@@ -17,7 +17,7 @@ module _ (s : Setting) (c : Context) (f : FailurePolicy) (o w : ℕ) (has : Stan
       (yes has 0 8 refl t.held
       (done s (o + 9) b (Marked c f w []) judges.marked)))
 
-  pub condition_errs : truth_of x ≡ Errs → Comes s 6 0 o b (o + 9) (Marked c f (outcome_word (undecided f)) [])
+  pub condition_errs : truth_of x ≡ Errs → RunsTo s 6 0 o b (o + 9) (Marked c f (outcome_word (undecided f)) [])
   unfolding condition_tail
   condition_errs is =
       let t = tested c x Errs b judges.marked.fits judges.named is in
@@ -33,7 +33,7 @@ module _ (s : Setting) (c : Context) (f : FailurePolicy) (o w : ℕ) (has : Stan
       (store_verdict has 8 0 refl marks.fits.frame (omega arith) refl
       (done s (o + 9) (set_verdict 0 (cast_unsigned w64 (pos word)) loaded) (Marked c f word []) (subst (λ (v : ℕ). Marked c f word [] (set_verdict 0 v loaded)) (sym (grind arith)) stored))))))))
 
-  pub condition_fails : truth_of x ≡ Fails → Comes s 6 0 o b (o + 7) (Ends c f Skipped [])
+  pub condition_fails : truth_of x ≡ Fails → RunsTo s 6 0 o b (o + 7) (Ends c f Skipped [])
   unfolding condition_tail
   condition_fails is =
       let t = tested c x Fails b judges.marked.fits judges.named is in
@@ -51,13 +51,13 @@ module _ (s : Setting) (c : Context) (f : FailurePolicy) (o w : ℕ) (has : Stan
       (done s (o + 7) (set_verdict 0 1 loaded) (Ends c f Skipped []) (record { marked = stored; answers = refl }))))))))
 
 -- the exit of a condition that is false
-pub exit_stands : (code : List ℕ) (f : FailurePolicy) (o : ℕ) → Stands code o (condition_tail f) → fetched code (pos (o + 7)) ≡ Some (Some Exit)
+pub exit_stands : (code : List ℕ) (f : FailurePolicy) (o : ℕ) → IsCodeAt code o (condition_tail f) → fetched code (pos (o + 7)) ≡ Some (Some Exit)
 unfolding condition_tail
 exit_stands code f o has = has.here 7 Exit refl
 
 -- an expression has run between the others
-pub part_runs : (s : Setting) (c : Context) (f : FailurePolicy) (w p : ℕ) (xs : List Finding) (a : Part) (b : Body) → Stands s.image.code p a.code
-    → PartGives s c p a → Marked c f w xs b → Comes s a.steps a.charge p b (p + size a.code) (Judges c f w xs a.value)
+pub part_runs : (s : RunContext) (c : Context) (f : FailurePolicy) (w p : ℕ) (xs : List Finding) (a : Part) (b : CpuState) → IsCodeAt s.image.code p a.code
+    → PartGives s c p a → Marked c f w xs b → RunsTo s a.steps a.charge p b (p + size a.code) (Judges c f w xs a.value)
 part_runs s c f w p xs a b has gives marked =
     into s (Judges c f w xs a.value) (λ last shown. record { marked = marks_shown marked a.value last shown; named = shown.shows }) (gives.runs b has marked.fits)
 
@@ -69,11 +69,11 @@ pub condition_size : (f : FailurePolicy) (condition rest : List Insn) → size (
 condition_size f condition rest = grind (arith, size-append, tail_size)
 
 -- the outcome that stands behind conditions of which none is false
-abbrev pub stands_after : FailurePolicy → ℕ → List Truth → ℕ
+abbrev pub stands_after : FailurePolicy → ℕ → List CheckResult → ℕ
 stands_after f w [] = w
 stands_after f w (t ∷ more) = stands_after f (if is_held t then w else outcome_word (undecided f)) more
 
-abbrev pub truths_of : List Part → List Truth
+abbrev pub truths_of : List Part → List CheckResult
 truths_of parts = map (λ a. truth_of a.value) parts
 
 -- where a row of conditions comes to: the exit of the first that is false, and else the slot behind them
@@ -82,7 +82,7 @@ row_end p [] = p
 row_end p (a ∷ more) = if is_failed (truth_of a.value) then p + size a.code + 7 else row_end (p + size a.code + 9) more
 
 -- where one is false the program ends, and else this outcome stands
-abbrev pub RowLeft : Context → FailurePolicy → Bool → ℕ → Body → Type 0
+abbrev pub RowLeft : Context → FailurePolicy → Bool → ℕ → CpuState → Type 0
 RowLeft c f true w = Ends c f Skipped []
 RowLeft c f false w = Marked c f w []
 
@@ -92,48 +92,48 @@ unfolding conditions_code
 row_end_is f [] p none = omega arith
 row_end_is f (a ∷ more) p none = grind (arith, row_end_is f more (p + size a.code + 9), condition_size)
 
-module _ (s : Setting) (c : Context) (f : FailurePolicy) where
+module _ (s : RunContext) (c : Context) (f : FailurePolicy) where
   -- where the first of a row stands, and what stands behind it
-  module _ (p : ℕ) (a : Part) (more : List Part) (has : Stands s.image.code p (conditions_code f (codes_of (a ∷ more)))) where
+  module _ (p : ℕ) (a : Part) (more : List Part) (has : IsCodeAt s.image.code p (conditions_code f (codes_of (a ∷ more)))) where
     abbrev tail_slot : ℕ
     tail_slot = p + size a.code
 
-    code_stands : Stands s.image.code p a.code
+    code_stands : IsCodeAt s.image.code p a.code
     unfolding conditions_code
     code_stands = stands_front s.image.code p a.code (condition_tail f ++ conditions_code f (codes_of more)) has
 
-    behind_stands : Stands s.image.code tail_slot (condition_tail f ++ conditions_code f (codes_of more))
+    behind_stands : IsCodeAt s.image.code tail_slot (condition_tail f ++ conditions_code f (codes_of more))
     unfolding conditions_code
     behind_stands = stands_back s.image.code p a.code (condition_tail f ++ conditions_code f (codes_of more)) has
 
-    tail_stands : Stands s.image.code tail_slot (condition_tail f)
+    tail_stands : IsCodeAt s.image.code tail_slot (condition_tail f)
     tail_stands = stands_front s.image.code tail_slot (condition_tail f) (conditions_code f (codes_of more)) behind_stands
 
-    more_stands : Stands s.image.code (tail_slot + 9) (conditions_code f (codes_of more))
+    more_stands : IsCodeAt s.image.code (tail_slot + 9) (conditions_code f (codes_of more))
     more_stands =
-        subst (λ (n : ℕ). Stands s.image.code (tail_slot + n) (conditions_code f (codes_of more))) (tail_size f)
+        subst (λ (n : ℕ). IsCodeAt s.image.code (tail_slot + n) (conditions_code f (codes_of more))) (tail_size f)
         (stands_back s.image.code tail_slot (condition_tail f) (conditions_code f (codes_of more)) behind_stands)
 
     -- what the others come to
-    abbrev Later : ℕ → Body → Type 0
-    Later w b1 = Comes s (conditions_steps more) (conditions_charge more) (tail_slot + 9) b1 (row_end (tail_slot + 9) more)
+    abbrev Later : ℕ → CpuState → Type 0
+    Later w b1 = RunsTo s (conditions_steps more) (conditions_charge more) (tail_slot + 9) b1 (row_end (tail_slot + 9) more)
         (RowLeft c f (list_any is_failed (truths_of more)) (stands_after f w (truths_of more)))
 
-    module _ (w : ℕ) (b : Body) (gives : PartGives s c p a) (marked : Marked c f w [] b) where
-      judged : Comes s a.steps a.charge p b tail_slot (Judges c f w [] a.value)
+    module _ (w : ℕ) (b : CpuState) (gives : PartGives s c p a) (marked : Marked c f w [] b) where
+      judged : RunsTo s a.steps a.charge p b tail_slot (Judges c f w [] a.value)
       judged = part_runs s c f w p [] a b code_stands gives marked
 
-      passes_on : (w1 : ℕ) → ((b1 : Body) → Judges c f w [] a.value b1 → Comes s 6 0 tail_slot b1 (tail_slot + 9) (Marked c f w1 []))
-          → ((b1 : Body) → Marked c f w1 [] b1 → Later w1 b1)
-          → Comes s (conditions_steps (a ∷ more)) (conditions_charge (a ∷ more)) p b (row_end (tail_slot + 9) more)
+      passes_on : (w1 : ℕ) → ((b1 : CpuState) → Judges c f w [] a.value b1 → RunsTo s 6 0 tail_slot b1 (tail_slot + 9) (Marked c f w1 []))
+          → ((b1 : CpuState) → Marked c f w1 [] b1 → Later w1 b1)
+          → RunsTo s (conditions_steps (a ∷ more)) (conditions_charge (a ∷ more)) p b (row_end (tail_slot + 9) more)
           (RowLeft c f (list_any is_failed (truths_of more)) (stands_after f w1 (truths_of more)))
       passes_on w1 passes later =
           looser s {n = a.steps + 6 + conditions_steps more} {x = a.charge + 0 + conditions_charge more} _ _ (omega arith) (omega arith)
           (and_then s (conditions_steps more) (conditions_charge more) (row_end (tail_slot + 9) more) _
           (and_then s 6 0 (tail_slot + 9) (Marked c f w1 []) judged passes) later)
 
-      one_runs : (t : Truth) → truth_of a.value ≡ t → ((w1 : ℕ) (b1 : Body) → Marked c f w1 [] b1 → Later w1 b1)
-          → Comes s (conditions_steps (a ∷ more)) (conditions_charge (a ∷ more)) p b (if is_failed t then tail_slot + 7 else row_end (tail_slot + 9) more)
+      one_runs : (t : CheckResult) → truth_of a.value ≡ t → ((w1 : ℕ) (b1 : CpuState) → Marked c f w1 [] b1 → Later w1 b1)
+          → RunsTo s (conditions_steps (a ∷ more)) (conditions_charge (a ∷ more)) p b (if is_failed t then tail_slot + 7 else row_end (tail_slot + 9) more)
           (RowLeft c f (is_failed t || list_any is_failed (truths_of more))
           (stands_after f (if is_held t then w else outcome_word (undecided f)) (truths_of more)))
       one_runs Fails is later =
@@ -145,37 +145,37 @@ module _ (s : Setting) (c : Context) (f : FailurePolicy) where
           (later (outcome_word (undecided f)))
 
   -- a row of them
-  pub row_runs : (parts : List Part) (p w : ℕ) (b : Body) → Stands s.image.code p (conditions_code f (codes_of parts)) → ConditionsGive s c p parts
+  pub row_runs : (parts : List Part) (p w : ℕ) (b : CpuState) → IsCodeAt s.image.code p (conditions_code f (codes_of parts)) → ConditionsGive s c p parts
       → Marked c f w [] b
-      → Comes s (conditions_steps parts) (conditions_charge parts) p b (row_end p parts)
+      → RunsTo s (conditions_steps parts) (conditions_charge parts) p b (row_end p parts)
       (RowLeft c f (list_any is_failed (truths_of parts)) (stands_after f w (truths_of parts)))
   row_runs [] p w b has gives marked = done s p b (Marked c f w []) marked
   row_runs (a ∷ more) p w b has gives marked =
       one_runs p a more has w b gives.0 marked (truth_of a.value) refl (λ w1 b1 marked1.
       row_runs more (p + size a.code + 9) w1 b1 (more_stands p a more has) gives.1 marked1)
 
-  pub exit_here : (parts : List Part) (p : ℕ) → list_any is_failed (truths_of parts) ≡ true → Stands s.image.code p (conditions_code f (codes_of parts))
+  pub exit_here : (parts : List Part) (p : ℕ) → list_any is_failed (truths_of parts) ≡ true → IsCodeAt s.image.code p (conditions_code f (codes_of parts))
       → fetched s.image.code (pos (row_end p parts)) ≡ Some (Some Exit)
   exit_here [] p some has = absurd (true≢false (sym some))
   exit_here (a ∷ more) p some has =
       grind (arith, exit_here more (p + size a.code + 9), more_stands p a more has, exit_stands s.image.code f (p + size a.code) (tail_stands p a more has))
 
--- from slot p with body b the machine comes to an exit with the fact Q
-pub record Exits (s : Setting) (n x p : ℕ) (b : Body) (Q : Body → Type 0) : Type 0 where
+-- from slot p with CPU state b the machine runs to an exit with the fact Q
+pub record Exits (s : RunContext) (n x p : ℕ) (b : CpuState) (Q : CpuState → Type 0) : Type 0 where
   pub place : ℕ
-  pub comes : Comes s n x p b place Q
+  pub comes : RunsTo s n x p b place Q
   pub here : fetched s.image.code (pos place) ≡ Some (Some Exit)
 
 -- ---- the outcome that stands
 
-stands_is : (f : FailurePolicy) (w : ℕ) (ts : List Truth) → stands_after f w ts ≡ (if list_all is_held ts then w else outcome_word (undecided f))
+stands_is : (f : FailurePolicy) (w : ℕ) (ts : List CheckResult) → stands_after f w ts ≡ (if list_all is_held ts then w else outcome_word (undecided f))
 stands_is f w [] = refl
 stands_is f w (t ∷ more) = stands_is f (if is_held t then w else outcome_word (undecided f)) more ∙ (grind arith)
 
 -- ---- the code behind all conditions
 
-module _ (s : Setting) (c : Context) (f : FailurePolicy) (o : ℕ) (has : Stands s.image.code o decided_tail) (b : Body) where
-  runs_on : Marked c f 0 [] b → Comes s 3 0 o b (o + 5) (Marked c f 0 [])
+module _ (s : RunContext) (c : Context) (f : FailurePolicy) (o : ℕ) (has : IsCodeAt s.image.code o decided_tail) (b : CpuState) where
+  runs_on : Marked c f 0 [] b → RunsTo s 3 0 o b (o + 5) (Marked c f 0 [])
   runs_on marked =
       begins has
       (load_wide has 0 refl refl
@@ -183,7 +183,7 @@ module _ (s : Setting) (c : Context) (f : FailurePolicy) (o : ℕ) (has : Stands
       (yes has 3 1 refl (equal_yes _ 0 marked.words.outcome_is)
       (done s (o + 5) _ (Marked c f 0 []) (marks_registers marked _ refl)))))
 
-  stops_at : (outcome : Outcome) → Marked c f (outcome_word outcome) [] b → Comes s 3 0 o b (o + 4) (Ends c f outcome [])
+  stops_at : (outcome : Outcome) → Marked c f (outcome_word outcome) [] b → RunsTo s 3 0 o b (o + 4) (Ends c f outcome [])
   stops_at outcome marked =
       begins has
       (load_wide has 0 refl refl
@@ -201,30 +201,30 @@ tail_is : (parts : List Part) → list_all is_held (truths_of parts) ≡ false �
 tail_is [] e = absurd (true≢false e)
 tail_is (a ∷ more) e = refl
 
-goes_on : (s : Setting) (c : Context) (f : FailurePolicy) (parts : List Part) (o : ℕ) (b : Body) → Stands s.image.code o (decided_code (codes_of parts))
-    → Marked c f 0 [] b → Comes s 3 0 o b (o + decided_slots parts) (Marked c f 0 [])
+goes_on : (s : RunContext) (c : Context) (f : FailurePolicy) (parts : List Part) (o : ℕ) (b : CpuState) → IsCodeAt s.image.code o (decided_code (codes_of parts))
+    → Marked c f 0 [] b → RunsTo s 3 0 o b (o + decided_slots parts) (Marked c f 0 [])
 goes_on s c f [] o b has marked =
     looser s {n = 0} {x = 0} 3 0 (omega arith) (omega arith) (to_place s (o + 0) (omega arith) (done s o b (Marked c f 0 []) marked))
 goes_on s c f (a ∷ more) o b has marked = runs_on s c f o has b marked
 
 -- ---- all conditions, and the code behind them
 
-module _ (s : Setting) (c : Context) (f : FailurePolicy) (parts : List Part) (p : ℕ) (b : Body) (has : Stands s.image.code p (conditions_code f (codes_of parts) ++ decided_code (codes_of parts))) (gives : ConditionsGive s c p parts) (marked : Marked c f 0 [] b) where
+module _ (s : RunContext) (c : Context) (f : FailurePolicy) (parts : List Part) (p : ℕ) (b : CpuState) (has : IsCodeAt s.image.code p (conditions_code f (codes_of parts) ++ decided_code (codes_of parts))) (gives : ConditionsGive s c p parts) (marked : Marked c f 0 [] b) where
   abbrev row : List Insn
   row = conditions_code f (codes_of parts)
 
   abbrev end : ℕ
   end = p + size row
 
-  row_stands : Stands s.image.code p row
+  row_stands : IsCodeAt s.image.code p row
   row_stands = stands_front s.image.code p row (decided_code (codes_of parts)) has
 
-  decided_stands : Stands s.image.code end (decided_code (codes_of parts))
+  decided_stands : IsCodeAt s.image.code end (decided_code (codes_of parts))
   decided_stands = stands_back s.image.code p row (decided_code (codes_of parts)) has
 
   -- none is false
   passes : (w : ℕ) → list_any is_failed (truths_of parts) ≡ false → stands_after f 0 (truths_of parts) ≡ w
-      → Comes s (conditions_steps parts) (conditions_charge parts) p b end (Marked c f w [])
+      → RunsTo s (conditions_steps parts) (conditions_charge parts) p b end (Marked c f w [])
   passes w none stands =
       to_place s end (row_end_is f parts p none) (rw (none, stands) at (row_runs s c f parts p 0 b row_stands gives marked))
 
@@ -233,7 +233,7 @@ module _ (s : Setting) (c : Context) (f : FailurePolicy) (parts : List Part) (p 
 
   pass_by : (any all : Bool) → list_any is_failed (truths_of parts) ≡ any → list_all is_held (truths_of parts) ≡ all
       → ◌≡◌ {A = Option Outcome} (if any then Some Skipped else (if all then None else Some (undecided f))) None
-      → Comes s (conditions_steps parts + 3) (conditions_charge parts + 0) p b (end + decided_slots parts) (Marked c f 0 [])
+      → RunsTo s (conditions_steps parts + 3) (conditions_charge parts + 0) p b (end + decided_slots parts) (Marked c f 0 [])
   pass_by false true is_any is_all e =
       and_then s 3 0 (end + decided_slots parts) (Marked c f 0 []) (passes 0 is_any (stands_by true is_all)) (λ b1 marked1.
       goes_on s c f parts end b1 decided_stands marked1)
@@ -241,7 +241,7 @@ module _ (s : Setting) (c : Context) (f : FailurePolicy) (parts : List Part) (p 
 
   -- the policy runs
   pub conditions_pass : decided_before f (truths_of parts) ≡ None
-      → Comes s (conditions_steps parts + 3) (conditions_charge parts + 0) p b (end + decided_slots parts) (Marked c f 0 [])
+      → RunsTo s (conditions_steps parts + 3) (conditions_charge parts + 0) p b (end + decided_slots parts) (Marked c f 0 [])
   conditions_pass e = pass_by (list_any is_failed (truths_of parts)) (list_all is_held (truths_of parts)) refl refl e
 
   end_by : (any all : Bool) (outcome : Outcome) → list_any is_failed (truths_of parts) ≡ any → list_all is_held (truths_of parts) ≡ all
@@ -257,7 +257,7 @@ module _ (s : Setting) (c : Context) (f : FailurePolicy) (parts : List Part) (p 
   end_by false true outcome is_any is_all e = absurd (cc)
   end_by false false outcome is_any is_all e =
       let same : undecided f ≡ outcome = cc in
-      let tail = subst (Stands s.image.code end) (tail_is parts is_all) decided_stands in
+      let tail = subst (IsCodeAt s.image.code end) (tail_is parts is_all) decided_stands in
       subst (λ (o : Outcome). Exits s (conditions_steps parts + 3) (conditions_charge parts + 0) p b (Ends c f o [])) same (record {
         place = end + 4;
         comes =

@@ -1,10 +1,10 @@
 -- The parts of a policy's program, each with what it gives and within which bounds.
-use Rattle.policy_glue.proofs.Prelude.{◌≡◌, ◌-◌, ◌*◌, ◌≤◌, List, [], ◌∷◌, length, true, refl, ap, arith, Option, Some, None, suc, map, value, Roots, Environment, Declaration, cost, spent_by, conditions_cost, rules_cost, environment_with, condition_values, rule_value, Laid, after_condition, before_message, condition_codes, tree_code, validation_codes, with_message, Tree, RuleTree, Insn, meaning, Part, RulePart, codes_of, conditions_charge, conditions_steps, rule_codes, rules_given, validations_charge, validations_steps, values_given, FailurePolicy}
+use Rattle.policy_glue.proofs.Prelude.{◌≡◌, ◌-◌, ◌*◌, ◌≤◌, List, [], ◌∷◌, length, true, refl, ap, arith, Option, Some, None, suc, map, value, Roots, Environment, Declaration, cost, spent_by, conditions_cost, rules_cost, environment_with, condition_values, rule_value, Laid, after_condition, before_message, condition_codes, tree_code, validation_codes, with_message, Tree, ValidationTree, Insn, meaning, Part, ValidationPart, codes_of, conditions_charge, conditions_steps, rule_codes, rules_given, validations_charge, validations_steps, values_given, FailurePolicy, steps_per_visit, charge_per_unit}
 
 -- ---- the parts of the trees
 
 abbrev pub tree_part : List Declaration → Laid → Environment → Tree → Part
-tree_part ds l env a = record { code = tree_code ds l a; value = meaning a env; steps = 128 * (cost a env).visits - 8; charge = 16 * spent_by (cost a env) - 8 }
+tree_part ds l env a = record { code = tree_code ds l a; value = meaning a env; steps = steps_per_visit * (cost a env).visits - 8; charge = charge_per_unit * spent_by (cost a env) - 8 }
 
 abbrev pub condition_parts : Roots → Laid → List Tree → List Part
 condition_parts roots l [] = []
@@ -14,13 +14,13 @@ abbrev pub message_part : List Declaration → Laid → Environment → Option T
 message_part ds l env (Some a) = Some (tree_part ds l env a)
 message_part ds l env None = None
 
-abbrev pub rule_part : List Declaration → Laid → Environment → RuleTree → RulePart
+abbrev pub rule_part : List Declaration → Laid → Environment → ValidationTree → ValidationPart
 rule_part ds l env r = record { expression = tree_part ds l env r.expression; message = message_part ds (before_message ds l r) env r.message }
 
-abbrev pub after_rule : List Declaration → Laid → RuleTree → Laid
+abbrev pub after_rule : List Declaration → Laid → ValidationTree → Laid
 after_rule ds l r = with_message ds (before_message ds l r) r.message
 
-abbrev pub rule_parts : List Declaration → Laid → Environment → List RuleTree → List RulePart
+abbrev pub rule_parts : List Declaration → Laid → Environment → List ValidationTree → List ValidationPart
 rule_parts ds l env [] = []
 rule_parts ds l env (r ∷ more) = rule_part ds l env r ∷ rule_parts ds (after_rule ds l r) env more
 
@@ -34,12 +34,12 @@ pub condition_values_are : (roots : Roots) (l : Laid) (trees : List Tree) → va
 condition_values_are roots l [] = refl
 condition_values_are roots l (a ∷ more) = grind (arith, condition_values_are roots (after_condition l a) more)
 
-pub rule_codes_are : (ds : List Declaration) (l : Laid) (env : Environment) (rs : List RuleTree)
+pub rule_codes_are : (ds : List Declaration) (l : Laid) (env : Environment) (rs : List ValidationTree)
     → rule_codes (rule_parts ds l env rs) ≡ validation_codes ds l rs
 rule_codes_are ds l env [] = refl
 rule_codes_are ds l env (r ∷ more) = grind (arith, rule_codes_are ds (after_rule ds l r) env more)
 
-pub rule_values_are : (ds : List Declaration) (l : Laid) (env : Environment) (rs : List RuleTree)
+pub rule_values_are : (ds : List Declaration) (l : Laid) (env : Environment) (rs : List ValidationTree)
     → rules_given (rule_parts ds l env rs) ≡ map (rule_value env) rs
 rule_values_are ds l env [] = refl
 rule_values_are ds l env (r ∷ more) = grind (arith, rule_values_are ds (after_rule ds l r) env more)
@@ -47,17 +47,17 @@ rule_values_are ds l env (r ∷ more) = grind (arith, rule_values_are ds (after_
 -- ---- budgets: steps, and what is charged
 
 pub conditions_within : (roots : Roots) (l : Laid) (trees : List Tree)
-    → (conditions_steps (condition_parts roots l trees) ≤ 128 * (conditions_cost roots trees).visits)
-    × (conditions_charge (condition_parts roots l trees) ≤ 16 * spent_by (conditions_cost roots trees))
+    → (conditions_steps (condition_parts roots l trees) ≤ steps_per_visit * (conditions_cost roots trees).visits)
+    × (conditions_charge (condition_parts roots l trees) ≤ charge_per_unit * spent_by (conditions_cost roots trees))
 conditions_within roots l [] = (omega arith, omega arith)
 conditions_within roots l (a ∷ more) = let rest = conditions_within roots (after_condition l a) more in (omega (arith, rest.0), omega (arith, rest.1))
 
-pub validations_within : (f : FailurePolicy) (ds : List Declaration) (l : Laid) (env : Environment) (rs : List RuleTree)
-    → (validations_steps f (rule_parts ds l env rs) ≤ 128 * (rules_cost true f env rs).visits)
-    × (validations_charge f (rule_parts ds l env rs) ≤ 16 * spent_by (rules_cost true f env rs))
+pub validations_within : (f : FailurePolicy) (ds : List Declaration) (l : Laid) (env : Environment) (rs : List ValidationTree)
+    → (validations_steps f (rule_parts ds l env rs) ≤ steps_per_visit * (rules_cost true f env rs).visits)
+    × (validations_charge f (rule_parts ds l env rs) ≤ charge_per_unit * spent_by (rules_cost true f env rs))
 validations_within f ds l env [] = (omega arith, omega arith)
 validations_within f ds l env (r ∷ more) = grind (arith, validations_within f ds (after_rule ds l r) env more)
 
-pub rules_length : (ds : List Declaration) (l : Laid) (env : Environment) (rs : List RuleTree) → length (rule_parts ds l env rs) ≡ length rs
+pub rules_length : (ds : List Declaration) (l : Laid) (env : Environment) (rs : List ValidationTree) → length (rule_parts ds l env rs) ≡ length rs
 rules_length ds l env [] = refl
 rules_length ds l env (r ∷ more) = ap suc (rules_length ds (after_rule ds l r) env more)

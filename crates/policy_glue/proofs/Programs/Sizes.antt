@@ -1,34 +1,34 @@
 -- The slots of a policy's program, and that it can be spelled.
-use Rattle.policy_glue.proofs.Prelude.{◌≡◌, ℕ, ◌+◌, ◌*◌, ◌≤◌, List, [], ◌∷◌, ◌++◌, Option, refl, sym, ◌∙◌, arith, suc, ◌<◌, length, length-append, ap, subst, sum_by, fold-append, sum_by-cons, Insn, Tree, expanded, nodes, Declaration, size, AreInsns, size-append, size-cons, with_text, with_texts, routines_of, whole_short, whole_insns, with_variable, scope_after, condition_texts, message_nodes, message_texts, part_nodes, policy_nodes, rule_nodes, tree_texts, variable_texts, condition_tail, conditions_code, message_code, policy_code, routines_code, validation_code, validations_code, denial_code, message_tail, outcome_tail, result_code, Laid, after_condition, after_conditions, after_variables, before_message, condition_codes, message_codes, program_of, texts_with, tree_code, validation_codes, variable_code, variable_codes, with_message, with_routine, laid_conditions, laid_routines, nothing_laid, ProgramIsShort, AreConditions, AreRules, AreVariables, IsMessage, ProgramIsCode, RuleTree, VariableTree, FailurePolicy, memo_tail, insns_append, memo_insns, whole_code, IsExpression, AreLow, AreNear, near_named, decided_slots}
+use Rattle.policy_glue.proofs.Prelude.{◌≡◌, ℕ, ◌+◌, ◌*◌, ◌≤◌, List, [], ◌∷◌, ◌++◌, Option, refl, sym, ◌∙◌, arith, suc, ◌<◌, length, length-append, ap, subst, sum_by, fold-append, sum_by-cons, Insn, Tree, expanded, nodes, Declaration, size, AreInsns, size-append, size-cons, with_text, with_texts, routines_of, whole_short, whole_insns, with_variable, scope_after, condition_texts, message_nodes, message_texts, part_nodes, policy_nodes, rule_nodes, tree_texts, variable_texts, condition_tail, conditions_code, message_code, policy_code, routines_code, validation_code, validations_code, denial_code, message_tail, outcome_tail, result_code, Laid, after_condition, after_conditions, after_variables, before_message, condition_codes, message_codes, program_of, texts_with, tree_code, validation_codes, variable_code, variable_codes, with_message, with_routine, laid_conditions, laid_routines, nothing_laid, ProgramIsShort, AreConditions, AreValidations, AreVariables, IsEmittableMessage, ProgramIsCode, ValidationTree, VariableTree, FailurePolicy, memo_tail, insns_append, memo_insns, whole_code, IsEmittable, AreLow, AreNear, near_named, decided_slots, part_slots_per_node, slots_per_node, short_size, part_limit, slot_reach, slot_limit}
 use Rattle.policy_glue.proofs.Programs.Validations.{outcome_tail_size, message_tail_size, result_size}
 use Rattle.policy_glue.proofs.Programs.Conditions.{condition_size}
 
 -- ---- expressions
 
-pub tree_short : (scope : List Declaration) (l : Laid) (a : Tree) → size (tree_code scope l a) + 8 ≤ 63 * nodes (expanded a)
+pub tree_short : (scope : List Declaration) (l : Laid) (a : Tree) → size (tree_code scope l a) + 8 ≤ part_slots_per_node * nodes (expanded a)
 tree_short scope l a = whole_short (expanded a) (texts_with l a) (routines_of scope l.routines) l.place
 
-pub routine_short : (scope : List Declaration) (l : Laid) (v : VariableTree) → size (variable_code scope l v) + 2 ≤ 63 * nodes (expanded v.expression)
+pub routine_short : (scope : List Declaration) (l : Laid) (v : VariableTree) → size (variable_code scope l v) + 2 ≤ part_slots_per_node * nodes (expanded v.expression)
 routine_short scope l v = grind (arith, whole_short, size-append)
 
 -- ---- variables, conditions and validations
 
-pub routines_short : (scope : List Declaration) (l : Laid) (vs : List VariableTree) → size (routines_code (variable_codes scope l vs)) ≤ 128 * sum_by (λ v. part_nodes v.expression) vs
+pub routines_short : (scope : List Declaration) (l : Laid) (vs : List VariableTree) → size (routines_code (variable_codes scope l vs)) ≤ slots_per_node * sum_by (λ v. part_nodes v.expression) vs
 routines_short scope l [] = omega arith
 routines_short scope l (v ∷ more) =
     let rest = routines_short (with_variable scope v) (with_routine scope l v) more in
     grind (arith, size-append, size-cons, routine_short scope l v, sum_by-cons (λ u. part_nodes u.expression) v more)
 
-pub conditions_short : (f : FailurePolicy) (l : Laid) (cs : List Tree) → size (conditions_code f (condition_codes l cs)) ≤ 128 * sum_by part_nodes cs
+pub conditions_short : (f : FailurePolicy) (l : Laid) (cs : List Tree) → size (conditions_code f (condition_codes l cs)) ≤ slots_per_node * sum_by part_nodes cs
 unfolding conditions_code
 conditions_short f l [] = omega arith
 conditions_short f l (a ∷ more) = omega (arith, condition_size, tree_short, sum_by-cons, conditions_short f (after_condition l a) more)
 
-pub message_short : (scope : List Declaration) (l : Laid) (i : ℕ) (m : Option Tree) → size (message_code i (message_codes scope l m)) ≤ 63 * message_nodes m
+pub message_short : (scope : List Declaration) (l : Laid) (i : ℕ) (m : Option Tree) → size (message_code i (message_codes scope l m)) ≤ part_slots_per_node * message_nodes m
 message_short scope l i m = grind (arith, size-append, message_tail_size, tree_short)
 
-pub validations_short : (f : FailurePolicy) (scope : List Declaration) (l : Laid) (i : ℕ) (rs : List RuleTree)
-    → size (validations_code f i (validation_codes scope l rs)) ≤ 128 * sum_by rule_nodes rs
+pub validations_short : (f : FailurePolicy) (scope : List Declaration) (l : Laid) (i : ℕ) (rs : List ValidationTree)
+    → size (validations_code f i (validation_codes scope l rs)) ≤ slots_per_node * sum_by rule_nodes rs
 unfolding validations_code
 validations_short f scope l i [] = omega arith
 validations_short f scope l i (r ∷ more) =
@@ -81,15 +81,15 @@ condition_tail_insns f = grind arith
 slots_few : {A : Type 0} (cs : List A) → decided_slots cs ≤ 5
 slots_few cs = grind arith
 
-denial_insns : (f : FailurePolicy) (i n : ℕ) → i < 64 → n ≤ 32700 → AreInsns (denial_code f i n)
+denial_insns : (f : FailurePolicy) (i n : ℕ) → i < part_limit → n ≤ short_size → AreInsns (denial_code f i n)
 unfolding denial_code
 denial_insns f i n low short = grind arith
 
-message_tail_insns : (i : ℕ) → i < 64 → AreInsns (message_tail i)
+message_tail_insns : (i : ℕ) → i < part_limit → AreInsns (message_tail i)
 unfolding message_tail
 message_tail_insns i low = (tt, (tt, (omega arith, ((omega arith, omega arith), (omega arith, (omega arith, tt))))))
 
-result_insns : (f : FailurePolicy) (i : ℕ) (message : List Insn) → i < 64 → size message ≤ 32700 → AreInsns message → AreInsns (result_code f i message)
+result_insns : (f : FailurePolicy) (i : ℕ) (message : List Insn) → i < part_limit → size message ≤ short_size → AreInsns message → AreInsns (result_code f i message)
 result_insns f i message low short insns = ((omega arith, omega arith), insns_append (denial_code f i (size message)) message (denial_insns f i (size message) low short) insns)
 
 outcome_tail_insns : AreInsns outcome_tail
@@ -98,7 +98,7 @@ outcome_tail_insns = (omega arith, (omega arith, (omega arith, ((omega arith, om
 
 -- ---- routines that stand so far
 
-low_more : (slots : List ℕ) (slot : ℕ) → AreLow slots → slot ≤ 0x7fff_ff00 → AreLow (slots ++ slot ∷ [])
+low_more : (slots : List ℕ) (slot : ℕ) → AreLow slots → slot ≤ slot_reach → AreLow (slots ++ slot ∷ [])
 low_more [] slot low h = (h, tt)
 low_more (s ∷ slots) slot low h = (low.0, low_more slots slot low.1 h)
 
@@ -112,13 +112,13 @@ near_all ds l n low name found e = grind (arith, near_named)
 
 -- ---- expressions
 
-tree_insns : (scope : List Declaration) (l : Laid) (a : Tree) → IsExpression scope (expanded a) → Low l 0 → l.place + 128 * part_nodes a ≤ 65536 → AreInsns (tree_code scope l a)
+tree_insns : (scope : List Declaration) (l : Laid) (a : Tree) → IsEmittable scope (expanded a) → Low l 0 → l.place + slots_per_node * part_nodes a ≤ slot_limit → AreInsns (tree_code scope l a)
 tree_insns scope l a is low inside =
     let fits = is.fits in
     whole_insns (texts_with l a) (routines_of scope l.routines) (near_all scope l 0 low) (expanded a) l.place fits (omega arith) (omega arith) is.literals
 
-routine_insns : (scope : List Declaration) (l : Laid) (v : VariableTree) (n : ℕ) → IsExpression scope (expanded v.expression) → Low l (suc n)
-    → l.place + 128 * part_nodes v.expression ≤ 65536 → AreInsns (variable_code scope l v)
+routine_insns : (scope : List Declaration) (l : Laid) (v : VariableTree) (n : ℕ) → IsEmittable scope (expanded v.expression) → Low l (suc n)
+    → l.place + slots_per_node * part_nodes v.expression ≤ slot_limit → AreInsns (variable_code scope l v)
 routine_insns scope l v n is low inside =
     let fits = is.fits in
     insns_append (whole_code (expanded v.expression) (texts_with l v.expression) (routines_of scope l.routines) (l.place + 1)) (memo_tail (length l.routines))
@@ -127,11 +127,11 @@ routine_insns scope l v n is low inside =
 
 -- ---- variables
 
-with_routine_low : (scope : List Declaration) (l : Laid) (v : VariableTree) (n : ℕ) → Low l (suc n) → l.place + 1 ≤ 65536 → Low (with_routine scope l v) n
+with_routine_low : (scope : List Declaration) (l : Laid) (v : VariableTree) (n : ℕ) → Low l (suc n) → l.place + 1 ≤ slot_limit → Low (with_routine scope l v) n
 with_routine_low scope l v n low inside = grind (arith, length-append, low_more)
 
 routines_insns : (scope : List Declaration) (l : Laid) (vs : List VariableTree) → AreVariables scope vs → Low l (length vs)
-    → l.place + 128 * sum_by (λ v. part_nodes v.expression) vs ≤ 65536 → AreInsns (routines_code (variable_codes scope l vs))
+    → l.place + slots_per_node * sum_by (λ v. part_nodes v.expression) vs ≤ slot_limit → AreInsns (routines_code (variable_codes scope l vs))
 routines_insns scope l [] are low inside = tt
 routines_insns scope l (v ∷ more) are low inside =
     let counted = sum_by-cons (λ u. part_nodes u.expression) v more in
@@ -141,7 +141,7 @@ routines_insns scope l (v ∷ more) are low inside =
     (omega (arith, counted, inside, long), insns_append _ _ (routine_insns scope l v (length more) are.0 low (omega (arith, counted, inside))) others)
 
 after_routines : (scope : List Declaration) (l : Laid) (vs : List VariableTree) → Low l (length vs)
-    → l.place + 128 * sum_by (λ v. part_nodes v.expression) vs ≤ 65536
+    → l.place + slots_per_node * sum_by (λ v. part_nodes v.expression) vs ≤ slot_limit
     → Low (after_variables scope l vs) 0
 after_routines scope l [] low inside = low
 after_routines scope l (v ∷ more) low inside =
@@ -154,7 +154,7 @@ after_routines scope l (v ∷ more) low inside =
 same_low : (l m : Laid) → l.routines ≡ m.routines → Low l 0 → Low m 0
 same_low l m same low = let few = low.few in let long = ap length same in record { slots = subst AreLow same low.slots; few = omega arith }
 
-conditions_insns : (f : FailurePolicy) (l : Laid) (cs : List Tree) → AreConditions cs → Low l 0 → l.place + 128 * sum_by part_nodes cs ≤ 65536
+conditions_insns : (f : FailurePolicy) (l : Laid) (cs : List Tree) → AreConditions cs → Low l 0 → l.place + slots_per_node * sum_by part_nodes cs ≤ slot_limit
     → AreInsns (conditions_code f (condition_codes l cs))
 unfolding conditions_code
 conditions_insns f l [] are low inside = tt
@@ -166,15 +166,15 @@ conditions_insns f l (a ∷ more) are low inside =
 
 -- ---- validations
 
-message_insns : (scope : List Declaration) (l : Laid) (i : ℕ) (m : Option Tree) → i < 64 → IsMessage scope m → Low l 0
-    → l.place + 128 * message_nodes m ≤ 65536 → AreInsns (message_code i (message_codes scope l m))
+message_insns : (scope : List Declaration) (l : Laid) (i : ℕ) (m : Option Tree) → i < part_limit → IsEmittableMessage scope m → Low l 0
+    → l.place + slots_per_node * message_nodes m ≤ slot_limit → AreInsns (message_code i (message_codes scope l m))
 message_insns scope l i m few is low inside = grind (arith, insns_append, tree_insns, message_tail_insns)
 
-message_inside : (scope : List Declaration) (l : Laid) (m : Option Tree) → (with_message scope l m).place ≤ l.place + 128 * message_nodes m
+message_inside : (scope : List Declaration) (l : Laid) (m : Option Tree) → (with_message scope l m).place ≤ l.place + slots_per_node * message_nodes m
 message_inside scope l m = grind (arith, tree_short)
 
-validations_insns : (f : FailurePolicy) (scope : List Declaration) (l : Laid) (i : ℕ) (rs : List RuleTree) → AreRules scope rs → Low l 0
-    → i + length rs ≤ 64 → l.place + 128 * sum_by rule_nodes rs ≤ 65536 → AreInsns (validations_code f i (validation_codes scope l rs))
+validations_insns : (f : FailurePolicy) (scope : List Declaration) (l : Laid) (i : ℕ) (rs : List ValidationTree) → AreValidations scope rs → Low l 0
+    → i + length rs ≤ part_limit → l.place + slots_per_node * sum_by rule_nodes rs ≤ slot_limit → AreInsns (validations_code f i (validation_codes scope l rs))
 unfolding validations_code
 validations_insns f scope l i [] are low few inside = tt
 validations_insns f scope l i (r ∷ more) are low few inside =
@@ -186,7 +186,7 @@ validations_insns f scope l i (r ∷ more) are low few inside =
     let long_message = message_short scope behind i r.message in
     let later = same_low behind (with_message scope behind r.message) (grind arith) low_behind in
     let far = message_inside scope behind r.message in
-    let small : size message ≤ 32700 = omega (arith, counted, inside, long_message) in
+    let small : size message ≤ short_size = omega (arith, counted, inside, long_message) in
     insns_append (validation_code f i (tree_code scope l r.expression, message_codes scope behind r.message)) (validations_code f (i + 1) (validation_codes scope (with_message scope behind r.message) more))
     (insns_append (tree_code scope l r.expression) (result_code f i message)
     (tree_insns scope l r.expression are.0 low (omega (arith, counted, inside)))

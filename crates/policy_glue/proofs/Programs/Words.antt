@@ -1,16 +1,16 @@
 -- The words of a verdict as a program fills them in.
-use Rattle.policy_glue.proofs.Prelude.{◌≡◌, ◌<◌, ◌≤◌, ◌+◌, ◌*◌, ◌^◌, ℕ, zero, suc, List, [], ◌∷◌, ◌++◌, length, Option, Some, None, arith, refl, sym, ap, ◌∙◌, not, ◌%◌, Result, false, count_by, slice_get, if◌then◌else◌, ℤ, pos, cases_eq, count_by-le-length, sum_by-append, put_word, word_in, put_word-other, put_word-same, read_word, write_word, ValueOrError, IsLayout, IsMessageWord, finding_word, first_message, first_result, message_in, most_validations, outcome_word, Finding, Verdict, is_denial, Truth, is_failed, is_held, truth_of, FailurePolicy, Names, Eq, Ne, Register, R0, R10, W64, compares, Body, at, set_register, Context, Fits, Shows, set_verdict, Framed, verdict_address, verdict_at, fits_registers, fits_verdict, told, w64, cast_unsigned, Memory, Constants, IsMemory, base_of, Fault, Insn, Load, Store, StoreImm, Imm, Reg, Dw, load_row, loaded, store_row, stored, is_frame_pointer, Setting, Comes, slots, Stands, has_verdict, does, operand_is, register_set, one}
+use Rattle.policy_glue.proofs.Prelude.{◌≡◌, ◌<◌, ◌≤◌, ◌+◌, ◌*◌, ◌^◌, ℕ, zero, suc, List, [], ◌∷◌, ◌++◌, length, Option, Some, None, arith, refl, sym, ap, ◌∙◌, not, ◌%◌, Result, false, count_by, slice_get, if◌then◌else◌, ℤ, pos, cases_eq, count_by-le-length, sum_by-append, put_word, word_in, put_word-other, put_word-same, read_word, write_word, ValueOrError, IsLayout, IsMessageWord, finding_word, first_message, first_result, message_in, part_limit, outcome_word, Finding, Verdict, is_denial, CheckResult, is_failed, is_held, truth_of, FailurePolicy, Names, Eq, Ne, Register, R0, R10, W64, compares, CpuState, at, set_register, Context, IsWellFormedState, LeavesValue, set_verdict, Framed, verdict_address, verdict_at, fits_registers, fits_verdict, told, w64, cast_unsigned, Memory, Constants, IsMemory, base_of, Fault, Insn, Load, Store, StoreImm, Imm, Reg, Dw, load_row, loaded, store_row, stored, is_frame_pointer, RunContext, RunsTo, slots, IsCodeAt, has_verdict, does, operand_is, register_set, one}
 use Rattle.guest_memory.specs.Memory.{Verdict as VerdictRegion}
-use Rattle.loader.specs.Contents.{Contents}
-use Rattle.codegen_base.proofs.Steps as step
+use Rattle.loader.specs.Contents.{Image}
+use Rattle.expression_code.proofs.Steps as step
 
 -- the words of a region: the outcome's, the number of denials, what each validation came to, and its message
 pub record HasWords (outcome denials : ℕ) (result : ℕ → ℕ) (message : ℕ → Option (List ℕ)) (values : List ValueOrError) (region : List ℕ) : Type 0 where
   pub outcome_is : word_in region 0 ≡ outcome
   pub denials_are : word_in region 1 ≡ denials
-  pub results : (i : ℕ) → i < most_validations → word_in region (first_result + i) ≡ result i
-  pub messages : (i : ℕ) → i < most_validations → IsMessageWord values (word_in region (first_message + i)) (message i)
-  pub others : (i : ℕ) → first_message + most_validations ≤ i → i < 256 → word_in region i ≡ 0
+  pub results : (i : ℕ) → i < part_limit → word_in region (first_result + i) ≡ result i
+  pub messages : (i : ℕ) → i < part_limit → IsMessageWord values (word_in region (first_message + i)) (message i)
+  pub others : (i : ℕ) → first_message + part_limit ≤ i → i < 256 → word_in region i ≡ 0
 
 -- ---- a word is put
 
@@ -34,11 +34,11 @@ module _ {outcome denials : ℕ} {result : ℕ → ℕ} {message : ℕ → Optio
   pub denials_put : HasWords outcome word result message values (put_word region 1 word)
   denials_put = grind (arith, other, same, message_on)
 
-  module _ (k : ℕ) (inside : k < most_validations) where
+  module _ (k : ℕ) (inside : k < part_limit) where
     -- one word of a row that stands from `first` on is another now, and of the others is said what was said
-    row_put : (Says : ℕ → ℕ → Type 0) (first : ℕ) → first + most_validations ≤ 256 → Says word k
-        → ((i : ℕ) → i < most_validations → (i ≡ k → ⊥) → Says (word_in region (first + i)) i)
-        → (i : ℕ) → i < most_validations → Says (word_in (put_word region (first + k) word) (first + i)) i
+    row_put : (Says : ℕ → ℕ → Type 0) (first : ℕ) → first + part_limit ≤ 256 → Says word k
+        → ((i : ℕ) → i < part_limit → (i ≡ k → ⊥) → Says (word_in region (first + i)) i)
+        → (i : ℕ) → i < part_limit → Says (word_in (put_word region (first + k) word) (first + i)) i
     row_put Says first room here rest i below = grind (arith, cases_eq, same, other)
 
     pub result_put : (more : ℕ → ℕ) → more k ≡ word → ((j : ℕ) → (j ≡ k → ⊥) → more j ≡ result j)
@@ -99,7 +99,7 @@ count_of f xs = count_by (is_denial f) xs
 pub count_more : (f : FailurePolicy) (xs : List Finding) (x : Finding) → count_of f (xs ++ x ∷ []) ≡ count_of f xs + (if is_denial f x then 1 else 0)
 count_more f xs x = grind (arith, sum_by-append)
 
-pub count_small : (f : FailurePolicy) (xs : List Finding) → length xs ≤ most_validations → count_of f xs < 2 ^ 64
+pub count_small : (f : FailurePolicy) (xs : List Finding) → length xs ≤ part_limit → count_of f xs < 2 ^ 64
 count_small f xs few = let most = count_by-le-length (is_denial f) xs in omega arith
 
 -- ---- the whole layout
@@ -108,20 +108,20 @@ pub is_layout : (f : FailurePolicy) (v : Verdict) (values : List ValueOrError) (
     → HasWords (outcome_word v.outcome) (count_of f v.findings) (result_of v.findings) (message_of v.findings) values region → IsLayout f v values region
 is_layout f v values region has = record { outcome = has.outcome_is; denials = has.denials_are; results = has.results; messages = has.messages; others = has.others }
 
-pub record Marks (c : Context) (outcome denials : ℕ) (result : ℕ → ℕ) (message : ℕ → Option (List ℕ)) (b : Body) : Type 0 where
-  pub fits : Fits c 0 0 b
+pub record Marks (c : Context) (outcome denials : ℕ) (result : ℕ → ℕ) (message : ℕ → Option (List ℕ)) (b : CpuState) : Type 0 where
+  pub fits : IsWellFormedState c 0 0 b
   pub words : HasWords outcome denials result message b.values.values b.memory.verdict
 
 -- the words for an outcome and for these findings
-abbrev pub Marked : Context → FailurePolicy → ℕ → List Finding → Body → Type 0
+abbrev pub Marked : Context → FailurePolicy → ℕ → List Finding → CpuState → Type 0
 Marked c f outcome xs = Marks c outcome (count_of f xs) (result_of xs) (message_of xs)
 
 -- and R0 names the value of an expression
-pub record Judges (c : Context) (f : FailurePolicy) (outcome : ℕ) (xs : List Finding) (x : ValueOrError) (b : Body) : Type 0 where
+pub record Judges (c : Context) (f : FailurePolicy) (outcome : ℕ) (xs : List Finding) (x : ValueOrError) (b : CpuState) : Type 0 where
   pub marked : Marked c f outcome xs b
   pub named : Names b.values.values (b.registers R0) x
 
-module _ {c : Context} {outcome denials : ℕ} {result : ℕ → ℕ} {message : ℕ → Option (List ℕ)} {b : Body} (marks : Marks c outcome denials result message b) where
+module _ {c : Context} {outcome denials : ℕ} {result : ℕ → ℕ} {message : ℕ → Option (List ℕ)} {b : CpuState} (marks : Marks c outcome denials result message b) where
   pub long_region : length b.memory.verdict ≡ 2048
   long_region = marks.fits.frame.memory.verdict
 
@@ -131,7 +131,7 @@ module _ {c : Context} {outcome denials : ℕ} {result : ℕ → ℕ} {message :
   marks_registers registers same = grind (arith, fits_registers)
 
   -- code for an expression has run
-  pub marks_shown : (x : ValueOrError) (last : Body) → Shows c 0 0 x b last → Marks c outcome denials result message last
+  pub marks_shown : (x : ValueOrError) (last : CpuState) → LeavesValue c 0 0 x b last → Marks c outcome denials result message last
   marks_shown x last shown = grind arith
 
   -- the same words, said otherwise
@@ -152,11 +152,11 @@ module _ {c : Context} {outcome denials : ℕ} {result : ℕ → ℕ} {message :
     pub denials_stored : Marks c outcome w result message (set_verdict 1 w b)
     denials_stored = word_stored 1 w (omega arith) (denials_put long_region marks.words w small)
 
-    pub result_stored : (k : ℕ) → k < most_validations → (more : ℕ → ℕ) → more k ≡ w → ((j : ℕ) → (j ≡ k → ⊥) → more j ≡ result j)
+    pub result_stored : (k : ℕ) → k < part_limit → (more : ℕ → ℕ) → more k ≡ w → ((j : ℕ) → (j ≡ k → ⊥) → more j ≡ result j)
         → Marks c outcome denials more message (set_verdict (first_result + k) w b)
     result_stored k inside more here rest = word_stored (first_result + k) w (omega arith) (result_put long_region marks.words w small k inside more here rest)
 
-    pub message_stored : (k : ℕ) → k < most_validations → (more : ℕ → Option (List ℕ)) → IsMessageWord b.values.values w (more k)
+    pub message_stored : (k : ℕ) → k < part_limit → (more : ℕ → Option (List ℕ)) → IsMessageWord b.values.values w (more k)
         → ((j : ℕ) → (j ≡ k → ⊥) → more j ≡ message j) → Marks c outcome denials result more (set_verdict (first_message + k) w b)
     message_stored k inside more here rest =
         word_stored (first_message + k) w (omega arith) (message_put long_region marks.words w small k inside more here rest)
@@ -164,17 +164,17 @@ module _ {c : Context} {outcome denials : ℕ} {result : ℕ → ℕ} {message :
 -- ---- tests of a reference
 
 -- what tests of a reference for true and false say of what it comes to
-pub record Tests (t : Truth) (r : ℕ) : Type 0 where
+pub record Tests (t : CheckResult) (r : ℕ) : Type 0 where
   pub held : compares W64 Eq r 3 ≡ is_held t
   pub failed : compares W64 Eq r 2 ≡ is_failed t
   pub not_failed : compares W64 Ne r 2 ≡ not (is_failed t)
 
-pub tested : (c : Context) (x : ValueOrError) (t : Truth) (b : Body) → Fits c 0 0 b → Names b.values.values (b.registers R0) x → truth_of x ≡ t
+pub tested : (c : Context) (x : ValueOrError) (t : CheckResult) (b : CpuState) → IsWellFormedState c 0 0 b → Names b.values.values (b.registers R0) x → truth_of x ≡ t
     → Tests t (b.registers R0)
 tested c x t b fits named is = grind (arith, told)
 
 -- a register has the address of word i, and word w is j words behind it
-module _ (image : Contents) (p : ℕ) (b : Body) (i j w : ℕ) (is : IsMemory b.memory) (same : w ≡ i + j) (below : w < 256) where
+module _ (image : Image) (p : ℕ) (b : CpuState) (i j w : ℕ) (is : IsMemory b.memory) (same : w ≡ i + j) (below : w < 256) where
   load_does : (dst src : Register) → b.registers src ≡ verdict_address i → is_frame_pointer dst ≡ false
       → load_row Dw dst src (pos (8 * j)) (at image p b) ≡ at image (p + 1) (set_register b dst (verdict_at w b))
   unfolding load_row
@@ -191,17 +191,17 @@ module _ (image : Contents) (p : ℕ) (b : Body) (i j w : ℕ) (is : IsMemory b.
       let write = write_word b.memory VerdictRegion w _ (cast_unsigned w64 n) is (λ (e : VerdictRegion ≡ Constants). absurd (cc)) (has_verdict w b.memory is below) place in
       rw (operand_is image p b (Reg dst)) (ap (λ (t : Result Memory Fault). stored t (at image p b)) write)
 
-module _ {s : Setting} {o : ℕ} {piece : List Insn} {n x p' : ℕ} {b : Body} {Q : Body → Type 0} (has : Stands s.image.code o piece) where
-  pub load_verdict : {dst src : Register} {depth : ℕ} (k i j w : ℕ) → slice_get (slots piece) k ≡ Some (Some (Load Dw dst src (pos (8 * j)))) → Framed depth b → w ≡ i + j → w < 256 → b.registers src ≡ verdict_address i → is_frame_pointer dst ≡ false → Comes s n x (o + (k + 1)) (set_register b dst (verdict_at w b)) p' Q → Comes s (suc n) x (o + k) b p' Q
+module _ {s : RunContext} {o : ℕ} {piece : List Insn} {n x p' : ℕ} {b : CpuState} {Q : CpuState → Type 0} (has : IsCodeAt s.image.code o piece) where
+  pub load_verdict : {dst src : Register} {depth : ℕ} (k i j w : ℕ) → slice_get (slots piece) k ≡ Some (Some (Load Dw dst src (pos (8 * j)))) → Framed depth b → w ≡ i + j → w < 256 → b.registers src ≡ verdict_address i → is_frame_pointer dst ≡ false → RunsTo s n x (o + (k + 1)) (set_register b dst (verdict_at w b)) p' Q → RunsTo s (suc n) x (o + k) b p' Q
   load_verdict {dst} {src} {depth} k i j w h f same below e free c =
       let place : o + k + 1 ≡ o + (k + 1) = omega arith in
       one s (o + k) b (does s.image (o + k) b _ (has.here k _ h) ∙ load_does s.image (o + k) b i j w f.memory same below dst src e free ∙ ap (λ (q : ℕ). at s.image q (set_register b dst (verdict_at w b))) place) refl refl refl c
 
   -- a number
-  pub put_verdict : {dst : Register} {depth : ℕ} {m : ℤ} (k i j w : ℕ) → slice_get (slots piece) k ≡ Some (Some (StoreImm Dw dst (pos (8 * j)) m)) → Framed depth b → w ≡ i + j → w < 256 → b.registers dst ≡ verdict_address i → Comes s n x (o + (k + 1)) (set_verdict w (cast_unsigned w64 m) b) p' Q → Comes s (suc n) x (o + k) b p' Q
+  pub put_verdict : {dst : Register} {depth : ℕ} {m : ℤ} (k i j w : ℕ) → slice_get (slots piece) k ≡ Some (Some (StoreImm Dw dst (pos (8 * j)) m)) → Framed depth b → w ≡ i + j → w < 256 → b.registers dst ≡ verdict_address i → RunsTo s n x (o + (k + 1)) (set_verdict w (cast_unsigned w64 m) b) p' Q → RunsTo s (suc n) x (o + k) b p' Q
   put_verdict {dst} {depth} {m} k i j w h f same below e c =
       let place : o + k + 1 ≡ o + (k + 1) = omega arith in
       one s (o + k) b (does s.image (o + k) b _ (has.here k _ h) ∙ put_does s.image (o + k) b i j w f.memory same below dst m e ∙ ap (λ (q : ℕ). at s.image q (set_verdict w (cast_unsigned w64 m) b)) place) refl refl refl c
 
-  pub store_verdict : {dst src : Register} {depth : ℕ} (k i : ℕ) → slice_get (slots piece) k ≡ Some (Some (Store Dw dst (pos 0) src)) → Framed depth b → i < 256 → b.registers dst ≡ verdict_address i → Comes s n x (o + (k + 1)) (set_verdict i (b.registers src) b) p' Q → Comes s (suc n) x (o + k) b p' Q
+  pub store_verdict : {dst src : Register} {depth : ℕ} (k i : ℕ) → slice_get (slots piece) k ≡ Some (Some (Store Dw dst (pos 0) src)) → Framed depth b → i < 256 → b.registers dst ≡ verdict_address i → RunsTo s n x (o + (k + 1)) (set_verdict i (b.registers src) b) p' Q → RunsTo s (suc n) x (o + k) b p' Q
   store_verdict {dst} {src} {depth} k i h f below e c = step.store_verdict s (o + k) (o + (k + 1)) b depth i dst src (has.here k _ h) f below e (omega arith) c

@@ -2,7 +2,7 @@
 
 ghost use Rattle.std.specs.Prelude.{◌≡◌, map, All, OnOk};
 ghost use Rattle.cel_macros.specs.CoreView.{core_view};
-ghost use Rattle.policy_glue.specs.Emission.{with_condition, with_conditions, with_decided, Fits};
+ghost use Rattle.policy_glue.specs.Emission.{with_condition, with_conditions, with_decided, FitsFrame};
 
 use super::pieces::{put_each, put_expression};
 use super::tails::{condition_tail, decided_tail};
@@ -19,7 +19,7 @@ pub(super) fn conditions(
     cores: &[Core],
     emitter: &mut Emitter,
 ) -> Result<(), AllocError>
-    requires { All (λ core. Fits (core_view core)) cores.now }
+    requires { All (λ core. FitsFrame (core_view core)) cores.now }
     ensures { OnOk result (emitter.new ≡ with_conditions failure_policy emitter.old (map core_view cores.now)) }
 {
     for core in cores {
@@ -28,8 +28,8 @@ pub(super) fn conditions(
     Ok(())
 }
 
-/// Puts behind the conditions the end of the program where they decide it, if there are any. The error
-/// says that there is no memory for it.
+/// Puts behind the conditions the end of the program where they decide it, if there are any. The
+/// error says that there is no memory for it.
 pub(super) fn decided(cores: &[Core], emitter: &mut Emitter) -> Result<(), AllocError>
     ensures { OnOk result (emitter.new ≡ with_decided emitter.old (map core_view cores.now)) }
 {
@@ -46,7 +46,7 @@ fn put_condition(
     core: &Core,
     emitter: &mut Emitter,
 ) -> Result<(), AllocError>
-    requires { Fits (core_view core.now) }
+    requires { FitsFrame (core_view core.now) }
     ensures { OnOk result (emitter.new ≡ with_condition failure_policy emitter.old (core_view core.now)) }
 {
     let scope = Scope::new(alloc);

@@ -6,7 +6,8 @@ ghost use Rattle.cel_measures.specs.Measures.{depth};
 ghost use Rattle.cel_types.specs.Declarations.{depths_of};
 ghost use Rattle.codegen.specs.Added.{with_expression, with_variable};
 ghost use Rattle.codegen.specs.Emitted.{with_piece};
-ghost use Rattle.policy_glue.specs.Emission.{Fits};
+ghost use Rattle.policy_glue.specs.Emission.{FitsFrame};
+ghost use Rattle.expression_code.specs.Limits.{variable_depth_limit};
 
 use cel_macros::Core;
 use cel_types::Scope;
@@ -31,7 +32,7 @@ pub(super) fn put_expression(
     scope: &Scope,
     emitter: &mut Emitter,
 ) -> Result<(), AllocError>
-    requires { Fits (core_view core.now) }
+    requires { FitsFrame (core_view core.now) }
     ensures { OnOk result (emitter.new ≡ with_expression emitter.old scope.now (core_view core.now)) }
 {
     match expression(alloc, core, scope, emitter) {
@@ -41,16 +42,16 @@ pub(super) fn put_expression(
     }
 }
 
-/// Puts the routine of the next variable behind the code. The error says that there is no memory for
-/// it.
+/// Puts the routine of the next variable behind the code. The error says that there is no memory
+/// for it.
 pub(super) fn put_variable(
     alloc: Global,
     core: &Core,
     scope: &Scope,
     emitter: &mut Emitter,
 ) -> Result<(), AllocError>
-    requires fits { Fits (core_view core.now) }
-    requires shallow { depth (core_view core.now) (depths_of scope.now) ≤ 6 }
+    requires fits { FitsFrame (core_view core.now) }
+    requires shallow { depth (core_view core.now) (depths_of scope.now) ≤ variable_depth_limit }
     ensures { OnOk result (emitter.new ≡ with_variable emitter.old scope.now (core_view core.now)) }
 {
     match variable(alloc, core, scope, emitter) {

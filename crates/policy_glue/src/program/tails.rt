@@ -1,17 +1,22 @@
 //! What a program does with the value of each expression, whose reference stands in R0.
 
 ghost use Rattle.std.specs.Prelude.{◌≡◌, ◌<◌, pos};
-ghost use Rattle.codegen_base.specs.Words.{verdict_address as address_of_word};
+ghost use Rattle.expression_code.specs.Words.{verdict_address as address_of_word};
 ghost use Rattle.policy_glue.specs.Program as specs;
-ghost use Rattle.policy_glue.specs.Layout.{most_validations, outcome_word};
+ghost use Rattle.policy_glue.specs.Layout.{outcome_word};
 ghost use Rattle.policy_glue.specs.Verdict.{undecided as outcome_undecided};
+ghost use Rattle.policy_glue.specs.Policy.{part_limit};
+ghost use Rattle.expression_code.specs.Limits.{jump_limit};
 
 use crate::failure_policy::FailurePolicy;
-use crate::verdict::{ADMITTED, DENIED, ERRS, FAILS, FIRST_MESSAGE, REJECTED, SKIPPED, VERDICT};
+use crate::verdict::{ADMITTED, DENIED, ERRS, FAILS, FIRST_MESSAGE, REJECTED, SKIPPED};
 use Register::{R0, R1, R2, R6};
-use codegen_base::helpers::{KIND, TEXT_KIND};
-use codegen_base::instructions::{add, call, copy, load_at, load_wide, put, skip_if, store_at};
-use codegen_base::references::{NO, YES};
+use expression_code::helpers::{KIND, TEXT_KIND};
+use expression_code::instructions::{
+    add, call, jump_if_imm, lddw, load_at, mov_imm, mov_reg, store_at,
+};
+use expression_code::references::{NO, YES};
+use guest_memory::VERDICT;
 use insn_codec::{Comparison, Insn, Register, Size};
 
 /// The word of the verdict in which the denials are counted.
@@ -28,7 +33,7 @@ fn verdict_word(i: u64) -> Insn
     requires { i < 256 }
     ensures { result ≡ Insn.LoadWide Register.R1 (address_of_word i) }
 {
-    load_wide(R1, VERDICT + 8 * i)
+    lddw(R1, VERDICT + 8 * i)
 }
 
 /// The outcome where no condition is false and one could not be decided.
@@ -47,11 +52,11 @@ pub(super) fn condition_tail(failure_policy: FailurePolicy) -> [Insn; 8]
     ensures { result ≡ specs.condition_tail failure_policy }
 {
     [
-        skip_if(Comparison::Eq, R0, YES, 8),
-        put(R2, undecided(failure_policy)),
+        jump_if_imm(Comparison::Eq, R0, YES, 8),
+        mov_imm(R2, undecided(failure_policy)),
         verdict_word(0),
-        skip_if(Comparison::Ne, R0, NO, 3),
-        put(R0, SKIPPED as i32),
+        jump_if_imm(Comparison::Ne, R0, NO, 3),
+        mov_imm(R0, SKIPPED as i32),
         store_at(R1, R0),
         Insn::Exit,
         store_at(R1, R2),
@@ -65,22 +70,22 @@ pub(super) fn decided_tail() -> [Insn; 4]
     [
         verdict_word(0),
         load_at(R0, R1),
-        skip_if(Comparison::Eq, R0, 0, 1),
+        jump_if_imm(Comparison::Eq, R0, 0, 1),
         Insn::Exit,
     ]
 }
 
 /// Past so many slots where the validation is true: its word is 0 as it is.
 pub(super) fn if_true(slots: u64) -> Insn
-    requires { slots < 32768 }
+    requires { slots < jump_limit }
     ensures { result ≡ specs.if_true slots }
 {
-    skip_if(Comparison::Eq, R0, YES, slots as usize)
+    jump_if_imm(Comparison::Eq, R0, YES, slots as usize)
 }
 
 /// Where an error goes: to the count of the denials, or past so many slots where it does not deny.
 pub(super) fn leave_error(failure_policy: FailurePolicy, slots: u64) -> Insn
-    requires { slots < 32768 }
+    requires { slots < jump_limit }
     ensures { result ≡ specs.leave_error failure_policy slots }
 {
     let way = match failure_policy {
@@ -92,7 +97,7 @@ pub(super) fn leave_error(failure_policy: FailurePolicy, slots: u64) -> Insn
 
 /// Word i of the verdict gets the number, where R1 has the address of the denials.
 fn put_result(i: usize, n: i32) -> Insn
-    requires { i < most_validations }
+    requires { i < part_limit }
     ensures { result ≡ Insn.StoreImm Size.Dw Register.R1 (pos (specs.result_offset i)) n }
 {
     Insn::StoreImm {
@@ -106,12 +111,12 @@ fn put_result(i: usize, n: i32) -> Insn
 /// Behind validation i without a message, where it is not true: its word, and one more denial.
 #[tactic(auto, unfolding(crate::specs::Program::denial_code))]
 pub(super) fn denial_code(failure_policy: FailurePolicy, i: usize) -> [Insn; 8]
-    requires { i < most_validations }
+    requires { i < part_limit }
     ensures { result ≡ specs.denial_code failure_policy i 0 }
 {
     [
         verdict_word(DENIALS),
-        skip_if(Comparison::Eq, R0, NO, 2),
+        jump_if_imm(Comparison::Eq, R0, NO, 2),
         put_result(i, ERRS as i32),
         leave_error(failure_policy, DENIAL_SLOTS - LEAVE_SLOT),
         put_result(i, FAILS as i32),
@@ -124,14 +129,14 @@ pub(super) fn denial_code(failure_policy: FailurePolicy, i: usize) -> [Insn; 8]
 /// Behind the message expression of validation i: its word gets the reference of a text.
 #[tactic(auto, unfolding(crate::specs::Program::message_tail))]
 pub(super) fn message_tail(i: usize) -> [Insn; 6]
-    requires { i < most_validations }
+    requires { i < part_limit }
     ensures { result ≡ specs.message_tail i }
 {
     [
-        copy(R6, R0),
-        copy(R1, R0),
+        mov_reg(R6, R0),
+        mov_reg(R1, R0),
         call(KIND),
-        skip_if(Comparison::Ne, R0, TEXT_KIND, 3),
+        jump_if_imm(Comparison::Ne, R0, TEXT_KIND, 3),
         verdict_word(FIRST_MESSAGE + i as u64),
         store_at(R1, R6),
     ]
@@ -150,9 +155,9 @@ pub(super) fn outcome_tail() -> [Insn; 6]
             src: R1,
             offset: 8 * DENIALS as i16,
         },
-        put(R0, ADMITTED as i32),
-        skip_if(Comparison::Eq, R2, 0, 1),
-        put(R0, DENIED as i32),
+        mov_imm(R0, ADMITTED as i32),
+        jump_if_imm(Comparison::Eq, R2, 0, 1),
+        mov_imm(R0, DENIED as i32),
         store_at(R1, R0),
     ]
 }

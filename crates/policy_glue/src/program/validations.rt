@@ -2,12 +2,13 @@
 
 ghost use Rattle.std.specs.Prelude.{◌≡◌, ◌<◌, ◌≤◌, ◌+◌, length, map, option_map, All, OnOk, IfOk};
 ghost use Rattle.cel_macros.specs.CoreView.{core_view};
-ghost use Rattle.policy_glue.specs.Checked.{rule_trees};
-ghost use Rattle.policy_glue.specs.Emission.{with_message, with_result, with_validation, with_validations, Fits, MayFit};
-ghost use Rattle.policy_glue.specs.Layout.{most_validations};
+ghost use Rattle.policy_glue.specs.Checked.{validation_trees};
+ghost use Rattle.policy_glue.specs.Emission.{with_message, with_result, with_validation, with_validations, FitsFrame, MayFit};
+ghost use Rattle.policy_glue.specs.Policy.{part_limit};
 
 use super::pieces::{put_each, put_expression};
 use super::tails::{DENIAL_SLOTS, LEAVE_SLOT, denial_code, if_true, leave_error, message_tail};
+use super::validation_place::ValidationPlace;
 use crate::checked_validation::CheckedValidation;
 use crate::failure_policy::FailurePolicy;
 use cel_macros::Core;
@@ -23,65 +24,60 @@ pub(super) fn validations(
     scope: &Scope,
     emitter: &mut Emitter,
 ) -> Result<(), AllocError>
-    requires expressions { All (λ v. Fits (core_view v.expression)) checked.now }
+    requires expressions { All (λ v. FitsFrame (core_view v.expression)) checked.now }
     requires messages { All (λ v. MayFit (option_map core_view v.message)) checked.now }
-    requires few { length checked.now ≤ most_validations }
-    ensures { OnOk result (emitter.new ≡ with_validations failure_policy 0 scope.now emitter.old (map rule_trees checked.now)) }
+    requires few { length checked.now ≤ part_limit }
+    ensures { OnOk result (emitter.new ≡ with_validations failure_policy 0 scope.now emitter.old (map validation_trees checked.now)) }
 {
     for (place, validation) in checked.iter().enumerate() {
-        put_validation(alloc, failure_policy, place, validation, scope, emitter)?;
+        let which = ValidationPlace {
+            failure_policy,
+            place,
+        };
+        put_validation(alloc, which, validation, scope, emitter)?;
     }
     Ok(())
 }
 
-/// Puts the validation at this place into the emitter.
+/// Puts this validation into the emitter.
 fn put_validation(
     alloc: Global,
-    failure_policy: FailurePolicy,
-    place: usize,
+    which: ValidationPlace,
     validation: &CheckedValidation,
     scope: &Scope,
     emitter: &mut Emitter,
 ) -> Result<(), AllocError>
-    requires expression { Fits (core_view validation.now.expression) }
+    requires expression { FitsFrame (core_view validation.now.expression) }
     requires message { MayFit (option_map core_view validation.now.message) }
-    requires few { place < most_validations }
-    ensures { OnOk result (emitter.new ≡ with_validation failure_policy place scope.now emitter.old (rule_trees validation.now)) }
+    requires few { which.place < part_limit }
+    ensures { OnOk result (emitter.new ≡ with_validation which.failure_policy which.place scope.now emitter.old (validation_trees validation.now)) }
 {
     emitter.count(1);
     put_expression(alloc, &validation.expression, scope, emitter)?;
-    put_result(
-        alloc,
-        failure_policy,
-        place,
-        &validation.message,
-        scope,
-        emitter,
-    )
+    put_result(alloc, which, &validation.message, scope, emitter)
 }
 
-/// Puts into the emitter what is done where the validation at this place is not true: its word is kept,
-/// a denial counted, and its message, if it has an expression for one, evaluated.
+/// Puts into the emitter what is done where the validation is not true: its word is kept, a denial
+/// counted, and its message, if it has an expression for one, evaluated.
 fn put_result(
     alloc: Global,
-    failure_policy: FailurePolicy,
-    place: usize,
+    which: ValidationPlace,
     message: &Option<Core>,
     scope: &Scope,
     emitter: &mut Emitter,
 ) -> Result<(), AllocError>
     requires message { MayFit (option_map core_view message.now) }
-    requires few { place < most_validations }
-    ensures { OnOk result (emitter.new ≡ with_result failure_policy place scope.now emitter.old (option_map core_view message.now)) }
+    requires few { which.place < part_limit }
+    ensures { OnOk result (emitter.new ≡ with_result which.failure_policy which.place scope.now emitter.old (option_map core_view message.now)) }
 {
     let first = emitter.put(&if_true(DENIAL_SLOTS))?;
-    put_each(&denial_code(failure_policy, place), emitter)?;
+    put_each(&denial_code(which.failure_policy, which.place), emitter)?;
     if let Some(core) = message {
-        let last = put_message(alloc, place, core, scope, emitter)?;
+        let last = put_message(alloc, which.place, core, scope, emitter)?;
         emitter.patch(first, &if_true(last - first));
         emitter.patch(
             first + LEAVE_SLOT,
-            &leave_error(failure_policy, last - first - LEAVE_SLOT),
+            &leave_error(which.failure_policy, last - first - LEAVE_SLOT),
         );
     }
     Ok(())
@@ -96,8 +92,8 @@ fn put_message(
     scope: &Scope,
     emitter: &mut Emitter,
 ) -> Result<u64, AllocError>
-    requires fits { Fits (core_view core.now) }
-    requires few { place < most_validations }
+    requires fits { FitsFrame (core_view core.now) }
+    requires few { place < part_limit }
     ensures added { OnOk result (emitter.new ≡ with_message place scope.now emitter.old (core_view core.now)) }
     ensures last { IfOk result (λ slot. slot + 1 ≡ length emitter.new.code) }
 {

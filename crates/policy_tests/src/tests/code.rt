@@ -77,8 +77,8 @@ fn slots_are_counted(rt: HostRuntime) -> Result<(), Fail> {
 const NODES: [(u64, Option<CodeError>); 4] = [
     (0, None),
     (512, None),
-    (513, Some(CodeError::G3)),
-    (u64::MAX, Some(CodeError::G3)),
+    (513, Some(CodeError::TooManyNodes)),
+    (u64::MAX, Some(CodeError::TooManyNodes)),
 ];
 
 #[test]
@@ -93,5 +93,5 @@ fn nodes_do_not_wrap_around(rt: HostRuntime) {
     let mut emitter = Emitter::new(rt.alloc());
     emitter.count(u64::MAX);
     emitter.count(2);
-    assert_eq!(rt; emitter.finish().err(), Some(CodeError::G3));
+    assert_eq!(rt; emitter.finish().err(), Some(CodeError::TooManyNodes));
 }

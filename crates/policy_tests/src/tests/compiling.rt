@@ -55,8 +55,8 @@ fn expressions(rt: HostRuntime) -> Result<(), Fail> {
     Ok(())
 }
 
-/// A row a line: a specification, a broken bar and what becomes of its policy. A part is judged whole before the
-/// next, in the order of variables, conditions and validations.
+/// A row a line: a specification, a broken bar and what becomes of its policy. A part is judged
+/// whole before the next, in the order of variables, conditions and validations.
 const SPECS: &str =
     r##"{"variables":[{"name":"v0","expression":"variables.v1"},{"name":"v1","expression":"1"}],"validations":[{"expression":"true"}]}¦K6 variable 0 Y3
 {"variables":[{"name":"v0","expression":"true"}],"matchConditions":[{"name":"c","expression":"variables.v0"}],"validations":[{"expression":"true"}]}¦K6 condition 0 Y3
@@ -140,8 +140,8 @@ fn limits_of_expressions(rt: HostRuntime) -> Result<(), Fail> {
     Ok(())
 }
 
-/// A specification with this many validations, each with a text of 62,000 bytes that no other has: its place in
-/// two digits, then letters.
+/// A specification with this many validations, each with a text of 62,000 bytes that no other has:
+/// its place in two digits, then letters.
 fn with_texts(alloc: Global, n: u64) -> Result<String, AllocError> {
     let letters = "a".repeat(alloc, 61_998)?;
     let mut spec = String::from_str(alloc, "{\"validations\":[")?;

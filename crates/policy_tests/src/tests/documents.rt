@@ -11,10 +11,10 @@ fn refusal(alloc: Global, text: &str) -> Option<PolicyError> {
     Policy::read(alloc, text.as_bytes()).err()
 }
 
-/// The name of the document's refusal, which is empty where it is read.
+/// The code of the document's refusal, which is empty where it is read.
 fn named(alloc: Global, text: &str) -> Result<String, AllocError> {
     match refusal(alloc, text) {
-        Some(error) => format!(in alloc; "{error:?}"),
+        Some(error) => format!(in alloc; "{}", error.code()),
         None => Ok(String::new(alloc)),
     }
 }
@@ -127,7 +127,13 @@ fn refusal_of_nested(alloc: Global, n: usize) -> Result<Option<PolicyError>, All
 
 #[test]
 fn nested_documents(rt: HostRuntime) -> Result<(), Fail> {
-    assert_eq!(rt; refusal_of_nested(rt.alloc(), 127)?, Some(PolicyError::K2));
-    assert_eq!(rt; refusal_of_nested(rt.alloc(), 200)?, Some(PolicyError::K1));
+    assert_eq!(rt;
+        refusal_of_nested(rt.alloc(), 127)?,
+        Some(PolicyError::NotAPolicy)
+    );
+    assert_eq!(rt;
+        refusal_of_nested(rt.alloc(), 200)?,
+        Some(PolicyError::NotJson)
+    );
     Ok(())
 }

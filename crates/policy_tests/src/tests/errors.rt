@@ -1,7 +1,9 @@
-//! The words of errors.
+//! The codes and the words of errors.
 
-use CodeError::{G1, G2, G3, G4};
-use PolicyError::{K1, K2, K3, K4, K5, K8};
+use CodeError::{NeedsTooManyWords, TooManyNodes, TooManyTextBytes, VariableTooDeep};
+use PolicyError::{
+    InvalidField, MessageWithLineBreak, NoValidations, NotAPolicy, NotJson, TooManyParts,
+};
 use codegen::CodeError;
 use policy_glue::PolicyError;
 use std::alloc::{AllocError, Global};
@@ -13,34 +15,36 @@ fn has_words<E: Display>(alloc: Global, error: &E, words: &str) -> Result<bool, 
     Ok(format!(in alloc; "{error}")?.as_str() == words)
 }
 
-/// The errors of code, with their words.
+/// The errors of code, with their codes and words.
 #[rattlefmt::skip]
-const CODE_ERRORS: [(CodeError, &str); 5] = [
-    (G1, "the expression needs more than 60 words of the stack"),
-    (G2, "the variables that a variable names are nested more than six deep"),
-    (G3, "the expressions have more than 512 nodes"),
-    (G4, "the expressions have more than 1048576 bytes of texts"),
-    (CodeError::Memory, "out of memory"),
+const CODE_ERRORS: [(CodeError, &str, &str); 5] = [
+    (NeedsTooManyWords, "G1", "the expression needs more than 60 words of the stack"),
+    (VariableTooDeep, "G2", "the variables that a variable names are nested more than six deep"),
+    (TooManyNodes, "G3", "the expressions have more than 512 nodes"),
+    (TooManyTextBytes, "G4", "the expressions have more than 1048576 bytes of texts"),
+    (CodeError::Memory, "memory", "out of memory"),
 ];
 
-/// The errors of a policy's document, with their words.
+/// The errors of a policy's document, with their codes and words.
 #[rattlefmt::skip]
-const POLICY_ERRORS: [(PolicyError, &str); 7] = [
-    (K1, "the policy is no JSON text"),
-    (K2, "the document is no ValidatingAdmissionPolicy"),
-    (K3, "the policy has not the form of a ValidatingAdmissionPolicy"),
-    (K4, "the policy has no validation"),
-    (K5, "the policy has more than 64 conditions, variables or validations"),
-    (K8, "a message of the policy has a line break"),
-    (PolicyError::Memory, "out of memory"),
+const POLICY_ERRORS: [(PolicyError, &str, &str); 7] = [
+    (NotJson, "K1", "the policy is no JSON text"),
+    (NotAPolicy, "K2", "the document is no ValidatingAdmissionPolicy"),
+    (InvalidField, "K3", "the policy has not the form of a ValidatingAdmissionPolicy"),
+    (NoValidations, "K4", "the policy has no validation"),
+    (TooManyParts, "K5", "the policy has more than 64 conditions, variables or validations"),
+    (MessageWithLineBreak, "K8", "a message of the policy has a line break"),
+    (PolicyError::Memory, "memory", "out of memory"),
 ];
 
 #[test]
-fn errors_have_words(rt: HostRuntime) -> Result<(), Fail> {
-    for (error, words) in &CODE_ERRORS {
+fn errors_have_codes_and_words(rt: HostRuntime) -> Result<(), Fail> {
+    for (error, code, words) in &CODE_ERRORS {
+        assert_eq!(rt; error.code(), *code);
         assert!(rt; has_words(rt.alloc(), error, words)?, "{words}");
     }
-    for (error, words) in &POLICY_ERRORS {
+    for (error, code, words) in &POLICY_ERRORS {
+        assert_eq!(rt; error.code(), *code);
         assert!(rt; has_words(rt.alloc(), error, words)?, "{words}");
     }
     Ok(())

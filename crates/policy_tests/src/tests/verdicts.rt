@@ -55,18 +55,20 @@ fn response_of(alloc: Global, policy: &Policy, verdict: &Verdict) -> Result<Vec<
     respond(alloc, policy, verdict, "u1")
 }
 
-/// The response to a verdict that stands in memory, where the first message has a text.
-fn response(
-    alloc: Global,
-    spec: &str,
+/// The words of a verdict in memory, and the text of the first message.
+#[derive(Clone, Copy)]
+struct Words<'a> {
     outcome: u64,
     denials: u64,
-    results: &[u64],
-    message: Option<&str>,
-) -> Result<Vec<u8>, Fail> {
+    results: &'a [u64],
+    message: Option<&'a str>,
+}
+
+/// The response to the verdict with these words.
+fn response(alloc: Global, spec: &str, words: Words<'_>) -> Result<Vec<u8>, Fail> {
     let mut values = null_values(alloc)?;
-    let place = place(&mut values, message)?;
-    let memory = memory(alloc, outcome, denials, results, place)?;
+    let place = place(&mut values, words.message)?;
+    let memory = memory(alloc, words.outcome, words.denials, words.results, place)?;
     let policy = policy(alloc, spec)?;
     let verdict = verdict_of(&memory, &values, &policy);
     Ok(response_of(alloc, &policy, &verdict)?)
@@ -136,7 +138,13 @@ fn is_review(alloc: Global, text: &[u8], response: &str) -> Result<bool, AllocEr
 #[test]
 fn responses(rt: HostRuntime) -> Result<(), Fail> {
     for &(spec, outcome, denials, results, message, wanted) in RESPONSES.iter() {
-        let text = response(rt.alloc(), spec, outcome, denials, results, message)?;
+        let words = Words {
+            outcome,
+            denials,
+            results,
+            message,
+        };
+        let text = response(rt.alloc(), spec, words)?;
         assert!(rt; is_review(rt.alloc(), text.as_slice(), wanted)?, "{wanted}");
     }
     Ok(())

@@ -1,11 +1,15 @@
-//! The commands of the program as `clap` is told them, and the parse of the words.
+//! The commands of the program as `clap` is told them, and what it makes of the words.
 ghost use Rattle.std.specs.Prelude.{◌≡◌, map, IfOk, false, true};
-ghost use Rattle.clap.specs.Words.{app_of, has_subcommand, rule_of, subcommand_rows_of, FailsBy};
+ghost use Rattle.clap.specs.Words.{app_of, has_subcommand, rule_of, subcommand_rows_of};
 ghost use Rattle.clap.specs.declared.builder.command.Command.TheViews.{out-Command as fields_of};
-ghost use Rattle.review_runner.specs.Commands.{celbpf_app, deciding_app, debug_app, file_rule, list_app, making_app, option_rule, required_option_rule, review_app, run_image_app, running_app, steps_rule, with_documents};
+ghost use Rattle.review_runner.specs.Commands.{celbpf_app, deciding_app, debug_app, file_rule, list_app, making_app, review_app, run_image_app, running_app};
+ghost use Rattle.cli.specs.Arguments.{with_documents};
+ghost use Rattle.cli.specs.Parsing.{TakesWords};
 ghost use Rattle.review_runner.specs.Commands.{faults, entered};
 
-use clap::{Arg, ArgMatches, Command, Error, value_parser};
+use clap::{Arg, ArgMatches, Command};
+use cli::{option_argument, parse, required_option_argument, steps_argument, with_documents};
+use host::OrderError;
 use std::alloc::{AllocError, Global};
 
 // the name of a file, which has to be there
@@ -15,36 +19,6 @@ fn file_argument<'a>(alloc: Global, name: &'a str) -> Arg<'a>
     ensures local { result.global ≡ false }
 {
     Arg::new(alloc, name).required(true)
-}
-
-// an option with the name of a file, which may be left out
-#[tactic(auto, unfolding(crate::specs::Commands::option_rule))]
-fn option_argument<'a>(alloc: Global, name: &'a str) -> Arg<'a>
-    ensures rule { rule_of result ≡ option_rule name.entry.now }
-    ensures local { result.global ≡ false }
-{
-    Arg::new(alloc, name).long(name)
-}
-
-// one that has to be there
-#[tactic(auto, unfolding(crate::specs::Commands::required_option_rule))]
-pub fn required_option_argument<'a>(alloc: Global, name: &'a str) -> Arg<'a>
-    ensures rule { rule_of result ≡ required_option_rule name.entry.now }
-    ensures local { result.global ≡ false }
-{
-    Arg::new(alloc, name).long(name).required(true)
-}
-
-// --steps N, the most instructions that may run
-#[tactic(auto, unfolding(crate::specs::Commands::steps_rule))]
-pub fn steps_argument<'a>(alloc: Global) -> Arg<'a>
-    ensures rule { rule_of result ≡ steps_rule }
-    ensures local { result.global ≡ false }
-{
-    Arg::new(alloc, "steps")
-        .long("steps")
-        .value_parser(value_parser!(u64).range(0..=1_000_000_000))
-        .default_value("10000000")
 }
 
 #[tactic(auto, unfolding(crate::specs::Commands::run_image_app))]
@@ -76,16 +50,6 @@ fn list_command<'a>(alloc: Global) -> Result<Command<'a>, AllocError>
     ensures local { IfOk result (λ c. (fields_of c).has_globals ≡ false) }
 {
     Command::new(alloc, "list").arg(file_argument(alloc, "IMAGE"))
-}
-
-// the command, and the options for a namespace and for parameters
-#[tactic(auto, unfolding(crate::specs::Commands::with_documents))]
-pub fn with_documents<'a>(alloc: Global, command: Command<'a>) -> Result<Command<'a>, AllocError>
-    ensures shape { IfOk result (λ c. app_of c ≡ with_documents (app_of command.entry)) }
-    ensures local { (fields_of command.entry).has_globals ≡ false → IfOk result (λ c. (fields_of c).has_globals ≡ false) }
-{
-    let command = command.arg(option_argument(alloc, "namespace"))?;
-    command.arg(option_argument(alloc, "params"))
 }
 
 #[tactic(auto, unfolding(crate::specs::Commands::debug_app))]
@@ -140,12 +104,12 @@ fn celbpf_command<'a>(alloc: Global) -> Result<Command<'a>, AllocError>
     command.subcommand(list_command(alloc)?)
 }
 
-// What `clap` makes of the words, the program's name first.
-pub fn parse<'a>(alloc: Global, words: &'a [&'a str]) -> Result<ArgMatches<'a>, Error>
+// what `clap` makes of the words, the program's name first, or why it does not take them
+pub fn celbpf_matches<'a>(alloc: Global, words: &'a [&'a str]) -> Result<ArgMatches<'a>, OrderError>
     ensures rows { IfOk result (λ m. subcommand_rows_of m ≡ entered (map (λ s. s.now) words.entry.now)) }
-    ensures faults { FailsBy (faults (map (λ s. s.now) words.entry.now)) result }
+    ensures taken { TakesWords (faults (map (λ s. s.now) words.entry.now)) (λ _. Unit {0}) result }
     ensures named { IfOk result (λ m. has_subcommand m ≡ true) }
 {
     let command = celbpf_command(alloc)?;
-    command.try_get_matches_from(words)
+    parse(command, words)
 }

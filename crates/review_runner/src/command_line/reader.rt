@@ -2,21 +2,20 @@
 ghost use Rattle.std.specs.Prelude.{map, IfOk};
 ghost use Rattle.clap.specs.Words.{found_of, rows_of};
 ghost use Rattle.review_runner.specs.Order.{assemble_in, compile_in, debug_in, list_in, order_view, review_in, run_image_in, task_named};
-ghost use Rattle.review_runner.specs.Order.{Gives, IsWithinLimits, Ordered};
+ghost use Rattle.review_runner.specs.Order.{CommandReturns, IsWithinLimits, OrderReturns};
 
+use crate::command_line::commands::celbpf_matches;
 use crate::command_line::order::Order;
-use crate::command_line::parse;
-use crate::command_line::values::{name_in, steps_in, text_or_empty};
 use crate::documents::document_names::DocumentNames;
 use crate::documents::review_names::ReviewNames;
-use crate::refusals::order_error::OrderError;
 use clap::ArgMatches;
-use clap::error::ErrorKind;
+use cli::{name_in, steps_in, text_or_empty};
+use host::OrderError;
 use std::alloc::Global;
 
 #[tactic(auto, unfolding(crate::specs::Order::compile_in))]
 fn compile_order(alloc: Global, matches: &ArgMatches) -> Result<Order, OrderError>
-    ensures { Gives (compile_in (rows_of (found_of matches.now))) result }
+    ensures { CommandReturns (compile_in (rows_of (found_of matches.now))) result }
 {
     let policy = String::from_str(alloc, text_or_empty(matches, "POLICY"))?;
     let image = String::from_str(alloc, text_or_empty(matches, "IMAGE"))?;
@@ -25,7 +24,7 @@ fn compile_order(alloc: Global, matches: &ArgMatches) -> Result<Order, OrderErro
 
 #[tactic(auto, unfolding(crate::specs::Order::review_in))]
 fn review_order(alloc: Global, matches: &ArgMatches) -> Result<Order, OrderError>
-    ensures { Gives (review_in (rows_of (found_of matches.now))) result }
+    ensures { CommandReturns (review_in (rows_of (found_of matches.now))) result }
 {
     let files = ReviewNames {
         policy: String::from_str(alloc, text_or_empty(matches, "policy"))?,
@@ -39,7 +38,7 @@ fn review_order(alloc: Global, matches: &ArgMatches) -> Result<Order, OrderError
 
 #[tactic(auto, unfolding(crate::specs::Order::run_image_in))]
 fn run_image_order(alloc: Global, matches: &ArgMatches) -> Result<Order, OrderError>
-    ensures { Gives (run_image_in (rows_of (found_of matches.now))) result }
+    ensures { CommandReturns (run_image_in (rows_of (found_of matches.now))) result }
 {
     let image = String::from_str(alloc, text_or_empty(matches, "IMAGE"))?;
     let steps = steps_in(matches);
@@ -48,7 +47,7 @@ fn run_image_order(alloc: Global, matches: &ArgMatches) -> Result<Order, OrderEr
 
 #[tactic(auto, unfolding(crate::specs::Order::assemble_in))]
 fn assemble_order(alloc: Global, matches: &ArgMatches) -> Result<Order, OrderError>
-    ensures { Gives (assemble_in (rows_of (found_of matches.now))) result }
+    ensures { CommandReturns (assemble_in (rows_of (found_of matches.now))) result }
 {
     let text = String::from_str(alloc, text_or_empty(matches, "TEXT"))?;
     let image = String::from_str(alloc, text_or_empty(matches, "IMAGE"))?;
@@ -57,7 +56,7 @@ fn assemble_order(alloc: Global, matches: &ArgMatches) -> Result<Order, OrderErr
 
 #[tactic(auto, unfolding(crate::specs::Order::list_in))]
 fn list_order(alloc: Global, matches: &ArgMatches) -> Result<Order, OrderError>
-    ensures { Gives (list_in (rows_of (found_of matches.now))) result }
+    ensures { CommandReturns (list_in (rows_of (found_of matches.now))) result }
 {
     let image = String::from_str(alloc, text_or_empty(matches, "IMAGE"))?;
     Ok(Order::List { image })
@@ -65,7 +64,7 @@ fn list_order(alloc: Global, matches: &ArgMatches) -> Result<Order, OrderError>
 
 #[tactic(auto, unfolding(crate::specs::Order::debug_in))]
 fn debug_order(alloc: Global, matches: &ArgMatches) -> Result<Order, OrderError>
-    ensures { Gives (debug_in (rows_of (found_of matches.now))) result }
+    ensures { CommandReturns (debug_in (rows_of (found_of matches.now))) result }
 {
     let image = String::from_str(alloc, text_or_empty(matches, "IMAGE"))?;
     let documents = DocumentNames {
@@ -78,7 +77,7 @@ fn debug_order(alloc: Global, matches: &ArgMatches) -> Result<Order, OrderError>
 
 // the order of the command `name`: the last command answers to every name that is left
 fn order_named(alloc: Global, name: &str, matches: &ArgMatches) -> Result<Order, OrderError>
-    ensures { Gives (task_named name.now (rows_of (found_of matches.now))) result }
+    ensures { CommandReturns (task_named name.now (rows_of (found_of matches.now))) result }
 {
     match name {
         "compile" => compile_order(alloc, matches),
@@ -92,17 +91,12 @@ fn order_named(alloc: Global, name: &str, matches: &ArgMatches) -> Result<Order,
 
 // the order that the words give
 fn given_order<'a>(alloc: Global, words: &'a [&'a str]) -> Result<Order, OrderError>
-    ensures { Ordered (map (λ s. s.now) words.entry.now) result }
+    ensures { OrderReturns (map (λ s. s.now) words.entry.now) result }
 {
-    match parse(alloc, words) {
-        Ok(matches) => match matches.subcommand() {
-            Some((name, inner)) => order_named(alloc, name, inner),
-            None => unreachable!(),
-        },
-        Err(error) => match error.kind() {
-            ErrorKind::OutOfMemory => Err(OrderError::Memory),
-            _ => Err(OrderError::U1),
-        },
+    let matches = celbpf_matches(alloc, words)?;
+    match matches.subcommand() {
+        Some((name, inner)) => order_named(alloc, name, inner),
+        None => unreachable!(),
     }
 }
 
@@ -112,11 +106,11 @@ fn given_order<'a>(alloc: Global, words: &'a [&'a str]) -> Result<Order, OrderEr
 ///
 /// # Errors
 ///
-/// `U1` exactly where `clap` refuses the words, as it does at `--help`; `Memory` where memory runs
-/// out, which says nothing of the words.
+/// `InvalidArguments` exactly if `clap` refuses the words, as it does at `--help`; `Memory` where
+/// memory runs out, which says nothing of the words.
 #[tactic(auto, using(crate::proofs::Limit::within_limits))]
 pub fn order<'a>(alloc: Global, words: &'a [&'a str]) -> Result<Order, OrderError>
-    ensures answer { Ordered (map (λ s. s.now) words.entry.now) result }
+    ensures answer { OrderReturns (map (λ s. s.now) words.entry.now) result }
     ensures limits { IfOk result (λ o. IsWithinLimits (order_view o)) }
 {
     given_order(alloc, words)

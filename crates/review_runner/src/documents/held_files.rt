@@ -1,9 +1,10 @@
 //! What the files of documents hold.
 ghost use Rattle.std.specs.Prelude.{◌≡◌, option_map, string_bytes};
-ghost use Rattle.review_runner.specs.Debugging.{held_of, reading_given_of, HoldsFiles, IsReadingGiven};
+ghost use Rattle.review_runner.specs.Debugging.{held_of, HoldsFiles};
+ghost use Rattle.review_runner.specs.Order.{DocumentFiles};
 
-use crate::documents::files::Files;
-use crate::refusals::file_error::FileError;
+use cli::{read_given, read_named};
+use host::{FileError, Files};
 use std::alloc::Global;
 
 /// The bytes of the file of an image or a policy, and of those of a review's documents.
@@ -25,7 +26,12 @@ pub fn read_files<F: Files>(
     params: &Option<String>,
     files: &mut F,
 ) -> Result<HeldFiles, FileError>
-    ensures held { HoldsFiles (F.known files.old) subject.now (record { review = option_map (λ s. s.now) review.entry; namespace = option_map string_bytes namespace.now; params = option_map string_bytes params.now }) (held_of result) }
+    ensures held { let names : DocumentFiles = record {
+      review = option_map (λ s. s.now) review.entry;
+      namespace = option_map string_bytes namespace.now;
+      params = option_map string_bytes params.now;
+    } in
+        HoldsFiles (F.known files.old) subject.now names (held_of result) }
     ensures known { F.known files.new ≡ F.known files.old }
 {
     let subject = files.read(alloc, subject)?;
@@ -38,31 +44,4 @@ pub fn read_files<F: Files>(
         namespace,
         params,
     })
-}
-
-/// What the file of this name holds, where there is a name.
-pub fn read_given<F: Files>(
-    alloc: Global,
-    name: &Option<String>,
-    files: &mut F,
-) -> Result<Option<Vec<u8>>, FileError>
-    ensures read { IsReadingGiven (F.known files.old) (option_map string_bytes name.now) (reading_given_of result) }
-    ensures known { F.known files.new ≡ F.known files.old }
-{
-    read_named(alloc, name.as_deref(), files)
-}
-
-/// The same of a name that is lent.
-fn read_named<F: Files>(
-    alloc: Global,
-    name: Option<&str>,
-    files: &mut F,
-) -> Result<Option<Vec<u8>>, FileError>
-    ensures read { IsReadingGiven (F.known files.old) (option_map (λ s. s.now) name.entry) (reading_given_of result) }
-    ensures known { F.known files.new ≡ F.known files.old }
-{
-    match name {
-        Some(name) => Ok(Some(files.read(alloc, name)?)),
-        None => Ok(None),
-    }
 }

@@ -4,7 +4,7 @@ ghost use Rattle.policy_glue.specs.OneImage.{OneImage};
 ghost use Rattle.review_runner.specs.Making.{FileBy, MadeBy};
 ghost use Rattle.review_runner.specs.declared.images.source_kind.SourceKind.TheVariants.{ProgramText};
 
-use crate::refusals::refusal::Refusal;
+use cli::Refusal;
 use loader::Image;
 use std::alloc::Global;
 use std::str;
@@ -21,7 +21,7 @@ pub fn assembled_file(alloc: Global, held: &[u8]) -> Result<Vec<u8>, Refusal>
 }
 
 /// The bytes of the file of an image with this code and no constants.
-#[tactic(auto, using(crate::proofs::Results::is_err))]
+#[tactic(auto, using(admission::proofs::Results::is_err))]
 fn file_of(alloc: Global, code: Vec<u8>) -> Result<Vec<u8>, Refusal>
     ensures { FileBy code.items result }
 {

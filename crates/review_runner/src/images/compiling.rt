@@ -4,8 +4,8 @@ ghost use Rattle.policy_glue.specs.OneImage.{OneImage};
 ghost use Rattle.review_runner.specs.Making.{MadeBy};
 ghost use Rattle.review_runner.specs.declared.images.source_kind.SourceKind.TheVariants.{PolicyDocument};
 
-use crate::refusals::refusal::Refusal;
-use crate::reviews::compiled_policy::compiled;
+use admission::compiled;
+use cli::Refusal;
 use std::alloc::Global;
 
 /// The bytes of the image's file, by the document of the policy.

@@ -1,19 +1,19 @@
 //! Sessions with the image in a file.
 ghost use Rattle.std.specs.Prelude.{◌≡◌, Ok};
 ghost use Rattle.bpf_machine.specs.State.{start_state};
-ghost use Rattle.review_runner.specs.Debugging.{held_of, held_view, DebugsByResult, HoldsFiles, Starts};
+ghost use Rattle.review_runner.specs.Debugging.{held_of, held_view, DebugsByResult, HoldsFiles, SessionStarts};
 ghost use Rattle.review_runner.specs.Order.{files_view};
-ghost use Rattle.debugger.specs.Streams.{stream};
+ghost use Rattle.streams.specs.Streams.{stream};
 
 use crate::documents::document_names::DocumentNames;
-use crate::documents::files::Files;
 use crate::documents::held_files::{HeldFiles, read_files};
-use crate::refusals::file_error::FileError;
-use crate::refusals::refusal::Refusal;
-use crate::reviews::root_values::roots;
-use debugger::{Sink, Source, session};
+use admission::roots;
+use cli::Refusal;
+use debugger::session;
+use host::{FileError, Files};
 use loader::Image;
 use std::alloc::Global;
+use streams::{Sink, Source};
 use value_store::ValueStore;
 use value_table::Table;
 
@@ -34,7 +34,11 @@ pub fn debug<F: Files, R: Source, W: Sink>(
     r: &mut R,
     w: &mut W,
 ) -> Result<(), Refusal>
-    ensures debugs { DebugsByResult (F.known files.old) image.now (files_view documents.now) (stream (R.left r.old) (R.failed r.old)) (stream (R.left r.new) (R.failed r.new)) (stream (W.taken w.old) (W.failed w.old)) (stream (W.taken w.new) (W.failed w.new)) result }
+    ensures debugs { let written = stream (W.taken w.old) (W.failed w.old) in
+        let written_after = stream (W.taken w.new) (W.failed w.new) in
+        let read = stream (R.left r.old) (R.failed r.old) in
+        let read_after = stream (R.left r.new) (R.failed r.new) in
+        DebugsByResult (F.known files.old) image.now (files_view documents.now) read read_after written written_after result }
     ensures known { F.known files.new ≡ F.known files.old }
 {
     let held = read_documents(alloc, image, documents, files)?;
@@ -64,7 +68,7 @@ fn read_documents<F: Files>(
 
 /// The image in its file, and the roots of the documents in theirs.
 fn start(alloc: Global, held: &HeldFiles) -> Result<(Image, Table), Refusal>
-    ensures { Starts (λ p. start_state p.0 (record { values = ⟦<Table as ValueStore>⟧.values p.1; charge = ⟦<Table as ValueStore>⟧.charge p.1 })) (Ok (held_view held.now)) result }
+    ensures { SessionStarts (λ p. start_state p.0 (record { values = ⟦<Table as ValueStore>⟧.values p.1; charge = ⟦<Table as ValueStore>⟧.charge p.1 })) (Ok (held_view held.now)) result }
 {
     let image = Image::read(alloc, &held.subject)?;
     let table = roots(

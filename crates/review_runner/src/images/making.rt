@@ -5,12 +5,12 @@ ghost use Rattle.review_runner.specs.Making.{MadeBy, MadeOf};
 ghost use Rattle.review_runner.specs.Output.{outcome_of};
 ghost use Rattle.review_runner.specs.Performing.{making, PerformsBy};
 
-use crate::answer::Answer;
-use crate::documents::files::Files;
 use crate::images::assembling::assembled_file;
 use crate::images::compiling::compiled_file;
 use crate::images::source_kind::SourceKind;
-use crate::refusals::refusal::Refusal;
+use crate::report::Report;
+use cli::Refusal;
+use host::Files;
 use std::alloc::Global;
 
 /// Writes the image that is made from one file into another. A refusal leaves the files as they
@@ -21,12 +21,12 @@ pub fn make_file<F: Files>(
     source: &str,
     image: &str,
     files: &mut F,
-) -> Result<Answer, Refusal>
+) -> Result<Report, Refusal>
     ensures { PerformsBy OneImage (F.known files.old) (making kind source.now image.now) (F.known files.new) (outcome_of result) }
 {
     let file = made_file(alloc, kind, source, files)?;
     files.write(image, &file)?;
-    Ok(Answer::succeeded(Vec::new(alloc)))
+    Ok(Report::succeeded(Vec::new(alloc)))
 }
 
 /// The bytes of the image's file, by the file of this name.

@@ -1,9 +1,9 @@
 //! The image in a file.
 ghost use Rattle.std.specs.Prelude.{◌≡◌, Ok};
-ghost use Rattle.review_runner.specs.Opening.{opened, IsAnswer, OpensFile};
+ghost use Rattle.review_runner.specs.Opening.{opened, IsDueResult, OpensFile};
 
-use crate::documents::files::Files;
-use crate::refusals::refusal::Refusal;
+use cli::Refusal;
+use host::Files;
 use loader::Image;
 use std::alloc::Global;
 
@@ -18,7 +18,7 @@ pub fn open<F: Files>(alloc: Global, name: &str, files: &mut F) -> Result<Image,
 
 /// The image that the file holds.
 fn image_in(alloc: Global, file: &[u8]) -> Result<Image, Refusal>
-    ensures { IsAnswer (opened (Ok file.now)) result }
+    ensures { IsDueResult (opened (Ok file.now)) result }
 {
     Ok(Image::read(alloc, file)?)
 }

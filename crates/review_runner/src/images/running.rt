@@ -1,5 +1,5 @@
 //! Images run from their bytes to printed registers.
-ghost use Rattle.review_runner.specs.Running.{run_of_file, Runs};
+ghost use Rattle.review_runner.specs.Running.{run_of_file, RunImageReturns};
 
 use crate::images::null_table::null_table;
 use bpf_machine::{Machine, Status};
@@ -17,10 +17,10 @@ pub type RunImageError = LoadError;
 ///
 /// # Errors
 ///
-/// The first refusal of the file, by `L1` to `L5`, or, where the file holds an image, `Memory`.
+/// The first refusal of the file, a `LoadError`; or, if the file holds an image, `Memory`.
 #[tactic(auto, unfolding(crate::specs::Running::run_of_file, crate::specs::Running::shown_after))]
 pub fn run_image(alloc: Global, file: &[u8], n: u64) -> Result<(Vec<u8>, Status), RunImageError>
-    ensures { Runs (run_of_file file.now n) result }
+    ensures { RunImageReturns (run_of_file file.now n) result }
 {
     let image = Image::read(alloc, file)?;
     let mut machine = Machine::<Table, Guest>::start(alloc, image, null_table(alloc)?)?;

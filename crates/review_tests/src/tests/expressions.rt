@@ -4,8 +4,8 @@ use super::{ALLOWED, DEFAULT_STEPS, answers, printed, printed_denial, reviewed};
 use std::alloc::Global;
 use std::test::Fail;
 
-/// An expression, the object under review, and the statuses under `Fail` and under `Ignore`: true is
-/// allowed under both and false denied, and an error is denied under the first alone.
+/// An expression, the object under review, and the statuses under `Fail` and under `Ignore`: true
+/// is allowed under both and false denied, and an error is denied under the first alone.
 const EXPRESSIONS: [(&str, &str, u8, u8); 13] = [
     ("1/0 == 1 || true", "{}", 0, 0),
     ("true && 1/0 == 1", "{}", 1, 0),

@@ -61,8 +61,8 @@ fn compiles_to_the_limits(rt: HostRuntime) -> Result<(), Fail> {
     Ok(())
 }
 
-/// A specification with 17 validations, each with a text that no other has: two digits, and behind them 61,998
-/// letters, or this many in the last. They share the text `a`.
+/// A specification with 17 validations, each with a text that no other has: two digits, and behind
+/// them 61,998 letters, or this many in the last. They share the text `a`.
 fn with_texts(alloc: Global, last: usize) -> Result<String, AllocError> {
     let mut spec = String::from_str(alloc, LIST)?;
     for i in 0..17 {

@@ -1,10 +1,10 @@
 //! Documents of reviews, and the values of their roots.
 
-use RunError::{N2, N3};
+use RunError::{NamespaceOrParamsRefused, ReviewRefused};
 use review_runner::{RunError, roots};
 use std::alloc::{AllocError, Global};
 use std::test::Fail;
-use value_store::ValueStore;
+use value_store::{CHARGE_LIMIT, ValueStore};
 
 /// A review of an object, its head, and what stands behind its object.
 const REVIEW: &[u8] =
@@ -59,9 +59,9 @@ fn shows_roots(rt: HostRuntime) -> Result<(), Fail> {
 const OBJECTS: [(&[u8], Option<RunError>); 5] = [
     (b"{}", None),
     (b"null", None),
-    (b"{\"spec\":{\"replicas\":1.5}}", Some(N2)),
-    (b"1", Some(N2)),
-    (b"{", Some(N2)),
+    (b"{\"spec\":{\"replicas\":1.5}}", Some(ReviewRefused)),
+    (b"1", Some(ReviewRefused)),
+    (b"{", Some(ReviewRefused)),
 ];
 
 #[test]
@@ -76,9 +76,9 @@ fn refuses_reviews(rt: HostRuntime) -> Result<(), Fail> {
 /// Documents beside the review, and whether they are refused.
 const OTHERS: [(&[u8], Option<RunError>); 4] = [
     (b"{}", None),
-    (b"1", Some(N3)),
-    (b"{\"a\":-0}", Some(N3)),
-    (b"\xff", Some(N3)),
+    (b"1", Some(NamespaceOrParamsRefused)),
+    (b"{\"a\":-0}", Some(NamespaceOrParamsRefused)),
+    (b"\xff", Some(NamespaceOrParamsRefused)),
 ];
 
 #[test]
@@ -89,7 +89,7 @@ fn refuses_namespaces_and_params(rt: HostRuntime) -> Result<(), Fail> {
     }
     assert_eq!(rt;
         refusal(rt.alloc(), Some(b"{}"), Some(b"1"), None),
-        Some(N2)
+        Some(ReviewRefused)
     );
     Ok(())
 }
@@ -110,22 +110,29 @@ fn nested(alloc: Global, depth: usize) -> Result<Vec<u8>, AllocError> {
 /// The review has the object three levels deep, and 127 are read.
 #[test]
 fn refuses_deep_reviews(rt: HostRuntime) -> Result<(), Fail> {
-    for (depth, cause) in [(124, None), (125, Some(N2)), (200, Some(N2))] {
+    for (depth, cause) in [
+        (124, None),
+        (125, Some(ReviewRefused)),
+        (200, Some(ReviewRefused)),
+    ] {
         let review = review_of(rt.alloc(), &nested(rt.alloc(), depth)?)?;
         assert_eq!(rt; refusal(rt.alloc(), Some(&review), None, None), cause);
     }
     Ok(())
 }
 
-/// An object whose text has 16,777,216 bytes.
+/// An object whose text alone has as many bytes as may be charged.
 #[test]
 fn refuses_large_reviews(rt: HostRuntime) -> Result<(), Fail> {
     let mut object = Vec::from_slice(rt.alloc(), b"{\"a\":\"")?;
-    for _ in 0..16_777_216u64 {
+    for _ in 0..CHARGE_LIMIT {
         object.push(b'a')?;
     }
     object.extend_from_slice(b"\"}")?;
     let review = review_of(rt.alloc(), &object)?;
-    assert_eq!(rt; refusal(rt.alloc(), Some(&review), None, None), Some(N2));
+    assert_eq!(rt;
+        refusal(rt.alloc(), Some(&review), None, None),
+        Some(ReviewRefused)
+    );
     Ok(())
 }

@@ -19,26 +19,17 @@ mod rows_9;
 use super::{answers, is_refused, printed, reviewed};
 use std::alloc::{AllocError, Global};
 use std::test::Fail;
+use value_store::CHARGE_LIMIT;
 
 /// The steps for each unit of work within which a program stops.
 const STEPS_A_UNIT: u64 = 128;
 
-/// The charge within which no program is stopped.
-const MOST_CHARGE: u64 = 16_777_216;
-
-/// Whether the review of this object is answered within so many steps, with this status and
-/// response.
-fn is_answered(
-    alloc: Global,
-    spec: &str,
-    object: &str,
-    steps: u64,
-    status: u8,
-    response: &str,
-) -> Result<bool, AllocError> {
-    let wanted = printed(alloc, response)?;
-    let done = reviewed(alloc, spec, object, steps)?;
-    Ok(answers(&done, status, &wanted))
+/// Whether the review of the row is answered within its steps, with its status and response.
+fn is_answered(alloc: Global, row: &Row<'_>) -> Result<bool, AllocError> {
+    let steps = STEPS_A_UNIT.wrapping_mul(row.work);
+    let wanted = printed(alloc, row.response)?;
+    let done = reviewed(alloc, row.spec, row.object, steps)?;
+    Ok(answers(&done, row.status, &wanted))
 }
 
 /// Whether the review of this object still runs after no step.
@@ -74,10 +65,9 @@ fn row_of(line: &str) -> Option<Row<'_>> {
 /// Whether the row holds: its charge is within the limit, and the review is answered within its steps, but not within
 /// none.
 fn stands(alloc: Global, row: &Row<'_>) -> Result<bool, AllocError> {
-    let steps = STEPS_A_UNIT.wrapping_mul(row.work);
-    let is_answered = is_answered(alloc, row.spec, row.object, steps, row.status, row.response)?;
+    let is_answered = is_answered(alloc, row)?;
     let is_unended = is_unended(alloc, row.spec, row.object)?;
-    Ok(row.charge <= MOST_CHARGE && is_answered && is_unended)
+    Ok(row.charge <= CHARGE_LIMIT && is_answered && is_unended)
 }
 
 /// Whether the row of this line stands.

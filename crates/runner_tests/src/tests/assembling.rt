@@ -93,22 +93,24 @@ fn runs_texts(rt: HostRuntime) -> Result<(), Fail> {
     Ok(())
 }
 
-/// Whether `asm` of this text leaves this line of standard error, and the image's file as it was.
-fn refuses(
-    alloc: Global,
-    text: &[u8],
-    from: &str,
-    to: &str,
+/// An `asm` command: the text, the names of the files, and whether the image can be written.
+#[derive(Clone, Copy)]
+struct Assembly<'a> {
+    text: &'a [u8],
+    from: &'a str,
+    to: &'a str,
     is_writable: bool,
-    line: &[u8],
-) -> Result<bool, AllocError> {
+}
+
+/// Whether the command leaves this line of standard error, and the image's file as it was.
+fn refuses(alloc: Global, assembly: Assembly<'_>, line: &[u8]) -> Result<bool, AllocError> {
     let image = Vec::from_slice(alloc, OLD)?;
     let mut files = Folder {
-        text,
+        text: assembly.text,
         image,
-        is_writable,
+        is_writable: assembly.is_writable,
     };
-    let done = assembled(alloc, from, to, &mut files)?;
+    let done = assembled(alloc, assembly.from, assembly.to, &mut files)?;
     Ok(is_done(&done, 3, b"", line) && files.image.as_slice() == OLD)
 }
 
@@ -138,14 +140,13 @@ fn refuses_lines(
     text.push_str("exit\n".repeat(alloc, exits)?.as_str())?;
     text.push_str(last)?;
     let line = refusal_line(alloc, refusal)?;
-    refuses(
-        alloc,
-        text.as_bytes(),
-        "a.txt",
-        "a.img",
-        true,
-        line.as_bytes(),
-    )
+    let assembly = Assembly {
+        text: text.as_bytes(),
+        from: "a.txt",
+        to: "a.img",
+        is_writable: true,
+    };
+    refuses(alloc, assembly, line.as_bytes())
 }
 
 /// A first line, the number of lines `exit` after it, a last line, and the refusal.
@@ -169,8 +170,14 @@ fn refuses_long_texts(rt: HostRuntime) -> Result<(), Fail> {
 fn refuses_texts(rt: HostRuntime) -> Result<(), Fail> {
     for (row, &(text, from, to, is_writable, refusal)) in REFUSED.iter().enumerate() {
         let line = refusal_line(rt.alloc(), refusal)?;
+        let assembly = Assembly {
+            text,
+            from,
+            to,
+            is_writable,
+        };
         assert!(rt;
-            refuses(rt.alloc(), text, from, to, is_writable, line.as_bytes())?,
+            refuses(rt.alloc(), assembly, line.as_bytes())?,
             "row {row}"
         );
     }

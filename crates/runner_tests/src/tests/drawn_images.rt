@@ -15,8 +15,8 @@ const IMAGES: u64 = 10_000;
 /// The steps after which a run that still goes on is left.
 const STEPS: u64 = 1_000;
 
-/// Opcodes of every family: arithmetic of both widths, byte swaps, jumps of both widths, calls, the exit,
-/// loads, stores, atomic instructions and the wide load.
+/// Opcodes of every family: arithmetic of both widths, byte swaps, jumps of both widths, calls, the
+/// exit, loads, stores, atomic instructions and the wide load.
 const OPCODES: [u8; 48] = [
     0x07, 0x0f, 0x1f, 0x27, 0x37, 0x3f, 0x47, 0x57, 0x67, 0x77, 0x87, 0x97, 0xa7, 0xaf, 0xb7, 0xbf,
     0xc7, 0xd7, 0x04, 0x2c, 0x3c, 0x9c, 0xb4, 0xbc, 0xd4, 0xdc, 0x05, 0x15, 0x1d, 0x25, 0x2d, 0x55,

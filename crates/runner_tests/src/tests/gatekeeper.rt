@@ -31,8 +31,8 @@ const TWO_ANSWERS: &str =
 {"apiVersion":"admission.k8s.io/v1","kind":"AdmissionReview","response":{"allowed":false,"status":{"code":422,"message":"failed expression: object.spec.replicas <= 3","reason":"Invalid"},"uid":"u2"}}
 "#;
 
-/// A review of 1.5 replicas, an empty line, a document that is no review, one that is no JSON, and a review of 2
-/// replicas whose line has no end.
+/// A review of 1.5 replicas, an empty line, a document that is no review, one that is no JSON, and
+/// a review of 2 replicas whose line has no end.
 const REST: &str =
     r#"{"apiVersion":"admission.k8s.io/v1","kind":"AdmissionReview","request":{"uid":"u3","object":{"spec":{"replicas":1.5}}}}
 
@@ -81,8 +81,8 @@ const ROWS: [(&str, &str, u8, &str, &str); 10] = [
     ("gatekeeper", TWO, 2, "", "U1"),
 ];
 
-/// Whether the program with these words and this input ends with the status and both outputs, where standard output
-/// has this room.
+/// Whether the program with these words and this input ends with the status and both outputs, where
+/// standard output has this room.
 fn ends<R: Source>(
     alloc: Global,
     line: &str,

@@ -40,7 +40,7 @@ fn words_that_are_taken(rt: HostRuntime) -> Result<(), Fail> {
 
 fn is_refused(order: &Result<Order, OrderError>) -> bool {
     match order {
-        Err(OrderError::U1) => true,
+        Err(OrderError::InvalidArguments) => true,
         _ => false,
     }
 }

@@ -92,7 +92,7 @@ fn ends_with_its_code(rt: HostRuntime) -> Result<(), Fail> {
 
 #[test]
 fn has_no_words(rt: HostRuntime) -> Result<(), Fail> {
-    let no_text = program(rt.alloc(), Err(OrderError::U1), 31)?;
+    let no_text = program(rt.alloc(), Err(OrderError::InvalidArguments), 31)?;
     assert!(rt; is_said(&no_text, 2, b"", b"celbpf: U1\n"));
     let no_memory = program(rt.alloc(), Err(OrderError::Memory), 31)?;
     assert!(rt; is_said(&no_memory, 3, b"", b"celbpf: memory\n"));

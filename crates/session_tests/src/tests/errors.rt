@@ -1,4 +1,4 @@
-//! The words of errors.
+//! The codes and the words of errors.
 
 use debugger::SessionError;
 use std::alloc::{AllocError, Global};
@@ -11,28 +11,38 @@ fn has_words<E: Display>(alloc: Global, error: &E, words: &str) -> Result<bool, 
     Ok(format!(in alloc; "{error}")?.as_str() == words)
 }
 
-/// The errors of a session, with their words.
-const SESSION_ERRORS: [(SessionError, &str); 3] = [
-    (SessionError::S1, "the input could not be read"),
-    (SessionError::S2, "the output could not be written"),
-    (SessionError::Memory, "out of memory"),
+/// The errors of a session, with their codes and words.
+const SESSION_ERRORS: [(SessionError, &str, &str); 3] = [
+    (
+        SessionError::ReadFailed,
+        "S1",
+        "the input could not be read",
+    ),
+    (
+        SessionError::WriteFailed,
+        "S2",
+        "the output could not be written",
+    ),
+    (SessionError::Memory, "memory", "out of memory"),
 ];
 
-/// The errors of roots, with their words.
+/// The errors of roots, with their codes and words.
 #[rattlefmt::skip]
-const TABLE_ERRORS: [(TableError, &str); 4] = [
-    (TableError::V1(3), "root 3 is neither an object nor null"),
-    (TableError::V2(4), "root 4 holds a number that is no integer of 64 bits"),
-    (TableError::V3, "the roots are too large"),
-    (TableError::Memory, "out of memory"),
+const TABLE_ERRORS: [(TableError, &str, &str); 4] = [
+    (TableError::NotAnObject(3), "V1", "root 3 is neither an object nor null"),
+    (TableError::NumberOutOfInt64(4), "V2", "root 4 holds a number that is no integer of 64 bits"),
+    (TableError::RootsTooLarge, "V3", "the roots are too large"),
+    (TableError::Memory, "memory", "out of memory"),
 ];
 
 #[test]
-fn errors_have_words(rt: HostRuntime) -> Result<(), Fail> {
-    for (error, words) in &SESSION_ERRORS {
+fn errors_have_codes_and_words(rt: HostRuntime) -> Result<(), Fail> {
+    for (error, code, words) in &SESSION_ERRORS {
+        assert_eq!(rt; error.code(), *code);
         assert!(rt; has_words(rt.alloc(), error, words)?, "{words}");
     }
-    for (error, words) in &TABLE_ERRORS {
+    for (error, code, words) in &TABLE_ERRORS {
+        assert_eq!(rt; error.code(), *code);
         assert!(rt; has_words(rt.alloc(), error, words)?, "{words}");
     }
     Ok(())

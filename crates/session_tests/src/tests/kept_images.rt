@@ -8,10 +8,10 @@ use std::alloc::{AllocError, Global};
 use std::test::Fail;
 use value_table::Table;
 
-/// The code as the first `compile` made it (commit 19774f53) of a policy with the condition `has(object.spec)`,
-/// the variable `n`, which is `object.spec.replicas`, and two validations: `variables.n <= 3` with the message
-/// expression `string(variables.n)`, and `variables.n > 0`. Each slot is its bytes in the order of storage, with
-/// its number and its line.
+/// The code as the first `compile` made it (commit 19774f53) of a policy with the condition
+/// `has(object.spec)`, the variable `n`, which is `object.spec.replicas`, and two validations:
+/// `variables.n <= 3` with the message expression `string(variables.n)`, and `variables.n > 0`.
+/// Each slot is its bytes in the order of storage, with its number and its line.
 #[rattlefmt::skip]
 const CODE: [u64; 134] = [
     0x0500_1300_0000_0000, // 0: ja +19
@@ -167,11 +167,12 @@ fn says(alloc: Global, magic: &[u8], input: &'static [u8], said: &[u8]) -> Resul
 /// To the end, and three steps back.
 const BACK: &[u8] = b"c 1000000\nw\nr\nrs 3\nw\nf\nl\n";
 
-/// Images with inputs, and what is written. The texts for `BACK` follow from the lines of the code, whose run has
-/// 90 steps: 10 up to slot 40, with the condition; 27 for the first comparison, 14 of them in the variable's
-/// routine, slots 1 to 19; 13 for its result and the denial, up to slot 72; 16 for its message; 16 for the second
-/// validation; 8 from slot 124 on. The values that it places have the references 9 (the map of `spec`), 10 (the
-/// int 5), 11 (the int 3), 12 (the text of the message) and 13 (the int 0).
+/// Images with inputs, and what is written. The texts for `BACK` follow from the lines of the code,
+/// whose run has 90 steps: 10 up to slot 40, with the condition; 27 for the first comparison, 14 of
+/// them in the variable's routine, slots 1 to 19; 13 for its result and the denial, up to slot 72;
+/// 16 for its message; 16 for the second validation; 8 from slot 124 on. The values that it places
+/// have the references 9 (the map of `spec`), 10 (the int 5), 11 (the int 3), 12 (the text of the
+/// message) and 13 (the int 0).
 #[rattlefmt::skip]
 const ROWS: [(&[u8], &[u8], &[u8]); 3] = [
     (

@@ -1,10 +1,11 @@
 //! Readers and writers that fail, counted.
 
 use super::doubles::Tape;
-use debugger::{Counting, Sink, Source, write_all};
+use debugger::{Counting, Sink, Source};
 use std::alloc::Global;
 use std::io::{Error, ErrorKind, Read, Write};
 use std::test::Fail;
+use streams::write_all;
 
 /// A device that is broken.
 #[derive(Drop)]

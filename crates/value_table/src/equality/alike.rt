@@ -10,7 +10,8 @@ use crate::content::Content;
 use crate::part::Part;
 use crate::text::{keys, text};
 
-/// Whether two cells are of one kind, with one simple value, the same number of items or the same keys.
+/// Whether two cells are of one kind, with one simple value, the same number of items or the same
+/// keys.
 pub(crate) fn alike(backings: &Backings, left: Content, right: Content) -> bool
     requires left { IsReadable backings.now left }
     requires right { IsReadable backings.now right }

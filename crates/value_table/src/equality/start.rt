@@ -57,8 +57,8 @@ fn enter(
     Ok(())
 }
 
-// A place among the first `count` items of a backing before which none is equal to the value at `x`: the
-// first one that has its JSON text, or the end.
+// A place among the first `count` items of a backing before which none is equal to the value at
+// `x`: the first one that has its JSON text, or the end.
 fn start_in(
     index: &mut Index,
     cells: &Sequence<Cell>,
@@ -73,7 +73,9 @@ fn start_in(
     requires range { IsRange backings.now.lists (length cells.now) backing count }
     ensures inside { IfOk result (λ s. s ≤ count) }
     ensures indexed { (vs : List Value) → AreKnown backings.now vs cells.now → IsIndexed backings.now vs index.old → IsIndexed backings.now vs index.new }
-    ensures skips { (vs : List Value) → AreKnown backings.now vs cells.now → IsIndexed backings.now vs index.old → IfOk result (λ s. has_item (value_in vs x) (items_at vs (refs_at backings.now.lists backing count)) ≡ has_item (value_in vs x) (items_at vs (drop s (refs_at backings.now.lists backing count)))) }
+    ensures skips { (vs : List Value) → AreKnown backings.now vs cells.now → IsIndexed backings.now vs index.old
+        → IfOk result (λ s. has_item (value_in vs x) (items_at vs (refs_at backings.now.lists backing count))
+        ≡ has_item (value_in vs x) (items_at vs (drop s (refs_at backings.now.lists backing count)))) }
 {
     let text = text_of(cells, backings, x)?;
     enter(index, cells, backings, backing, count)?;
@@ -99,7 +101,9 @@ pub(crate) fn start_at(
     requires range { IsRange backings.now.lists (length cells.now) backing count }
     ensures inside { IfOk result (λ s. s ≤ count) }
     ensures indexed { (vs : List Value) → AreKnown backings.now vs cells.now → AreIndexes backings.now vs indexes.old.items → AreIndexes backings.now vs indexes.new.items }
-    ensures skips { (vs : List Value) → AreKnown backings.now vs cells.now → AreIndexes backings.now vs indexes.old.items → IfOk result (λ s. has_item (value_in vs x) (items_at vs (refs_at backings.now.lists backing count)) ≡ has_item (value_in vs x) (items_at vs (drop s (refs_at backings.now.lists backing count)))) }
+    ensures skips { (vs : List Value) → AreKnown backings.now vs cells.now → AreIndexes backings.now vs indexes.old.items
+        → IfOk result (λ s. has_item (value_in vs x) (items_at vs (refs_at backings.now.lists backing count))
+        ≡ has_item (value_in vs x) (items_at vs (drop s (refs_at backings.now.lists backing count)))) }
 {
     start_in(&mut indexes[slot], cells, backings, backing, x, count)
 }

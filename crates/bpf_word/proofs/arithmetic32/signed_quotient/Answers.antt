@@ -10,6 +10,7 @@ pub returns : goal.returns
 unfolding operated
 returns c =
     let quotient = quotient_is w32 _ _ c.signed32.result c.signed32-2.result c.wrapping_div-quotient.result
-    (search rules) (search rules) (search rules) c.signed32.ensures c.signed32-2.ensures c.wrapping_div-quotient.ensures in
+    (record { fits = search rules; is = c.signed32.ensures }) (record { fits = search rules; is = c.signed32-2.ensures })
+    (search rules) c.wrapping_div-quotient.ensures in
     let e = c.word32.ensures ∙ quotient in
     grind arith

@@ -10,6 +10,7 @@ pub returns : goal.returns
 unfolding operated
 returns c =
     let quotient = quotient_is w64 _ _ c.signed64.result c.signed64-2.result c.wrapping_div-quotient.result
-    (search rules) (search rules) (search rules) c.signed64.ensures c.signed64-2.ensures c.wrapping_div-quotient.ensures in
+    (record { fits = search rules; is = c.signed64.ensures }) (record { fits = search rules; is = c.signed64-2.ensures })
+    (search rules) c.wrapping_div-quotient.ensures in
     let e = c.word64.ensures ∙ quotient in
     grind arith

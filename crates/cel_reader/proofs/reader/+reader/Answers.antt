@@ -1,4 +1,4 @@
-use Rattle.cel_reader.proofs.Prelude.{[], arith, CloseParen, view, entry_view, words, takes_comma, this_mark, this_name, this_literal, this_operator, Unary, Member, Primary, Refused, Misfit, Reads, Row, Enclosed, Listed, Item, Entry, stands, unfit, goes, fails, calls, missing, passes, Map}
+use Rattle.cel_reader.proofs.Prelude.{[], arith, CloseParen, view, entry_view, words, takes_comma, this_mark, this_name, this_literal, this_operator, Unary, Member, Primary, Refused, Misfit, StepReads, Row, Enclosed, Listed, Item, Entry, stands, unfit, goes, fails, calls, missing, passes, Map}
 use Rattle.cel_reader.proofs.Lists.{behind_ends, behind_misfit, behind_goes, list_empty, list_goes, list_comma, comma_misfit}
 use Rattle.cel_reader.proofs.Steps.{full_at, opened_at, found_at, enters_at, unary_at, pushed, misfit_left, deep_left, either, refused, hand}
 use Rattle.cel_reader.proofs.Prefixed.{prefixed_refused, prefixed_read}
@@ -121,7 +121,7 @@ items-returns-in-Some-clause-reads t c = rw c.new-items.ensures.items (goes (ope
 
 pub items-returns-in-Some-after-clause-reads : goal.items-returns-in-Some-after-clause-reads
 items-returns-in-Some-after-clause-reads t c = rw c.lone_comma.ensures (either
-    (takes_comma c.args.closing) c.args.text.now c.in-Some-after.behind.now c.args.tokens.now (λ rest. Reads (Listed c.args.closing) c.args.room
+    (takes_comma c.args.closing) c.args.text.now c.in-Some-after.behind.now c.args.tokens.now (λ rest. StepReads (Listed c.args.closing) c.args.room
     (words c.args.text.now c.args.tokens.now) (Refused (Misfit rest))) (goes (opened_at c.if-room-eq0.false (list_comma _ []
     (Item _ []) _ c.in_default.ensures.at c.in-Some-after.ensures.at (λ e. comma_misfit _ [] _ _ _ c.in-Some-after.ensures.at)))))
 
@@ -182,7 +182,7 @@ member-returns-in_default-after-clause-reads t c =
     c.loop-behind.invariant.goes _ (goes (missing c.in_default.ensures.at (passes c.in_default-after.ensures.at stands)))
 
 pub primary-returns-in-Some-clause-reads : goal.primary-returns-in-Some-clause-reads
-primary-returns-in-Some-clause-reads t c = hand _ _ (Reads (Enclosed CloseParen) c.args.room (words c.args.text.now c.in-Some.inside.now)) (Reads
+primary-returns-in-Some-clause-reads t c = hand _ _ (StepReads (Enclosed CloseParen) c.args.room (words c.args.text.now c.in-Some.inside.now)) (StepReads
     (Row Primary) c.args.room (words c.args.text.now c.args.tokens.now)) (λ o m. goes (enters_at c.in-Some.ensures.at m)) c.enclosed.ensures.reads
 
 pub primary-returns-in_err-list-clause-reads : goal.primary-returns-in_err-list-clause-reads
@@ -250,7 +250,7 @@ selection-returns-clause-reads t c = rw (c.in_ok-method.ensures, c.in_ok-name.en
     (this_name c.in-Some.ensures.at.1) (enters_at c.in-Some-after.ensures.at (calls _ c.in_ok-arguments.ensures.reads stands))))
 
 pub unary-returns-in_default-clause-reads : goal.unary-returns-in_default-clause-reads
-unary-returns-in_default-clause-reads t c = hand _ _ (Reads (Row Member) c.args.room (words c.args.text.now c.args.tokens.now)) (Reads
+unary-returns-in_default-clause-reads t c = hand _ _ (StepReads (Row Member) c.args.room (words c.args.text.now c.args.tokens.now)) (StepReads
     (Row Unary) c.args.room (words c.args.text.now c.args.tokens.now)) (λ o m. goes (missing c.in_default.ensures.at.0
     (missing c.in_default.ensures.at.1 m))) c.member.ensures.reads
 

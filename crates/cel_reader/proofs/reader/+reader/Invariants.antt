@@ -1,4 +1,4 @@
-use Rattle.cel_reader.proofs.Prelude.{◌+◌, ◌*◌, ◌<◌, ◌≤◌, ◌-◌, length, map, view, entry_view, Infix, Member, words, Reads, Outcome, Row, Tail, Suffix, Listed, Item, Mapped, Entry}
+use Rattle.cel_reader.proofs.Prelude.{◌+◌, ◌*◌, ◌<◌, ◌≤◌, ◌-◌, length, map, view, entry_view, Infix, Member, words, StepReads, ReadOutcome, Row, Tail, Suffix, Listed, Item, Mapped, Entry}
 use Rattle.cel_reader.proofs.Ranks.{rank}
 use Rattle.cel_reader.proofs.reader.+reader.Given as goal
 
@@ -34,7 +34,7 @@ decreases-selection l = 20 * length l.tokens.now
 
 abbrev pub invariant-infix-loop-operator : goal.invariant-infix-loop-operator
 invariant-infix-loop-operator l = record {
-  goes : (o : Outcome) → Reads (Tail l.level (view l.left)) l.room (words l.text l.rest) o → Reads (Row (Infix l.level)) l.room (words l.text l.tokens) o;
+  goes : (o : ReadOutcome) → StepReads (Tail l.level (view l.left)) l.room (words l.text l.rest) o → StepReads (Row (Infix l.level)) l.room (words l.text l.tokens) o;
   shorter : length l.rest < length l.tokens;
 }
 
@@ -43,7 +43,7 @@ decreases-infix-loop-operator l = length l.rest
 
 abbrev pub invariant-member-loop-behind : goal.invariant-member-loop-behind
 invariant-member-loop-behind l = record {
-  goes : (o : Outcome) → Reads (Suffix (view l.tree)) l.room (words l.text l.rest) o → Reads (Row Member) l.room (words l.text l.tokens) o;
+  goes : (o : ReadOutcome) → StepReads (Suffix (view l.tree)) l.room (words l.text l.rest) o → StepReads (Row Member) l.room (words l.text l.tokens) o;
   shorter : length l.rest < length l.tokens;
 }
 
@@ -52,7 +52,7 @@ decreases-member-loop-behind l = length l.rest
 
 abbrev pub invariant-items-loop-items : goal.invariant-items-loop-items
 invariant-items-loop-items l = record {
-  goes : (o : Outcome) → Reads (Item l.closing (map view l.items.items)) (l.room - 1) (words l.text l.rest) o → Reads (Listed l.closing) l.room (words l.text l.tokens) o;
+  goes : (o : ReadOutcome) → StepReads (Item l.closing (map view l.items.items)) (l.room - 1) (words l.text l.rest) o → StepReads (Listed l.closing) l.room (words l.text l.tokens) o;
   within : length l.rest ≤ length l.tokens;
 }
 
@@ -61,7 +61,7 @@ decreases-items-loop-items l = length l.rest
 
 abbrev pub invariant-entries-loop-entries : goal.invariant-entries-loop-entries
 invariant-entries-loop-entries l = record {
-  goes : (o : Outcome) → Reads (Entry (map entry_view l.entries.items)) (l.room - 1) (words l.text l.rest) o → Reads Mapped l.room (words l.text l.tokens) o;
+  goes : (o : ReadOutcome) → StepReads (Entry (map entry_view l.entries.items)) (l.room - 1) (words l.text l.rest) o → StepReads Mapped l.room (words l.text l.tokens) o;
   within : length l.rest ≤ length l.tokens;
 }
 

@@ -1,4 +1,4 @@
-use Rattle.cel_tokens.proofs.Prelude.{◌≡◌, ◌+◌, ◌++◌, get_or, length, drop, arith, sym, ◌∙◌, ap, subst, drop-cons, IsUtf8, piece, get_or-drop, drop-drop, prefix_len-le-length, is_plain}
+use Rattle.cel_tokens.proofs.Prelude.{◌≡◌, ℕ, List, ◌+◌, ◌++◌, content, get_or, length, drop, arith, sym, ◌∙◌, ap, subst, drop-cons, IsUtf8, piece, get_or-drop, drop-drop, prefix_len-le-length, is_plain}
 use Rattle.std.proofs.Common.{length-drop}
 use Rattle.cel_tokens.proofs.Contents.{closes, content_more, content_over, content_refused, quote_ascii, said_utf8}
 use Rattle.cel_tokens.proofs.PlainStretches.{stretch_step, stretch_utf8}
@@ -25,7 +25,9 @@ loop-n-preserved-then-plain-gt0 c =
     record {
       in_range = omega (arith, w, d, l, c.skip_plain-plain.ensures, c.loop-n-test.true);
       so_far =
-          stretch_step c.args.raw c.args.quote n k c.loop-n.said.items c.extend_from_slice.new.self.items c.tail-rest.result.now c.args.bytes.now c.requires.quoted t c.skip_plain-plain.ensures a ∙ c.loop-n.invariant.so_far;
+          ap (λ (said : List ℕ). content c.args.raw c.args.quote 0 (n + k) said (drop (n + k) c.args.bytes.now)) a
+          ∙ stretch_step c.args.raw c.args.quote n k c.loop-n.said.items c.tail-rest.result.now c.args.bytes.now c.requires.quoted t c.skip_plain-plain.ensures
+          ∙ c.loop-n.invariant.so_far;
       utf8 = stretch_utf8 n k c.loop-n.said.items c.extend_from_slice.new.self.items c.tail-rest.result.now c.args.bytes.now t a c.loop-n.invariant.utf8;
     }
 

@@ -1,4 +1,4 @@
-use Rattle.codegen.proofs.Prelude.{◌≡◌, ◌+◌, ◌*◌, ◌≤◌, ◌++◌, drop, core_view, cores, core_entries, core_pair, needs, entries_need, nodes, nodes_of, entries_nodes, items_code, entries_code, words_of, texts_within, routines_within}
+use Rattle.codegen.proofs.Prelude.{◌≡◌, ◌+◌, ◌*◌, ◌≤◌, ◌++◌, drop, core_view, cores, core_entries, core_pair, needs, entries_need, nodes, nodes_of, entries_nodes, items_code, entries_code, words_of, texts_within, routines_within, word_limit, slot_reach, part_slots_per_node, callee_view}
 use Rattle.std.specs.Prelude as list
 use Rattle.cel_macros.specs.CoreTree as core
 use Rattle.codegen.proofs.expressions.+code.Given as goal
@@ -19,10 +19,10 @@ abbrev pub decreases-map : goal.decreases-map
 decreases-map l = 5 * nodes (core.map (core_entries (list.map core_pair l.pairs.now))) + 1
 
 abbrev pub decreases-call : goal.decreases-call
-decreases-call l = 5 * nodes (core.call l.name.now (cores (list.map core_view l.arguments.now))) + 1
+decreases-call l = 5 * nodes (core.call (callee_view l.callee.now) (cores (list.map core_view l.arguments.now))) + 1
 
 abbrev pub decreases-method : goal.decreases-method
-decreases-method l = 5 * nodes (core.method (core_view l.of.now) l.name.now (cores (list.map core_view l.arguments.now))) + 1
+decreases-method l = 5 * nodes (core.method (core_view l.of.now) (callee_view l.callee.now) (cores (list.map core_view l.arguments.now))) + 1
 
 abbrev pub decreases-operands : goal.decreases-operands
 decreases-operands l = 5 * nodes (core.index (core_view l.left.now) (core_view l.right.now))
@@ -40,10 +40,10 @@ abbrev pub decreases-ternary : goal.decreases-ternary
 decreases-ternary l = 5 * nodes (core.ternary (core_view l.test.now) (core_view l.yes.now) (core_view l.no.now)) + 1
 
 abbrev pub decreases-fold : goal.decreases-fold
-decreases-fold l = 5 * nodes (core.fold l.found l.name.now (core_view l.range.now) (core_view l.body.now)) + 1
+decreases-fold l = 5 * nodes (core.fold l.found l.over.name.now (core_view l.over.range.now) (core_view l.body.now)) + 1
 
 abbrev pub decreases-fold_map : goal.decreases-fold_map
-decreases-fold_map l = 5 * nodes (core.fold_map l.name.now (core_view l.range.now) (core_view l.test.now) (core_view l.body.now)) + 1
+decreases-fold_map l = 5 * nodes (core.fold_map l.over.name.now (core_view l.over.range.now) (core_view l.test.now) (core_view l.body.now)) + 1
 
 abbrev pub invariant-list-loop-item : goal.invariant-list-loop-item
 invariant-list-loop-item l =
@@ -54,9 +54,9 @@ invariant-list-loop-item l =
     let rest = cores (list.map core_view (drop l.item-index l.parts)) in
     record {
       so_far : l.items.items ++ items_code rest ts rs ws l.spot.word l.slot ≡ items_code all ts rs ws l.spot.word (l.spot.slot + 2);
-      room : l.spot.word + 1 + needs rest ≤ 60;
+      room : l.spot.word + 1 + needs rest ≤ word_limit;
       fewer : nodes_of rest ≤ nodes_of all;
-      near : l.slot + 63 * nodes_of rest ≤ 0x7fff_ff00;
+      near : l.slot + part_slots_per_node * nodes_of rest ≤ slot_reach;
     }
 
 abbrev pub invariant-map-loop-key : goal.invariant-map-loop-key
@@ -68,7 +68,7 @@ invariant-map-loop-key l =
     let rest = core_entries (list.map core_pair (drop l.key-index l.pairs)) in
     record {
       so_far : l.entries.items ++ entries_code rest ts rs ws l.spot.word l.slot ≡ entries_code all ts rs ws l.spot.word (l.spot.slot + 2);
-      room : l.spot.word + entries_need rest ≤ 60;
+      room : l.spot.word + entries_need rest ≤ word_limit;
       fewer : entries_nodes rest ≤ entries_nodes all;
-      near : l.slot + 63 * entries_nodes rest ≤ 0x7fff_ff00;
+      near : l.slot + part_slots_per_node * entries_nodes rest ≤ slot_reach;
     }

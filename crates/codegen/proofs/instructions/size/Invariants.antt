@@ -1,5 +1,5 @@
 use Rattle.codegen.proofs.Prelude.{◌≡◌, ◌+◌, drop}
-use Rattle.codegen_base.specs.Pieces as specs
+use Rattle.expression_code.specs.Pieces as specs
 use Rattle.codegen.proofs.instructions.size.Given as goal
 
 abbrev pub invariant-loop-insn : goal.invariant-loop-insn

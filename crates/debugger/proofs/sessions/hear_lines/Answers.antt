@@ -1,6 +1,7 @@
 use Rattle.debugger.proofs.Prelude.{rules, arith, ◌≡◌, ◌∙◌, ℕ, take, ap, refl}
-use Rattle.debugger.proofs.Cut.{readable-is, take-end}
-use Rattle.debugger.proofs.Going.{going_start, going_byte, going_line, told_quit, told_some, told_part, told_rest, fails_rest, memory_rest, end_read}
+use Rattle.streams.proofs.Cut.{readable-is, take-end}
+use Rattle.debugger.proofs.Going.{going_start, going_byte, going_line, told_quit, told_some, told_part, told_rest, memory_rest}
+use Rattle.streams.proofs.LastLine.{fails_rest, end_read}
 use Rattle.debugger.proofs.sessions.hear_lines.Goals as goal
 
 pub loop-i-init : goal.loop-i-init

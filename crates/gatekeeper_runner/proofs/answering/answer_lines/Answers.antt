@@ -1,5 +1,6 @@
 use Rattle.gatekeeper_runner.proofs.Prelude.{arith, ◌≡◌, ◌∙◌, ℕ, take, ap, refl, on_err_weaker, on_ok_weaker, one_more, cut-none, readable-is, take-end}
-use Rattle.gatekeeper_runner.proofs.Going.{begun, end_read, fails_rest, going_byte, going_line, going_start, longer, told_part, told_rest, told_some}
+use Rattle.gatekeeper_runner.proofs.Going.{begun, going_byte, going_line, going_start, longer, told_part, told_rest, told_some}
+use Rattle.streams.proofs.LastLine.{end_read, fails_rest}
 use Rattle.gatekeeper_runner.proofs.answering.answer_lines.Goals as goal
 
 pub loop-i-init : goal.loop-i-init

@@ -1,5 +1,6 @@
-use Rattle.gatekeeper_runner.proofs.Prelude.{Ok, Err, refl, answers, no_words, not_started, nothing, is_err}
-use Rattle.gatekeeper_runner.proofs.Programs.{asks, words_refused}
+use Rattle.gatekeeper_runner.proofs.Prelude.{Ok, Err, refl, faults, answers, no_words, not_started, nothing, is_err}
+use Rattle.gatekeeper_runner.proofs.Programs.{asks}
+use Rattle.cli.proofs.Endings.{words_refused}
 use Rattle.gatekeeper_runner.proofs.program.ending.Goals as goal
 
 pub returns-in_err-words : goal.returns-in_err-words
@@ -7,7 +8,7 @@ returns-in_err-words g c = rw (c.in_err-words.was, is_err c.from_residual.ensure
 
 pub returns-in_err-order : goal.returns-in_err-order
 returns-in_err-order g c =
-    rw (c.in_ok-words.was, is_err c.from_residual-in_err-order.ensures.1, ← c.deref.ensures.value) (nothing (words_refused _ _ c.in_err-order.ensures) refl)
+    rw (c.in_ok-words.was, is_err c.from_residual-in_err-order.ensures.1, ← c.deref.ensures.value) (nothing (words_refused faults _ _ c.in_err-order.ensures) refl)
 
 pub returns-in_err-keeper : goal.returns-in_err-keeper
 returns-in_err-keeper g c =

@@ -1,5 +1,5 @@
 use Rattle.gatekeeper_runner.proofs.Prelude.{◌∙◌, [], refl, is_err}
-use Rattle.review_runner.specs.declared.refusals.refusal.Refusal.TheVariants.{Memory}
+use Rattle.cli.specs.declared.refusal.Refusal.TheVariants.{Memory}
 use Rattle.gatekeeper_runner.specs.Starting.{no_memory, none}
 use Rattle.gatekeeper_runner.proofs.Opened.{opened_more, unopened}
 use Rattle.gatekeeper_runner.proofs.starting.open_each.Goals as goal

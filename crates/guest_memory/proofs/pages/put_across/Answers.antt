@@ -10,5 +10,5 @@ returns-clause-ok c =
     let f = c.split_at.ensures.front_len in
     let g = c.split_at.ensures.back_len in
     rw (c.split_at.ensures.by_index.0, add-one)
-    (joined_two c.args.pages.now c.args.page c.args.from _ c.index-pages-page.result c.index-pages-page-2.result c.put.new.self c.put-2.new.self c.split_at.result.0.now c.split_at.result.1.now
-    two (omega (arith, c.requires.first)) (omega (arith, c.requires.most)) refl a (rw add-one at b))
+    (joined_two c.args.pages.now c.args.page c.args.from c.index-pages-page.result c.index-pages-page-2.result c.put.new.self c.put-2.new.self c.split_at.result.0.now c.split_at.result.1.now
+    two (record { to_end = omega (arith, c.requires.first); short = omega (arith, c.requires.most); low_is = a; high_is = rw add-one at b }))

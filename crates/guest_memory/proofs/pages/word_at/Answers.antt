@@ -18,7 +18,10 @@ bounds-pages-page-2 c = omega (arith, joined_length c.args.pages.now, c.requires
 
 pub returns : goal.returns
 returns c =
-    let both = part_pages c.args.pages.now (c.args.at / 256) (size_bytes c.args.size) (c.args.at % 256) (size_bytes c.args.size - (256 - c.args.at % 256)) c.args.at c.index-pages-page.result c.index-pages-page-2.result
+    let rest = size_bytes c.args.size - (256 - c.args.at % 256) in
+    let both = part_pages c.args.pages.now (c.args.at / 256) (c.args.at % 256) rest c.index-pages-page.result c.index-pages-page-2.result
     c.index-pages-page.is (rw (← add-one) c.index-pages-page-2.is)
-    (omega (arith, joined_length c.args.pages.now, c.requires, c.bytes.ensures.value, c.if-from-bytes-le-PAGE_LENGTH.false)) (omega arith) (omega (arith, c.bytes.ensures.value, c.if-from-bytes-le-PAGE_LENGTH.false)) (omega (arith, c.bytes.ensures.value, c.bytes.ensures.most)) (omega arith) in
-    c.word_across.ensures ∙ ap word_of (sym both)
+    (omega (arith, joined_length c.args.pages.now, c.requires, c.bytes.ensures.value, c.if-from-bytes-le-PAGE_LENGTH.false)) (omega arith) (omega (arith, c.bytes.ensures.value, c.bytes.ensures.most)) in
+    let at : 256 * (c.args.at / 256) + c.args.at % 256 ≡ c.args.at = omega arith in
+    let count : 256 - c.args.at % 256 + rest ≡ size_bytes c.args.size = omega (arith, c.bytes.ensures.value, c.if-from-bytes-le-PAGE_LENGTH.false) in
+    c.word_across.ensures ∙ ap word_of (sym both) ∙ (λ i. word_of (part (joined c.args.pages.now) (at i) (count i)))

@@ -23,7 +23,7 @@ pub returns-then-is_stop-clause-found : goal.returns-then-is_stop-clause-found
 returns-then-is_stop-clause-found g c =
     let after : c.args.shown.now.place < c.loop-place.place = omega (arith, c.loop-place.auto.place) in
     let here = step_on _ _ _ _ _ c.loop-place.invariant.here c.in_ok-step.ensures.ok.1 (sym c.loop-place.invariant.place) in
-    found_here _ _ _ _ _ _ _ c.loop-place.invariant.none after c.loop-place-test.true here c.is_stop.ensures c.if-is_stop.true
+    found_here _ _ _ _ _ _ c.loop-place.invariant.none after c.loop-place-test.true here (sym c.is_stop.ensures ∙ c.if-is_stop.true)
 
 pub keep-left_out-requires : goal.keep-left_out-requires
 keep-left_out-requires g c =

@@ -16,7 +16,9 @@ overflow_add-result g c =
 pub returns-then-last-gt0-clause-found : goal.returns-then-last-gt0-clause-found
 returns-then-last-gt0-clause-found g c =
     let before : c.in_ok-from.from.place < c.loop-end.end = omega (arith, c.in_ok-from.ensures.nearest.at_most, c.loop-end-test.true) in
-    found_in_stretch _ _ _ _ _ _ _ (c.in_ok-from.ensures.here ∙ ap (state_after _) c.loop-end.invariant.spared.origin) before c.loop-end.invariant.order c.loop-end.invariant.none c.in_ok-last.ensures.found
+    found_in_stretch _ _ _ _ _ _ _
+    (record { is = c.in_ok-from.ensures.here ∙ ap (state_after _) c.loop-end.invariant.spared.origin; some = before; within = c.loop-end.invariant.order })
+    c.loop-end.invariant.none c.in_ok-last.ensures.found
     (elim c.then-last-gt0.branch [
       | then-last-gt0-via-then-last-gt0 w ↦ inl w.if-last-gt0.true
       | then-last-gt0-via-else-last-gt0+then-is_there w ↦ inr (sym c.stands_at-is_there.ensures ∙ w.if-is_there.true)
@@ -27,7 +29,7 @@ loop-end-preserved g c = record {
   spared = spared_on _ _ _ (spared_on _ _ _ c.loop-end.invariant.spared c.in_ok-from.ensures.spared) c.in_ok-last.ensures.spared;
   same = λ start. absurd (omega (arith, start, c.loop-end-test.true, c.loop-end.invariant.order));
   order = omega (arith, c.in_ok-from.ensures.nearest.at_most, c.loop-end.invariant.order);
-  none = none_in_stretch _ _ _ _ _ _ _ _ (c.in_ok-from.ensures.here ∙ ap (state_after _) c.loop-end.invariant.spared.origin) c.loop-end.invariant.none c.in_ok-last.ensures.found (omega (arith, c.if-last-gt0.false)) c.stands_at-is_there.ensures c.if-is_there.false;
+  none = none_in_stretch _ _ _ _ _ _ (c.in_ok-from.ensures.here ∙ ap (state_after _) c.loop-end.invariant.spared.origin) c.loop-end.invariant.none (omega (arith, c.if-last-gt0.false, c.in_ok-last.ensures.found)) (sym c.stands_at-is_there.ensures ∙ c.if-is_there.false);
 }
 
 pub returns-clause-found : goal.returns-clause-found

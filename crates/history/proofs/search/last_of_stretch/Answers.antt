@@ -16,8 +16,8 @@ pub returns-then-is_stopped-clause-found : goal.returns-then-is_stopped-clause-f
 returns-then-is_stopped-clause-found g c =
     let stopped = not_running _ _ c.is_stopped.ensures c.if-is_stopped.true in
     elim c.if-stands_at.branch [
-      | then-stands_at w ↦ w.result-is ∙ last_stands _ _ _ c.loop-place.place _ _ c.loop-place.invariant.here stopped (omega (arith, c.loop-place-test.true)) (omega (arith, c.loop-place-test.true)) c.stands_at.ensures w.if-stands_at.true
-      | else-stands_at w ↦ w.result-is ∙ last_stands_not _ _ _ c.loop-place.place _ _ _ c.loop-place.invariant.here stopped (omega (arith, c.loop-place-test.true)) c.stands_at.ensures w.if-stands_at.false c.loop-place.invariant.last
+      | then-stands_at w ↦ w.result-is ∙ last_stands _ _ _ c.loop-place.place _ c.loop-place.invariant.here stopped (omega (arith, c.loop-place-test.true)) (omega (arith, c.loop-place-test.true)) (sym c.stands_at.ensures ∙ w.if-stands_at.true)
+      | else-stands_at w ↦ w.result-is ∙ last_stands_not _ _ _ c.loop-place.place _ _ c.loop-place.invariant.here stopped (omega (arith, c.loop-place-test.true)) (sym c.stands_at.ensures ∙ w.if-stands_at.false) c.loop-place.invariant.last
     ]
 
 pub loop-place-preserved : goal.loop-place-preserved

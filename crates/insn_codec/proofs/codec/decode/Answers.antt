@@ -1,8 +1,8 @@
-use Rattle.insn_codec.proofs.Prelude.{◌≡◌, ℕ, ◌%◌, ◌≢◌, Option, Some, None, sym, refl, ◌∙◌, iff_false, spelled, Begins, IsInsn, on_hand, spelling, Insn}
+use Rattle.insn_codec.proofs.Prelude.{◌≡◌, ℕ, ◌%◌, ◌≢◌, Option, Some, None, sym, refl, ◌∙◌, iff_false, spelled, BeginsWith, IsInsn, on_hand, spelling, Insn}
 use Rattle.insn_codec.proofs.Spelled.{candidate_of_words, spelled_alone, spelled_begins, spelled_none, spelled_other, spelled_some}
 use Rattle.insn_codec.proofs.codec.decode.Goals as goal
 
-only_from : (first : ℕ) (second : Option ℕ) (o : Option Insn) → o ≡ spelled (on_hand first second) → (i : Insn) → IsInsn i → Begins (spelling i) (on_hand first second) → o ≡ Some i
+only_from : (first : ℕ) (second : Option ℕ) (o : Option Insn) → o ≡ spelled (on_hand first second) → (i : Insn) → IsInsn i → BeginsWith (spelling i) (on_hand first second) → o ≡ Some i
 only_from first second o e i f b = e ∙ spelled_begins i (on_hand first second) f b
 
 alone_from : (first : ℕ) (second : Option ℕ) (o : Option Insn) → o ≡ spelled (on_hand first second) → first % 256 ≢ 0x18 → o ≡ spelled (on_hand first None)

@@ -29,8 +29,8 @@ const PROGRAMS: [(&str, &[u64]); 19] = [
     ("lddw r3, 0x0123456789abcdef", &[0x1803_0000_efcd_ab89, 0x0000_0000_6745_2301]),
 ];
 
-/// Lines between which stand as many lines `exit`, with the index of a slot and that slot: 16 bits hold
-/// offsets from -32768 to 32767.
+/// Lines between which stand as many lines `exit`, with the index of a slot and that slot: 16 bits
+/// hold offsets from -32768 to 32767.
 #[rattlefmt::skip]
 const FAR: [(&str, usize, &str, usize, u64); 8] = [
     ("ja away\n", 32_767, "away:", 0, 0x0500_ff7f_0000_0000),

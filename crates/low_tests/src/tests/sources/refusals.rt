@@ -88,50 +88,50 @@ const OUT_OF_RANGE: [&str; 16] = [
     "atomic_add64 [r1-32769], r2",
 ];
 
-/// Texts with the number and the line of the first reason.
-const REASONS: [(&str, u8, usize); 18] = [
-    ("\n", 1, 1),
-    ("exit\n\nexit\n", 1, 2),
-    ("exit\r\n", 1, 1),
-    (" exit", 1, 1),
-    ("mov64 r0,5", 1, 1),
-    ("mov64 r0, 05", 1, 1),
-    ("mov64 r11, 2147483648", 1, 1),
-    ("1a:", 1, 1),
-    ("mov64 r0, 2147483648", 2, 1),
-    ("exit\nja +32768", 2, 2),
-    ("ja away", 3, 1),
-    ("a:\nja A", 3, 2),
-    ("a:\na:", 4, 2),
-    ("a:\nexit\nja a\na:\nexit", 4, 4),
-    ("ja away\nmov64 r0,5", 1, 2),
-    ("ja away\na:\na:\n", 4, 3),
-    ("ja a\nja b\na:", 3, 2),
-    ("a:\nmov64 r0, 2147483648\na:", 2, 2),
+/// Texts with the code and the line of the first reason.
+const REASONS: [(&str, &str, usize); 18] = [
+    ("\n", "A1", 1),
+    ("exit\n\nexit\n", "A1", 2),
+    ("exit\r\n", "A1", 1),
+    (" exit", "A1", 1),
+    ("mov64 r0,5", "A1", 1),
+    ("mov64 r0, 05", "A1", 1),
+    ("mov64 r11, 2147483648", "A1", 1),
+    ("1a:", "A1", 1),
+    ("mov64 r0, 2147483648", "A2", 1),
+    ("exit\nja +32768", "A2", 2),
+    ("ja away", "A3", 1),
+    ("a:\nja A", "A3", 2),
+    ("a:\na:", "A4", 2),
+    ("a:\nexit\nja a\na:\nexit", "A4", 4),
+    ("ja away\nmov64 r0,5", "A1", 2),
+    ("ja away\na:\na:\n", "A4", 3),
+    ("ja a\nja b\na:", "A3", 2),
+    ("a:\nmov64 r0, 2147483648\na:", "A2", 2),
 ];
 
-/// Lines between which stand as many lines `exit`, with the number and the line of the reason.
-const FAR: [(&str, usize, &str, u8, usize); 7] = [
-    ("ja away\n", 32_768, "away:", 5, 1),
-    ("jeq64 r1, r2, away\n", 32_768, "away:", 5, 1),
-    ("back:\n", 32_768, "ja back", 5, 32_770),
-    ("", 65_537, "", 6, 65_537),
-    ("a:\n", 65_536, "exit\nmov64 r0,5", 6, 65_538),
-    ("a:\n", 65_536, "a:", 4, 65_538),
-    ("", 65_535, "lddw r0, 0x0000000000000005", 6, 65_536),
+/// Lines between which stand as many lines `exit`, with the code and the line of the reason.
+const FAR: [(&str, usize, &str, &str, usize); 7] = [
+    ("ja away\n", 32_768, "away:", "A5", 1),
+    ("jeq64 r1, r2, away\n", 32_768, "away:", "A5", 1),
+    ("back:\n", 32_768, "ja back", "A5", 32_770),
+    ("", 65_537, "", "A6", 65_537),
+    ("a:\n", 65_536, "exit\nmov64 r0,5", "A6", 65_538),
+    ("a:\n", 65_536, "a:", "A4", 65_538),
+    ("", 65_535, "lddw r0, 0x0000000000000005", "A6", 65_536),
 ];
 
 #[test]
 fn lines_have_no_form(rt: HostRuntime) {
     for line in FORMLESS.iter() {
-        assert_eq!(rt; refusal_of(rt.alloc(), line), (1, 1), "{line}");
+        assert_eq!(rt; refusal_of(rt.alloc(), line), ("A1", 1), "{line}");
     }
 }
 
 #[test]
 fn numbers_are_out_of_range(rt: HostRuntime) {
     for line in OUT_OF_RANGE.iter() {
-        assert_eq!(rt; refusal_of(rt.alloc(), line), (2, 1), "{line}");
+        assert_eq!(rt; refusal_of(rt.alloc(), line), ("A2", 1), "{line}");
     }
 }
 

@@ -9,7 +9,8 @@ use value_store::ValueStore;
 /// A helper with its first three arguments.
 pub(crate) type Call = (i32, [u64; 3]);
 
-/// Helpers with kinds of arguments that they take. Calls that make values are listed more than once.
+/// Helpers with kinds of arguments that they take. Calls that make values are listed more than
+/// once.
 const TAKEN: [(i32, [Kind; 3]); 42] = [
     (1, [Any, Unused, Unused]),
     (2, [Int, Unused, Unused]),
@@ -55,8 +56,8 @@ const TAKEN: [(i32, [Kind; 3]); 42] = [
     (23, [Any, Unused, Unused]),
 ];
 
-/// A reference, to a value of this kind if one of some tries finds one. Often the later of two values is taken, so
-/// that values are made of new ones as well as of old ones.
+/// A reference, to a value of this kind if one of some tries finds one. Often the later of two
+/// values is taken, so that values are made of new ones as well as of old ones.
 fn reference<V: ValueStore>(table: &V, numbers: &mut Numbers, kind: Kind) -> u64 {
     let len = table.len();
     if numbers.below(100) == 0 {

@@ -1,6 +1,7 @@
 //! Numbers from a seed.
 
-/// A sequence of words, each made of the one before it by three shifts that are combined by exclusive ors.
+/// A sequence of words, each made of the one before it by three shifts that are combined by
+/// exclusive ors.
 #[derive(Drop)]
 pub(crate) struct Numbers(pub(crate) u64);
 

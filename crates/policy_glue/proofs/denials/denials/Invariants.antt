@@ -1,6 +1,6 @@
-use Rattle.policy_glue.proofs.Prelude.{drop, map, denial_view, words_view, rule_view}
+use Rattle.policy_glue.proofs.Prelude.{drop, map, denial_view, words_view, validation_view}
 use Rattle.policy_glue.proofs.Told.{DenialsGo}
 use Rattle.policy_glue.proofs.denials.denials.Given as goal
 
 abbrev pub invariant-loop-i : goal.invariant-loop-i
-invariant-loop-i l = DenialsGo l.failure_policy (map rule_view l.validations) (map rule_view (drop l.i l.validations)) (words_view l.verdict) l.i (map denial_view l.denials.items)
+invariant-loop-i l = DenialsGo l.failure_policy (map validation_view l.validations) (map validation_view (drop l.i l.validations)) (words_view l.verdict) l.i (map denial_view l.denials.items)

@@ -8,8 +8,8 @@ returns-in-Ok c = λ t is.
     let short : IsTooLong c.in_ok-emitter.emitter → ⊥ = λ long. no_error c.in-Ok.program _ (ends.g3.1 long) in
     answers_program c.args.failure_policy c.args.checked.now t is c.in_ok-emitter.emitter c.in_ok-emitter.ensures c.in-Ok.program.0.items c.in-Ok.program.1.items short (λ many. no_error c.in-Ok.program _ (ends.g4.1 (short, many))) ends.code ends.constants
 
-pub returns-in-Err-G3 : goal.returns-in-Err-G3
-returns-in-Err-G3 c = λ t is some. answers_long c.args.failure_policy c.args.checked.now t is c.in_ok-emitter.emitter c.in_ok-emitter.ensures (c.in-Err-G3.ensures.g3.0 (ap Err c.in-Err-G3.field-0-is))
+pub returns-in-Err-TooManyNodes : goal.returns-in-Err-TooManyNodes
+returns-in-Err-TooManyNodes c = λ t is some. answers_long c.args.failure_policy c.args.checked.now t is c.in_ok-emitter.emitter c.in_ok-emitter.ensures (c.in-Err-TooManyNodes.ensures.g3.0 (ap Err c.in-Err-TooManyNodes.field-0-is))
 
-pub returns-in-Err-G4 : goal.returns-in-Err-G4
-returns-in-Err-G4 c = grind (arith, answers_texts)
+pub returns-in-Err-TooManyTextBytes : goal.returns-in-Err-TooManyTextBytes
+returns-in-Err-TooManyTextBytes c = grind (arith, answers_texts)

@@ -1,6 +1,6 @@
-use Rattle.policy_glue.proofs.Prelude.{drop, map, items_view, rule_view, rule_in}
+use Rattle.policy_glue.proofs.Prelude.{drop, map, items_view, validation_view, validation_in}
 use Rattle.policy_glue.proofs.Lists.{EachGo}
 use Rattle.policy_glue.proofs.validations.validations_of.Given as goal
 
 abbrev pub invariant-loop-item : goal.invariant-loop-item
-invariant-loop-item l = EachGo rule_in (items_view l.item-items) (items_view (drop l.item-index l.item-items)) (map rule_view l.list.items)
+invariant-loop-item l = EachGo validation_in (items_view l.item-items) (items_view (drop l.item-index l.item-items)) (map validation_view l.list.items)

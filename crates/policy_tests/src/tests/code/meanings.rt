@@ -1,7 +1,7 @@
-//! Expressions whose meaning was worked by hand, as programs that run on a review's roots, with a variable
-//! that is 1 and one that is the error. Each row has the reference with which its program exits: 0 the
-//! error, 2 false, 3 true. Of what has no type as it stands one operand is under `dyn`; a value that is no
-//! truth is compared with itself.
+//! Expressions whose meaning was worked by hand, as programs that run on a review's roots, with a
+//! variable that is 1 and one that is the error. Each row has the reference with which its program
+//! exits: 0 the error, 2 false, 3 true. Of what has no type as it stands one operand is under
+//! `dyn`; a value that is no truth is compared with itself.
 
 use super::running::{end, take, take_variable};
 use bpf_machine::Status;

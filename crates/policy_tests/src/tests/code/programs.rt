@@ -50,13 +50,13 @@ const USES: [(&str, u64); 6] = [
     ("[1].exists(x, variables.three == x)", 2),
 ];
 
-/// Texts over the object `TWO_FIELDS`, the slots of their programs, the steps that these take, and the
-/// reference with which they exit, by hand. A field has 5 slots and takes 4 steps: its map into R1, its
-/// name into R2 and R3, helper 5. An int has 3 slots and takes 2 steps; a store, a copy, a load, any other
-/// helper and the exit have 1 slot and take 1 step each. So the first row keeps `object.spec` (6 slots, 5
-/// steps), evaluates `a` and stores it (6, 5), evaluates `b` (5, 4), has both in their registers (2, 2),
-/// calls helper 10, copies and calls helper 23 (3, 3), and exits (1, 1). The second keeps the error, and
-/// the third, in which `object.spec` stands once, nothing.
+/// Texts over the object `TWO_FIELDS`, the slots of their programs, the steps that these take, and
+/// the reference with which they exit, by hand. A field has 5 slots and takes 4 steps: its map into
+/// R1, its name into R2 and R3, helper 5. An int has 3 slots and takes 2 steps; a store, a copy, a
+/// load, any other helper and the exit have 1 slot and take 1 step each. So the first row keeps
+/// `object.spec` (6 slots, 5 steps), evaluates `a` and stores it (6, 5), evaluates `b` (5, 4), has
+/// both in their registers (2, 2), calls helper 10, copies and calls helper 23 (3, 3), and exits
+/// (1, 1). The second keeps the error, and the third, in which `object.spec` stands once, nothing.
 const KEPT: [(&str, usize, u64, u64); 3] = [
     ("object.spec.a <= object.spec.b", 23, 20, 3),
     ("object.status.a == object.status.b", 21, 18, 0),
@@ -197,14 +197,17 @@ fn words_are_bounded(rt: HostRuntime) -> Result<(), Fail> {
     let long = sums(rt.alloc(), 60)?;
     assert_eq!(rt;
         answer(rt.alloc(), long.as_str()),
-        Some(Some(CodeError::G1))
+        Some(Some(CodeError::NeedsTooManyWords))
     );
     Ok(())
 }
 
 #[test]
 fn depths_are_bounded(rt: HostRuntime) {
-    assert_eq!(rt; answer_to_depth(rt.alloc()), Some(CodeError::G2));
+    assert_eq!(rt;
+        answer_to_depth(rt.alloc()),
+        Some(CodeError::VariableTooDeep)
+    );
 }
 
 #[test]

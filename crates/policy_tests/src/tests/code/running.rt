@@ -1,5 +1,5 @@
-//! From texts to what their programs leave, where nothing on the way is refused. Each step that has much
-//! to say stands in a function of its own.
+//! From texts to what their programs leave, where nothing on the way is refused. Each step that has
+//! much to say stands in a function of its own.
 
 use bpf_machine::{Machine, Status};
 use cel_macros::{Core, expand};

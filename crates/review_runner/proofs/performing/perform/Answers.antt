@@ -1,7 +1,7 @@
 use Rattle.review_runner.proofs.Prelude.{refl}
 use Rattle.review_runner.proofs.MadeFiles.{same_files}
 use Rattle.review_runner.proofs.Performed.{is_answered, is_refused, kept_on_err, lacks_on_err, no_room, stays}
-use Rattle.review_runner.proofs.Results.{is_err}
+use Rattle.admission.proofs.Results.{is_err}
 use Rattle.review_runner.proofs.performing.perform.Goals as goal
 
 pub returns-in_err-room : goal.returns-in_err-room
@@ -17,8 +17,8 @@ returns-in-Ok g c = record {
 
 pub returns-in-Err : goal.returns-in-Err
 returns-in-Err g c = record {
-  done = is_refused _ _ _ _ _ c.in-Err.ensures c.done.ensures.told c.done.ensures.done;
-  lacks = lacks_on_err _ _ _ _ _ c.in-Err.ensures c.done.ensures.memory;
+  done = is_refused _ _ _ _ _ c.in-Err.ensures c.of_refusal.ensures.told c.of_refusal.ensures.done;
+  lacks = lacks_on_err _ _ _ _ _ c.in-Err.ensures c.of_refusal.ensures.memory;
   memory = kept_on_err _ _ _ _ _ c.in-Err.ensures;
   stays = stays _ _ _ _ c.in-Err.ensures;
 }

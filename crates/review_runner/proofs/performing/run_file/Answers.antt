@@ -1,6 +1,6 @@
 use Rattle.review_runner.proofs.Prelude.{Ok, Err}
 use Rattle.review_runner.proofs.Readings.{ran, read_failed}
-use Rattle.review_runner.proofs.Results.{is_err}
+use Rattle.admission.proofs.Results.{is_err}
 use Rattle.review_runner.proofs.performing.run_file.Goals as goal
 
 pub returns-in_err-file-clause-runs : goal.returns-in_err-file-clause-runs

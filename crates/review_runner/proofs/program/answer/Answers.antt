@@ -1,7 +1,7 @@
 use Rattle.review_runner.proofs.Prelude.{Err, refl}
 use Rattle.review_runner.specs.Program.{refused}
 use Rattle.review_runner.proofs.Programs.{was_cut, was_put}
-use Rattle.review_runner.proofs.Results.{is_err}
+use Rattle.admission.proofs.Results.{is_err}
 use Rattle.review_runner.proofs.program.answer.Goals as goal
 
 pub returns-in_err-done : goal.returns-in_err-done

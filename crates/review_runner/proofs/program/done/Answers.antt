@@ -1,7 +1,7 @@
 use Rattle.review_runner.proofs.Prelude.{Ok, Err, refl, ap, session}
 use Rattle.review_runner.proofs.Programs.{as_task}
-use Rattle.review_runner.specs.Output.{Output}
-use Rattle.review_runner.proofs.Results.{is_err}
+use Rattle.review_runner.specs.Output.{Done}
+use Rattle.admission.proofs.Results.{is_err}
 use Rattle.review_runner.proofs.program.done.Goals as goal
 
 pub returns-in_err-debug-in-Debug : goal.returns-in_err-debug-in-Debug
@@ -13,7 +13,7 @@ returns-in_ok-debug-in-Debug g c =
     rw (c.in-Debug.is, ← c.as_str.ensures.value) (
       Ok 0,
       session (Ok tt) c.in_ok-debug-in-Debug.ensures.debugs c.in_ok-debug-in-Debug.ensures.known,
-      record { status = ap (λ (o : Output). o.status) c.nothing.ensures; line = ap (λ (o : Output). o.err) c.nothing.ensures },
+      record { status = ap (λ (o : Done). o.status) c.nothing.ensures; line = ap (λ (o : Done). o.err) c.nothing.ensures },
     )
 
 pub returns-in-Compile : goal.returns-in-Compile

@@ -1,7 +1,8 @@
-use Rattle.review_runner.proofs.Prelude.{refl, no_words}
+use Rattle.review_runner.proofs.Prelude.{refl, faults, no_words}
 use Rattle.review_runner.specs.Program.{nothing}
-use Rattle.review_runner.proofs.Programs.{as_asked, words_refused}
-use Rattle.review_runner.proofs.Results.{is_err}
+use Rattle.review_runner.proofs.Programs.{as_asked}
+use Rattle.cli.proofs.Endings.{words_refused}
+use Rattle.admission.proofs.Results.{is_err}
 use Rattle.review_runner.proofs.program.ending.Goals as goal
 
 pub returns-in_err-words : goal.returns-in_err-words
@@ -9,7 +10,7 @@ returns-in_err-words g c = rw (c.in_err-words.was, is_err c.from_residual.ensure
 
 pub returns-in_err-asked : goal.returns-in_err-asked
 returns-in_err-asked g c =
-    rw (c.in_ok-words.was, is_err c.from_residual-in_err-asked.ensures.1, ← c.deref.ensures.value) (nothing (words_refused _ _ c.in_err-asked.ensures) refl)
+    rw (c.in_ok-words.was, is_err c.from_residual-in_err-asked.ensures.1, ← c.deref.ensures.value) (nothing (words_refused faults _ _ c.in_err-asked.ensures) refl)
 
 pub returns : goal.returns
 returns g c =

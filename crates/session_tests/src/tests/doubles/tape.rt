@@ -1,6 +1,6 @@
 //! A sink in memory.
 ghost use Rattle.std.specs.Prelude.{◌≡◌, ◌≤◌, None};
-ghost use Rattle.debugger.specs.Streams.{one_more};
+ghost use Rattle.streams.specs.Streams.{one_more};
 
 use debugger::{Failed, Sink};
 

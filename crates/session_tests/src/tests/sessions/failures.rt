@@ -24,7 +24,7 @@ fn stops_at_read(
     let mut tape = Tape::new(Vec::new(alloc), 1000, 0, 0);
     let answer = ended(alloc, CODE, &mut feed, &mut tape)?;
     let counted = feed.failures() == 1 && tape.bytes() == said;
-    Ok(counted && answer == Err(SessionError::S1))
+    Ok(counted && answer == Err(SessionError::ReadFailed))
 }
 
 /// The reads that fail, and what was said.
@@ -55,8 +55,8 @@ const BREAKING: &[u8] = b"b 1\nc 10\nrs 1\nrs 1\nrc\nbogus\n";
 const BROKEN: &[u8] =
     b"break 1\nstep 1 pc 1 running\nstep 0 pc 0 running\n? range\nstep 0 pc 0 running\n? what\n";
 
-/// For each line of that session the first read of a byte that has not ended it and the first that has
-/// ended the next one, and the text before it. The last read finds the end.
+/// For each line of that session the first read of a byte that has not ended it and the first that
+/// has ended the next one, and the text before it. The last read finds the end.
 #[rattlefmt::skip]
 const BROKEN_READS: [(u64, u64, &[u8]); 7] = [
     (1, 5, b""),
@@ -89,8 +89,8 @@ fn breaks_until_a_read_fails(rt: HostRuntime) -> Result<(), Fail> {
     Ok(())
 }
 
-/// Whether a session with this input whose write with one of these numbers fails, or takes no byte, says
-/// this.
+/// Whether a session with this input whose write with one of these numbers fails, or takes no byte,
+/// says this.
 fn stops_at_write(
     alloc: Global,
     input: &'static [u8],
@@ -102,7 +102,7 @@ fn stops_at_write(
     let mut tape = Tape::new(Vec::new(alloc), 1, fails_at, stalls_at);
     let answer = ended(alloc, CODE, &mut feed, &mut tape)?;
     let counted = tape.failures() == 1 && tape.bytes() == said;
-    Ok(counted && answer == Err(SessionError::S2))
+    Ok(counted && answer == Err(SessionError::WriteFailed))
 }
 
 #[test]
@@ -122,8 +122,8 @@ fn stops_where_a_write_fails(rt: HostRuntime) -> Result<(), Fail> {
     Ok(())
 }
 
-/// Whether the session with a breakpoint says all before a byte whose write fails, and before one that is
-/// not taken, where each write takes one byte.
+/// Whether the session with a breakpoint says all before a byte whose write fails, and before one
+/// that is not taken, where each write takes one byte.
 fn breaks_before(alloc: Global, end: usize) -> Result<bool, Fail>
     requires { end < 83 }
 {

@@ -8,7 +8,7 @@ returns-then-chunk-full-clause-value g c =
     let last = c.args.last.now in
     let r = c.index-items-place.result in
     let there = item_at full last (c.args.place / 256) (c.args.place % 256) c.args.place c.index-full-chunk.result r
-    c.requires.chunks.full (omega arith) (omega arith) (omega arith) in
+    c.requires.chunks.full (record { chunk = omega arith; inside = omega arith; is = omega arith }) in
     grind (arith, slice_get-get_or)
 
 pub returns-clause-value : goal.returns-clause-value

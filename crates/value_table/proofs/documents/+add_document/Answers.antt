@@ -13,7 +13,7 @@ add_items-loop-item-preserved t c =
     record {
       heap = c.add_document.ensures.heap;
       grown = grown_more _ _ _ l.invariant.grown c.add_document.ensures.grown;
-      items = items_step all _ _ l.places.items c.push.new.self.items c.in_ok-add_document.field-0 (view c.in-Some.item) (items_view (into_iter_items c.next.new.self)) pushed c.add_document.ensures.grown c.in_ok-add_document.ensures.value go;
+      items = rw pushed (items_step all _ _ l.places.items c.in_ok-add_document.field-0 (view c.in-Some.item) (items_view (into_iter_items c.next.new.self)) c.add_document.ensures.grown c.in_ok-add_document.ensures.value go);
       long = omega (arith, l.invariant.long, ap length step.0, step.1);
     }
 
@@ -37,8 +37,8 @@ add_members-loop-key-preserved t c =
     record {
       heap = c.add_document.ensures.heap;
       grown = grown_more _ _ _ l.invariant.grown c.add_document.ensures.grown;
-      members = members_step all _ _ (map string_bytes l.keys.items) (map string_bytes c.push-in-loop-key.new.self.items) l.places.items c.push.new.self.items c.in_ok-add_document.field-0 (string_bytes key) (view c.in-Some.member) (members_view c.next.new.self) named pushed c.add_document.ensures.grown
-          c.in_ok-add_document.ensures.value go;
+      members = rw (named, pushed) (members_step all _ _ (map string_bytes l.keys.items) l.places.items c.in_ok-add_document.field-0 (string_bytes key) (view c.in-Some.member) (members_view c.next.new.self)
+          (record { grown = c.add_document.ensures.grown; value = c.in_ok-add_document.ensures.value }) go);
     }
 
 pub add_members-returns : goal.add_members-returns

@@ -14,7 +14,7 @@ loop-key-preserved c =
     record {
       heap = c.add_key.ensures.heap;
       values = c.add_key.ensures.values ∙ l.invariant.values;
-      keys = keys_step l.heap.backings c.add_key.new.self.backings _ _ l.parts.items c.push.new.self.items c.in_ok-add_key.field-0 (string_bytes x) names pushed c.add_key.ensures.grown part.0 (part.1 ∙ c.as_str.ensures.value) l.invariant.keys;
+      keys = rw (names, pushed) (keys_step l.heap.backings c.add_key.new.self.backings _ l.parts.items c.in_ok-add_key.field-0 (string_bytes x) c.add_key.ensures.grown part.0 (part.1 ∙ c.as_str.ensures.value) l.invariant.keys);
     }
 
 pub add_map-requires-clause-ordered : goal.add_map-requires-clause-ordered

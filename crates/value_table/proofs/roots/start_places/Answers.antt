@@ -1,4 +1,4 @@
-use Rattle.value_table.proofs.Prelude.{◌∷◌, ◌++◌, [], map, refl, sym, ap, ◌∙◌, subst, append_assoc, append-nil, array_into_iter_items, AllByRecursion, nil_from_length, view, value, first_values, plain_value, StartsWith, IsWelcome}
+use Rattle.value_table.proofs.Prelude.{◌∷◌, ◌++◌, [], map, refl, sym, ap, ◌∙◌, subst, append_assoc, append-nil, array_into_iter_items, AllByRecursion, nil_from_length, view, value, first_values, plain_value, StartsWithValues, IsWelcome}
 use Rattle.value_table.proofs.Named.{grows_by, name_sound, name_values}
 use Rattle.value_table.proofs.Starting.{root_step}
 use Rattle.value_table.proofs.roots.start_places.Goals as goal
@@ -27,4 +27,4 @@ returns c =
     let l = c.loop-root in
     let none = nil_from_length (array_into_iter_items l.root-iterator) c.in-None.ensures.steps.0 in
     let all = sym (append-nil l.yielded) ∙ ap (λ ys. l.yielded ++ ys) (sym none) ∙ l.invariant.all ∙ c.into_iter-root-iterator.ensures.into_iter_gives.0 in
-    subst (λ ys. StartsWith l.heap l.places (first_values ++ map value (map plain_value (map view ys)))) all l.invariant.starts
+    subst (λ ys. StartsWithValues l.heap l.places (first_values ++ map value (map plain_value (map view ys)))) all l.invariant.starts

@@ -8,21 +8,25 @@ returns-in-Err c = read_refused (map item_of c.lines.lines.items) c.in-Some.fron
 
 pub returns-in-Err-add_label : goal.returns-in-Err-add_label
 returns-in-Err-add_label c =
-    label_refused (map item_of c.lines.lines.items) (λ q. get_by_text c.lines.labels q) (λ q. get_by_text c.add_label.new.labels q) c.in-Ok.line c.in-Some.front.now _ _ _ c.lines.slot _ c.in-Err-add_label.error c.lines.invariant.5 c.lines.invariant.4 c.in-Some.ensures.found (count c.lines.lines.items c.len-number.result (omega (arith, c.len-number.ensures, c.lines.lines.ok.0))) c.lines.invariant.3 c.in-Ok.ensures c.in-Err-add_label.ensures
+    label_refused (map item_of c.lines.lines.items) (λ q. get_by_text c.lines.labels q) c.in-Ok.line c.in-Some.front.now _ _ _
+    (record { goes = c.lines.invariant.4; cut = c.in-Some.ensures.found }) (record { has = c.lines.invariant.3; reads = c.in-Ok.ensures })
+    (λ q. get_by_text c.add_label.new.labels q) c.lines.slot _ c.in-Err-add_label.error c.lines.invariant.5 (count c.lines.lines.items c.len-number.result (omega (arith, c.len-number.ensures, c.lines.lines.ok.0))) c.in-Err-add_label.ensures
 
-pub returns-then-slot-gt-MAX_SLOTS : goal.returns-then-slot-gt-MAX_SLOTS
-returns-then-slot-gt-MAX_SLOTS c =
-    full_refused (map item_of c.lines.lines.items) (λ q. get_by_text c.lines.labels q) c.in-Ok.line c.in-Some.front.now _ _ _ _ c.lines.invariant.4 c.in-Some.ensures.found (count c.lines.lines.items c.len-number.result (omega (arith, c.len-number.ensures, c.lines.lines.ok.0))) c.lines.invariant.3 c.in-Ok.ensures (c.in_default-add_label.ensures).0 (omega (arith, c.if-slot-gt-MAX_SLOTS.true, c.slots-slot.ensures, c.lines.invariant.0))
+pub returns-then-slot-gt-SLOT_LIMIT : goal.returns-then-slot-gt-SLOT_LIMIT
+returns-then-slot-gt-SLOT_LIMIT c =
+    full_refused (map item_of c.lines.lines.items) (λ q. get_by_text c.lines.labels q) c.in-Ok.line c.in-Some.front.now _ _ _
+    (record { goes = c.lines.invariant.4; cut = c.in-Some.ensures.found }) (record { has = c.lines.invariant.3; reads = c.in-Ok.ensures })
+    _ (count c.lines.lines.items c.len-number.result (omega (arith, c.len-number.ensures, c.lines.lines.ok.0))) (c.in_default-add_label.ensures).0 (omega (arith, c.if-slot-gt-SLOT_LIMIT.true, c.slots-slot.ensures, c.lines.invariant.0))
 
 pub lines-preserved : goal.lines-preserved
 lines-preserved c =
     let step = c.in_default-add_label.ensures in
     let items = items_snoc c.lines.lines.items c.push.new.self.items c.in-Ok.line c.in_ok-push.ensures.items in (
       slots_step c.lines.lines.items c.push.new.self.items c.in-Ok.line c.lines.slot c.slots-slot.result c.in_ok-push.ensures.items c.lines.invariant.0 c.slots-slot.ensures,
-      c.if-slot-gt-MAX_SLOTS.false,
+      c.if-slot-gt-SLOT_LIMIT.false,
       c.in-Some.ensures.text,
       rw items (slots_after_label (map item_of c.lines.lines.items) (item_of c.in-Ok.line) (λ q. get_by_text c.lines.labels q) (λ q. get_by_text c.add_label.new.labels q) c.lines.slot c.lines.invariant.0 c.lines.invariant.3 step.0 step.1),
-      rw items (goes_on (map item_of c.lines.lines.items) (λ q. get_by_text c.lines.labels q) c.in-Ok.line c.in-Some.front.now _ _ _ c.lines.invariant.4 c.in-Some.ensures.found c.lines.invariant.3 c.in-Ok.ensures step.0 (omega (arith, c.if-slot-gt-MAX_SLOTS.false, c.slots-slot.ensures, c.lines.invariant.0))),
+      rw items (goes_on (map item_of c.lines.lines.items) (λ q. get_by_text c.lines.labels q) c.in-Ok.line c.in-Some.front.now _ _ _ (record { goes = c.lines.invariant.4; cut = c.in-Some.ensures.found }) (record { has = c.lines.invariant.3; reads = c.in-Ok.ensures }) step.0 (omega (arith, c.if-slot-gt-SLOT_LIMIT.false, c.slots-slot.ensures, c.lines.invariant.0))),
       inr (grind arith),
     )
 

@@ -9,4 +9,14 @@ pub returns-then-bytes-le16 : goal.returns-then-bytes-le16
 returns-then-bytes-le16 t c = λ count enough. lines_one count _ _ _ _ (some_bytes _ (search rules)) c.if-bytes-le16.true enough c.push_memory_line.ensures.text
 
 pub returns : goal.returns
-returns t c = λ count enough. lines_first count _ _ _ _ _ _ _ _ (omega (arith, c.if-bytes-le16.false)) enough (omega (arith, c.ranges.address.fits)) refl c.split_at.ensures.front c.split_at.ensures.back c.push_memory_line-2.ensures.text c.push_memory.ensures
+returns t c = λ count enough. lines_first count _ _ _ _ _ _ _
+    (record {
+      front = c.split_at.result.0.now;
+      many = omega (arith, c.if-bytes-le16.false);
+      fits = omega (arith, c.ranges.address.fits);
+      wraps = refl;
+      front_is = c.split_at.ensures.front;
+      rest_is = c.split_at.ensures.back;
+      line = c.push_memory_line-2.ensures.text;
+    })
+    enough c.push_memory.ensures

@@ -5,12 +5,16 @@ use Rattle.guest_memory.proofs.region.Region.spot.Goals as goal
 
 pub returns-then-page-len : goal.returns-then-page-len
 returns-then-page-len g c =
-    place_beyond _ _ _ _ _ c.ranges.addr.fits c.ranges.base.fits c.requires (omega (arith, c.len-len.ensures.same, c.len-len.ensures.most)) (omega (arith, c.len-len.ensures.same, c.len-len.ensures.whole)) (some_bytes c.args.size) refl
+    place_beyond _ _ _ _ _ c.ranges.addr.fits
+    (record { word = c.ranges.base.fits; first = c.requires; most = omega (arith, c.len-len.ensures.same, c.len-len.ensures.most) })
+    (omega (arith, c.len-len.ensures.same, c.len-len.ensures.whole)) (some_bytes c.args.size) refl
     (omega (arith, c.len-len.ensures.same, c.if-page-len.true))
 
 pub returns : goal.returns
 returns g c = (
-  place_in_page _ _ _ _ _ c.ranges.addr.fits c.ranges.base.fits c.requires (omega (arith, c.len-len.ensures.same, c.len-len.ensures.most)) (omega (arith, c.bytes.ensures.value, c.bytes.ensures.most)) refl
+  place_in_page _ _ _ _ _ c.ranges.addr.fits
+      (record { word = c.ranges.base.fits; first = c.requires; most = omega (arith, c.len-len.ensures.same, c.len-len.ensures.most) })
+      (omega (arith, c.bytes.ensures.value, c.bytes.ensures.most)) refl
       (omega (arith, c.len-len.ensures.same, c.if-page-len.false)) (omega (arith, c.bytes.ensures.value, c.if-from-bytes.false)),
   omega (arith, c.len-len.ensures.same, c.if-page-len.false),
   omega (arith, c.bytes.ensures.value, c.bytes.ensures.most, c.if-from-bytes.false),

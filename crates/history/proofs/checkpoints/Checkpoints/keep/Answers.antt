@@ -1,4 +1,4 @@
-use Rattle.history.proofs.Prelude.{◌≡◌, ◌∙◌, Bool, arith, ap, map, refl, subst, sym, state_after, ◌≤◌, [], length, length-map, IsCheckpoint, Keeps, with_place}
+use Rattle.history.proofs.Prelude.{◌≡◌, ◌∙◌, Bool, arith, ap, map, refl, subst, sym, state_after, ◌≤◌, [], length, length-map, IsCheckpoint, KeepsPlaces, with_place}
 use Rattle.history.proofs.Places.{is_due, kept_all, kept_one, kept_spared, newest_all, newest_within, own_place, places_kept}
 use Rattle.history.proofs.checkpoints.Checkpoints.keep.Given as given
 use Rattle.history.proofs.checkpoints.Checkpoints.keep.Goals as goal
@@ -33,12 +33,12 @@ room g c = omega (arith, ap (λ k. length k.places) c.self.view_is, length-map c
 
 pub returns-clause-kept : goal.returns-clause-kept
 returns-clause-kept g c =
-    kept_one _ _ _ _ (room g c) (omega (arith, c.if-place-ne0.false)) c.in_ok-checkpoint.ensures.spared (ap (λ k. k.origin) c.self.view_is) (kept g c) (ap (λ k. k.gave_up) c.self.view_is)
+    kept_one _ _ _ _ (room g c) (omega (arith, c.if-place-ne0.false)) c.in_ok-checkpoint.ensures.spared (ap (λ k. k.origin) c.self.view_is) (kept g c) (ap (λ k. k.dropped_checkpoint) c.self.view_is)
 
 pub returns-clause-due : goal.returns-clause-due
 returns-clause-due g c = λ due. record {
   between = c.aside.new.self.places;
-  keeps = subst (λ (f : Bool). Keeps f c.args.self.now.places [] c.aside.new.self.places) (sym (ap (λ k. k.gave_up) c.self.view_is)) c.in_ok-checkpoint.ensures.spared.keeps;
+  keeps = subst (λ (f : Bool). KeepsPlaces f c.args.self.now.places [] c.aside.new.self.places) (sym (ap (λ k. k.dropped_checkpoint) c.self.view_is)) c.in_ok-checkpoint.ensures.spared.keeps;
   added = kept g c;
 }
 

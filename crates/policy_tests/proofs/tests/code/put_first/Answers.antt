@@ -1,7 +1,7 @@
 use Rattle.std.proofs.Common.{◌≡◌, ◌∷◌, [], ◌++◌, pos, ap, sym, ◌∙◌}
 use Rattle.std.specs.Prelude.{slice_get}
 use Rattle.insn_codec.specs.declared.insn.Insn.TheVariants.{Jump}
-use Rattle.codegen_base.specs.Pieces.{slots}
+use Rattle.expression_code.specs.Pieces.{slots}
 use Rattle.policy_tests.proofs.tests.code.put_first.Goals as goal
 
 pub patch-requires : goal.patch-requires

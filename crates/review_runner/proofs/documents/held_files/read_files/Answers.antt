@@ -1,6 +1,6 @@
 use Rattle.review_runner.proofs.Prelude.{Ok, Err}
 use Rattle.review_runner.proofs.HeldFiles.{holds, unread}
-use Rattle.review_runner.proofs.Results.{is_err}
+use Rattle.admission.proofs.Results.{is_err}
 use Rattle.review_runner.proofs.documents.held_files.read_files.Goals as goal
 
 pub returns-in_err-subject-clause-held : goal.returns-in_err-subject-clause-held

@@ -1,6 +1,6 @@
 use Rattle.review_runner.proofs.Prelude.{inl, no_text}
 use Rattle.review_runner.proofs.Assembled.{of_cause, of_code}
-use Rattle.review_runner.proofs.Results.{is_err}
+use Rattle.admission.proofs.Results.{is_err}
 use Rattle.review_runner.proofs.images.assembling.assembled_file.Goals as goal
 
 pub returns-in_default : goal.returns-in_default

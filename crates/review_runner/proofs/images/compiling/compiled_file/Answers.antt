@@ -1,6 +1,6 @@
 use Rattle.review_runner.proofs.Prelude.{inr, refl, image}
 use Rattle.review_runner.proofs.PolicyFiles.{refused_so}
-use Rattle.review_runner.proofs.Results.{is_err}
+use Rattle.admission.proofs.Results.{is_err}
 use Rattle.review_runner.proofs.images.compiling.compiled_file.Goals as goal
 
 pub returns-in_err-compiled : goal.returns-in_err-compiled

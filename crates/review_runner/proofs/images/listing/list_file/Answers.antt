@@ -1,6 +1,6 @@
 use Rattle.review_runner.proofs.Prelude.{lacks_memory}
 use Rattle.review_runner.proofs.Readings.{not_listed, opened_unrefused, was_listed}
-use Rattle.review_runner.proofs.Results.{is_err}
+use Rattle.admission.proofs.Results.{is_err}
 use Rattle.review_runner.proofs.images.listing.list_file.Goals as goal
 
 pub returns-in_err-opened-clause-lists : goal.returns-in_err-opened-clause-lists

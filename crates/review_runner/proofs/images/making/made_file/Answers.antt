@@ -1,6 +1,6 @@
 use Rattle.review_runner.proofs.Prelude.{Ok, Err}
 use Rattle.review_runner.proofs.MadeFiles.{of_failure}
-use Rattle.review_runner.proofs.Results.{is_err}
+use Rattle.admission.proofs.Results.{is_err}
 use Rattle.review_runner.proofs.images.making.made_file.Goals as goal
 
 pub returns-in_err-held-clause-made : goal.returns-in_err-held-clause-made

@@ -1,6 +1,6 @@
 use Rattle.review_runner.proofs.Prelude.{ap, ◌∙◌, succeeded}
 use Rattle.review_runner.proofs.MadeFiles.{not_made, not_written, was_written}
-use Rattle.review_runner.proofs.Results.{is_err}
+use Rattle.admission.proofs.Results.{is_err}
 use Rattle.review_runner.proofs.images.making.make_file.Goals as goal
 
 pub returns-in_err-file : goal.returns-in_err-file

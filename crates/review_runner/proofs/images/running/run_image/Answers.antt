@@ -1,5 +1,5 @@
 use Rattle.review_runner.proofs.Prelude.{refl, run_of_file}
-use Rattle.review_runner.proofs.Results.{is_err}
+use Rattle.admission.proofs.Results.{is_err}
 use Rattle.review_runner.proofs.images.running.run_image.Goals as goal
 
 pub returns-in_err-steps : goal.returns-in_err-steps

@@ -7,5 +7,5 @@ pub invariant_of-result-in-Array-2 : goal.invariant_of-result-in-Array-2
 invariant_of-result-in-Array-2 c =
     let first = ap view (sym c.in-Array.is) ∙ c.in_ok-text.ensures.cases in
     let second = ap view (sym c.in-Array-2.is) ∙ c.in_ok-more-in-Array.ensures.cases in
-    let gives = join_lists _ _ _ _ _ _ _ first second c.in_ok-append-in-Array-2.ensures.items c.args.self.now.whole c.args.other.now.whole c.args.self.now.deep c.args.other.now.deep in
+    let gives = join_lists _ _ _ c.args.self.now c.args.other.now first second c.in_ok-append-in-Array-2.ensures.items in
     record { whole = gives.whole; deep = c.max-depth.ensures ∙ gives.deep; ordered = made_ordered gives.value (join_ordered _ _ c.args.self.now.ordered c.args.other.now.ordered) }

@@ -6,5 +6,5 @@ use Rattle.value_store.proofs.tree.Tree.push.Goals as goal
 pub invariant_of-result : goal.invariant_of-result
 invariant_of-result c =
     let list = ap view (sym c.in-Array.is) ∙ c.in_ok-items.ensures.cases in
-    let gives = push_list _ _ _ _ _ _ _ list c.in_ok-more.ensures.cases c.in_ok-push-in-Array.ensures.items c.args.self.now.whole c.args.item.now.whole c.args.self.now.deep c.args.item.now.deep in
+    let gives = push_list _ _ _ c.args.self.now c.args.item.now list c.in_ok-more.ensures.cases c.in_ok-push-in-Array.ensures.items in
     record { whole = gives.whole; deep = c.max-depth.ensures ∙ gives.deep; ordered = made_ordered gives.value (push_ordered _ _ c.args.self.now.ordered c.args.item.now.ordered) }

@@ -12,4 +12,6 @@ returns-clause-grown c =
 pub returns-clause-part : goal.returns-clause-part
 returns-clause-part c =
     let first = c.repeat.ensures.items ∙ ap (λ bytes. bytes ++ part_of bytes c.args.first) c.in_ok-bytes.ensures.items in
-    texts_joined _ _ _ c.args.first c.args.second _ _ _ c.requires.first c.requires.second first c.repeat-2.ensures.items c.len-from.ensures.count c.len-to.ensures.count (c.quoted_length-json.ensures ∙ ap (λ bytes. saturated (length (quoted (slice_range bytes c.len-from.result c.len-to.result)))) c.items.ensures.value)
+    let json = c.quoted_length-json.ensures ∙ ap (λ bytes. saturated (length (quoted (slice_range bytes c.len-from.result c.len-to.result)))) c.items.ensures.value in
+    texts_joined _ _ _ c.args.first c.args.second _ c.requires.first c.requires.second first c.repeat-2.ensures.items
+    (record { from = c.len-from.ensures.count; to = c.len-to.ensures.count; json = json })

@@ -13,5 +13,7 @@ loop-index-preserved c =
       backing = c.add.ensures.backing ∙ inv.backing;
       indexed = λ vs k h.
           let is = c.in_ok-text.ensures vs k ∙ ap (λ rs. looked_up_by (value_in vs (get_or rs c.loop-index.index.count 0))) c.first-items.ensures in
-          entered c.args.backings.now vs c.loop-index.index c.add.new.self (length c.args.cells.now) c.args.backing c.args.count _ (inv.indexed vs k h) c.requires.range k.count inv.backing (omega arith) c.add.ensures.backing c.in_ok-add.ensures.count is c.in_ok-add.ensures.ok;
+          entered c.args.backings.now vs c.loop-index.index c.add.new.self (length c.args.cells.now) c.args.backing c.args.count _
+          (record { indexed = inv.indexed vs k h; range = c.requires.range; long = k.count; at = inv.backing; left = omega arith }) is
+          (record { backing = c.add.ensures.backing; count = c.in_ok-add.ensures.count; texts = c.in_ok-add.ensures.ok });
     }

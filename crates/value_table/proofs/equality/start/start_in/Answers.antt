@@ -1,13 +1,20 @@
-use Rattle.value_table.proofs.Prelude.{ap, sym, ◌∙◌, value_in}
+use Rattle.value_table.proofs.Prelude.{◌≡◌, ℕ, List, drop, ap, sym, ◌∙◌, subst, Value, has_item, value_in, items_at, refs_at}
+use Rattle.value_table.specs.Search.{place_among}
 use Rattle.value_table.proofs.Indexed.{skips_by, start_of}
 use Rattle.value_table.proofs.equality.start.start_in.Goals as goal
 
 pub returns-in-Some-clause-skips : goal.returns-in-Some-clause-skips
 returns-in-Some-clause-skips c = λ vs k h.
-    skips_by c.args.backings.now vs (value_in vs c.args.x) c.enter.new.index c.args.backing c.args.count c.min.result c.place.result c.as_str.result.now (c.enter.ensures.indexed vs k h) c.enter.ensures.backing c.in_ok-enter.ensures.count
-    (c.as_str.ensures.value ∙ c.in_ok-text.ensures vs k) c.place.ensures (c.min.ensures ∙ ap (λ o. start_of o c.args.count) (sym c.in-Some.is))
+    let x = value_in vs c.args.x in
+    let skips = skips_by c.args.backings.now vs x c.enter.new.index c.args.count c.min.result c.place.result (c.enter.ensures.indexed vs k h) c.in_ok-enter.ensures.count
+    (λ ts is. c.place.ensures ts is ∙ ap (λ t. place_among t ts) (c.as_str.ensures.value ∙ c.in_ok-text.ensures vs k))
+    (c.min.ensures ∙ ap (λ o. start_of o c.args.count) (sym c.in-Some.is)) in
+    subst (λ b. has_item x (items_at vs (refs_at c.args.backings.now.lists b c.args.count)) ≡ has_item x (items_at vs (drop c.min.result (refs_at c.args.backings.now.lists b c.args.count)))) c.enter.ensures.backing skips
 
 pub returns-clause-skips : goal.returns-clause-skips
 returns-clause-skips c = λ vs k h.
-    skips_by c.args.backings.now vs (value_in vs c.args.x) c.enter.new.index c.args.backing c.args.count c.args.count c.place.result c.as_str.result.now (c.enter.ensures.indexed vs k h) c.enter.ensures.backing c.in_ok-enter.ensures.count
-    (c.as_str.ensures.value ∙ c.in_ok-text.ensures vs k) c.place.ensures (ap (λ o. start_of o c.args.count) (sym c.in-None.is))
+    let x = value_in vs c.args.x in
+    let skips = skips_by c.args.backings.now vs x c.enter.new.index c.args.count c.args.count c.place.result (c.enter.ensures.indexed vs k h) c.in_ok-enter.ensures.count
+    (λ ts is. c.place.ensures ts is ∙ ap (λ t. place_among t ts) (c.as_str.ensures.value ∙ c.in_ok-text.ensures vs k))
+    (ap (λ o. start_of o c.args.count) (sym c.in-None.is)) in
+    subst (λ b. has_item x (items_at vs (refs_at c.args.backings.now.lists b c.args.count)) ≡ has_item x (items_at vs (drop c.args.count (refs_at c.args.backings.now.lists b c.args.count)))) c.enter.ensures.backing skips

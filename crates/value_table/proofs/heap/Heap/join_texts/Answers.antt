@@ -5,6 +5,6 @@ use Rattle.value_table.proofs.heap.Heap.join_texts.Goals as goal
 pub returns : goal.returns
 returns c =
     let is = ap (meaning c.join_texts.new.self (heap_values c.args.self.now)) c.text_cell.ensures.content ∙ ap text (c.in_ok-part.ensures.part.1) in
-    gained c.args.self.now _ _ _ _ _ c.requires.heap c.join_texts.ensures.grown c.room_for_cell.ensures.words c.in_ok-cells.ensures.word
-    c.in_ok-cells.ensures.cells
-    c.append.ensures.items c.append.ensures.place refl (record { cell = c.text_cell.ensures.cell _ _ c.in_ok-part.ensures.part.0; value = ap Some (sym is) })
+    gained c.args.self.now _ _ _ _ _ c.requires.heap c.join_texts.ensures.grown
+    (record { words = c.room_for_cell.ensures.words; fits = c.in_ok-cells.ensures.word; same = c.in_ok-cells.ensures.cells; cells = c.append.ensures.items; at = c.append.ensures.place; indexes = refl })
+    (record { cell = c.text_cell.ensures.cell _ _ c.in_ok-part.ensures.part.0; value = ap Some (sym is) })

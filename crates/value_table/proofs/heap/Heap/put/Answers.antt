@@ -1,9 +1,10 @@
-use Rattle.value_table.proofs.Prelude.{rules, refl, ◌≡◌, ◌+◌, ◌∙◌, sym, ap, ap₂, subst, arith, max, IsSome, keys_of, Ascend, part_of, value_in, keys_at, meaning, IsContent, heap_values, texts_of, IsAt, IsGap, put_values}
+use Rattle.value_table.proofs.Prelude.{rules, refl, ◌≡◌, ◌+◌, ◌∙◌, sym, ap, ap₂, subst, arith, max, IsSome, keys_of, Ascend, part_of, value_in, keys_at, meaning, IsContent, heap_values, texts_of, IsKeyAt, IsInsertionPlace, put_values}
 use Rattle.value_store.specs.Value as kind
 use Rattle.value_table.proofs.Adding.{heap_before, gained}
 use Rattle.value_table.proofs.Heads.{map_long}
 use Rattle.value_table.proofs.Lookups.{map_here}
-use Rattle.value_table.proofs.Mapped.{map_put, taken}
+use Rattle.value_table.proofs.Listed.{made_by}
+use Rattle.value_table.proofs.Mapped.{IsPut, map_put, taken}
 use Rattle.value_table.proofs.heap.Heap.put.Goals as goal
 use Rattle.value_table.proofs.heap.Heap.put.Goals.{After-keys, After-text}
 
@@ -28,7 +29,7 @@ unreachable-requires-in_default-search c =
     let key = part_of bs.bytes c.in-Text.key in
     let place = c.in_default-search.field-0 in
     let here = map_here bs (heap_values heap) c.args.m c.cell-map.result c.in-Map.row c.in-Map.backing c.in-Map.count c.cell-map.ensures.found c.in-Map.is in
-    let found = subst (λ s. IsAt (keys_of here.entries) s place) (key_searched at.After-text) (subst (λ t. IsAt t c.text.result.now place) (keys_searched at.After-keys ∙ sym here.keys) c.in_default-search.ensures) in
+    let found = subst (λ s. IsKeyAt (keys_of here.entries) s place) (key_searched at.After-text) (subst (λ t. IsKeyAt t c.text.result.now place) (keys_searched at.After-keys ∙ sym here.keys) c.in_default-search.ensures) in
     let name : value_in (heap_values heap) c.args.k ≡ kind.text key = c.cell-name.ensures.found.is ∙ ap (meaning bs (heap_values heap)) c.in-Text.is in
     let due = subst IsSome (ap₂ (λ v w. put_values v w (value_in (heap_values heap) c.args.x)) here.is name) c.requires.kinds in
     taken here.entries key (value_in (heap_values heap) c.args.x) place (subst Ascend (sym here.keys) here.ordered) found due
@@ -41,18 +42,31 @@ returns c =
     let heap = c.args.self.now in
     let bs = heap.backings in
     let ks = keys_at bs.keys c.in-Map.row c.in-Map.count in
-    let gap = subst (λ s. IsGap (texts_of bs.bytes ks) s c.in-Err.gap) (key_searched at.After-text)
-    (subst (λ t. IsGap t c.text.result.now c.in-Err.gap) (keys_searched at.After-keys) c.in-Err.ensures) in
+    let gap = subst (λ s. IsInsertionPlace (texts_of bs.bytes ks) s c.in-Err.gap) (key_searched at.After-text)
+    (subst (λ t. IsInsertionPlace t c.text.result.now c.in-Err.gap) (keys_searched at.After-keys) c.in-Err.ensures) in
     let fm = c.cell-map.ensures.found in
     let long = map_long bs c.args.m c.in-Map.row c.in-Map.backing c.in-Map.count (subst (IsContent bs c.args.m) c.in-Map.is fm.content) in
     let deep : c.max-depth.result ≡ max c.cell-map.result.depth (c.cell-value.result.depth + 1) =
     omega (arith, c.saturating_add.ensures, c.max-depth.ensures, c.cell-value.ensures.found.shallow, c.cell-value.ensures.short) in
-    let made = map_put bs c.put_entry.new.self (heap_values heap) c.args.m c.args.k c.args.x c.in-Map.row c.in-Map.backing c.in-Map.count
-    c.in_ok-entry.entry.0 c.in_ok-entry.entry.1 c.in-Err.gap c.max-depth.result c.put_length-json.result c.cell-map.result c.cell-name.result
-    c.cell-value.result c.in-Text.key fm c.cell-name.ensures.found c.cell-value.ensures.found c.in-Map.is c.in-Text.is long gap c.put_entry.ensures.bytes
-    c.in_ok-entry.ensures.items c.in_ok-entry.ensures.keys deep c.put_length-json.ensures in
-    gained heap _ _ _ _ _ c.requires.heap c.put_entry.ensures.grown c.room_for_cell.ensures.words c.in_ok-cells.ensures.word c.in_ok-cells.ensures.cells
-    c.append.ensures.items c.append.ensures.place refl made
+    let put : IsPut bs (heap_values heap) c.args.m c.args.k c.args.x c.in-Map.row c.in-Map.backing c.in-Map.count c.in-Err.gap c.in-Text.key =
+    record {
+      map = c.cell-map.result;
+      name = c.cell-name.result;
+      value = c.cell-value.result;
+      map_found = fm;
+      name_found = c.cell-name.ensures.found;
+      value_found = c.cell-value.ensures.found;
+      map_is = c.in-Map.is;
+      name_is = c.in-Text.is;
+      pairs = long;
+      gap = gap;
+    } in
+    let made = made_by deep c.put_length-json.ensures
+    (map_put bs (heap_values heap) c.args.m c.args.k c.args.x c.put_entry.new.self c.in-Map.row c.in-Map.backing c.in-Map.count c.in_ok-entry.entry.0 c.in_ok-entry.entry.1 c.in-Err.gap c.in-Text.key put
+    (record { bytes = c.put_entry.ensures.bytes; values = c.in_ok-entry.ensures.items; keys = c.in_ok-entry.ensures.keys })) in
+    gained heap _ _ _ _ _ c.requires.heap c.put_entry.ensures.grown
+    (record { words = c.room_for_cell.ensures.words; fits = c.in_ok-cells.ensures.word; same = c.in_ok-cells.ensures.cells; cells = c.append.ensures.items; at = c.append.ensures.place; indexes = refl })
+    made
 
 pub returns-in_err-entry : goal.returns-in_err-entry
 returns-in_err-entry c = search (rules, heap_before)

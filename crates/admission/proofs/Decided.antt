@@ -1,0 +1,196 @@
+-- Reviews, from the states in which the policies' programs stand.
+use Rattle.admission.proofs.Prelude.{◌≡◌, ℕ, ◌+◌, ◌*◌, ◌≤◌, ◌⊎◌, Bool, false, List, [], ◌∷◌, ◌++◌, length, Option, Some, Result, Ok, Err, refl, sym, ap, ◌∙◌, subst, arith, inl, inr, get_or, map, slice_get, if◌then◌else◌, cases_lt, length-map, length_push, Fault as GuestFault, F8, StartIsCanonical, Contents, StoreStarts, start_contents, TableError, view, Value, Roots, StartsAreTables, State, start_state, StatesAreKept, is_running, state_after, Status, Exited, Running, HasValues, TakenOrRefused, PartsEnd, policy_work, decision_of, outcome_of, outcome_word, Compiles, Verdict, Policy, Decides, OutOfBudget, LeavesByExit, PolicyTree, Finding, decided, judged_by, verdict_of, CompileError, FailurePolicy, PolicyAndImage, Reply, Documents, IsAnswered, IsPolicy, decision, started, values_given, IsPolicyOf, Exit, Exits, HasExited, IsExit, OfVerdict, IsSaid, Decision, said_of, Images, PolicyRun, RunHasStatus, RunAgrees, exactly, ReturnsDue, ReviewRoots, document_given, documents_from, documents_given, parts_given, root_refusal, uid_in, uid_of, RunError, ReviewRefused, NamespaceOrParamsRefused, OutOfSteps, OverLimit}
+use Rattle.serde_json.specs.Data as json
+use Rattle.bpf_machine.specs.declared.status.Status.TheVariants.{Fault}
+use Rattle.policy_glue.specs.Checking as checking
+use Rattle.policy_glue.specs.Response.{response_of}
+use Rattle.policy_glue.specs.declared.outcome.Outcome.{Outcome}
+use Rattle.admission.specs.Deciding.{answer_of, is_allowed}
+use Rattle.admission.specs.declared.run_error.RunError.TheVariants.{Memory}
+use Rattle.admission.proofs.RootContents.{are_five, are_started, contents_are, has_values, refused_documents, refused_roots, uid_is}
+
+-- ---- findings
+
+-- as many parts come out as went in
+ends_length : {A B : Type 0} (T : List B → A → B → Type 0) (R : List B → A → CompileError → Type 0) (taken : List B) (parts : List A) (end : Result (List B) CompileError) (out : List B)
+    → TakenOrRefused T R taken parts end → end ≡ Ok out → length out ≡ length taken + length parts
+ends_length T R taken [] end out checking.over e = let same : taken ≡ out = cc in omega (arith, ap length same)
+ends_length T R taken (part ∷ more) end out (checking.refused err why) e = cc
+ends_length T R taken (part ∷ more) end out (checking.next tree took rest) e =
+    let ih = ends_length T R (taken ++ tree ∷ []) more end out rest e in
+    omega (arith, ih, length_push taken tree)
+
+parts_length : (p : Policy) (end : Result PolicyTree CompileError) (t : PolicyTree) → PartsEnd p end → end ≡ Ok t → length t.validations ≡ length p.validations
+parts_length p end t (checking.taken vs cs rs v c r) e =
+    let same : record { variables = vs; conditions = cs; validations = rs } ≡ t = cc in
+    let many = ends_length _ _ [] p.validations (Ok rs) rs r refl in
+    omega (arith, ap (λ (u : PolicyTree). length u.validations) same, many)
+parts_length p end t other e = cc
+
+pub compiled_length : (p : Policy) (end : Result PolicyTree CompileError) (t : PolicyTree) → Compiles p end → end ≡ Ok t → length t.validations ≡ length p.validations
+compiled_length p end t compiles e = grind (arith, parts_length)
+
+findings_by : (o : Option Outcome) (f : FailurePolicy) (xs : List Finding) → length (decided o (judged_by f xs)).findings ≤ length xs
+findings_by o f xs = grind arith
+
+pub few_findings : (f : FailurePolicy) (t : PolicyTree) (roots : Roots) → length (decision_of f t roots).findings ≤ length t.validations
+unfolding decision_of verdict_of
+few_findings f t roots = grind (arith, findings_by, length-map)
+
+-- ---- where the program stands
+
+-- the laws of starts and of the states behind them
+pub record Laws : Type 0 where
+  pub tables : StartsAreTables
+  pub canonical : StartIsCanonical
+  pub states : StatesAreKept
+
+-- a refusal of documents
+abbrev IsOfDocuments : RunError → Type 0
+IsOfDocuments e = (e ≡ ReviewRefused) ⊎ (e ≡ NamespaceOrParamsRefused)
+
+given_refusal : (a : Option ReviewRoots) (b c : Option json.Data) (e : RunError) → documents_from a b c ≡ Err e → IsOfDocuments e
+given_refusal a b c e is = grind arith
+
+by_test : (b : Bool) → IsOfDocuments (if b then NamespaceOrParamsRefused else ReviewRefused)
+by_test b = grind arith
+
+module _ (gate : PolicyAndImage) (d : Documents) (of : IsPolicyOf d.policy gate) (n : ℕ) where
+  abbrev policy : IsPolicy d.policy
+  policy = record { rules = gate.policy; is_said = of.0; trees = of.1.trees; compiles = of.1.compiles }
+
+  -- what the program has left of a review, and how the image stands
+  abbrev pub ExitsSo : Result Exit RunError → Type 0
+  ExitsSo result = Exits gate.policy d n result × RunAgrees (exactly gate.image) d n result
+
+  by_documents : (e : RunError) → values_given d ≡ Err e → IsOfDocuments e → ExitsSo (Err e)
+  by_documents e is of = grind (arith, policy)
+
+  -- the documents are refused
+  pub not_given : (e : RunError) → ReturnsDue {B = List Value} (λ ds. map view ds) (documents_given (Some d.review) d.namespace d.params) (Err e) → ExitsSo (Err e)
+  unfolding documents_given
+  not_given Memory due = (tt, tt)
+  not_given e due = by_documents e (refused_documents d.review d.namespace d.params e due) (given_refusal (parts_given (Some d.review)) (document_given d.namespace) (document_given d.params) e due)
+
+  module _ (documents : List json.Data) (are_documents : documents_given (Some d.review) d.namespace d.params ≡ Ok documents) where
+    no_roots : (e : TableError) → start_contents documents ≡ Err e → IsOfDocuments (root_refusal e) → ExitsSo (Err (root_refusal e))
+    no_roots e is = by_documents (root_refusal e) (refused_roots d.review d.namespace d.params documents e are_documents is)
+
+    -- the roots are refused
+    pub not_started : (e : TableError) → StoreStarts {S = Contents} (λ c. c) (start_contents documents) (Err e) → ExitsSo (Err (root_refusal e))
+    not_started e due = grind (arith, by_test, no_roots)
+
+    module _ (laws : Laws) (roots : Roots) (starts : start_contents documents ≡ Ok (started roots)) where
+      abbrev f : FailurePolicy
+      f = gate.policy.failure_policy
+
+      abbrev s : State
+      s = state_after n (start_state gate.image (started roots))
+
+      abbrev run : PolicyRun d
+      run = record {
+        case = record { policy = policy; roots = roots; are_given = contents_are d.review d.namespace d.params documents (started roots) are_documents starts };
+        image = gate.image;
+        program = of.1.program;
+      }
+
+      has : HasValues roots (started roots)
+      has = has_values laws.tables laws.canonical documents roots (are_five (Some d.review) d.namespace d.params documents are_documents) starts
+
+      -- where it is stopped it has decided
+      stopped : is_running s.status ≡ false → Decides f of.1.trees roots (started roots) s
+      stopped still = of.1.program.stops roots (started roots) n has still
+
+      decides : 128 * policy_work f of.1.trees roots ≤ n → Decides f of.1.trees roots (started roots) s
+      decides far = of.1.program.decides roots (started roots) n has far
+
+      not_running : Decides f of.1.trees roots (started roots) s → s.status ≡ Running → ⊥
+      not_running decided running = grind arith
+
+      standing : (due : Verdict → Status) → s.status ≡ due (decision run.case) → RunHasStatus (exactly gate.image) d n due
+      standing due is = record { run = run; is_meant = refl; status = is }
+
+      unended : s.status ≡ Running → ExitsSo (Err OutOfSteps)
+      unended running =
+          elim (cases_lt n (128 * policy_work f of.1.trees roots)) [
+            | inl before ↦ (record { case = run.case; early = before }, standing (λ v. Running) running)
+            | inr not_before ↦ absurd (not_running (decides not_before) running)
+          ]
+
+      stopped_by : (fault : GuestFault) → s.status ≡ Fault fault → Decides f of.1.trees roots (started roots) s → ExitsSo (Err OverLimit)
+      stopped_by fault is (OutOfBudget by why) = (record { case = run.case; beyond = why }, standing (λ v. Fault F8) by)
+      stopped_by fault is (LeavesByExit by layout) = cc
+
+      exit_by : (w : ℕ) → s.status ≡ Exited w → Decides f of.1.trees roots (started roots) s → ExitsSo (Ok (record { state = s; uid = uid_in d.review }))
+      exit_by w is (OutOfBudget by why) = cc
+      exit_by w is (LeavesByExit by layout) =
+          let memory = (laws.states.after gate.image (started roots) n of.1.program.code of.1.program.constants has.table).memory in
+          let many = compiled_length gate.policy (Ok of.1.trees) of.1.trees of.1.compiles refl in
+          let few : length (decision run.case).findings ≤ length gate.policy.validations = omega (arith, few_findings f of.1.trees roots, many) in
+          (record { case = run.case; of_policy = refl; is_memory = memory; few = few; layout = layout; uid_is = refl }, standing (λ v. Exited (outcome_word v.outcome)) by)
+
+      ended : HasExited s.status (Ok tt) → ExitsSo (Ok (record { state = s; uid = uid_in d.review }))
+      ended exited = exit_by exited.0 exited.1 (stopped (ap is_running exited.1))
+
+      not_ended : (e : RunError) → HasExited s.status (Err e) → ExitsSo (Err e)
+      not_ended OutOfSteps running = unended running
+      not_ended OverLimit faulted = stopped_by faulted.0 faulted.1 (stopped (ap is_running faulted.1))
+      not_ended e none = absurd none
+
+    module _ (laws : Laws) (values : Contents) (starts : start_contents documents ≡ Ok values) (machine : State) (is : machine ≡ state_after n (start_state gate.image values)) where
+      -- what holds of a state behind a start on roots holds of the machine
+      of_machine : (P : State → Type 0) → ((roots : Roots) → start_contents documents ≡ Ok (started roots) → P (state_after n (start_state gate.image (started roots)))) → P machine
+      of_machine P of_roots =
+          let begun = are_started documents values (are_five (Some d.review) d.namespace d.params documents are_documents).five starts in
+          subst P (sym is) (subst (λ (v : Contents). P (state_after n (start_state gate.image v))) (sym begun.are) (of_roots begun.roots (starts ∙ ap Ok begun.are)))
+
+      -- the program has not exited
+      pub not_exited : (e : RunError) → HasExited machine.status (Err e) → ExitsSo (Err e)
+      not_exited e = of_machine (λ s. HasExited s.status (Err e) → ExitsSo (Err e)) (λ roots begins. not_ended laws roots begins e)
+
+      -- the program has exited
+      pub has_exited : (request : json.Data) (uid : List ℕ) → (length documents ≡ 5 → slice_get documents 4 ≡ Some request) → uid ≡ uid_of request
+          → HasExited machine.status (Ok tt) → ExitsSo (Ok (record { state = machine; uid = uid }))
+      has_exited request uid at of_request =
+          let five = (are_five (Some d.review) d.namespace d.params documents are_documents).five in
+          let same : uid ≡ uid_in d.review = of_request ∙ uid_is d.review d.namespace d.params documents request are_documents (at five) in
+          of_machine (λ s. HasExited s.status (Ok tt) → ExitsSo (Ok (record { state = s; uid = uid })))
+          (λ roots begins exited. subst (λ (u : List ℕ). ExitsSo (Ok (record { state = state_after n (start_state gate.image (started roots)); uid = u }))) (sym same) (ended laws roots begins exited))
+
+-- the fifth document
+pub at_four : (ds : List Value) (x : Value) → length (map view ds) ≡ 5 → slice_get (map view ds) 4 ≡ Some (view (get_or ds 4 x))
+at_four (a ∷ b ∷ c ∷ e ∷ g ∷ more) x five = refl
+at_four ds x five = absurd (omega (arith, five))
+
+-- ---- what is made of it
+
+-- a refusal of a review says the same, whatever is answered else
+pub refused_so : (A B : Type 0) (chosen : Images) (d : Documents) (n : ℕ) (e : RunError) → RunAgrees {A = A} chosen d n (Err e) → RunAgrees {A = B} chosen d n (Err e)
+refused_so A B chosen d n OutOfSteps stands = stands
+refused_so A B chosen d n OverLimit stands = stands
+refused_so A B chosen d n e stands = tt
+
+-- the word of an outcome states it
+outcome_told : (o : Outcome) → outcome_of (outcome_word o) ≡ o
+outcome_told o = grind arith
+
+-- a reply of this text, which allows what the outcome that this word states allows
+pub replied : (p : Policy) (v : Verdict) (uid response : List ℕ) (allowed : Bool) (word : ℕ) → response ≡ response_of p v uid
+    → word ≡ outcome_word v.outcome → allowed ≡ is_allowed (outcome_of word) → record { response = response; allowed = allowed } ≡ answer_of p v uid
+replied p v uid response allowed word text told allows = grind (arith, outcome_told)
+
+-- the reply to the verdict that was left
+pub answered : (p : Policy) (d : Documents) (exit : Exit) (answer : Reply) → IsExit p d exit → OfVerdict p exit.state (λ v. answer ≡ answer_of p v exit.uid) → IsAnswered d answer
+answered p d exit answer is of = record {
+  case = is.case;
+  answer_is = of (decision is.case) is.is_memory is.few is.layout ∙ ap (answer_of p (decision is.case)) is.uid_is
+      ∙ ap (λ (q : Policy). answer_of q (decision is.case) (uid_in d.review)) (sym is.of_policy);
+}
+
+-- what the verdict that was left says
+pub said_so : (p : Policy) (d : Documents) (exit : Exit) (said : Decision) → IsExit p d exit → OfVerdict p exit.state (λ v. said ≡ said_of p v exit.uid) → IsSaid d said
+said_so p d exit said is of = record {
+  case = is.case;
+  said_is = of (decision is.case) is.is_memory is.few is.layout ∙ ap (said_of p (decision is.case)) is.uid_is
+      ∙ ap (λ (q : Policy). said_of q (decision is.case) (uid_in d.review)) (sym is.of_policy);
+}

@@ -1,0 +1,5 @@
+use Rattle.admission.proofs.Standing.{of_one}
+use Rattle.admission.proofs.reviewing.review.Goals as goal
+
+pub returns-clause-runs : goal.returns-clause-runs
+returns-clause-runs c = of_one _ _ _ _ _ c.in_ok-gate.ensures.compiles.0 c.in_ok-gate.ensures.one (c.decide.ensures.runs _ c.in_ok-gate.ensures.compiles)

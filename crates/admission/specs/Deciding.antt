@@ -1,0 +1,145 @@
+-- The answer to a review under a policy.
+use Rattle.std.specs.Prelude.{◌≡◌, ℕ, ◌+◌, ◌*◌, ◌<◌, ◌⊎◌, Bool, true, false, List, [], ◌∷◌, ◌++◌, map, Option, Some, Result, Ok, Err}
+use Rattle.value_store.specs.Placing.{Contents, charge_limit, first_values}
+use Rattle.value_store.specs.Roots.{sizes}
+use Rattle.value_store.specs.Value.{Value, value}
+use Rattle.cel_macros.specs.Environment.{Roots}
+use Rattle.policy_glue.specs.Budget.{IsDeepPolicy, policy_spent, policy_work}
+use Rattle.policy_glue.specs.Compiled.{IsCompiled}
+use Rattle.policy_glue.specs.Evaluation.{decision_of}
+use Rattle.policy_glue.specs.Limits.{Compiles}
+use Rattle.policy_glue.specs.Policy.{Policy}
+use Rattle.policy_glue.specs.Reading.{policy_in}
+use Rattle.policy_glue.specs.Response.{response_of}
+use Rattle.policy_glue.specs.Trees.{PolicyTree}
+use Rattle.policy_glue.specs.Verdict.{Verdict}
+use Rattle.policy_glue.specs.declared.outcome.Outcome.{Outcome, TheVariants.Skipped, TheVariants.Rejected, TheVariants.Denied, TheVariants.Admitted}
+use Rattle.admission.specs.Reviews.{contents_given, uid_in}
+use Rattle.admission.specs.declared.policy_and_image.PolicyAndImage.{PolicyAndImage}
+use Rattle.admission.specs.declared.policy_refusal.PolicyRefusal.{PolicyRefusal, TheVariants.Unread, TheVariants.Uncompiled}
+use Rattle.admission.specs.declared.policy_refusal.PolicyRefusal.TheVariants as policy_refusal
+use Rattle.admission.specs.declared.reply.Reply.{Reply as CodeReply}
+use Rattle.admission.specs.declared.run_error.RunError.{RunError}
+use Rattle.admission.specs.declared.run_error.RunError.TheVariants.{PolicyRefused, ReviewRefused, NamespaceOrParamsRefused, OutOfSteps, OverLimit, Memory}
+
+-- ---- replies
+
+-- the text of a response, and whether it allows the request
+pub record Reply : Type 0 where
+  pub response : List ℕ
+  pub allowed : Bool
+
+-- whether an outcome allows the request
+abbrev pub is_allowed : Outcome → Bool
+is_allowed Skipped = true
+is_allowed Rejected = false
+is_allowed Denied = false
+is_allowed Admitted = true
+
+-- the answer to the request with this uid, by the verdict
+abbrev pub answer_of : Policy → Verdict → List ℕ → Reply
+answer_of p v uid = record { response = response_of p v uid; allowed = is_allowed v.outcome }
+
+-- the same of what the code answers
+abbrev pub answer_view : Result CodeReply RunError → Result Reply RunError
+answer_view (Ok reply) = Ok (record { response = reply.response.items; allowed = reply.allowed })
+answer_view (Err e) = Err e
+
+-- ---- policies
+
+-- a document says a policy that is compiled
+pub record IsPolicy (document : List ℕ) : Type 0 where
+  pub rules : Policy
+  pub is_said : policy_in document ≡ Ok rules
+  pub trees : PolicyTree
+  pub compiles : Compiles rules (Ok trees)
+
+-- why a document gives no image
+abbrev pub IsPolicyRefused : List ℕ → PolicyRefusal → Type 0
+IsPolicyRefused document (Unread e) = policy_in document ≡ Err e
+IsPolicyRefused document (Uncompiled e) = (p : Policy) × (policy_in document ≡ Ok p) × Compiles p (Err e)
+IsPolicyRefused document policy_refusal.Memory = ⊥
+
+-- a document says this policy, and this is an image of it
+abbrev pub IsPolicyOf : List ℕ → PolicyAndImage → Type 0
+IsPolicyOf document c = (policy_in document ≡ Ok c.policy) × IsCompiled c.policy c.image
+
+-- the policy and its image, or why there is none; or the host has no memory for it
+abbrev pub CompilesDocument : List ℕ → Result PolicyAndImage PolicyRefusal → Type 0
+CompilesDocument document (Ok c) = IsPolicyOf document c
+CompilesDocument document (Err (Unread e)) = IsPolicyRefused document (Unread e)
+CompilesDocument document (Err (Uncompiled e)) = IsPolicyRefused document (Uncompiled e)
+CompilesDocument document (Err policy_refusal.Memory) = Unit {0}
+
+-- ---- roots
+
+-- the roots in the order of their references, from 4 on
+abbrev pub values_of_roots : Roots → List Value
+values_of_roots r = r.object ∷ r.old_object ∷ r.params ∷ r.namespace_object ∷ r.request ∷ []
+
+-- the contents at the start, with these roots
+abbrev pub started : Roots → Contents
+started r = record { values = first_values ++ map value (values_of_roots r); charge = sizes (values_of_roots r) }
+
+-- ---- reviews
+
+-- the documents of a policy and of a review
+pub record Documents : Type 0 where
+  pub policy : List ℕ
+  pub review : List ℕ
+  pub namespace : Option (List ℕ)
+  pub params : Option (List ℕ)
+
+-- the values at the start of a review's roots, or its refusal
+abbrev pub values_given : Documents → Result Contents RunError
+values_given d = contents_given (Some d.review) d.namespace d.params
+
+-- what is to be decided: the policy that one document says, and the roots that the others give
+pub record Case (d : Documents) : Type 0 where
+  pub policy : IsPolicy d.policy
+  pub roots : Roots
+  pub are_given : values_given d ≡ Ok (started roots)
+
+-- what the policy decides
+abbrev pub decision : {d : Documents} → Case d → Verdict
+decision case = decision_of case.policy.rules.failure_policy case.policy.trees case.roots
+
+-- the units of work of deciding it
+abbrev pub work : {d : Documents} → Case d → ℕ
+work case = policy_work case.policy.rules.failure_policy case.policy.trees case.roots
+
+-- the bound on its charge is above the limit, or a value is too deep
+abbrev pub IsBeyond : {d : Documents} → Case d → Type 0
+IsBeyond case =
+    (charge_limit < (started case.roots).charge + 16 * policy_spent case.policy.rules.failure_policy case.policy.trees case.roots)
+    ⊎ IsDeepPolicy case.policy.rules.failure_policy case.policy.trees case.roots
+
+-- the answer is that to the policy's verdict
+pub record IsAnswered (d : Documents) (answer : Reply) : Type 0 where
+  pub case : Case d
+  pub answer_is : answer ≡ answer_of case.policy.rules (decision case) (uid_in d.review)
+
+-- n steps are fewer than the work may take
+pub record IsUnended (d : Documents) (n : ℕ) : Type 0 where
+  pub case : Case d
+  pub early : n < 128 * work case
+
+-- the charge of the work may pass the limit, or a value is too deep
+pub record IsStopped (d : Documents) : Type 0 where
+  pub case : Case d
+  pub beyond : IsBeyond case
+
+-- why a review has no response: the first refusal, of the policy, of the documents, of the run of the policy's program,
+-- which may take n steps; or the host has no memory for it
+abbrev pub HasNoResponse : Documents → ℕ → RunError → Type 0
+HasNoResponse d n (PolicyRefused e) = IsPolicyRefused d.policy e
+HasNoResponse d n ReviewRefused = IsPolicy d.policy × (values_given d ≡ Err ReviewRefused)
+HasNoResponse d n NamespaceOrParamsRefused = IsPolicy d.policy × (values_given d ≡ Err NamespaceOrParamsRefused)
+HasNoResponse d n OutOfSteps = IsUnended d n
+HasNoResponse d n OverLimit = IsStopped d
+HasNoResponse d n Memory = Unit {0}
+
+-- the answer to a review, or why it has none
+abbrev pub Reviews : Documents → ℕ → Result Reply RunError → Type 0
+Reviews d n (Ok answer) = IsAnswered d answer
+Reviews d n (Err e) = HasNoResponse d n e

@@ -1,0 +1,51 @@
+-- Where the program of a policy has exited on a review, and the verdict that it left.
+use Rattle.std.specs.Prelude.{◌≡◌, ℕ, ◌≤◌, List, length, Result, Ok, Err, String, string_bytes}
+use Rattle.std.specs.declared.alloc.Global.{Global}
+use Rattle.guest_memory.specs.Memory.{IsMemory}
+use Rattle.guest_memory.specs.declared.fault.Fault as guest
+use Rattle.bpf_machine.specs.State.{State}
+use Rattle.bpf_machine.specs.declared.status.Status.{Status, TheVariants.Exited, TheVariants.Fault, TheVariants.Running}
+use Rattle.policy_glue.specs.Layout.{IsLayout}
+use Rattle.policy_glue.specs.Policy.{Policy}
+use Rattle.policy_glue.specs.Verdict.{Verdict}
+use Rattle.admission.specs.Deciding.{Case, Documents, HasNoResponse, decision}
+use Rattle.admission.specs.Reviews.{uid_in}
+use Rattle.admission.specs.declared.run_error.RunError.{RunError, TheVariants.OutOfSteps, TheVariants.OverLimit}
+
+-- the state in which the program has exited, and the uid of the request
+pub record Exit : Type 0 where
+  pub state : State
+  pub uid : List ℕ
+
+-- the same of what the code answers
+abbrev pub exit_view : Result (State × String Global) RunError → Result Exit RunError
+exit_view (Ok p) = Ok (record { state = p.0; uid = string_bytes p.1 })
+exit_view (Err e) = Err e
+
+-- the program has exited with the verdict of this policy in its verdict region
+pub record IsExit (p : Policy) (d : Documents) (exit : Exit) : Type 0 where
+  pub case : Case d
+  pub of_policy : case.policy.rules ≡ p
+  pub is_memory : IsMemory exit.state.memory
+  pub few : length (decision case).findings ≤ length p.validations
+  pub layout : IsLayout p.failure_policy (decision case) exit.state.values.values exit.state.memory.verdict
+  pub uid_is : exit.uid ≡ uid_in d.review
+
+-- the program has exited, or why the review has no response
+abbrev pub Exits : Policy → Documents → ℕ → Result Exit RunError → Type 0
+Exits p d n (Ok exit) = IsExit p d exit
+Exits p d n (Err e) = HasNoResponse d n e
+
+-- ---- parts
+
+-- this holds of the verdict in the verdict region
+abbrev pub OfVerdict : Policy → State → (Verdict → Type 0) → Type 0
+OfVerdict p s holds = (v : Verdict) → IsMemory s.memory → length v.findings ≤ length p.validations
+    → IsLayout p.failure_policy v s.values.values s.memory.verdict → holds v
+
+-- a program has exited, or has no verdict by its status; it takes no memory to tell
+abbrev pub HasExited : Status → Result (Unit {0}) RunError → Type 0
+HasExited s (Ok u) = (w : ℕ) × (s ≡ Exited w)
+HasExited s (Err OutOfSteps) = s ≡ Running
+HasExited s (Err OverLimit) = (f : guest.Fault) × (s ≡ Fault f)
+HasExited s (Err e) = ⊥

@@ -1,0 +1,11 @@
+pub mod ErrorCodes
+pub mod Refusals
+pub mod Reviews
+pub mod Deciding
+pub mod Lent
+pub mod OneAnswer
+pub mod Saying
+pub mod Exiting
+pub mod Standing
+pub mod RootRows
+pub mod RootValues

@@ -1,0 +1,226 @@
+//! Policies that are compiled once and decide many reviews.
+ghost use Rattle.std.specs.Prelude.{◌≡◌, ℕ, List, IfOk, string_bytes};
+ghost use Rattle.serde_json.specs.View.{view};
+ghost use Rattle.bpf_machine.specs.State.{start_state};
+ghost use Rattle.bpf_machine.specs.Starts.{StartsAreTables};
+ghost use Rattle.bpf_machine.specs.States.{StatesAreKept};
+ghost use Rattle.bpf_machine.specs.Trace.{state_after};
+ghost use Rattle.value_store.specs.Laws.{StartIsCanonical};
+ghost use Rattle.policy_glue.specs.OneImage.{OneImage};
+ghost use Rattle.admission.specs.Deciding.{answer_of, answer_view, is_allowed, CompilesDocument, IsPolicyOf, Reviews};
+ghost use Rattle.admission.specs.Exiting.{exit_view, Exits, HasExited, OfVerdict};
+ghost use Rattle.admission.specs.Lent.{documents_lent};
+ghost use Rattle.admission.specs.Reviews.{uid_of};
+ghost use Rattle.admission.specs.Saying.{said_of, said_value, said_view, DecidesReview};
+ghost use Rattle.admission.specs.Standing.{exactly, RunAgrees};
+
+use crate::decision::Decision;
+use crate::policy_and_image::compiled;
+use crate::policy_refusal::PolicyRefusal;
+use crate::reply::Reply;
+use crate::root_values::root_documents;
+use crate::run_error::RunError;
+use bpf_machine::laws::{starts_are_tables, states_are_kept};
+use bpf_machine::{Machine, Program, Status};
+use guest_memory::Guest;
+use policy_glue::{Outcome, Policy, Verdict, rejection_of, respond};
+use serde_json::Value;
+use std::alloc::{AllocError, Global};
+use std::marker::Model;
+use value_store::ValueStore;
+use value_store::laws::values_are_as_said;
+use value_table::Table;
+
+/// A policy that is compiled and decoded once and decides any number of reviews. No decision
+/// changes it, nor one that fails for want of memory.
+#[derive(Drop)]
+pub struct Gate {
+    alloc: Global,
+    policy: Policy,
+    program: Program,
+}
+
+impl Model for Gate {
+    ghost use Rattle.admission.specs.declared.policy_and_image.PolicyAndImage.{PolicyAndImage};
+
+    ghost Value = { PolicyAndImage };
+
+    ghost view = { λ g. record { policy = g.policy; image = g.program } };
+}
+
+impl Gate {
+    /// The gate of the policy (ValidatingAdmissionPolicy, `admissionregistration.k8s.io/v1`) in a
+    /// document.
+    ///
+    /// # Errors
+    ///
+    /// Why the policy gives no image. `Memory` where memory runs out, which says nothing of the
+    /// policy.
+    pub fn new(alloc: Global, policy: &[u8]) -> Result<Gate, PolicyRefusal>
+        ensures compiles { CompilesDocument policy.now result }
+        // Which image it has, of those that decide as the policy does.
+        ensures one { IfOk result (λ g. OneImage g.policy g.image) }
+    {
+        let compiled = compiled(alloc, policy)?;
+        let program = Program::new(alloc, compiled.image)?;
+        Ok(Gate {
+            alloc,
+            policy: compiled.policy,
+            program,
+        })
+    }
+
+    /// The response to a review (AdmissionReview, `admission.k8s.io/v1`) under the policy, whose
+    /// program may take at most `n` steps. Roots whose documents are not given are null.
+    ///
+    /// # Errors
+    ///
+    /// The first refusal: of the documents `ReviewRefused` and `NamespaceOrParamsRefused` as
+    /// `roots` has them; `OutOfSteps` exactly if the program still runs after `n` steps,
+    /// `OverLimit` exactly if it was stopped before. `Memory` where memory runs out, which says
+    /// nothing of the rest.
+    pub fn decide(
+        &self,
+        review: &[u8],
+        namespace: Option<&[u8]>,
+        params: Option<&[u8]>,
+        n: u64,
+    ) -> Result<Reply, RunError>
+        // It answers as `review` does under each policy document that gives this gate.
+        ensures reviews { (policy : List ℕ) → IsPolicyOf policy self.now → Reviews (documents_lent policy review.now namespace.entry params.entry) n (answer_view result) }
+        // And its image stands as the answer says.
+        ensures runs { (policy : List ℕ) → IsPolicyOf policy self.now → RunAgrees (exactly self.now.image) (documents_lent policy review.now namespace.entry params.entry) n (answer_view result) }
+    {
+        let (machine, uid) = self.run(review, namespace, params, n)?;
+        Ok(reply(self.alloc, &self.policy, &machine, uid.as_str())?)
+    }
+
+    /// What the policy says of a review, in the terms of `decide`.
+    ///
+    /// # Errors
+    ///
+    /// The first refusal, as `decide` has them.
+    pub fn say(
+        &self,
+        review: &[u8],
+        namespace: Option<&[u8]>,
+        params: Option<&[u8]>,
+        n: u64,
+    ) -> Result<Decision, RunError>
+        ensures says { (policy : List ℕ) → IsPolicyOf policy self.now → DecidesReview (documents_lent policy review.now namespace.entry params.entry) n (said_view result) }
+        ensures runs { (policy : List ℕ) → IsPolicyOf policy self.now → RunAgrees (exactly self.now.image) (documents_lent policy review.now namespace.entry params.entry) n (said_view result) }
+    {
+        let (machine, uid) = self.run(review, namespace, params, n)?;
+        Ok(said(self.alloc, &self.policy, &machine, uid)?)
+    }
+
+    /// The machine in which the policy's program has exited on a review, and the uid of its
+    /// request.
+    fn run(
+        &self,
+        review: &[u8],
+        namespace: Option<&[u8]>,
+        params: Option<&[u8]>,
+        n: u64,
+    ) -> Result<(Machine<Table, Guest>, String), RunError>
+        ensures exits { (policy : List ℕ) → IsPolicyOf policy self.now → Exits self.now.policy (documents_lent policy review.now namespace.entry params.entry) n (exit_view result) }
+        ensures runs { (policy : List ℕ) → IsPolicyOf policy self.now → RunAgrees (exactly self.now.image) (documents_lent policy review.now namespace.entry params.entry) n (exit_view result) }
+    {
+        starts_stand();
+        let documents = root_documents(self.alloc, Some(review), namespace, params)?;
+        // The table takes the documents, and what it refuses counts before want of memory for the
+        // uid.
+        let uid = String::from_str(self.alloc, uid_of(&documents[4]));
+        let table = Table::of_documents(self.alloc, documents)?;
+        let uid = uid?;
+        let machine = ran(self.alloc, &self.program, table, n)?;
+        has_exited(&machine)?;
+        Ok((machine, uid))
+    }
+}
+
+/// What is known of every start on roots, and of every state behind it.
+fn starts_stand()
+    ensures tables { StartsAreTables }
+    ensures canonical { StartIsCanonical }
+    ensures states { StatesAreKept }
+{
+    starts_are_tables();
+    values_are_as_said();
+    states_are_kept();
+}
+
+/// The machine where a run of at most `n` steps stands.
+fn ran(
+    alloc: Global,
+    program: &Program,
+    table: Table,
+    n: u64,
+) -> Result<Machine<Table, Guest>, AllocError>
+    ensures { IfOk result (λ m. m ≡ state_after n (start_state program.now (record { values = ⟦<Table as ValueStore>⟧.values table; charge = ⟦<Table as ValueStore>⟧.charge table }))) }
+{
+    let mut machine = Machine::<Table, Guest>::of_program(alloc, program.copy()?, table)?;
+    machine.run(n)?;
+    Ok(machine)
+}
+
+/// The uid of a request, which has one.
+fn uid_of(request: &Value) -> &str
+    ensures { result.now ≡ uid_of (view request.now) }
+{
+    match request.get("uid") {
+        Some(Value::String(uid)) => uid.as_str(),
+        _ => "",
+    }
+}
+
+/// That the policy's program has exited, or why it left no verdict. It takes no memory.
+fn has_exited(machine: &Machine<Table, Guest>) -> Result<(), RunError>
+    ensures { HasExited machine.now.status result }
+{
+    match machine.status() {
+        Status::Exited(_) => Ok(()),
+        Status::Fault(_) => Err(RunError::OverLimit),
+        Status::Running => Err(RunError::OutOfSteps),
+    }
+}
+
+/// The reply to the request with this uid, by the verdict that the policy's program has left.
+#[tactic(auto, using(crate::proofs::Decided::replied))]
+fn reply(
+    alloc: Global,
+    policy: &Policy,
+    machine: &Machine<Table, Guest>,
+    uid: &str,
+) -> Result<Reply, AllocError>
+    ensures { IfOk result (λ r. OfVerdict policy.now machine.now (λ v. (record { response = r.response.items; allowed = r.allowed }) ≡ answer_of policy.now v uid.now)) }
+{
+    let verdict = Verdict::of(machine.memory(), machine.values(), policy);
+    let response = respond(alloc, policy, &verdict, uid)?;
+    let allowed = allows(Outcome::of_word(verdict.outcome));
+    Ok(Reply { response, allowed })
+}
+
+/// Whether this outcome allows the request: the policy was skipped, or admits it.
+fn allows(outcome: Outcome) -> bool
+    ensures { result ≡ is_allowed outcome }
+{
+    match outcome {
+        Outcome::Skipped | Outcome::Admitted => true,
+        Outcome::Rejected | Outcome::Denied => false,
+    }
+}
+
+/// What is said to the request with this uid, by the verdict that the policy's program has left.
+fn said(
+    alloc: Global,
+    policy: &Policy,
+    machine: &Machine<Table, Guest>,
+    uid: String,
+) -> Result<Decision, AllocError>
+    ensures { IfOk result (λ x. OfVerdict policy.now machine.now (λ v. said_value x ≡ said_of policy.now v (string_bytes uid))) }
+{
+    let verdict = Verdict::of(machine.memory(), machine.values(), policy);
+    let rejection = rejection_of(alloc, policy, &verdict)?;
+    Ok(Decision { rejection, uid })
+}

@@ -1,0 +1,25 @@
+//! Reviews, decided under policies that are compiled once: `Gate` is a policy with its program,
+//! `review` a review under a policy's document, `roots` the values that a review gives.
+#![tactic(auto)]
+
+mod decision;
+mod gate;
+pub mod laws;
+mod optional_document;
+mod policy_and_image;
+mod policy_refusal;
+mod reply;
+mod review_document;
+mod reviewing;
+mod root_values;
+pub mod rows;
+mod run_error;
+
+pub use decision::Decision;
+pub use gate::Gate;
+pub use policy_and_image::{PolicyAndImage, compiled};
+pub use policy_refusal::PolicyRefusal;
+pub use reply::Reply;
+pub use reviewing::review;
+pub use root_values::roots;
+pub use run_error::RunError;

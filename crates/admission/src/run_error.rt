@@ -1,0 +1,99 @@
+//! Why a review has no response.
+ghost use Rattle.std.specs.Prelude.{◌≡◌};
+ghost use Rattle.admission.specs.Refusals.{run_policy_refusal};
+ghost use Rattle.admission.specs.Reviews.{refusal_at, root_refusal};
+ghost use Rattle.admission.specs.declared.run_error.RunError.TheVariants as run_error;
+
+use crate::policy_refusal::PolicyRefusal;
+use std::alloc::AllocError;
+use thiserror::Error;
+use value_store::TableError;
+
+/// Why a review has no response. The policy is tested first, then the form of the review, the
+/// namespace and the params, then the roots. The program is run last.
+#[derive(Clone, Copy, Debug, PartialEq, Eq, Error)]
+pub enum RunError {
+    /// The policy is refused, and why.
+    #[error("the policy is refused")]
+    PolicyRefused(PolicyRefusal),
+    /// The review is not a JSON text or does not have the form of a review; or the root object,
+    /// oldObject or request is refused; or the roots together are too large.
+    #[error("the review is refused")]
+    ReviewRefused,
+    /// The namespace or the params are not a JSON text, or are refused as a root.
+    #[error("the namespace or the params are refused")]
+    NamespaceOrParamsRefused,
+    /// The program of the policy did not end within the given number of steps.
+    #[error("the policy's program has not ended")]
+    OutOfSteps,
+    /// The program of the policy was stopped by `F8`: the charge would be above 16,777,216, or a
+    /// list or map deeper than 255.
+    #[error("the policy's program was stopped")]
+    OverLimit,
+    /// An allocation failed.
+    #[error("out of memory")]
+    Memory,
+}
+
+impl RunError {
+    ghost use Rattle.std.specs.Prelude.{◌≤◌, length};
+    ghost use Rattle.admission.specs.ErrorCodes.{run_error_code};
+
+    /// The error's code, `N1` to `N5` or `memory`, without that of a refused policy.
+    pub fn code(&self) -> &'static str
+        ensures text { result.now ≡ run_error_code self.now }
+        ensures length { length result.now ≤ 6 }
+    {
+        match self {
+            RunError::PolicyRefused(_) => "N1",
+            RunError::ReviewRefused => "N2",
+            RunError::NamespaceOrParamsRefused => "N3",
+            RunError::OutOfSteps => "N4",
+            RunError::OverLimit => "N5",
+            RunError::Memory => "memory",
+        }
+    }
+}
+
+impl From<AllocError> for RunError {
+    ghost from_gives = { λ _ e. e ≡ run_error.Memory };
+
+    fn from(_error: AllocError) -> RunError {
+        RunError::Memory
+    }
+}
+
+impl From<PolicyRefusal> for RunError {
+    ghost from_gives = { λ e r. r ≡ run_policy_refusal e };
+
+    fn from(error: PolicyRefusal) -> RunError {
+        match error {
+            PolicyRefusal::Memory => RunError::Memory,
+            _ => RunError::PolicyRefused(error),
+        }
+    }
+}
+
+impl From<TableError> for RunError {
+    ghost from_gives = { λ e r. r ≡ root_refusal e };
+
+    fn from(error: TableError) -> RunError {
+        match error {
+            TableError::NotAnObject(place) => refusal_at(place),
+            TableError::NumberOutOfInt64(place) => refusal_at(place),
+            TableError::RootsTooLarge => RunError::ReviewRefused,
+            TableError::Memory => RunError::Memory,
+        }
+    }
+}
+
+/// The refusal of the root at a reference.
+fn refusal_at(place: u64) -> RunError
+    ensures { result ≡ refusal_at place }
+{
+    if place == 6 || place == 7 {
+        RunError::NamespaceOrParamsRefused
+    } else {
+        RunError::ReviewRefused
+    }
+}

@@ -1,0 +1,49 @@
+//! The arguments that both programs take, as `clap` is told them.
+ghost use Rattle.std.specs.Prelude.{◌≡◌, IfOk, false};
+ghost use Rattle.clap.specs.Words.{app_of, rule_of};
+ghost use Rattle.clap.specs.declared.builder.command.Command.TheViews.{out-Command as fields_of};
+ghost use Rattle.cli.specs.Arguments.{option_rule, required_option_rule, steps_rule, with_documents};
+
+use crate::limits::STEP_LIMIT;
+use clap::{Arg, Command, value_parser};
+use std::alloc::{AllocError, Global};
+
+// an option with the name of a file, which may be left out
+#[tactic(auto, unfolding(crate::specs::Arguments::option_rule))]
+pub fn option_argument<'a>(alloc: Global, name: &'a str) -> Arg<'a>
+    ensures rule { rule_of result ≡ option_rule name.entry.now }
+    ensures local { result.global ≡ false }
+{
+    Arg::new(alloc, name).long(name)
+}
+
+// one that has to be there
+#[tactic(auto, unfolding(crate::specs::Arguments::required_option_rule))]
+pub fn required_option_argument<'a>(alloc: Global, name: &'a str) -> Arg<'a>
+    ensures rule { rule_of result ≡ required_option_rule name.entry.now }
+    ensures local { result.global ≡ false }
+{
+    Arg::new(alloc, name).long(name).required(true)
+}
+
+// --steps N, the most instructions that may run
+#[tactic(auto, unfolding(crate::specs::Arguments::steps_rule))]
+pub fn steps_argument<'a>(alloc: Global) -> Arg<'a>
+    ensures rule { rule_of result ≡ steps_rule }
+    ensures local { result.global ≡ false }
+{
+    Arg::new(alloc, "steps")
+        .long("steps")
+        .value_parser(value_parser!(u64).range(0..=STEP_LIMIT as i64))
+        .default_value("10000000")
+}
+
+// the command, and the options for a namespace and for parameters
+#[tactic(auto, unfolding(crate::specs::Arguments::with_documents))]
+pub fn with_documents<'a>(alloc: Global, command: Command<'a>) -> Result<Command<'a>, AllocError>
+    ensures shape { IfOk result (λ c. app_of c ≡ with_documents (app_of command.entry)) }
+    ensures local { (fields_of command.entry).has_globals ≡ false → IfOk result (λ c. (fields_of c).has_globals ≡ false) }
+{
+    let command = command.arg(option_argument(alloc, "namespace"))?;
+    command.arg(option_argument(alloc, "params"))
+}

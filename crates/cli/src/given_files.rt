@@ -1,0 +1,33 @@
+//! Files that may be left out.
+ghost use Rattle.std.specs.Prelude.{◌≡◌, option_map, string_bytes};
+ghost use Rattle.cli.specs.GivenFiles.{reading_given_of, IsReadingGiven};
+
+use host::{FileError, Files};
+use std::alloc::Global;
+
+/// What the file of this name holds, where there is a name.
+pub fn read_given<F: Files>(
+    alloc: Global,
+    name: &Option<String>,
+    files: &mut F,
+) -> Result<Option<Vec<u8>>, FileError>
+    ensures read { IsReadingGiven (F.known files.old) (option_map string_bytes name.now) (reading_given_of result) }
+    ensures known { F.known files.new ≡ F.known files.old }
+{
+    read_named(alloc, name.as_deref(), files)
+}
+
+/// The same of a name that is lent.
+pub fn read_named<F: Files>(
+    alloc: Global,
+    name: Option<&str>,
+    files: &mut F,
+) -> Result<Option<Vec<u8>>, FileError>
+    ensures read { IsReadingGiven (F.known files.old) (option_map (λ s. s.now) name.entry) (reading_given_of result) }
+    ensures known { F.known files.new ≡ F.known files.old }
+{
+    match name {
+        Some(name) => Ok(Some(files.read(alloc, name)?)),
+        None => Ok(None),
+    }
+}

@@ -1,0 +1,20 @@
+//! What the programs have in common: the arguments that both take, the refusals with their lines on
+//! standard error, and how a program ends.
+#![tactic(auto)]
+
+mod arguments;
+mod ending;
+mod given_files;
+mod limits;
+mod lines;
+mod parsing;
+mod refusal;
+mod values;
+
+pub use arguments::{option_argument, required_option_argument, steps_argument, with_documents};
+pub use ending::{ended, texts_of};
+pub use given_files::{read_given, read_named};
+pub use lines::{LONGEST_LINE, RefusalLine, refusal_line};
+pub use parsing::parse;
+pub use refusal::Refusal;
+pub use values::{name_in, number_in, steps_in, text_in, text_or_empty};

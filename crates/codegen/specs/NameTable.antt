@@ -1,0 +1,41 @@
+-- What the names in an expression stand for, as the emission has it, and the code of an expression among them.
+use Rattle.std.specs.Prelude.{ℕ, ◌+◌, ◌*◌, ◌≤◌, List, Option, map, string_bytes}
+use Rattle.std.specs.List.{zip}
+use Rattle.expression_code.specs.Limits.{word_limit, node_limit, slot_reach, part_slots_per_node}
+use Rattle.insn_codec.specs.declared.insn.Insn.{Insn}
+use Rattle.cel_macros.specs.CoreTree.{Core}
+use Rattle.cel_types.specs.Declarations.{Declaration, declaration}
+use Rattle.cel_measures.specs.Measures.{need, nodes}
+use Rattle.expression_code.specs.Code.Calls.{kept_size}
+use Rattle.expression_code.specs.declared.simple_operand.SimpleOperand.{SimpleOperand}
+use Rattle.codegen.specs.declared.emit_position.EmitPosition.{EmitPosition}
+use Rattle.codegen.specs.declared.name_table.NameTable.{NameTable}
+use Rattle.codegen.specs.Code.Expressions.{code_of}
+use Rattle.codegen.specs.FrameWords.{words_of, AreWords}
+
+-- the variables of a scope, in order, each with the first slot of its routine
+abbrev pub routines_of : List Declaration → List ℕ → List (List ℕ × ℕ)
+routines_of declarations slots = zip (map (λ d. d.name) declarations) slots
+
+-- the texts that stand among the constants
+abbrev pub texts_within : NameTable → List (List ℕ)
+texts_within around = map string_bytes around.texts.now
+
+-- the variables that the expression may use, each with the first slot of its routine
+abbrev pub routines_within : NameTable → List (List ℕ × ℕ)
+routines_within around = routines_of (map declaration around.variables.now) around.routines.now
+
+-- the code of an expression at a position
+abbrev pub piece_of : Core → EmitPosition → List Insn
+piece_of e spot = code_of e (texts_within spot.around.now) (routines_within spot.around.now) (words_of spot.words.now) spot.word spot.slot
+
+-- the spot of a right operand behind a left one, which is kept where it is no leaf
+abbrev pub behind_kept : EmitPosition → Option SimpleOperand → List Insn → EmitPosition
+behind_kept spot leaf left = record spot { word = spot.word + 1; slot = spot.slot + kept_size leaf left }
+
+-- the code has words of the frame enough and is so short that jumps in it fit 16 bits, and calls from it to routines 32
+pub record HasFrameRoom (e : Core) (spot : EmitPosition) : Type 0 where
+  pub held : AreWords (words_of spot.words.now)
+  pub room : spot.word + need e ≤ word_limit
+  pub short : nodes e ≤ node_limit
+  pub near : spot.slot + part_slots_per_node * nodes e ≤ slot_reach

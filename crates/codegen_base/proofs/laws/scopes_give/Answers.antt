@@ -1,7 +1,0 @@
-use Rattle.codegen_base.proofs.Later.{later_gives, wider_gives}
-use Rattle.codegen_base.proofs.Returns.{routine_returns}
-use Rattle.codegen_base.proofs.Scopes.{no_scope, scope_begins, scope_gives, scope_grows}
-use Rattle.codegen_base.proofs.laws.scopes_give.Goals as goal
-
-pub returns : goal.returns
-returns c = record { uses = scope_gives; none = no_scope; begins = scope_begins; grows = scope_grows; later = later_gives; wider = wider_gives; returns = routine_returns }

@@ -1,9 +1,0 @@
--- What the code of constructs gives, where the code of their parts gives this.
-pub mod Leaves
-pub mod Selection
-pub mod Logic
-pub mod Aggregates
-pub mod Comparison
-pub mod Macros
-pub mod Arithmetic
-pub mod Paths

@@ -1,0 +1,115 @@
+-- What a session has read and written.
+use Rattle.std.specs.Prelude.{◌≡◌, ℕ, ◌<◌, ◌≤◌, ◌⊎◌, Bool, true, false, List, [], ◌∷◌, ◌++◌, length, take, drop, map, Option, Some, Result, Ok, Err, OnOk}
+use Rattle.bpf_machine.specs.State.{State}
+use Rattle.streams.specs.Streams.{AddsBytes, Stream}
+use Rattle.debugger.specs.Answers.{Line, SessionState, session_state_at, answer_to}
+use Rattle.debugger.specs.Session.{Dialogue, dialogue_of, has_quit, says_memory, session_text}
+use Rattle.streams.specs.Lines.{cut, input_lines, readable}
+use Rattle.streams.specs.declared.session_error.SessionError.{SessionError, TheVariants.ReadFailed, TheVariants.WriteFailed, TheVariants.Memory}
+use Rattle.streams.specs.Failures.{FailsByResult}
+
+-- the lines without their marks
+abbrev pub lines_of : List Line → List (List ℕ)
+lines_of marked = map (λ (l : Line). l.0) marked
+
+-- what was said to these lines, where memory was refused at those that are marked
+pub record IsDialogue (s : State) (lines : List (List ℕ)) (t : Dialogue) : Type 0 where
+  pub marked : List Line
+  pub lines_are : lines_of marked ≡ lines
+  pub talk_is : dialogue_of s marked ≡ t
+
+-- so many bytes of the input were read: up to the line feed of the first line that ends a session, or to the end
+pub record ReadsAll (input : List ℕ) (read : ℕ) : Type 0 where
+  pub within : read ≤ length (readable input)
+  pub goes_on : (n : ℕ) → n < read → has_quit (cut (take n input)).0 ≡ false
+  pub ends : (has_quit (cut (take read input)).0 ≡ true) ⊎ (read ≡ length (readable input))
+
+-- all lines of the input were answered, and nothing was read behind the one that ends a session
+pub record TranscriptAll (s : State) (input before : List ℕ) (left written : Option (List ℕ)) : Type 0 where
+  pub read : ℕ
+  pub all_read : ReadsAll input read
+  pub all_left : left ≡ Some (drop read input)
+  pub talk : Dialogue
+  pub all_lines : IsDialogue s (input_lines (readable input)) talk
+  pub all_written : written ≡ Some (before ++ talk.text)
+
+-- so many bytes were read, and the lines that ended among them were answered, of which none ends a session
+pub record TranscriptSome (s : State) (input before : List ℕ) (left written : Option (List ℕ)) : Type 0 where
+  pub read : ℕ
+  pub some_within : read ≤ length (readable input)
+  pub goes_on : has_quit (cut (take read input)).0 ≡ false
+  pub some_left : left ≡ Some (drop read input)
+  pub talk : Dialogue
+  pub some_lines : IsDialogue s (cut (take read input)).0 talk
+  pub some_written : written ≡ Some (before ++ talk.text)
+
+-- so many bytes were read, up to a line's end: the answers to the lines before it were written whole, and its own but
+-- for a rest
+pub record TranscriptPart (s : State) (input before : List ℕ) (left written : Option (List ℕ)) : Type 0 where
+  pub read : ℕ
+  pub part_within : read ≤ length (readable input)
+  pub line_read : ((cut (take read input)).1 ≡ []) ⊎ (read ≡ length (readable input))
+  pub part_left : left ≡ Some (drop read input)
+  pub answered : List Line
+  pub last : Line
+  pub lines_are : lines_of (answered ++ last ∷ []) ≡ input_lines (take read input)
+  pub part : List ℕ
+  pub rest : List ℕ
+  pub part_is : (dialogue_of s (answered ++ last ∷ [])).text ≡ (dialogue_of s answered).text ++ (part ++ rest)
+  pub is_cut : 0 < length rest
+  pub part_written : written ≡ Some (before ++ ((dialogue_of s answered).text ++ part))
+
+-- nothing was read or written
+pub record TranscriptNone (input before : List ℕ) (left written : Option (List ℕ)) : Type 0 where
+  pub none_left : left ≡ Some input
+  pub none_written : written ≡ Some before
+
+-- what a session in the run from s has read and written after what was there before, by its result
+abbrev pub SessionByResult : State → List ℕ → List ℕ → Option (List ℕ) → Option (List ℕ) → Result (Unit {0}) SessionError → Type 0
+SessionByResult s input before left written (Ok u) = TranscriptAll s input before left written
+SessionByResult s input before left written (Err ReadFailed) = TranscriptSome s input before left written
+SessionByResult s input before left written (Err WriteFailed) = TranscriptPart s input before left written
+SessionByResult s input before left written (Err Memory) = TranscriptNone input before left written
+
+-- what a session in the run from s does to a reader and a writer, by its result
+pub record IsSession (s : State) (r r_after w w_after : Stream) (result : Result (Unit {0}) SessionError) : Type 0 where
+  pub told : (input before : List ℕ) → r.bytes ≡ Some input → w.bytes ≡ Some before
+      → SessionByResult s input before r_after.bytes w_after.bytes result
+  -- where no line that it wrote is `? memory`, it wrote the session's text
+  pub text : (input before written : List ℕ) → r.bytes ≡ Some input → w.bytes ≡ Some before → w_after.bytes ≡ Some (before ++ written)
+      → says_memory written ≡ false → OnOk result (written ≡ session_text s input)
+  pub fails : FailsByResult r.failed r_after.failed w.failed w_after.failed result
+
+-- a line's answer in a session state, and the session state after it: where memory was refused is told by a mark
+pub record AnswersLine (s : State) (w : SessionState) (line : List ℕ) (next : SessionState) (text : List ℕ) : Type 0 where
+  pub mark : Bool
+  pub next_is : (answer_to s w (line, mark)).next ≡ next
+  pub text_is : (answer_to s w (line, mark)).text ≡ text
+
+-- a line's answer was written
+pub record WritesAnswer (s : State) (w : SessionState) (line : List ℕ) (next : SessionState) (written new : Option (List ℕ)) : Type 0 where
+  pub text : List ℕ
+  pub answers : AnswersLine s w line next text
+  pub line_written : AddsBytes written new text
+
+-- a line's answer was written but for a rest
+pub record WritesPartOfAnswer (s : State) (w : SessionState) (line : List ℕ) (written new : Option (List ℕ)) : Type 0 where
+  pub next : SessionState
+  pub text : List ℕ
+  pub answers : AnswersLine s w line next text
+  pub many : ℕ
+  pub is_cut : many < length text
+  pub line_written : AddsBytes written new (take many text)
+
+-- so many bytes were read, and the lines that ended among them were answered, of which none ends a session; the line
+-- after them is kept up to its 65th byte, and the session state has these breakpoints and this step
+pub record TranscriptSoFar (s : State) (input before : List ℕ) (read : ℕ) (left written : Option (List ℕ))
+    (line slots : List ℕ) (k : ℕ) : Type 0 where
+  pub talk : Dialogue
+  pub lines : IsDialogue s (cut (take read input)).0 talk
+  pub goes_on : (n : ℕ) → n ≤ read → has_quit (cut (take n input)).0 ≡ false
+  pub rest : line ≡ take 65 (cut (take read input)).1
+  pub left_is : left ≡ Some (drop read input)
+  pub written_is : written ≡ Some (before ++ talk.text)
+  pub world_is : talk.world ≡ session_state_at slots k false
+  pub within : read ≤ length input

@@ -1,0 +1,5 @@
+use Rattle.expression_code.proofs.Loops.{fold_gives}
+use Rattle.expression_code.proofs.laws.fold_gives.Goals as goal
+
+pub returns : goal.returns
+returns c = fold_gives

@@ -1,0 +1,73 @@
+-- Logical operators and the conditional. References 2 and 3 are those of false and true, 0 is the error's.
+-- Emitted by `codegen/src/code/logic.rt`; laws in `Gives/Logic`, proofs in `proofs/Logic`.
+use Rattle.std.specs.Prelude.{ℕ, ◌+◌, ℤ, pos, List, [], ◌∷◌, ◌++◌}
+use Rattle.insn_codec.specs.declared.comparison.Comparison.TheVariants.{Eq, Ne}
+use Rattle.insn_codec.specs.declared.insn.Insn.{Insn, TheVariants.Call}
+use Rattle.insn_codec.specs.declared.register.Register.TheVariants.{R0, R1}
+use Rattle.expression_code.specs.Instructions.{load, mov_imm, ja, jump_if_imm, store}
+use Rattle.expression_code.specs.Pieces.{size}
+
+-- the reference of false
+abbrev pub no_ref : ℤ
+no_ref = pos 2
+
+-- the reference of true
+abbrev pub yes_ref : ℤ
+yes_ref = pos 3
+
+-- the operator for which the one truth decides, with its right side in R0 and its left side, which does not decide, in
+-- word k: R0 stays where it decides, and where both sides are the other truth
+abbrev pub absorbing_tail : ℤ → ℤ → ℕ → List Insn
+absorbing_tail decides other k =
+    load R1 k
+    ∷ jump_if_imm Eq R0 decides 3
+    ∷ jump_if_imm Ne R1 other 1
+    ∷ jump_if_imm Eq R0 other 1
+    ∷ mov_imm R0 (pos 0)
+    ∷ []
+
+-- the slots between the sides of an operator: a jump, and the store of the left side
+abbrev pub left_slots : ℕ
+left_slots = 2
+
+-- the slots after a condition: two jumps
+abbrev pub condition_slots : ℕ
+condition_slots = 2
+
+-- the slot of the jump between the two branches
+abbrev pub branch_slots : ℕ
+branch_slots = 1
+
+-- the slots that a left side which decides leaves out beside those of the right one: its store, and `absorbing_tail`
+abbrev pub absorbed_slots : ℕ
+absorbed_slots = 6
+
+-- where the left side decides, the right one is left out
+abbrev pub absorbing_code : ℤ → ℤ → List Insn → List Insn → ℕ → List Insn
+absorbing_code decides other left right k =
+    left ++ jump_if_imm Eq R0 decides (size right + absorbed_slots) ∷ store k R0 ∷ (right ++ absorbing_tail decides other k)
+
+-- left && right, with the left side in word k
+abbrev pub and_code : List Insn → List Insn → ℕ → List Insn
+and_code left right k = absorbing_code no_ref yes_ref left right k
+
+-- left || right, with the left side in word k
+abbrev pub or_code : List Insn → List Insn → ℕ → List Insn
+or_code left right k = absorbing_code yes_ref no_ref left right k
+
+-- !R1
+abbrev pub not_tail : List Insn
+not_tail = Call (pos 23) ∷ []
+
+-- what stands where the condition is true or where it is false, or the error where it is neither
+abbrev pub ternary_code : List Insn → List Insn → List Insn → List Insn
+ternary_code condition if_true if_false =
+    condition
+    ++ jump_if_imm Eq R0 no_ref (size if_true + 2)
+    ∷ jump_if_imm Ne R0 yes_ref (size if_true + size if_false + 2)
+    ∷ (if_true
+    ++ ja (size if_false + 2)
+    ∷ (if_false
+    ++ ja 1
+    ∷ mov_imm R0 (pos 0)
+    ∷ []))

@@ -1,0 +1,2 @@
+pub mod FileSystem
+pub mod ErrorCodes

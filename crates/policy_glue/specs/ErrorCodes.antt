@@ -1,0 +1,50 @@
+-- The codes of the errors.
+use Rattle.std.specs.Prelude.{ℕ, List, Option, None, codes}
+use Rattle.cel_macros.specs.ErrorCodes.{macro_error_code}
+use Rattle.cel_tokens.specs.ErrorCodes.{read_error_code, read_error_place}
+use Rattle.cel_types.specs.ErrorCodes.{type_error_code}
+use Rattle.codegen.specs.ErrorCodes.{code_error_code}
+use Rattle.codegen.specs.declared.code_error.CodeError.TheVariants as code_error
+use Rattle.policy_glue.specs.declared.compile_error.CompileError.{CompileError, TheVariants.InvalidExpression, TheVariants.NotABool, TheVariants.MessageNotAString, TheVariants.TooManyNodes, TheVariants.TooManyTextBytes}
+use Rattle.policy_glue.specs.declared.compile_error.CompileError.TheVariants as compile_error
+use Rattle.policy_glue.specs.declared.expression_error.ExpressionError.{ExpressionError, TheVariants.Unread, TheVariants.Unexpanded, TheVariants.Untyped, TheVariants.NeedsTooManyWords, TheVariants.VariableTooDeep}
+use Rattle.policy_glue.specs.declared.expression_error.ExpressionError.TheVariants as expression_error
+use Rattle.policy_glue.specs.declared.policy_error.PolicyError.{PolicyError, TheVariants.NotJson, TheVariants.NotAPolicy, TheVariants.InvalidField, TheVariants.NoValidations, TheVariants.TooManyParts, TheVariants.MessageWithLineBreak}
+use Rattle.policy_glue.specs.declared.policy_error.PolicyError.TheVariants as policy_error
+
+-- the code of a document that is not a policy: K1 to K5, K8, or memory
+abbrev pub policy_error_code : PolicyError → List ℕ
+policy_error_code NotJson = codes "K1"
+policy_error_code NotAPolicy = codes "K2"
+policy_error_code InvalidField = codes "K3"
+policy_error_code NoValidations = codes "K4"
+policy_error_code TooManyParts = codes "K5"
+policy_error_code MessageWithLineBreak = codes "K8"
+policy_error_code policy_error.Memory = codes "memory"
+
+-- the code of a refused expression: that of its text, macro or type, or G1, G2 or memory
+abbrev pub expression_error_code : ExpressionError → List ℕ
+expression_error_code (Unread e) = read_error_code e
+expression_error_code (Unexpanded e) = macro_error_code e
+expression_error_code (Untyped e) = type_error_code e
+expression_error_code NeedsTooManyWords = code_error_code code_error.NeedsTooManyWords
+expression_error_code VariableTooDeep = code_error_code code_error.VariableTooDeep
+expression_error_code expression_error.Memory = codes "memory"
+
+-- the byte at which a text is refused, counted from 0
+abbrev pub expression_error_place : ExpressionError → Option ℕ
+expression_error_place (Unread e) = read_error_place e
+expression_error_place (Unexpanded e) = None
+expression_error_place (Untyped e) = None
+expression_error_place NeedsTooManyWords = None
+expression_error_place VariableTooDeep = None
+expression_error_place expression_error.Memory = None
+
+-- the code of a policy that is not compiled: K6, K7, K9, G3, G4 or memory
+abbrev pub compile_error_code : CompileError → List ℕ
+compile_error_code (InvalidExpression part place e) = codes "K6"
+compile_error_code NotABool = codes "K7"
+compile_error_code MessageNotAString = codes "K9"
+compile_error_code TooManyNodes = code_error_code code_error.TooManyNodes
+compile_error_code TooManyTextBytes = code_error_code code_error.TooManyTextBytes
+compile_error_code compile_error.Memory = codes "memory"

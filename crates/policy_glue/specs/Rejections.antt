@@ -1,0 +1,46 @@
+-- What a policy says against a request, and the response by it.
+use Rattle.std.specs.Prelude.{ℕ, List, codes, map, Option, Some, None, string_bytes}
+use Rattle.serde_json.specs.Data as json
+use Rattle.serde_json.specs.Written.{compact_text}
+use Rattle.policy_glue.specs.Policy.{Policy}
+use Rattle.policy_glue.specs.Response.{Denial, allowed_tree, denial_text, denials_of, denied_tree, first_reason, joined, review_tree}
+use Rattle.policy_glue.specs.Verdict.{Verdict}
+use Rattle.policy_glue.specs.declared.outcome.Outcome.{Outcome, TheVariants.Skipped, TheVariants.Admitted, TheVariants.Rejected, TheVariants.Denied}
+use Rattle.policy_glue.specs.declared.rejection.Rejection.{Rejection as CodeRejection}
+use Rattle.policy_glue.specs.declared.reason.Reason.{Reason, TheVariants.Invalid}
+
+-- what is said against a request
+pub record Rejection : Type 0 where
+  pub message : List ℕ
+  pub reason : Reason
+
+abbrev pub rejection_view : CodeRejection → Rejection
+rejection_view o = record { message = string_bytes o.message; reason = o.reason }
+
+-- the conditions of the policy came to an error
+abbrev pub undecided : Rejection
+undecided = record { message = codes "match conditions not decided"; reason = Invalid }
+
+-- of denials the messages are joined, and the reason is that of the first
+abbrev pub denied : List Denial → Rejection
+denied ds = record { message = joined (map denial_text ds); reason = first_reason ds }
+
+-- what an outcome says against the request, and nothing where it allows it
+abbrev pub rejection_by : Outcome → List Denial → Option Rejection
+rejection_by Rejected ds = Some undecided
+rejection_by Denied ds = Some (denied ds)
+rejection_by Skipped ds = None
+rejection_by Admitted ds = None
+
+-- what a verdict of the policy says against the request
+abbrev pub rejection_of : Policy → Verdict → Option Rejection
+rejection_of p verdict = rejection_by verdict.outcome (denials_of p.failure_policy p.validations verdict.findings)
+
+-- the response is allowed where nothing is said against the request, else denied for what is said
+abbrev pub objected_tree : Option Rejection → List ℕ → json.Data
+objected_tree None uid = allowed_tree uid
+objected_tree (Some o) uid = denied_tree uid o.message o.reason
+
+-- the text of the response by what is said against the request with this uid
+unfoldable pub response_text : Option Rejection → List ℕ → List ℕ
+response_text said uid = compact_text (review_tree (objected_tree said uid))

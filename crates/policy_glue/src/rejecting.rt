@@ -1,0 +1,69 @@
+//! What verdicts say against requests.
+
+ghost use Rattle.std.specs.Prelude.{◌≡◌, ◌≤◌, option_map, vec_len, IfOk};
+ghost use Rattle.policy_glue.specs.Verdict as decided;
+ghost use Rattle.policy_glue.specs.Denials.{denials_in};
+ghost use Rattle.policy_glue.specs.Layout.{outcome_of, words_view, Encodes};
+ghost use Rattle.policy_glue.specs.Rejections.{denied, rejection_by, rejection_of, rejection_view, undecided};
+ghost use Rattle.policy_glue.specs.Policy.{part_limit};
+
+use crate::denials::{denials, first_reason, joined};
+use crate::outcome::Outcome;
+use crate::parts::Parts;
+use crate::policy::Policy;
+use crate::reason::Reason;
+use crate::rejection::Rejection;
+use crate::verdict::Verdict;
+use std::alloc::{AllocError, Global};
+
+/// What a verdict of the policy says against the request, and nothing where it allows it. The error
+/// says that there is no memory for it.
+pub fn rejection_of(
+    alloc: Global,
+    policy: &Policy,
+    verdict: &Verdict,
+) -> Result<Option<Rejection>, AllocError>
+    ensures { (v : decided.Verdict) → Encodes policy.now.failure_policy v (words_view verdict.now) → IfOk result (λ said. option_map rejection_view said ≡ rejection_of policy.now v) }
+{
+    rejection_by(alloc, &policy.parts, verdict)
+}
+
+fn rejection_by(
+    alloc: Global,
+    parts: &Parts,
+    verdict: &Verdict,
+) -> Result<Option<Rejection>, AllocError>
+    requires { vec_len parts.now.validations ≤ part_limit }
+    ensures { IfOk result (λ said. option_map rejection_view said ≡ rejection_by (outcome_of verdict.now.outcome) (denials_in parts.now verdict.now)) }
+{
+    match Outcome::of_word(verdict.outcome) {
+        Outcome::Rejected => Ok(Some(undecided(alloc)?)),
+        Outcome::Denied => Ok(Some(denied(alloc, parts, verdict)?)),
+        Outcome::Skipped | Outcome::Admitted => Ok(None),
+    }
+}
+
+/// That the conditions of the policy came to an error.
+fn undecided(alloc: Global) -> Result<Rejection, AllocError>
+    ensures { IfOk result (λ o. rejection_view o ≡ undecided) }
+{
+    let message = String::from_str(alloc, "match conditions not decided")?;
+    let reason = Reason::Invalid;
+    Ok(Rejection { message, reason })
+}
+
+/// What the denials of a verdict say.
+fn denied(alloc: Global, parts: &Parts, verdict: &Verdict) -> Result<Rejection, AllocError>
+    requires { vec_len parts.now.validations ≤ part_limit }
+    ensures { IfOk result (λ o. rejection_view o ≡ denied (denials_in parts.now verdict.now)) }
+{
+    let denials = denials(
+        alloc,
+        parts.failure_policy,
+        parts.validations.as_slice(),
+        verdict,
+    )?;
+    let message = joined(alloc, denials.as_slice())?;
+    let reason = first_reason(denials.as_slice());
+    Ok(Rejection { message, reason })
+}

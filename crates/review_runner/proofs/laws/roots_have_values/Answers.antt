@@ -1,8 +1,0 @@
-use Rattle.review_runner.proofs.RootContents.{given_have_values, roots_have_values}
-use Rattle.review_runner.proofs.laws.roots_have_values.Goals as goal
-
-pub returns-clause-documents : goal.returns-clause-documents
-returns-clause-documents c = roots_have_values c.starts_are_tables.ensures c.values_are_as_said.ensures.canonical
-
-pub returns-clause-given : goal.returns-clause-given
-returns-clause-given c = given_have_values c.starts_are_tables.ensures c.values_are_as_said.ensures.canonical

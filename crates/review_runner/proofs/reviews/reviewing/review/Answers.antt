@@ -1,5 +1,0 @@
-use Rattle.review_runner.proofs.Standing.{of_one}
-use Rattle.review_runner.proofs.reviews.reviewing.review.Goals as goal
-
-pub returns-clause-runs : goal.returns-clause-runs
-returns-clause-runs c = of_one _ _ _ _ _ c.in_ok-gate.ensures.compiles.0 c.in_ok-gate.ensures.one (c.decide.ensures.runs _ c.in_ok-gate.ensures.compiles)

@@ -1,0 +1,95 @@
+-- How an input's lines grow byte by byte.
+use Rattle.streams.proofs.Prelude.{◌≡◌, ℕ, suc, ◌+◌, ◌-◌, ◌≤◌, Bool, List, [], ◌∷◌, ◌++◌, length, take, drop, fold, nat_eq, cond, refl, sym, ap, ◌∙◌, arith, append_assoc, append-nil, length-drop, length-take, take-add, drop-drop, fold_push, fold-append, nat_tests, cut, cut_byte, with_rest, input_lines, readable}
+
+abbrev pub Pieces : Type 0
+Pieces = List (List ℕ) × List ℕ
+
+pub cut-none : cut [] ≡ ([], [])
+unfolding cut
+cut-none = grind arith
+
+-- a byte that ends a line
+pub cut-feed : (input : List ℕ) (i b : ℕ) → drop i input ≡ b ∷ drop 1 (drop i input) → b ≡ 10 → cut (take (i + 1) input) ≡ ((cut (take i input)).0 ++ (cut (take i input)).1 ∷ [], [])
+unfolding cut
+cut-feed input i b first feed = grind (arith, nat_tests, fold_push, take-add)
+
+-- a byte of a line
+pub cut-plain : (input : List ℕ) (i b : ℕ) → drop i input ≡ b ∷ drop 1 (drop i input) → (b ≡ 10 → ⊥) → cut (take (i + 1) input) ≡ ((cut (take i input)).0, (cut (take i input)).1 ++ b ∷ [])
+unfolding cut
+cut-plain input i b first plain = grind (arith, nat_tests, fold_push, take-add, nat_eq)
+
+-- these pieces behind lines that have ended
+abbrev behind : List (List ℕ) → Pieces → Pieces
+behind lines p = (lines ++ p.0, p.1)
+
+byte_behind : (feed : Bool) (lines : List (List ℕ)) (p : Pieces) (b : ℕ)
+    → cond feed ((lines ++ p.0) ++ p.1 ∷ [], []) (lines ++ p.0, p.1 ++ b ∷ []) ≡ behind lines (cond feed (p.0 ++ p.1 ∷ [], []) (p.0, p.1 ++ b ∷ []))
+byte_behind feed lines p b = grind (arith, nat_tests, append_assoc)
+
+pub cut_behind : (bytes : List ℕ) (lines : List (List ℕ)) (p : Pieces) → fold cut_byte (behind lines p) bytes ≡ behind lines (fold cut_byte p bytes)
+cut_behind [] lines p = refl
+cut_behind (b ∷ bytes) lines p = ap (λ (q : Pieces). fold cut_byte q bytes) (byte_behind (nat_eq b 10) lines p b) ∙ cut_behind bytes lines (cut_byte p b)
+
+-- more bytes go on with the last line, and leave those before it
+cut-append : (front more : List ℕ) → cut (front ++ more) ≡ behind (cut front).0 (fold cut_byte ([], (cut front).1) more)
+unfolding cut
+cut-append front more =
+    fold-append cut_byte ([], []) front more
+    ∙ (λ i. fold cut_byte (sym (append-nil (cut front).0) i, (cut front).1) more)
+    ∙ cut_behind more (cut front).0 ([], (cut front).1)
+
+pub lines-append : (front more : List ℕ) → (later : List (List ℕ)) × ((cut (front ++ more)).0 ≡ (cut front).0 ++ later)
+lines-append front more = ((fold cut_byte ([], (cut front).1) more).0, ap (λ (p : Pieces). p.0) (cut-append front more))
+
+-- whole lines
+abbrev pub Whole : List ℕ → Type 0
+Whole text = (cut text).1 ≡ []
+
+pub whole-append : (front more : List ℕ) → Whole front → Whole more → Whole (front ++ more)
+unfolding cut
+whole-append front more whole next = grind (arith, nat_tests, cut-append)
+
+with_rest-behind : (lines more : List (List ℕ)) (rest : List ℕ) → with_rest (lines ++ more) rest ≡ lines ++ with_rest more rest
+with_rest-behind lines more rest = grind (arith, nat_tests, append_assoc)
+
+pub input_lines-append : (part rest : List ℕ) → (more : List (List ℕ)) × (input_lines (part ++ rest) ≡ (cut part).0 ++ more)
+input_lines-append part rest =
+    let p = fold cut_byte ([], (cut part).1) rest in
+    (with_rest p.0 p.1, ap (λ (q : Pieces). with_rest q.0 q.1) (cut-append part rest) ∙ with_rest-behind (cut part).0 p.0 p.1)
+
+-- where the last line has ended, and where it has not
+pub input_lines-ended : (input : List ℕ) → take 65 (cut input).1 ≡ [] → input_lines input ≡ (cut input).0
+input_lines-ended input none = grind arith
+
+pub take-split : (limit i : ℕ) (input : List ℕ) → i ≤ limit → take i input ++ take (limit - i) (drop i input) ≡ take limit input
+take-split limit i input before = let whole : i + (limit - i) ≡ limit = omega (arith, before) in sym (take-add i (limit - i) input) ∙ ap (λ (n : ℕ). take n input) whole
+
+take-none : (n : ℕ) → take {A = ℕ} n [] ≡ []
+take-none n = grind arith
+
+-- where nothing is left
+pub take-end : (input : List ℕ) (i limit : ℕ) → drop i input ≡ [] → i ≤ limit → take limit input ≡ take i input
+take-end input i limit none before =
+    sym (take-split limit i input before) ∙ ap (λ (more : List ℕ). take i input ++ take (limit - i) more) none ∙ ap (λ (more : List ℕ). take i input ++ more) (take-none (limit - i)) ∙ append-nil (take i input)
+
+pub take-push : (n : ℕ) (xs : List ℕ) (b : ℕ) → take n (take n xs ++ b ∷ []) ≡ take n (xs ++ b ∷ [])
+take-push (suc n) (x ∷ xs) b = ap (λ (more : List ℕ). x ∷ more) (take-push n xs b)
+take-push _ _ b = refl
+
+pub one_within : (input : List ℕ) (i b : ℕ) → drop i input ≡ b ∷ drop 1 (drop i input) → i + 1 ≤ length input
+one_within input i b first = let one = ap length first in let all = length-drop i input in omega (arith, one, all)
+
+pub drop-one : (input : List ℕ) (i : ℕ) → drop 1 (drop i input) ≡ drop (i + 1) input
+drop-one input i = drop-drop 1 i input
+
+pub readable-is : (input : List ℕ) → readable input ≡ take 9223372036854775808 input
+unfolding readable
+readable-is input = grind arith
+
+-- a place of the input that is not behind the last byte that may be read
+pub readable-within : (input : List ℕ) (limit i : ℕ) → readable input ≡ take limit input → i ≤ limit → i ≤ length input → i ≤ length (readable input)
+readable-within input limit i all low inside = grind (arith, nat_tests, length-take)
+
+-- the place behind the last byte that may be read
+pub readable-end : (input : List ℕ) (i : ℕ) → i ≤ length input → readable input ≡ take i input → i ≡ length (readable input)
+readable-end input i inside all = grind (arith, length-take)

@@ -1,0 +1,4 @@
+mod Bytes
+pub mod Cut
+pub mod LastLine
+pub mod Prelude

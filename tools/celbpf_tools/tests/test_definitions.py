@@ -1,0 +1,73 @@
+"""Definitions of specs: which names two files define, and that the contracts that are counted are there."""
+
+import tempfile
+import unittest
+from pathlib import Path
+
+from ..commands.belief import CONTRACTS
+from ..commands.defined_twice import places
+from ..definitions import CRATES, Module, modules
+
+ONE = """-- a head
+use Rattle.std.specs.Prelude.{ℕ, Option}
+use Rattle.b.specs.Two.{Other}
+
+-- a record; its field and its name's uses are no definitions
+pub record Pair : Type 0 where
+  pub Left : ℕ
+
+abbrev pub Holds : ℕ → Type 0
+Holds n = (m : ℕ) → Other m
+
+pub data Answer : Type 0 where
+  Pair : Answer
+  Yes : Answer
+"""
+TWO = """abbrev mutual
+  -- one of a block
+  pub Holds : ℕ → Type 0
+  Holds 0 = Unit {0}
+
+  pub Other : ℕ → Type 0
+  Other n = Holds n
+
+pub data Kind : Type 0 where
+  Yes : Kind
+  Answer : Kind
+
+pub small : ℕ
+small = 1
+"""
+
+
+class DefinedTwice(unittest.TestCase):
+    """Two files of two crates in a folder of their own."""
+
+    def setUp(self) -> None:
+        folder = tempfile.TemporaryDirectory()
+        self.addCleanup(folder.cleanup)
+        self.crates = Path(folder.name)
+
+    def found(self, one: str, two: str) -> dict:
+        for name, text in ("a/specs/One.antt", one), ("b/specs/deep/Two.antt", two):
+            path = self.crates / name
+            path.parent.mkdir(parents=True, exist_ok=True)
+            path.write_text(text)
+        return places(modules(self.crates))
+
+    def test_places(self) -> None:
+        found = self.found(ONE, TWO)
+        self.assertEqual(found["Holds"], ["a/specs/One.antt:9", "b/specs/deep/Two.antt:3"])
+        self.assertEqual([name for name, of in found.items() if len(of) > 1], ["Holds"])
+        self.assertEqual(sorted(found), ["Answer", "Holds", "Kind", "Other", "Pair"])
+
+    def test_a_name_in_one_file_alone(self) -> None:
+        found = self.found(ONE, TWO.replace("Holds", "Stays"))
+        self.assertTrue(all(len(of) == 1 for of in found.values()))
+        self.assertEqual(found["Stays"], ["b/specs/deep/Two.antt:3"])
+
+
+class Contracts(unittest.TestCase):
+    def test_each_is_defined(self) -> None:
+        missing = [(file, name) for file, name in CONTRACTS if name not in Module(CRATES / file).definitions]
+        self.assertEqual(missing, [])
