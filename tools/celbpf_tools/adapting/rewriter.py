@@ -6,13 +6,12 @@ of Kubernetes' own that is a map or a list by its schema is one.
 """
 
 import re
-from dataclasses import dataclass
-from typing import Callable, Optional
 
 from . import rows
-from .forms import free, has_optional, is_constant_list, is_list, is_size, key_of, kind_of, presence, selected
-from .report import Change, Left, Report, Variables
-from .syntax import AND, MEMBER, OR, RELATION, SUM, TERNARY, TEXTS, Node, Source, level_of, names_in, read
+from .forms import has_optional, is_constant_list, is_list, is_size, kind_of, presence
+from .optionals import Optionals
+from .report import Change
+from .syntax import AND, MEMBER, OR, RELATION, SUM, TERNARY, TEXTS, Node, level_of, names_in
 from .texts import parts_of, spelled, test_of, value_of
 
 ROOTS = ("object", "oldObject", "params", "namespaceObject", "request")
@@ -25,56 +24,8 @@ METHODS = ("size", "startsWith", "endsWith", "contains", "all", "exists", "exist
 SHORT = 60
 
 
-@dataclass
-class Found:
-    """An optional value: the conditions under which it is there, and it."""
-
-    conditions: list
-    value: str
-
-
-class Rewriter:
-    """Rewrites one expression; `variables` is `None` where it may name none, as in a match condition."""
-
-    def __init__(self, text: str, variables: Optional[Variables] = None):
-        self.source = Source(text)
-        self.variables = variables
-        self.report = Report()
-        self.tree = read(text)
-
-    def rewritten(self) -> str:
-        """The expression with what could be rewritten."""
-        self.rewrite(self.tree, frozenset())
-        return self.source.written(self.tree)
-
-    # what is written, and what is told
-
-    def said(self, node: Node) -> str:
-        """The source text of a node."""
-        return self.source.text[node.begin : node.end]
-
-    def put(self, node: Node, row: str, text: str, level: int) -> bool:
-        """Replaces a node by a text of this level."""
-        node.text, node.level = text, level
-        self.report.changes.append(Change(row, self.said(node), text))
-        return True
-
-    def leave(self, node: Node, row: str) -> None:
-        self.report.left.append(Left(row, self.said(node)))
-
-    def text(self, node: Node, least: int, scope: frozenset) -> str:
-        """A part, rewritten, in brackets if it does not bind as tightly as this."""
-        self.rewrite(node, scope)
-        return self.source.at_least(node, least)
-
-    def rewrite(self, node: Node, scope: frozenset) -> None:
-        """Rewrites a node; `scope` has the iteration names in force."""
-        if node.text is not None:
-            return
-        handler: Callable = getattr(self, f"of_{node.kind}", lambda *_: False)
-        if not handler(node, scope):
-            for place, part in enumerate(node.parts):
-                self.rewrite(part, scope | {one.text or one.name for one in node.names} if place else scope)
+class Rewriter(Optionals):
+    """Rewrites one expression."""
 
     # leaves
 
@@ -143,93 +94,6 @@ class Rewriter:
             if not re.search(r"oldObject\s*[!=]=\s*null|null\s*[!=]=\s*oldObject", self.source.text):
                 return self.put(node, rows.OLD, f"oldObject != null && {self.said(node)}", AND)
         return False
-
-    # optional values
-
-    def found(self, node: Node, scope: frozenset) -> Optional[list]:
-        """The optional values that a node tries in turn, or `None` if it is no such form."""
-        if node.kind == "brackets":
-            return self.found(node.parts[0], scope)
-        if node.kind == "method" and node.name == "or" and len(node.parts) == 2:
-            first, second = (self.found(part, scope) for part in node.parts)
-            return first + second if first and second else None
-        if node.kind == "method" and node.name == "optMap" and len(node.names) == 1:
-            return self.mapped(node, scope)
-        return self.chain(node, scope)
-
-    def mapped(self, node: Node, scope: frozenset) -> Optional[list]:
-        """`X.optMap(v, t)`: `t` with the value of X for `v`."""
-        given = self.found(node.parts[0], scope)
-        used = names_in(node.parts[0])
-        if not given or len(given) != 1 or not self.substitute(node.parts[1], node.names[0].name, given[0].value, used):
-            return None
-        return [Found(given[0].conditions, self.text(node.parts[1], OR, scope))]
-
-    def chain(self, node: Node, scope: frozenset) -> Optional[list]:
-        """A chain of selections with a `?` in it: each from the first `?` on is tried."""
-        steps: list = []
-        while node.kind in ("field", "index"):
-            steps.insert(0, node)
-            node = node.parts[0]
-        while steps and not steps[0].optional[0]:
-            node = steps.pop(0)
-        if not steps or has_optional(node):
-            return None
-        value, conditions = self.text(node, MEMBER, scope), []
-        for step in steps:
-            key = key_of(step)
-            if key is None:
-                return None
-            conditions += presence(value, key)
-            value = selected(value, key, step)
-        return [Found(conditions, value)]
-
-    def of_optional(self, node: Node, scope: frozenset) -> bool:
-        """`X.orValue(d)`, `X.hasValue()` and `X.value()`."""
-        given = self.found(node.parts[0], scope)
-        if not given:
-            self.leave(node, rows.OPTIONAL if has_optional(node.parts[0]) else rows.OPTIONAL_OTHER)
-            return True
-        if node.name == "orValue" and len(node.parts) == 2:
-            otherwise = self.text(node.parts[1], TERNARY, scope)
-            tried = "".join(f"{' && '.join(one.conditions)} ? {one.value} : " for one in given)
-            return self.put(node, rows.OPTIONAL, tried + otherwise, TERNARY)
-        if len(given) > 1:
-            self.leave(node, rows.OPTIONAL)
-        elif node.name == "hasValue":
-            return self.put(node, rows.OPTIONAL, " && ".join(given[0].conditions), AND)
-        else:
-            return self.put(node, rows.OPTIONAL, given[0].value, OR)
-        return True
-
-    def of_none(self, node: Node, scope: frozenset) -> bool:
-        """`X == optional.none()` and `X != optional.none()`."""
-        others = [part for part in node.parts if self.source.text[part.begin : part.end] != "optional.none()"]
-        given = self.found(others[0], scope) if len(others) == 1 else None
-        if not given or len(given) > 1:
-            return False
-        there = " && ".join(given[0].conditions)
-        return self.put(node, rows.OPTIONAL, there if node.word == "!=" else f"!({there})", AND if node.word == "!=" else MEMBER)
-
-    def of_list(self, node: Node, scope: frozenset) -> bool:
-        """A list with items that are in it only if they are there."""
-        if not any(node.optional):
-            return False
-        pieces: list = []
-        for part, is_optional in zip(node.parts, node.optional):
-            if not is_optional:
-                text = self.text(part, TERNARY, scope)
-                if pieces and not pieces[-1].startswith("("):
-                    pieces[-1] = f"{pieces[-1][:-1]}, {text}]"
-                else:
-                    pieces.append(f"[{text}]")
-                continue
-            given = self.found(part, scope)
-            if not given or len(given) > 1:
-                self.leave(node, rows.OPTIONAL_OTHER)
-                return True
-            pieces.append(f"({' && '.join(given[0].conditions)} ? [{given[0].value}] : [])")
-        return self.put(node, rows.OPTIONAL_OTHER, " + ".join(pieces), SUM if len(pieces) > 1 else MEMBER)
 
     def of_map(self, node: Node, _: frozenset) -> bool:
         if any(node.optional):
@@ -412,16 +276,6 @@ class Rewriter:
         parts = [self.text(part, TERNARY, scope | {chosen}) for part in node.parts[1:]]
         text = f"{self.text(node.parts[0], MEMBER, scope)}.{word}({', '.join([chosen, *parts])})"
         return self.put(node, row, text, MEMBER)
-
-    def substitute(self, node: Node, name: str, text: str, used: frozenset | set = frozenset()) -> bool:
-        """Replaces each free use of a name by a text; not if a macro would catch a name that the text uses."""
-        uses = list(free(node, name, frozenset()))
-        if any(declared & used for _, declared in uses):
-            return False
-        for use, _ in uses:
-            use.text, use.level = text, MEMBER
-        return True
-
 
 SPACES = {
     "sets.contains/2": Rewriter.of_contains, "sets.intersects/2": Rewriter.of_intersects,
