@@ -2,9 +2,11 @@
 
 from typing import Callable, Optional
 
+from . import rows
 from .forms import free
 from .report import Change, Left, Report, Variables
-from .syntax import MEMBER, Node, Source, read
+from .syntax import MEMBER, TERNARY, Node, Source, read
+from .types import differ, values_in
 
 
 class Rewriting:
@@ -52,6 +54,18 @@ class Rewriting:
         if not handler(node, scope):
             for place, part in enumerate(node.parts):
                 self.rewrite(part, scope | {one.text or one.name for one in node.names} if place else scope)
+
+    def of_one_type(self, node: Node, scope: frozenset) -> bool:
+        """A list or map of values of several types: of an unknown type, the first takes all others after it."""
+        return differ(values_in(node)) and self.put_dyn(node, values_in(node)[0], rows.MIXED, scope)
+
+    def put_dyn(self, node: Node, part: Node, row: str, scope: frozenset) -> bool:
+        """Gives a part of a node an unknown type."""
+        for one in node.parts:
+            self.rewrite(one, scope)
+        part.text, part.level = f"dyn({self.source.at_least(part, TERNARY)})", MEMBER
+        self.report.changes.append(Change(row, self.said(node), self.source.written(node)))
+        return True
 
     def substitute(self, node: Node, name: str, text: str, used: frozenset | set = frozenset()) -> bool:
         """Replaces each free use of a name by a text; not if a macro would catch a name that the text uses."""

@@ -88,7 +88,7 @@ class Optionals(Rewriting):
     def of_list(self, node: Node, scope: frozenset) -> bool:
         """A list with items that are in it only if they are there."""
         if not any(node.optional):
-            return False
+            return self.of_one_type(node, scope)
         pieces: list = []
         for part, is_optional in zip(node.parts, node.optional):
             if not is_optional:

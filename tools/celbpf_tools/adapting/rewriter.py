@@ -13,6 +13,7 @@ from .optionals import Optionals
 from .report import Change
 from .syntax import AND, MEMBER, OR, RELATION, SUM, TERNARY, TEXTS, Node, level_of, names_in
 from .texts import parts_of, spelled, test_of, value_of
+from .types import collections_differ, is_foreign
 
 ROOTS = ("object", "oldObject", "params", "namespaceObject", "request")
 VARIABLES = "variables"
@@ -95,11 +96,13 @@ class Rewriter(Optionals):
                 return self.put(node, rows.OLD, f"oldObject != null && {self.said(node)}", AND)
         return False
 
-    def of_map(self, node: Node, _: frozenset) -> bool:
+    def of_map(self, node: Node, scope: frozenset) -> bool:
         if any(node.optional):
             self.leave(node, rows.OPTIONAL_OTHER)
         elif any(key.kind == "literal" and key.word in ("int", "uint") for key in node.parts[::2]):
             self.leave(node, rows.INT_KEY)
+        else:
+            return self.of_one_type(node, scope)
         return False
 
     def of_struct(self, node: Node, _: frozenset) -> bool:
@@ -116,7 +119,14 @@ class Rewriter(Optionals):
             others = [part for part in node.parts if part.kind != "literal"]
             if len(uints) == len(others) == 1 and int(uints[0].name[:-1], 0) < 2**63:
                 self.put(uints[0], rows.UINT, uints[0].name[:-1], MEMBER)
+        left, right = node.parts
+        if node.word in ("==", "!=", "+") and collections_differ(left, right) or node.word == "in" and is_foreign(left, right):
+            return self.put_dyn(node, left, rows.TYPES, scope)
         return False
+
+    def of_ternary(self, node: Node, scope: frozenset) -> bool:
+        _, left, right = node.parts
+        return collections_differ(left, right) and self.put_dyn(node, left, rows.TYPES, scope)
 
     # functions
 

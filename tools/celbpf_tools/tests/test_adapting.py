@@ -8,6 +8,7 @@ from ..adapting.report import Variables
 from ..adapting.rewriter import Rewriter
 from ..adapting.syntax import NotCel, Source, read
 from ..adapting.texts import Test, spelled, test_of, value_of
+from ..adapting.types import differ, values_in
 from ..home import ROOT, is_checkout
 
 FORMS = [
@@ -68,6 +69,18 @@ class Texts(unittest.TestCase):
         for pattern in ("a|b", "a.b", r"\d", "a*", "[a]", "(?i)a", "a^", "^.*a", "a.*$", "^a+$", "(a|b)(c|d)", "^a{2}$", r"\bA", "a?"):
             with self.subTest(pattern):
                 self.assertIsNone(test_of(pattern))
+
+
+class Types(unittest.TestCase):
+    def test_what_a_cluster_takes_for_one_type(self) -> None:
+        for text, is_mixed in [
+            ("[1, -2, size(a)]", False), ("[1, 'a']", True), ("['a', r'b']", False), ("['a', b'a']", True), ("[1, 1u]", True),
+            ("[1, a.b, 'c']", False), ("[a.b, 1, 'c']", False), ("[1, 'c', a.b]", True), ("[null, {}]", True),
+            ("[[], [1], [2]]", False), ("[[], [1], ['a']]", True), ("[[1, 'a'], [2]]", False), ("[[a.b], [1], ['a']]", False),
+            ("[{'a': 1}, {'b': 'c'}]", True), ("[{'a': []}, {'b': [1]}]", False), ("[a == 1, !b]", False),
+        ]:
+            with self.subTest(text):
+                self.assertEqual(differ(values_in(read(text))), is_mixed)
 
 
 class Rows(unittest.TestCase):
