@@ -3,10 +3,10 @@
 usage: tools/first COMMAND ..      (as ./celbpf COMMAND ..)
        tools/first gatekeeper ..   (as ./gatekeeper ..)
 
-`rt try` compiles the sources with checks and runs them, in some minutes; nothing is kept, and the next run takes as
-long. The files that the words name are handed over. An image that `compile` or `asm` writes is not kept, since rt hands
-back no file: these commands say whether a text is accepted. Standard input is read to its end first. The status is the
-program's; 10 if there is no command rt, 13 if the sources do not run.
+`rt try` compiles the sources with checks and runs them, in about two minutes; nothing is kept, and the next run takes
+as long. The files that the words name are handed over. An image that `compile` or `asm` writes is not kept, since rt
+hands back no file: these commands say whether a text is accepted. Standard input is read to its end first. The status
+is the program's; 10 if there is no command rt, 13 if the sources do not run.
 """
 
 import os
@@ -93,7 +93,7 @@ def main() -> Optional[int]:
     if not shutil.which("rt"):
         raise Stop("there is no command rt in the path; it comes with the toolchain", NO_RT)
     crate, words = plan(words)
-    say("nothing is proved of this run: it compiles the sources with checks, which takes some minutes")
+    say("nothing is proved of this run: it compiles the sources with checks, which takes about two minutes")
     status, output, said = tried(crate, words, words[:1] == ["debug"] or crate == "gatekeeper" or STDIN in words)
     if status is None:
         print(said, end="", file=sys.stderr)

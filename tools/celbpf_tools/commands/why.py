@@ -1,6 +1,9 @@
 """Says why a policy decides a review as it does.
 
 usage: tools/why POLICY REVIEW [--namespace F] [--params F] [--program PROGRAM]
+       tools/why --case NAME TESTS [--program PROGRAM]
+
+`--case` takes policy, review, namespace and params of the case of this name in a test file, as `tools/test` reads it.
 
 The first line is the outcome. Then comes each condition, variable and validation with its value (true, false, the
 error, or its value as JSON) and its expression. For an error the first part of it that is one follows; for what is
@@ -13,13 +16,18 @@ printed.
 import argparse
 import sys
 import tempfile
+from pathlib import Path
 
 from ..asking import policies
 from ..asking.errors import ERROR, first_error
 from ..asking.program import NotAnswered, Program, located
 from ..asking.reasons import reasons
 from ..asking.texts import escaped, indented, on_one_line, readable
-from ..entry import usage_of
+from ..documents import Unreadable
+from ..entry import Stop, usage_of
+from ..testing import cases
+from ..testing.answers import Asked
+from ..testing.reviews import text_of_review
 
 OUTCOMES = {"1": "skipped", "2": "rejected", "3": "denied", "4": "admitted"}
 RUNS = ("denied", "admitted")
@@ -33,11 +41,43 @@ MARK = "the message"
 def words() -> argparse.Namespace:
     parser = argparse.ArgumentParser(usage=usage_of(__doc__))
     parser.add_argument("policy")
-    parser.add_argument("review")
+    parser.add_argument("review", nargs="?")
     parser.add_argument("--namespace")
     parser.add_argument("--params")
+    parser.add_argument("--case")
     parser.add_argument("--program")
-    return parser.parse_args()
+    given = parser.parse_args()
+    if (given.case is None) == (given.review is None):
+        parser.error("a policy and a review, or --case and a test file")
+    if given.case is not None and (given.namespace or given.params):
+        parser.error("a case has its own namespace and params")
+    return given
+
+
+def case_named(path: Path, name: str) -> cases.Case:
+    """The case of this name in a test file."""
+    try:
+        found = cases.read(path).cases
+    except cases.Broken as why:
+        raise Stop(f"{path}: {why}") from why
+    named = [case for case in found if case.name == name]
+    if not named:
+        raise Stop(f"{path}: no case {name!r}; there are {', '.join(repr(case.name) for case in found)}")
+    if "policy" not in named[0].beside:
+        raise Stop(f"{path}: the case {name!r} has no policy, but a cluster's state")
+    return named[0]
+
+
+def of_case(given: argparse.Namespace, folder: Path) -> argparse.Namespace:
+    """The words with the documents of the case that they name, as files of this folder."""
+    try:
+        case = case_named(Path(given.policy), given.case)
+        at, asked = case.file.parent, Asked(folder)
+        review = asked.write("review.json", text_of_review(case.review, case.name, at))
+        found = {key: asked.file(case.beside[key], at) for key in ("policy", "namespace", "params") if key in case.beside}
+    except Unreadable as why:
+        raise Stop(str(why)) from why
+    return argparse.Namespace(**{**vars(given), **found, "review": review})
 
 
 def documents(given: argparse.Namespace) -> list:
@@ -106,9 +146,11 @@ def tell(program: Program, policy: dict, verdict: list) -> None:
 
 def main() -> int:
     given = words()
-    readable(given.policy, given.review, given.namespace, given.params)
-    path = located(given.program)
-    with tempfile.TemporaryDirectory() as folder:
+    with tempfile.TemporaryDirectory() as folder, tempfile.TemporaryDirectory() as documents_folder:
+        if given.case is not None:
+            given = of_case(given, Path(documents_folder))
+        readable(given.policy, given.review, given.namespace, given.params)
+        path = located(given.program)
         program = Program(path, folder, documents(given))
         try:
             allowed = program.response(given.policy)["allowed"]
