@@ -36,6 +36,11 @@ def usage_of(doc: Optional[str]) -> str:
     return usage if is_checkout() else re.sub(r"\btools/", "celbpf-", usage)
 
 
+def called(script: str) -> str:
+    """The name by which a script is called, in the repository or where the package is installed."""
+    return f"tools/{script}" if is_checkout() else f"celbpf-{script}"
+
+
 def told(error: OSError) -> str:
     """What an error of the system says, with the file that it is about."""
     why = error.strerror or str(error)

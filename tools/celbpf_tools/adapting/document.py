@@ -136,7 +136,17 @@ class Adapting:
             del item["messageExpression"]
         if isinstance(item.get("message"), str):
             self.message(part, item)
+        if part.startswith("validation "):
+            self.keep_message(part, item, given.get("expression"))
         return item
+
+    def keep_message(self, part: str, item: dict, before: Any) -> None:
+        """The message of a validation without one names its expression: it stays as it was before a rewriting."""
+        before = before.strip() if isinstance(before, str) else None
+        is_one_line = before is not None and "\n" not in before and "\r" not in before
+        if is_one_line and item["expression"] != before and "message" not in item:
+            item["message"] = f"failed expression: {before}"
+            self.change(f"message of {part}", "", "none", item["message"])
 
     def message(self, part: str, item: dict) -> None:
         """A message without the blanks around it, as a cluster takes it."""

@@ -194,7 +194,20 @@ class Reasons:
         word = RELATIONS[form][0 if target else 1]
         if form == "in" and (is_literal(left) or self.is_given(left, frames)):
             return f"{self.place(right, frames)} {'has to' if target else 'may not'} have {self.place(left, frames)}"
-        return f"{self.place(left, frames)} has to be {word} {self.other(right, frames)}"
+        left, before = self.branch(left, frames)
+        return " and ".join([*before, f"{self.place(left, frames)} has to be {word} {self.other(right, frames)}"])
+
+    def branch(self, piece: Piece, frames: list) -> tuple:
+        """The branch of a conditional that is taken; the other if a literal is taken, with what it needs to be taken."""
+        chosen = BRANCHES.get(self.value(piece.parts[0], frames)) if piece.kind == "ternary" else None
+        if chosen is None:
+            return piece, []
+        taken, other = piece.parts[chosen], piece.parts[3 - chosen]
+        if not is_literal(taken):
+            return taken, []
+        if is_literal(other):
+            return piece, []
+        return other, self.changes(piece.parts[0], chosen == BRANCHES[FALSE], frames)
 
     def other(self, piece: Piece, frames: list) -> str:
         """What something is compared with: its value, and where that comes from."""

@@ -18,7 +18,7 @@ from ..asking.keys import TRUE, Keys
 from ..asking.places import cause_of, of_function, smallest
 from ..asking.program import Program, located
 from ..asking.texts import on_one_line, pointed, readable
-from ..entry import usage_of
+from ..entry import called, usage_of
 from ..documents import json_fault, text_of
 
 MEANINGS = {
@@ -134,8 +134,11 @@ def tell(program: Program, path: str, refusal: str) -> None:
     if refusal.startswith("K6 "):
         of_part(program, policies.read(path), refusal)
     elif number == "K1":
-        if fault := json_fault(text_of(path)):
+        text = text_of(path)
+        if fault := json_fault(text):
             print(fault)
+            if not text.lstrip().startswith(("{", "[")):
+                print(f"if it is YAML, {called('adapt')} writes it as JSON")
     elif number in finders:
         finders[number](program, policies.read(path), number)
 

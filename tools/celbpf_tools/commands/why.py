@@ -24,7 +24,7 @@ from ..asking.program import NotAnswered, Program, located
 from ..asking.reasons import reasons
 from ..asking.texts import escaped, indented, on_one_line, readable
 from ..documents import Unreadable
-from ..entry import Stop, usage_of
+from ..entry import Stop, called, usage_of
 from ..testing import cases
 from ..testing.answers import Asked
 from ..testing.reviews import text_of_review
@@ -157,5 +157,7 @@ def main() -> int:
             tell(program, policies.read(given.policy), program.verdict(given.policy))
         except NotAnswered as why:
             print(f"celbpf: {why.line}", file=sys.stderr)
+            if why.line.startswith("N1 "):
+                print(f"why: {called('place')} says where the policy is refused", file=sys.stderr)
             return why.status
     return 0 if allowed else 1
