@@ -136,7 +136,7 @@ class Adapting:
             del item["messageExpression"]
         if isinstance(item.get("message"), str):
             self.message(part, item)
-        if part.startswith("validation "):
+        if "messageExpression" in keys:
             self.keep_message(part, item, given.get("expression"))
         return item
 
