@@ -1,0 +1,5 @@
+use Rattle.label_selectors.proofs.Relation.{selects_by_all}
+use Rattle.label_selectors.proofs.laws.selects_by_all.Goals as goal
+
+pub returns : goal.returns
+returns c = selects_by_all
