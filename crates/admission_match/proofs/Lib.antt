@@ -1,0 +1,5 @@
+pub mod Prelude
+pub mod Texts
+pub mod Candidates
+pub mod Orders
+pub mod Servers

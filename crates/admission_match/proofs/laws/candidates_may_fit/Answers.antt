@@ -1,0 +1,5 @@
+use Rattle.admission_match.proofs.Candidates.{candidates_may_fit}
+use Rattle.admission_match.proofs.laws.candidates_may_fit.Goals as goal
+
+pub returns : goal.returns
+returns c = candidates_may_fit

@@ -1,0 +1,5 @@
+use Rattle.admission_match.proofs.Servers.{every_server_agrees}
+use Rattle.admission_match.proofs.laws.every_server_agrees.Goals as goal
+
+pub returns : goal.returns
+returns c = every_server_agrees

@@ -1,0 +1,5 @@
+pub mod Laws
+pub mod Matching
+pub mod Requests
+pub mod Rows
+pub mod Rules

@@ -1,0 +1,12 @@
+//! Whether a namespace selector lets a request pass.
+
+use crate::trouble::Trouble;
+
+/// Whether a namespace selector lets a request pass.
+#[derive(Clone, Copy, Debug, PartialEq, Eq)]
+pub(crate) enum NamespaceAnswer {
+    Passes,
+    KeptOut,
+    /// The labels of the namespace are not known.
+    NoLabels(Trouble),
+}
