@@ -2,12 +2,18 @@
 ghost use Rattle.bpf_word.specs.Halves.{UpperHalfIsZero};
 ghost use Rattle.bpf_word.specs.Operations.{ComparisonsTell, OperationsAre, ResultsAreWords};
 ghost use Rattle.bpf_word.specs.Overflow.{SumsOverflow};
-ghost use Rattle.bpf_word.specs.Rows.{WordRowsHold};
+ghost use Rattle.bpf_word.specs.Rows.{ComparisonRowsHold, WordRowsHold};
 
 /// Words worked out by hand.
 #[tactic(auto, unfolding(crate::specs::Arithmetic::operated, crate::specs::Arithmetic::alu64_of, crate::specs::Arithmetic::alu32_of, crate::specs::Bytes::swap_of, crate::specs::Comparisons::holds_of, crate::specs::Signs::sext_of, crate::specs::Signs::signed_of, crate::specs::Signs::word_of))]
 pub fn rows_stand()
     ensures { WordRowsHold }
+{}
+
+/// Comparisons of words worked out by hand.
+#[tactic(auto, unfolding(crate::specs::Comparisons::holds_of, crate::specs::Signs::signed_of))]
+pub fn comparisons_stand()
+    ensures { ComparisonRowsHold }
 {}
 
 /// The result of 32-bit arithmetic has zeros in its upper 32 bits (RFC 9669, section 4.1).

@@ -11,4 +11,5 @@ pub mod Place
 pub mod Prefixes
 pub mod Answers
 pub mod Laws
+pub mod LiteralRows
 pub mod RefusalRows

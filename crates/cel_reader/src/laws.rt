@@ -3,6 +3,7 @@
 ghost use Rattle.std.specs.Prelude.{List};
 ghost use Rattle.cel_tokens.specs.Token.{Word};
 ghost use Rattle.cel_reader.specs.Laws.{GoesWrongOnce, ReadHasOneResult, HasOneTree, KeepsWithMoreRoom, TreesAreLists, EntriesAreLists};
+ghost use Rattle.cel_reader.specs.LiteralRows.{LiteralRowsHold, MemoryIsForShortTexts};
 ghost use Rattle.cel_reader.specs.RefusalRows.{RefusalRowsStand};
 
 /// Words are one expression at most, and the same one where more brackets and conditionals may be
@@ -19,6 +20,18 @@ pub fn one_tree()
 pub fn one_answer()
     ensures place { (ws : List Word) → GoesWrongOnce ws }
     ensures answer { ReadHasOneResult }
+{}
+
+/// Words that are literals, operators or names.
+#[tactic(auto, unfolding(crate::specs::Words::role_of, crate::specs::Words::is_reserved))]
+pub fn literal_rows_stand()
+    ensures { LiteralRowsHold }
+{}
+
+/// Memory runs out only for a text that is not too long.
+#[tactic(auto)]
+pub fn memory_is_for_short_texts()
+    ensures { MemoryIsForShortTexts }
 {}
 
 /// Texts that are refused, and how, worked by hand.

@@ -20,7 +20,9 @@ mod word;
 
 pub use cel_tokens::ReadError;
 pub use expr::Expr;
-pub use laws::{one_answer, one_tree, parts_in_lists, refusal_rows_stand};
+pub use laws::{
+    literal_rows_stand, memory_is_for_short_texts, one_answer, one_tree, parts_in_lists, refusal_rows_stand,
+};
 pub use literal::Literal;
 pub use name::is_identifier;
 pub use operator::{BinaryOperator, UnaryOperator};

@@ -9,4 +9,5 @@ pub mod Mnemonics
 pub mod Lines
 pub mod Statements
 pub mod Laws
+pub mod OpcodeRows
 pub mod Rows

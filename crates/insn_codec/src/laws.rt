@@ -1,5 +1,6 @@
 //! Laws of instructions and statements, each the clause of a function that does nothing.
 ghost use Rattle.insn_codec.specs.Laws.{NoLineFeed, OneSpelling, SlotsAreFilled, StatementIsSpelled};
+ghost use Rattle.insn_codec.specs.OpcodeRows.{ArithmeticCodesHold, JumpCodesHold, MemoryCodesHold};
 ghost use Rattle.insn_codec.specs.Rows.{SpellingRowsHold};
 ghost use Rattle.insn_codec.specs.Spelled.{SpelledIsSpelling};
 
@@ -18,6 +19,14 @@ pub fn spelled_is_spelling()
 #[tactic(auto, unfolding(crate::specs::Spelled::spelled, crate::specs::Candidate::candidate_at, crate::specs::Candidate::arithmetic_at, crate::specs::Candidate::jump_at, crate::specs::Candidate::branch_at, crate::specs::Candidate::memory_at, crate::specs::Candidate::atomic_at, crate::specs::Candidate::wide_at))]
 pub fn rows_stand()
     ensures { SpellingRowsHold }
+{}
+
+/// The opcode of each operation, comparison, size and mode, put together by hand.
+#[tactic(auto, unfolding(crate::specs::Spelled::spelled, crate::specs::Candidate::candidate_at, crate::specs::Candidate::arithmetic_at, crate::specs::Candidate::jump_at, crate::specs::Candidate::branch_at, crate::specs::Candidate::memory_at, crate::specs::Candidate::atomic_at, crate::specs::Candidate::wide_at))]
+pub fn opcodes_stand()
+    ensures arithmetic { ArithmeticCodesHold }
+    ensures jumps { JumpCodesHold }
+    ensures memory { MemoryCodesHold }
 {}
 
 /// The bytes of an instruction, and of a statement, are eight for each of its slots, of which it
