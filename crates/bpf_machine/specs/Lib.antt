@@ -20,6 +20,7 @@ pub mod Laws
 pub mod Text
 pub mod Inside
 pub mod Rows
+pub mod InstructionRows
 pub use Rattle.insn_codec.specs.Spelled
 pub use Rattle.insn_codec.specs.Candidate
 pub use Rattle.bpf_word.specs.Arithmetic as WordArithmetic

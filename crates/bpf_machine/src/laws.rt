@@ -2,6 +2,7 @@
 #![tactic(auto, using(crate::proofs::States::states_are_kept, crate::proofs::States::step_is_row))]
 
 ghost use Rattle.bpf_machine.specs.Decoding.{DecodesSpelling};
+ghost use Rattle.bpf_machine.specs.InstructionRows.{ArithmeticRowsHold, AtomicRowsHold, CompareRowsHold, ProgramRowsHold};
 ghost use Rattle.bpf_machine.specs.Rows.{MachineRowsHold};
 ghost use Rattle.bpf_machine.specs.Starts.{StartsAreTables};
 ghost use Rattle.bpf_machine.specs.States.{StatesAreKept, StepsAreRows};
@@ -20,6 +21,14 @@ pub fn stops_once()
 /// Images run by hand.
 pub fn rows_stand()
     ensures { MachineRowsHold }
+{}
+
+/// What single instructions compute, and where short programs end.
+pub fn instructions_stand()
+    ensures programs { ProgramRowsHold }
+    ensures arithmetic { ArithmeticRowsHold }
+    ensures comparisons { CompareRowsHold }
+    ensures atomics { AtomicRowsHold }
 {}
 
 /// What the machine finds at a slot is what the code spells there.

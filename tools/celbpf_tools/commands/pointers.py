@@ -2,9 +2,9 @@
 
 usage: tools/pointers
 
-It compares the rows of docs/ARCHITECTURE.md's table of definitions, and each name before a file in docs/PROOFS.md, with
-the words of these files; the variants of errors in docs/GLOSSARY.md, and the names in a crate's README, with the words
-of the crate's sources; and each path in a page with the files that there are.
+It compares the rows of docs/ARCHITECTURE.md's table of definitions, and each name before a file in docs/PROOFS.md,
+docs/MACHINE.md and docs/POLICIES.md, with the words of these files; the variants of errors in docs/GLOSSARY.md, and the
+names in a crate's README, with the words of the crate's sources; and each path in a page with the files that there are.
 """
 
 import re
@@ -18,6 +18,8 @@ SPAN = re.compile(r"`([^`]+)`")
 WORD = re.compile(r"[A-Za-z_][\w']*")
 PATH = re.compile(r"(\w+)/(specs|src|proofs|tests)/([\w/]*)(\.antt|\.rt)?")
 VARIANTS = re.compile(r"`(\w+)::(\w+)`: ((?:`\w+`(?:, )?)+)")
+# pages that name definitions before their file
+NAMED_PAGES = ("PROOFS.md", "MACHINE.md", "POLICIES.md")
 NAMED = re.compile(r"((?:`\w+`(?:, | and )?)+) \(`([^`]+\.antt)`")
 # names that a README gives to what the crate's own sources have; printed numbers, as K3, are none of them
 NAME = re.compile(r"(?=\w*(?:[A-Z]|_))(?![A-Z]\d$)[A-Za-z_]\w*(?:::\w+)*")
@@ -99,7 +101,7 @@ def faults(root: Path, crates: Path) -> Iterator[str]:
             checks.append(of_variants(lines, crates))
         if page.name == "ARCHITECTURE.md":
             checks.append(of_table(lines, crates))
-        if page.name == "PROOFS.md":
+        if page.name in NAMED_PAGES:
             checks.append(of_names(lines, crates))
         if page.parent.parent == crates:
             checks.append(of_readme(lines, page.parent))
