@@ -7,8 +7,10 @@ over a list of one item.
 """
 
 import json
+import os
 import subprocess
 import tempfile
+from concurrent.futures import ThreadPoolExecutor
 from pathlib import Path
 from typing import Any, Optional
 
@@ -61,9 +63,9 @@ def review(case: Case, values: dict[str, Any]) -> dict:
 class Runner:
     """The program, with a folder for its files."""
 
-    def __init__(self, program: Path, folder: str):
+    def __init__(self, program: Path, folder: Path):
         self.program = program
-        self.folder = Path(folder)
+        self.folder = folder
 
     def write(self, name: str, document: dict) -> str:
         """The path of a file with a document."""
@@ -107,13 +109,17 @@ class Runner:
         return None if said == ILL_TYPED else f"{said or 'accepted'} and not {ILL_TYPED}"
 
 
+def fault_of(program: Path, folder: Path, case: Case, is_untyped: bool) -> Optional[str]:
+    """How one case is not decided as it wants, in a folder of its own."""
+    folder.mkdir()
+    runner = Runner(program, folder)
+    return runner.fault_of_untyped(case) if is_untyped else runner.fault(case)
+
+
 def faults(program: Path, cases: list[Case], untyped: list[Case]) -> list[tuple[Case, str]]:
-    """The cases that the program does not decide as they want, with how."""
-    found = []
-    with tempfile.TemporaryDirectory() as folder:
-        runner = Runner(program, folder)
-        for case in cases:
-            found.append((case, runner.fault(case)))
-        for case in untyped:
-            found.append((case, runner.fault_of_untyped(case)))
+    """The cases that the program does not decide as they want, with how. A run for each processor goes on at a time."""
+    asked = [*((case, False) for case in cases), *((case, True) for case in untyped)]
+    with tempfile.TemporaryDirectory() as folder, ThreadPoolExecutor(os.cpu_count()) as pool:
+        waiting = [pool.submit(fault_of, program, Path(folder, str(at)), *one) for at, one in enumerate(asked)]
+        found = [(case, why.result()) for (case, _), why in zip(asked, waiting)]
     return [(case, why) for case, why in found if why]
