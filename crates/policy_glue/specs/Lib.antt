@@ -23,6 +23,7 @@ pub mod ProgramParts
 pub mod ProgramTrees
 pub mod Reading
 pub mod Response
+pub mod LimitRows
 pub mod Rows
 pub mod RunRows
 pub mod Trees

@@ -2,6 +2,7 @@
 //! code, each the clause of a function that does nothing.
 ghost use Rattle.policy_glue.specs.BudgetRows.{BudgetRowsStand};
 ghost use Rattle.policy_glue.specs.DecisionRows.{CheckingRowsStand, DecisionRowsStand};
+ghost use Rattle.policy_glue.specs.LimitRows.{LimitRowsStand};
 ghost use Rattle.policy_glue.specs.OneAnswer.{CompileHasOneResult, HasOneImage};
 ghost use Rattle.policy_glue.specs.ProgramLaws.{PolicyDecides};
 ghost use Rattle.policy_glue.specs.ProgramTrees.{ProgramDecides, ProgramIsCode, ProgramIsShort, ProgramStops};
@@ -14,6 +15,12 @@ use bpf_machine::laws::decodes_spelling;
 #[tactic(auto, unfolding(crate::proofs::OnLiterals::documents_on_literals))]
 pub fn policy_rows_stand()
     ensures { PolicyRowsStand }
+{}
+
+/// How many parts a policy may have, and what each reason is answered as.
+#[tactic(auto, unfolding(crate::proofs::OnLiterals::documents_on_literals))]
+pub fn limit_rows_stand()
+    ensures { LimitRowsStand }
 {}
 
 /// Verdicts, from what conditions, validations and message expressions come to.

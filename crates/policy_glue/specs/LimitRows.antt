@@ -1,0 +1,51 @@
+-- How many parts a policy may have, and what each reason is answered as, worked by hand.
+use Rattle.std.specs.Prelude.{◌≡◌, ℕ, zero, suc, List, [], ◌∷◌, ◌++◌, None, Some, Ok, Err, codes, decimal}
+use Rattle.policy_glue.specs.Policy.{NamedExpression, Policy, Validation}
+use Rattle.policy_glue.specs.Reading.{failure_named, judged, reason_named}
+use Rattle.policy_glue.specs.Response.{response_of}
+use Rattle.policy_glue.specs.Rows.{denied_as, rule, with_rules}
+use Rattle.policy_glue.specs.Verdict.{Fails}
+use Rattle.policy_glue.specs.declared.failure_policy.FailurePolicy.TheVariants.{Fail, Ignore}
+use Rattle.policy_glue.specs.declared.outcome.Outcome.TheVariants.{Denied}
+use Rattle.policy_glue.specs.declared.policy_error.PolicyError.TheVariants.{NoValidations, TooManyParts}
+use Rattle.policy_glue.specs.declared.reason.Reason.{Reason}
+use Rattle.policy_glue.specs.declared.reason.Reason.TheVariants.{Unauthorized, Forbidden, Invalid, RequestEntityTooLarge}
+
+abbrev pub parts : ℕ → List NamedExpression
+parts zero = []
+parts (suc n) = record { name = codes "v" ++ decimal n; expression = codes "true" } ∷ parts n
+
+abbrev pub rules : ℕ → List Validation
+rules zero = []
+rules (suc n) = rule (codes "true") ∷ rules n
+
+-- a policy with these numbers of conditions, variables and validations
+abbrev pub sized : (conditions variables validations : ℕ) → Policy
+sized conditions variables validations =
+    record { failure_policy = Fail; conditions = parts conditions; variables = parts variables; validations = rules validations }
+
+-- the response to a denial for this reason
+abbrev pub denied_for : Reason → List ℕ
+denied_for reason =
+    response_of
+    (with_rules Fail (record { expression = codes "false"; message = codes "m"; reason = reason; message_expression = None } ∷ []))
+    (record { outcome = Denied; findings = record { truth = Fails; message = None } ∷ [] }) (codes "u1")
+
+pub record LimitRowsStand : Type 0 where
+  pub most_of_each : judged (sized 64 64 64) ≡ Ok (sized 64 64 64)
+  pub too_many_conditions : judged (sized 65 0 1) ≡ Err TooManyParts
+  pub too_many_variables : judged (sized 0 65 1) ≡ Err TooManyParts
+  pub too_many_validations : judged (sized 0 0 65) ≡ Err TooManyParts
+  -- that there is nothing to decide is tested first
+  pub nothing_to_decide : judged (sized 0 65 0) ≡ Err NoValidations
+  pub fail : failure_named (codes "Fail") ≡ Some Fail
+  pub ignore : failure_named (codes "Ignore") ≡ Some Ignore
+  pub small_letters : failure_named (codes "fail") ≡ None
+  pub unauthorized : reason_named (codes "Unauthorized") ≡ Some Unauthorized
+  pub too_large : reason_named (codes "RequestEntityTooLarge") ≡ Some RequestEntityTooLarge
+  pub other_reason : reason_named (codes "NotFound") ≡ None
+  pub code_401 : denied_for Unauthorized ≡ denied_as (codes "{\"code\":401,\"message\":\"m\",\"reason\":\"Unauthorized\"}")
+  pub code_403 : denied_for Forbidden ≡ denied_as (codes "{\"code\":403,\"message\":\"m\",\"reason\":\"Forbidden\"}")
+  pub code_422 : denied_for Invalid ≡ denied_as (codes "{\"code\":422,\"message\":\"m\",\"reason\":\"Invalid\"}")
+  pub code_413 : denied_for RequestEntityTooLarge
+      ≡ denied_as (codes "{\"code\":413,\"message\":\"m\",\"reason\":\"RequestEntityTooLarge\"}")
