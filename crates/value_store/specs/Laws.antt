@@ -1,5 +1,5 @@
 -- What is proved of values.
-use Rattle.std.specs.Prelude.{Decides, ◌≡◌, not, is_some, ℕ, List, Option, option_and_then, slice_get, None, IsSome, IfSome, Ok}
+use Rattle.std.specs.Prelude.{Decides, ◌≡◌, ◌<◌, not, is_some, ℕ, List, Option, option_and_then, slice_get, None, IsSome, IfSome, Ok, Err}
 use Rattle.std.specs.List.{AllByRecursion}
 use Rattle.serde_json.specs.Data as json
 use Rattle.value_store.specs.Value.{Value, Entries, ValueOrError, keys_of, values_of}
@@ -7,8 +7,9 @@ use Rattle.value_store.specs.Equality.{equal}
 use Rattle.value_store.specs.Lookup.{find, has_key, place_of_key, inserted}
 use Rattle.value_store.specs.Keys.{Ascend, IsOrdered, IsResultOrdered, AreOrdered, IsDocumentOrdered}
 use Rattle.value_store.specs.Calls.{part_at, key_at, joined, pushed, put_in}
-use Rattle.value_store.specs.Placing.{Contents, IsStore, AreCanonical, placed}
-use Rattle.value_store.specs.Roots.{value_of, has_other, start_contents}
+use Rattle.value_store.specs.Placing.{Contents, IsStore, AreCanonical, charge_limit, placed}
+use Rattle.value_store.specs.Roots.{value_of, has_other, sizes, start_contents, within_limit}
+use Rattle.value_store.specs.declared.table_error.TableError.TheVariants.{RootsTooLarge}
 
 -- deep equality is equality
 abbrev pub EqualDecides : Type 0
@@ -60,3 +61,7 @@ pub record KeepsOrder : Type 0 where
 abbrev pub StartIsOrdered : Type 0
 StartIsOrdered = (roots : List json.Data) (contents : Contents) → AllByRecursion IsDocumentOrdered roots
     → start_contents roots ≡ Ok contents → AreOrdered contents.values
+
+-- roots that are together above the limit are refused for that, and not as out of memory
+abbrev pub LargeRootsRefused : Type 0
+LargeRootsRefused = (roots : List Value) → charge_limit < sizes roots → within_limit roots ≡ Err RootsTooLarge

@@ -7,6 +7,7 @@ ghost use Rattle.value_store.specs.Laws.{
   InsertedInOrder,
   InsertedOnce,
   KeepsOrder,
+  LargeRootsRefused,
   OtherNumbersRefused,
   StartIsCanonical,
   StartIsOrdered,
@@ -41,4 +42,10 @@ pub fn keys_stay_in_order()
     ensures once { InsertedOnce }
     ensures calls { KeepsOrder }
     ensures start { StartIsOrdered }
+{}
+
+/// Roots that are together above the limit are refused for that.
+#[tactic(auto)]
+pub fn large_roots_are_refused()
+    ensures { LargeRootsRefused }
 {}
