@@ -18,3 +18,4 @@ pub mod Refusals
 pub mod Answers
 pub mod ErrorCodes
 pub mod Laws
+pub mod SourceRows

@@ -2,6 +2,7 @@
 
 ghost use Rattle.assembler.specs.Laws.{ListingIsSource, OneAnswer, RefusedByCause, SourceIsAssembled};
 ghost use Rattle.assembler.specs.Reading.{OneReading};
+ghost use Rattle.assembler.specs.SourceRows.{SourceRowsHold};
 
 use insn_codec::{no_line_feed, slots_are_filled, statement_is_spelled};
 
@@ -35,3 +36,9 @@ pub fn listing_is_source()
     statement_is_spelled();
     slots_are_filled();
 }
+
+/// Sources worked by hand: what their lines say, which numbers are in range, where labels lead.
+#[tactic(auto)]
+pub fn source_rows_stand()
+    ensures { SourceRowsHold }
+{}

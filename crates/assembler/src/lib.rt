@@ -10,4 +10,6 @@ mod text;
 
 pub use asm_error::AsmError;
 pub use assembling::assemble;
-pub use laws::{listing_is_source, one_answer, refused_by_cause, source_is_assembled};
+pub use laws::{
+    listing_is_source, one_answer, refused_by_cause, source_is_assembled, source_rows_stand,
+};
