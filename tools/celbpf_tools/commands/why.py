@@ -1,7 +1,7 @@
 """Says why a policy decides a review as it does.
 
-usage: tools/why POLICY REVIEW [--namespace F] [--params F] [--program PROGRAM]
-       tools/why --case NAME TESTS [--program PROGRAM]
+usage: tools/why POLICY REVIEW [--namespace F] [--params F] [--html F] [--program PROGRAM]
+       tools/why --case NAME TESTS [--html F] [--program PROGRAM]
 
 `--case` takes policy, review, namespace and params of the case of this name in a test file, as `tools/test` reads it.
 
@@ -11,12 +11,17 @@ false a tree of its parts with their values, the item of a macro that decides, a
 its message and where that comes from. All is asked of the program, for the parts of an expression by small policies
 with the same variables. The status is that of `celbpf review`; if it refuses the policy or a document, its line is
 printed.
+
+With `--html F` the file F becomes a page that shows the same in a browser: the parts as trees that open, with the value
+of each sub-expression that the run evaluated, the review with the fields that were read, and below them the run of the
+program, step by step. It is one file, which loads nothing. Of a run of more than 20,000 steps it has the first 20,000.
 """
 
 import argparse
 import sys
 import tempfile
 from pathlib import Path
+from typing import Optional
 
 from ..asking import policies
 from ..asking.errors import ERROR, first_error
@@ -25,15 +30,19 @@ from ..asking.reasons import reasons
 from ..asking.texts import escaped, indented, on_one_line, readable
 from ..documents import Unreadable
 from ..entry import Stop, called, usage_of
+from ..slots.mapping import NotMapped
 from ..testing import cases
 from ..testing.answers import Asked
 from ..testing.reviews import text_of_review
+from ..viewing.page import Decision, page
 
 OUTCOMES = {"1": "skipped", "2": "rejected", "3": "denied", "4": "admitted"}
 RUNS = ("denied", "admitted")
 BOOLS = ("true", "false", ERROR)
 # before the lines of a tree
 INDENT = "      "
+# begins the line of a tree that says what to change
+CHANGE = "to be true: "
 # stands for a message, to see whether the message is what is answered
 MARK = "the message"
 
@@ -45,6 +54,7 @@ def words() -> argparse.Namespace:
     parser.add_argument("--namespace")
     parser.add_argument("--params")
     parser.add_argument("--case")
+    parser.add_argument("--html")
     parser.add_argument("--program")
     given = parser.parse_args()
     if (given.case is None) == (given.review is None):
@@ -86,23 +96,24 @@ def documents(given: argparse.Namespace) -> list:
     return ["--review", given.review, *(word for pair in beside if pair[1] for word in pair)]
 
 
-def tell_value(program: Program, part: policies.Part) -> None:
-    """Prints what a part came to, with its expression."""
+def tell_value(program: Program, part: policies.Part) -> Optional[str]:
+    """Prints the value of a part, with its expression; what to change in a false one, if that is known."""
     try:
         value = program.value(policies.asking(part.scope, part.text))
     except NotAnswered as why:
         print(f"{part.title}: not shown, since the program answers {why.line} for it alone")
         print(indented(part.text))
-        return
+        return None
     decides = part.kind in ("condition", "validation")
     no_bool = ", which is no bool and counts as the error" if decides and value not in BOOLS else ""
     print(f"{part.title}: {on_one_line(value)}{no_bool}")
     print(indented(part.text))
-    if value == "false" and decides:
-        for line in reasons(program, part.scope, part.text, True) or []:
-            print(INDENT + escaped(line))
+    lines = (reasons(program, part.scope, part.text, True) or []) if value == "false" and decides else []
+    for line in lines:
+        print(INDENT + escaped(line))
     if value == ERROR:
         print(*(indented(on_one_line(line)) for line in first_error(program, part.scope, part.text)), sep="\n")
+    return next((line for line in lines if line.startswith(CHANGE)), None)
 
 
 def origin(program: Program, policy: dict, place: int) -> str:
@@ -115,33 +126,48 @@ def origin(program: Program, policy: dict, place: int) -> str:
     return "its message" if validation.get("message") else "its expression, since it has no message"
 
 
-def tell_denial(program: Program, policy: dict, place: int, parts: list) -> None:
-    """Prints the message of a denial, and the message expression where it has one."""
+def tell_denial(program: Program, policy: dict, place: int, parts: list) -> Optional[tuple]:
+    """Prints the message of a denial, and the message expression if it has one; the message, and where it is from."""
     response = program.response(policies.alone(policy, place))
     if response["allowed"]:
-        return
-    print(f"denial by validation {place}: {on_one_line(response['status']['message'])}")
-    print(f"    from {origin(program, policy, place)}")
+        return None
+    message, source = response["status"]["message"], origin(program, policy, place)
+    print(f"denial by validation {place}: {on_one_line(message)}")
+    print(f"    from {source}")
     for part in parts:
         if part.kind == "message" and part.place == place:
             tell_value(program, part)
+    return message, source
 
 
-def tell(program: Program, policy: dict, verdict: list) -> None:
-    """Prints all of a verdict, whose lines these are."""
+def tell(program: Program, policy: dict, verdict: list) -> Decision:
+    """Prints all of a verdict, whose lines these are; the same for a page."""
     outcome = OUTCOMES[verdict[0].split()[1]]
     print(outcome)
+    decision = Decision(policy, outcome)
     parts = list(policies.parts(policy))
     for kind in ("condition", "variable", "validation"):
         for part in parts:
             if part.kind == kind and (outcome in RUNS or kind == "condition"):
-                tell_value(program, part)
+                decision.hints[kind, part.place] = tell_value(program, part)
     if outcome not in RUNS:
         print("variables and validations are not asked")
-        return
+        return decision
     for line in verdict:
-        if line.startswith("validation "):
-            tell_denial(program, policy, int(line.split()[1]), parts)
+        place = int(line.split()[1])
+        if line.startswith("validation ") and (told := tell_denial(program, policy, place, parts)):
+            decision.denials[place] = told
+    return decision
+
+
+def write_page(given: argparse.Namespace, program: Program, decision: Decision) -> None:
+    """Writes the page of a decision."""
+    beside = [f"{name} {file}" for name, file in (("namespace", given.namespace), ("params", given.params)) if file]
+    decision.files = [given.policy, given.review, *beside]
+    try:
+        Path(given.html).write_text(page(decision, program), encoding="utf-8")
+    except NotMapped as why:
+        raise Stop(f"{given.html} is not written: {why}") from why
 
 
 def main() -> int:
@@ -153,11 +179,14 @@ def main() -> int:
         path = located(given.program)
         program = Program(path, folder, documents(given))
         try:
-            allowed = program.response(given.policy)["allowed"]
-            tell(program, policies.read(given.policy), program.verdict(given.policy))
+            response = program.response(given.policy)
+            decision = tell(program, policies.read(given.policy), program.verdict(given.policy))
+            decision.message = response.get("status", {}).get("message", "")
+            if given.html:
+                write_page(given, program, decision)
         except NotAnswered as why:
             print(f"celbpf: {why.line}", file=sys.stderr)
             if why.line.startswith("N1 "):
                 print(f"why: {called('place')} says where the policy is refused", file=sys.stderr)
             return why.status
-    return 0 if allowed else 1
+    return 0 if response["allowed"] else 1

@@ -13,7 +13,7 @@ from .completion import OPTIONS, completion
 # the scripts for policies, which need nothing of the repository
 SCRIPTS = ("why", "place", "reviews", "test", "adapt")
 # the packages of Python that these need
-MODULES = ("asking", "adapting", "testing", "commands")
+MODULES = ("asking", "adapting", "testing", "evaluator", "slots", "viewing", "commands")
 ENTRY = '''#!/usr/bin/env python3
 """{what}"""
 

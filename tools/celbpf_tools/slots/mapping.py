@@ -60,7 +60,10 @@ class SlotMap:
         self.spans = spans_of(program)
         self.lines = dict(listed(program))
         self.innermost = [None] * self.size
+        self.ending: dict = {}
         for span in self.spans:
+            if span.register:
+                self.ending.setdefault(span.last + 1, []).append(span)
             for slot in range(span.first, span.last + 1):
                 self.innermost[slot] = span
 
@@ -82,7 +85,7 @@ class SlotMap:
 
     def valued(self, slot: int) -> list:
         """The spans whose value a register names in this slot, if the step before was in them."""
-        return [span for span in self.spans if span.register and span.last + 1 == slot]
+        return self.ending.get(slot, [])
 
 
 def spans_of(program: Program) -> list:

@@ -1,0 +1,174 @@
+"""Tests of the page of a decision, on a run that is worked by hand from docs/CODE.md and docs/HELPERS.md."""
+
+import json
+import unittest
+from typing import Any
+
+from ..browsing.websocket import frame
+from ..slots.layout import program_of
+from ..slots.mapping import SlotMap
+from ..viewing import run as run_data
+from ..viewing.deciding import deciding, origins, why_error
+from ..viewing.evaluations import Evaluation, Turn, evaluated
+from ..viewing.page import Decision, head
+from ..viewing.reads import reads_of
+from ..viewing.recording import Recording, State, states_of
+from ..viewing.review import Review
+from ..viewing.trees import Trees
+from ..viewing.walk import Walk, references, walked
+from ..viewing.writing import element
+
+BOTTOM = 0x1_0000_0200
+TEXT = "object.spec.replicas <= 3"
+# the slot and the words of R0 to R3 after each step; `{field}` is what helper 5 answers for the second field, and
+# `{less}` and `{whole}` what helpers 10 and 23 answer
+ROWS = [
+    (0, 0, 0, 0, 0), (1, 0, 4, 0, 0), (3, 0, 4, 0x4_0000_0000, 0), (4, 0, 4, 0x4_0000_0000, 4),
+    (5, 9, 0, 0, 0), (6, 9, 9, 0, 0), (8, 9, 9, 0x4_0000_0004, 0), (9, 9, 9, 0x4_0000_0004, 8),
+    (10, "field", 0, 0, 0), (11, "field", 0, 0, 0), (13, "field", 3, 0, 0), (14, "int", 0, 0, 0),
+    (15, "int", "int", 0, 0), (16, "int", "int", "field", 0), (17, "less", 0, 0, 0), (18, "less", "less", 0, 0),
+    (19, "whole", 0, 0, 0),
+]
+FIVE = {"field": 10, "int": 11, "less": 3, "whole": 2}
+MISSING = {"field": 0, "int": 10, "less": 0, "whole": 0}
+VALUES = {0: "error", 2: "false", 3: "true", 9: '{"replicas":5}', 10: "5", 11: "3", 4: '{"spec":{"replicas":5}}'}
+
+
+def slots_of(text: str) -> SlotMap:
+    return SlotMap(program_of({"spec": {"validations": [{"expression": text}]}}))
+
+
+def recording(named: dict) -> Recording:
+    """The run of the expression with the references that some helpers answer."""
+    states = []
+    for pc, *words in ROWS:
+        given = [named.get(word, word) for word in words]
+        states.append(State(pc, "running", (*given, 0, 0, 0, 0, 0, 0, BOTTOM), ()))
+    return Recording(states, 30, [], {9: (BOTTOM - 8, named["field"])}, dict(VALUES))
+
+
+def of(slots: SlotMap, text: str, reference: int, parts: tuple = (), turns: tuple = ()) -> Evaluation:
+    """An evaluation of the last sub-expression with this text."""
+    span = next(one for one in reversed(slots.spans) if one.text == text and one.role == "expression")
+    return Evaluation(span, 1, reference, list(parts), list(turns))
+
+
+def texts(found: Any) -> list:
+    return [one.span.text for one in found]
+
+
+class Runs(unittest.TestCase):
+    """A run of `object.spec.replicas <= 3`."""
+
+    def setUp(self) -> None:
+        self.slots = slots_of(TEXT)
+
+    def walk(self, named: dict) -> Walk:
+        return walked(self.slots, recording(named))
+
+    def test_arrivals(self) -> None:
+        found = [(one.step, one.span.text, one.reference) for one in self.walk(FIVE).arrivals]
+        expected = [(1, "object", 4), (4, "object.spec", 9), (8, "object.spec.replicas", 10), (11, "3", 11), (16, TEXT, 2)]
+        self.assertEqual(found, expected)
+
+    def test_names(self) -> None:
+        walk = self.walk(FIVE)
+        # the address and the length of a text name nothing; a copy names what it is copied from, also over a word
+        self.assertEqual([sorted(walk.named[step]) for step in (0, 3, 5, 13, 14)], [[], [1], [0, 1], [0, 1, 2], [0]])
+        self.assertEqual(walk.words, {9})
+        self.assertEqual(references(recording(FIVE), walk), [2, 3, 4, 9, 10, 11])
+
+    def test_evaluations(self) -> None:
+        whole = evaluated(self.walk(FIVE))["validation", 0]
+        self.assertEqual((whole.span.text, whole.reference), (TEXT, 2))
+        self.assertEqual(texts(whole.parts), ["object.spec.replicas", "3"])
+        self.assertEqual(texts(whole.parts[0].parts), ["object.spec"])
+        self.assertEqual(texts(deciding(whole)), [TEXT])
+        self.assertEqual(list(origins(whole)), [])
+
+    def test_error(self) -> None:
+        whole = evaluated(self.walk(MISSING))["validation", 0]
+        (origin,) = origins(whole)
+        self.assertEqual(origin.span.text, "object.spec.replicas")
+        self.assertEqual(why_error(origin, VALUES), "there is no field replicas")
+        shown = Trees(TEXT, VALUES, whole, True).all()
+        self.assertIn("the error begins here: there is no field replicas", shown)
+        reads = reads_of({("validation", 0): whole}, {}, VALUES)
+        self.assertEqual(reads.missing, {("object", "spec", "replicas")})
+
+    def test_reads(self) -> None:
+        reads = reads_of(evaluated(self.walk(FIVE)), {}, VALUES)
+        self.assertEqual(reads.paths, {("object",), ("object", "spec"), ("object", "spec", "replicas")})
+        self.assertEqual(reads.missing, set())
+        self.assertIn('<mark class="key">replicas</mark>: <code>5</code>', Review(reads).all(VALUES))
+
+    def test_data(self) -> None:
+        run, walk = recording(FIVE), self.walk(FIVE)
+        data = run_data.data(self.slots, run, walk)
+        self.assertEqual(data["slots"][-1], 19)
+        self.assertEqual(data["registers"][1], [[1, "0x0000000000000004"]])
+        self.assertEqual(data["stored"], [[9, "0x00000001000001f8", "0x000000000000000a", True]])
+        self.assertEqual(data["lines"][:2], [[0, "mov64 r1, 4", 3], [1, "lddw r2, 0x0000000400000000", 2]])
+
+    def test_session_lines(self) -> None:
+        lines = ["step 3 pc 12 running", *(f"r{place} 0x{place:016x}" for place in range(11)), "depth 1", "return 7 r6 0x0"]
+        (state,) = states_of(lines)
+        self.assertEqual((state.pc, state.status, state.registers[10], state.calls), (12, "running", 10, ("return 7 r6 0x0",)))
+
+
+class Deciding(unittest.TestCase):
+    """Which parts decide."""
+
+    def test_and(self) -> None:
+        text = "object.a && object.b"
+        slots = slots_of(text)
+        left, right = of(slots, "object.a", 3), of(slots, "object.b", 2)
+        self.assertEqual(texts(deciding(of(slots, text, 2, (left, right)))), [text, "object.b"])
+        left = of(slots, "object.a", 2)
+        self.assertEqual(texts(deciding(of(slots, text, 2, (left,)))), [text, "object.a"])
+
+    def test_item(self) -> None:
+        text = "object.a.all(i, i == 1)"
+        slots = slots_of(text)
+        head = next(span for span in slots.spans if span.role == "item")
+        turns = [Turn(head, 1, 9, [of(slots, "i == 1", 3)]), Turn(head, 2, 10, [of(slots, "i == 1", 2)])]
+        whole = of(slots, text, 2, (of(slots, "object.a", 8),), tuple(turns))
+        self.assertEqual([one.reference for one in deciding(whole)], [2, 2])
+        self.assertIs(list(deciding(whole))[1], turns[1].parts[0])
+
+    def test_items_of_a_list_that_is_made(self) -> None:
+        text = "([object.a] + object.b).all(i, i.c)"
+        slots = slots_of(text)
+        values = {9: "[1]", 10: "[2]", 11: "[1,2]", 3: "true", 4: "{}"}
+        first = next(one for one in slots.spans if one.text == "object" and one.role == "expression")
+        made = of(slots, "[object.a]", 9, (of(slots, "object.a", 12, (Evaluation(first, 1, 4),)),))
+        other = of(slots, "object.b", 10, (of(slots, "object", 4),))
+        head = next(span for span in slots.spans if span.role == "item")
+        turns = tuple(Turn(head, 1, 12, [of(slots, "i.c", 3, (of(slots, "i", 12),))]) for _ in range(2))
+        whole = of(slots, text, 3, (of(slots, "([object.a] + object.b)", 11, (made, other)),), turns)
+        found = reads_of({("validation", 0): whole}, {}, values).paths
+        self.assertLessEqual({("object", "a", "c"), ("object", "b", 0, "c")}, found)
+
+
+class Writing(unittest.TestCase):
+    """Texts that would be markup."""
+
+    def test_elements(self) -> None:
+        self.assertEqual(element("p", "<b>\"&'", title='"'), '<p title="&quot;">&lt;b&gt;&quot;&amp;&#x27;</p>')
+        self.assertEqual(element("p", "a\u202eb\x00", open=True, class_=None), "<p open>a\\u202eb\\u0000</p>")
+
+    def test_embedded(self) -> None:
+        text = run_data.embedded({"</script>": "<!-- \u2028 & \U0001f600"})
+        self.assertTrue(text.isascii() and not set(text) & set("<>&"))
+        self.assertEqual(json.loads(text), {"</script>": "<!-- \u2028 & \U0001f600"})
+
+    def test_rule(self) -> None:
+        # `printf a | sha256sum` and so on, in base64
+        rule = head(Decision({}, "denied", ["p", "r"]), "a", "b")
+        self.assertIn("style-src &#x27;sha256-ypeBEsobvcr6wjGzmiPcTaeG7/gUfE5yuYB3ha/uSLs=&#x27;", rule)
+        self.assertIn("default-src &#x27;none&#x27;", rule)
+
+    def test_frame_of_a_web_socket(self) -> None:
+        # RFC 6455, section 5.7: a single frame with a masked text
+        mask = bytes.fromhex("37fa213d")
+        self.assertEqual(frame(1, b"Hello", mask), bytes.fromhex("818537fa213d7f9f4d5158"))

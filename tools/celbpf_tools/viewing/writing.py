@@ -1,0 +1,33 @@
+"""Elements of HTML; every text in them is escaped."""
+
+import html
+from typing import Iterable
+
+
+class Markup(str):
+    """A text that is HTML already."""
+
+
+def escaped(text: object) -> Markup:
+    """A text as HTML; characters that would not show, or turn the text around, are shown by their numbers."""
+    if isinstance(text, Markup):
+        return text
+    shown = "".join(one if one.isprintable() or one in "\n\t" else f"\\u{ord(one):04x}" for one in str(text))
+    return Markup(html.escape(shown, quote=True))
+
+
+def element(tag: str, *content: object, **attributes: object) -> Markup:
+    """An element; `class_` is its class, and an attribute that is True has no value, one that is False or None is left out."""
+    given = []
+    for name, value in attributes.items():
+        shown = name.rstrip("_").replace("_", "-")
+        if value is True:
+            given.append(f" {shown}")
+        elif value is not False and value is not None:
+            given.append(f' {shown}="{escaped(value)}"')
+    return Markup(f"<{tag}{''.join(given)}>{joined(content)}</{tag}>")
+
+
+def joined(content: Iterable) -> Markup:
+    """Several pieces of content, one after another."""
+    return Markup("".join(escaped(one) for one in content if one is not None))
