@@ -14,7 +14,9 @@ from ..entry import Stop
 from .websocket import WebSocket
 
 NAMES = ("chromium", "chromium-browser", "google-chrome")
-WORDS = ["--headless", "--no-sandbox", "--disable-gpu", "--no-first-run", "--remote-debugging-port=0", "--hide-scrollbars"]
+WORDS = ["--headless", "--no-sandbox", "--disable-gpu", "--no-first-run", "--hide-scrollbars"]
+# the system chooses the port
+PORT = "--remote-debugging-port=0"
 # seconds for the browser to start, and for a page to load
 PATIENCE = 60
 PAUSE = 0.05
@@ -34,7 +36,7 @@ class Browser:
 
     def __init__(self):
         self.folder = tempfile.TemporaryDirectory()
-        words = [located(), *WORDS, f"--user-data-dir={self.folder.name}", "about:blank"]
+        words = [located(), *WORDS, PORT, f"--user-data-dir={self.folder.name}", "about:blank"]
         quiet = {"stdout": subprocess.DEVNULL, "stderr": subprocess.DEVNULL, "stdin": subprocess.DEVNULL}
         self.process = subprocess.Popen(words, **quiet)
         self.port = self.listened()
@@ -126,10 +128,11 @@ class Page:
         self.call("Emulation.setDeviceMetricsOverride", width=width, height=height, deviceScaleFactor=1, mobile=False)
         self.call("Emulation.setEmulatedMedia", features=[{"name": "prefers-color-scheme", "value": scheme}])
 
-    def press(self, key: str, code: int, shift: bool = False) -> None:
-        """Presses and releases a key; `code` is its number in Windows."""
+    def press(self, key: str, number: int, shift: bool = False) -> None:
+        """Presses and releases a key; `number` is its number in Windows."""
+        given = {"key": key, "code": key, "windowsVirtualKeyCode": number, "modifiers": 8 * shift}
         for kind in ("keyDown", "keyUp"):
-            self.call("Input.dispatchKeyEvent", type=kind, key=key, code=key, windowsVirtualKeyCode=code, modifiers=8 * shift)
+            self.call("Input.dispatchKeyEvent", type=kind, **given)
 
     def picture(self, quality: Optional[int] = None) -> bytes:
         """A picture of what is shown: PNG, or WebP of a quality."""

@@ -6,7 +6,7 @@ from .browser import Page
 
 SCRIPT = "</script><script>window.broken = 1</script>"
 IMAGE = "<img src=x onerror='window.broken = 1'>"
-OTHERS = ["<!--", "]]>", "\" onmouseover=\"window.broken = 1", "&lt;b&gt;", "\u2028\u2029", "\u202egnp.exe", "\U0001f600"]
+OTHERS = ["<!--", "]]>", '" onmouseover="window.broken = 1', "&lt;b&gt;", "\u2028\u2029", "\u202egnp.exe", "\U0001f600"]
 POLICY = {
     "apiVersion": "admissionregistration.k8s.io/v1",
     "kind": "ValidatingAdmissionPolicy",
@@ -22,8 +22,15 @@ POLICY = {
 REVIEW = {
     "apiVersion": "admission.k8s.io/v1",
     "kind": "AdmissionReview",
-    "request": {"uid": SCRIPT, "object": {"texts": [IMAGE, *OTHERS, SCRIPT], "a": {"<b>": IMAGE, SCRIPT: None}, IMAGE: 1}},
+    "request": {
+        "uid": SCRIPT,
+        "object": {"texts": [IMAGE, *OTHERS, SCRIPT], "a": {"<b>": IMAGE, SCRIPT: None}, IMAGE: 1},
+    },
 }
+
+# whether an element has an attribute that is code
+HANDLERS = """[...document.querySelectorAll("*")].some((one) =>
+  [...one.attributes].some((other) => other.name.startsWith("on")))"""
 
 
 def hostile_faults(page: Page) -> Iterator[str]:
@@ -34,7 +41,7 @@ def hostile_faults(page: Page) -> Iterator[str]:
         yield "a text became a script"
     if page.value("document.querySelectorAll('img, b').length"):
         yield "a text became an element"
-    if page.value("[...document.querySelectorAll('*')].some((one) => [...one.attributes].some((two) => two.name.startsWith('on')))"):
+    if page.value(HANDLERS):
         yield "a text became an attribute"
     for text in (SCRIPT, IMAGE, "&lt;b&gt;"):
         if not page.value(f"document.body.innerText.includes({text!r})"):

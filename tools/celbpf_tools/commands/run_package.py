@@ -67,6 +67,9 @@ def check_programs(checks: Checks, prefix: Path) -> None:
     lines, answers = (gate / "reviews.jsonl").read_text(), (gate / "answers.jsonl").read_text()
     checks.run([prefix / "bin" / "gatekeeper", *policies], 0, answers, lines)
     checks.run([f"{program}-why", policy, review], 1, "denied\nvalidation 0: false\n    object.spec.replicas <= 3")
+    checks.run([f"{program}-why", policy, review, "--html", "why.html"], 1, "denied\nvalidation 0")
+    page = checks.folder / "why.html"
+    checks.tell("the page of celbpf-why", page.exists() and ">denied</h1>" in page.read_text(), "no page of a denial")
     checks.run([f"{program}-place", policy], 0, "accepted\n")
     checks.run([f"{program}-reviews", policy, review], 1, f"{review}: denied")
     checks.run([f"{program}-test", replicas], 0, "TAP version 13\n1..3\nok 1")

@@ -32,6 +32,7 @@ from ..viewing.page import Decision, shown_run
 
 SIZES = {"wide": (1280, 900), "narrow": (420, 900)}
 SCHEMES = ("light", "dark")
+VIEWS = {"top": "scrollTo(0, 0)", "run": "document.getElementById('run').scrollIntoView()"}
 PICTURED = ("seccomp/unconfined", "replicas/five")
 
 
@@ -105,7 +106,7 @@ def pictures(page: Page, name: str, folder: Path) -> None:
     for size, (width, height) in SIZES.items():
         for scheme in SCHEMES:
             page.look(width, height, scheme)
-            for place, script in (("top", "scrollTo(0, 0)"), ("run", "document.getElementById('run').scrollIntoView()")):
+            for place, script in VIEWS.items():
                 page.value(script)
                 (folder / f"{name.replace('/', '-')}-{size}-{scheme}-{place}.png").write_bytes(page.picture())
 
@@ -164,7 +165,8 @@ def maps_checked(path: Path, folder: str) -> list:
     for example in examples():
         number, faults = run_checked(example, program)
         values, found = values + number, found + faults
-    print(f"maps of {len(policies)} policies, {values} values of {len(examples())} runs, {len(found)} otherwise", flush=True)
+    runs = len(examples())
+    print(f"maps of {len(policies)} policies, {values} values of {runs} runs, {len(found)} otherwise", flush=True)
     return found
 
 
@@ -181,6 +183,6 @@ def main() -> int:
                 pages.take(example)
             pages.take_hostile()
         print(*(f"{one}\n" for one in pages.faults), sep="", end="", file=sys.stderr)
-        count_faults = len(faults) + len(pages.faults)
-        print(f"{pages.opened} pages of denials, {pages.positions} positions of {len(pages.moved)}, {count_faults} faults")
-    return 1 if count_faults else 0
+        wrong = len(faults) + len(pages.faults)
+        print(f"{pages.opened} pages of denials, {pages.positions} positions of {len(pages.moved)}, {wrong} faults")
+    return 1 if wrong else 0

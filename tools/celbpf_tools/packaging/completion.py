@@ -7,7 +7,7 @@ COMMANDS = {
 }
 OPTIONS = {
     "gatekeeper": "--policy --namespace --params --steps",
-    "celbpf-why": "--namespace --params --case --program",
+    "celbpf-why": "--html --namespace --params --case --program",
     "celbpf-place": "--program",
     "celbpf-reviews": "--namespace --params --program",
     "celbpf-test": "--junit --coverage --tap --program --gatekeeper",

@@ -198,7 +198,8 @@ class Emitter:
         condition, chosen, other = (self.of(part, frame) for part in node.parts)
         to_other = jump("eq", "r0", tails.NO, chosen.size + 2)
         to_error = jump("ne", "r0", tails.YES, chosen.size + other.size + 2)
-        return condition + code(to_other, to_error) + chosen + code(ja(other.size + 2)) + other + code(ja(1), mov("r0", 0))
+        over, error = code(ja(other.size + 2)), code(ja(1), mov("r0", 0))
+        return condition + code(to_other, to_error) + chosen + over + other + error
 
     def map(self, node: Node, frame: Frame) -> Piece:
         made = code("call 18", store(frame.word, "r0"))

@@ -11,7 +11,9 @@ from .tails import NO, YES
 COUNT, PLACE, ANSWER, ITEM, TURN = 1, 2, 3, 4, 5
 # slots that are left out beside those of the first answer, the loop and the turn
 NO_RANGE, EXIT, BACK = 4, 8, 7
-FIRST = {"all": mov("r0", YES), "exists": mov("r0", NO), "exists_one": mov("r0", NO), "filter": "call 16", "map": "call 16"}
+FIRST = {
+    "all": mov("r0", YES), "exists": mov("r0", NO), "exists_one": mov("r0", NO), "filter": "call 16", "map": "call 16",
+}
 EXISTS_ONE_END = code(jump("eq", "r0", 0, 2), jump("eq", "r0", YES, 1), mov("r0", NO))
 
 

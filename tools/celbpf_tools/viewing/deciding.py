@@ -71,7 +71,8 @@ def why_error(one: Evaluation, values: dict) -> str:
     if isinstance(tree, Macro) and shown not in ("list", "map"):
         return f"{operand.span.text} is {article(shown)}, which has no items"
     if isinstance(tree, Operation) and tree.sign == "[]":
-        return f"{operand.span.text} has no such item" if shown in ("list", "map") else f"{operand.span.text} is {article(shown)}"
+        lacks = "has no such item" if shown in ("list", "map") else f"is {article(shown)}"
+        return f"{operand.span.text} {lacks}"
     return "its operands do not fit, or the result is too large"
 
 

@@ -28,6 +28,7 @@ OUTCOMES = {
 ROOTS = range(4, 9)
 # the most characters of a value in a heading
 MOST_HEAD = 80
+LEGEND = element("p", "\u25cf marks what was read", class_="legend")
 SILENT = element("span", "not evaluated", class_="value silent")
 
 
@@ -126,7 +127,8 @@ def hashed(text: str) -> str:
 
 def head(decision: Decision, style: str, script: str) -> Markup:
     """The head: nothing is loaded, and only this style and this script are used."""
-    rule = f"default-src 'none'; style-src {hashed(style)}; script-src {hashed(script)}; base-uri 'none'; form-action 'none'"
+    used = f"style-src {hashed(style)}; script-src {hashed(script)}"
+    rule = f"default-src 'none'; {used}; base-uri 'none'; form-action 'none'"
     return joined([
         Markup('<meta charset="utf-8">'),
         Markup(f'<meta http-equiv="Content-Security-Policy" content="{escaped(rule)}">'),
@@ -152,8 +154,7 @@ def page(decision: Decision, program: Program) -> str:
     body = [
         header(decision),
         element("main", element("div", element("h2", "The policy"), sections(decision, shown), class_="policy"),
-                element("aside", element("h2", "The review"), element("p", "\u25cf marks what was read", class_="legend"),
-                        review(decision, shown))),
+                element("aside", element("h2", "The review"), LEGEND, review(decision, shown))),
         Markup(panel),
         element("script", Markup(given), type="application/json", id="data"),
         element("script", Markup(script)),

@@ -1,7 +1,8 @@
 """The fields of the review that a run read.
 
-Where a value comes from is a path into the review, as `("object", "spec")`; or, for a list that the policy makes, a list
-of where each item comes from; or `None`. So a field is found again in an item of a list that `+`, `map` or `filter` made.
+Where a value comes from is a path into the review, as `("object", "spec")`; or, for a list that the policy makes, a
+list of where each item comes from; or `None`. So a field is found again in an item of a list that `+`, `map` or `filter`
+made.
 """
 
 import json

@@ -45,7 +45,7 @@ def parts_of(slots: SlotMap) -> list:
 
 
 def spans_of(slots: SlotMap, parts: list) -> list:
-    """Each span: first and last slot, the number of its part or -1, what it is for, and its place in the part's text."""
+    """Each span: first and last slot, the number of its part or -1, its role, and its place in the part's text."""
     places = {id(part): place for place, part in enumerate(parts)}
     return [
         [span.first, span.last, places.get(id(span.part), -1), span.role, span.begin, span.end] for span in slots.spans

@@ -79,7 +79,8 @@ class Trees:
         if not below:
             return element("li", element("div", self.line(one), class_="leaf"))
         is_open = one is self.whole or id(one) in self.opened
-        return element("li", element("details", element("summary", self.line(one)), element("ul", *below), open=is_open))
+        summary = element("summary", self.line(one))
+        return element("li", element("details", summary, element("ul", *below), open=is_open))
 
     def below(self, one: Evaluation) -> list:
         """The parts of an evaluation that say more than it does."""

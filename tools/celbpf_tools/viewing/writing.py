@@ -17,7 +17,7 @@ def escaped(text: object) -> Markup:
 
 
 def element(tag: str, *content: object, **attributes: object) -> Markup:
-    """An element; `class_` is its class, and an attribute that is True has no value, one that is False or None is left out."""
+    """An element; `class_` is its class. An attribute that is True has no value; False and None leave it out."""
     given = []
     for name, value in attributes.items():
         shown = name.rstrip("_").replace("_", "-")
