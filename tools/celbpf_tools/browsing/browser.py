@@ -99,7 +99,7 @@ class Page:
             self.requests.append(given["request"]["url"])
 
     def call(self, name: str, **given: Any) -> dict:
-        """What the browser answers to a command."""
+        """The result of a command to the browser."""
         self.asked += 1
         self.socket.send(json.dumps({"id": self.asked, "method": name, "params": given}))
         while True:

@@ -166,12 +166,12 @@ class Emitter:
         last = simple(right, frame, registers[1])
         if last:
             return self.operand(left, frame, registers[0]) + last
-        behind = self.of(right, frame.on(1)) + code(mov(registers[1], "r0"))
+        second = self.of(right, frame.on(1)) + code(mov(registers[1], "r0"))
         first = simple(left, frame, registers[0])
         if first:
-            return behind + first
+            return second + first
         kept = self.of(left, frame) + code(store(frame.word, "r0"))
-        return kept + behind + code(load(registers[0], frame.word))
+        return kept + second + code(load(registers[0], frame.word))
 
     def applied(self, node: Node, frame: Frame) -> Piece:
         """An operator, a function or a method."""

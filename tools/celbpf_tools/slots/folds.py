@@ -18,20 +18,20 @@ EXISTS_ONE_END = code(jump("eq", "r0", 0, 2), jump("eq", "r0", YES, 1), mov("r0"
 
 
 def range_tail(word: int, loop: int) -> Piece:
-    """Behind the range: its number of items, or over a loop of so many slots if it is no list and no map."""
+    """After the range: its number of items; a jump over the loop, of `loop` slots, if it is no list and no map."""
     no_range = [jump("ne", "r0", -1, 2), mov("r0", 0), ja(loop + NO_RANGE)]
     kept = [store(word + COUNT, "r0"), mov("r0", 0), store(word + PLACE, "r0")]
     return code(store(word, "r0"), mov("r1", "r0"), "call 21", *no_range, *kept)
 
 
 def loop_head(word: int, turn: int) -> Piece:
-    """The next item into its word, or over a turn of so many slots if there is none."""
+    """The next item into its word; a jump over the turn, of `turn` slots, if there is none."""
     left = [load("r1", word + COUNT), load("r2", word + PLACE), jump("eq", "r1", "r2", turn + EXIT)]
     return code(*left, load("r1", word), "call 20", store(word + ITEM, "r0"))
 
 
 def loop_tail(word: int, turn: int) -> Piece:
-    """Back to the next item, and the answer behind the last."""
+    """Back to the next item, and the answer after the last."""
     place = [load("r2", word + PLACE), "add64 r2, 1", store(word + PLACE, "r2"), load("r1", word + COUNT)]
     return code(*place, jump("ne", "r1", "r2", -(turn + BACK + 1)), load("r0", word + ANSWER))
 
@@ -57,7 +57,7 @@ def map_turn(word: int) -> Piece:
 
 
 def map_where_turn(transform: Piece, word: int) -> Piece:
-    """The turn of `map` behind its predicate."""
+    """The turn of `map` after its predicate."""
     tests = [jump("eq", "r0", NO, transform.size + 7), jump("ne", "r0", YES, transform.size + 4)]
     kept = [mov("r2", "r0"), load("r1", word + ANSWER), "call 17", ja(1), mov("r0", 0), store(word + ANSWER, "r0")]
     return code(*tests) + transform + code(*kept)

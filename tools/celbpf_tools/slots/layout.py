@@ -34,7 +34,7 @@ class Program:
     routines: dict = field(default_factory=dict)
 
     def put(self, part: Optional[Part], piece: Piece) -> None:
-        """Puts a piece behind the code."""
+        """Adds a piece at the end of the code."""
         self.lines += piece.lines
         self.marks += [Placed(mark, part) for mark in moved(piece.marks, self.size)]
         self.size += piece.size
@@ -67,7 +67,7 @@ def decided() -> Piece:
 
 
 def result(ignores: bool, place: int, message: int) -> Piece:
-    """The word of validation `place` and one more denial; the message behind it takes so many slots."""
+    """The word of validation `place` and one more denial; its message takes `message` slots."""
     word = f"[r1{8 * (place + 1):+d}]"
     error = [jump("eq", "r0", NO, 2), f"stdw {word}, {ERRS}", ja(message + 4 if ignores else 1)]
     count = [load_at("r2", "r1", 0), "add64 r2, 1", store_at("r1", 0, "r2")]

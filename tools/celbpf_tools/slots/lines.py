@@ -50,7 +50,7 @@ class Piece:
 
 
 def moved(marks: Iterable, by: int) -> list:
-    """Marks so many slots further on."""
+    """Marks that are `by` slots further on."""
     return [Mark(one.first + by, one.last + by, one.node, one.register, one.role) for one in marks]
 
 

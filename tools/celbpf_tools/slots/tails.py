@@ -13,7 +13,7 @@ AFTER_LEFT, AFTER_RIGHT = 9, 6
 
 
 def int_operands(offset: int) -> Piece:
-    """The ints that R6 and R7 name; if they name no ints, a jump so many slots behind this."""
+    """The ints that R6 and R7 name; if they name no ints, a jump to the slot `offset` after this."""
     left = [mov("r1", "r6"), "call 1", jump("ne", "r0", INT_KIND, offset + AFTER_LEFT)]
     right = [mov("r1", "r7"), "call 1", jump("ne", "r0", INT_KIND, offset + AFTER_RIGHT)]
     words = [mov("r1", "r6"), "call 2", mov("r6", "r0"), mov("r1", "r7"), "call 2", mov("r7", "r0")]
@@ -27,7 +27,7 @@ def checked(operation: str, below: str, above: str) -> list:
 
 
 def least_by_minus_one(way_on: int) -> list:
-    """A jump over so many slots for the least int and -1."""
+    """A jump over `way_on` slots for the least int and -1."""
     return [jump("ne", "r7", -1, 3), lddw("r2", LEAST), jump("eq", "r6", "r2", way_on)]
 
 
@@ -79,10 +79,10 @@ def absorbing(decides: int, other: int, word: int) -> Piece:
 
 
 def push(word: int) -> Piece:
-    """An item behind the list in this word."""
+    """Appends an item to the list in this word."""
     return code(mov("r2", "r0"), load("r1", word), "call 17", store(word, "r0"))
 
 
 def put(word: int) -> Piece:
-    """A value under the key in the next word, into the map in this one."""
+    """Puts a value at the key of the next word into the map in this one."""
     return code(mov("r3", "r0"), load("r2", word + 1), load("r1", word), "call 19", store(word, "r0"))

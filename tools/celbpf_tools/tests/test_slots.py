@@ -61,7 +61,7 @@ class Expressions(unittest.TestCase):
         self.assertEqual(found["object.a", "expression"], (0, 4))
         self.assertEqual(found["object.a.all(i, i == 1)", "item"], (16, 21))
         self.assertEqual(found["i == 1", "expression"], (22, 27))
-        # behind the turn 4 slots test its truth, and 6 go on
+        # after the turn 4 slots test its truth, and 6 go on
         self.assertEqual(found["object.a.all(i, i == 1)", "expression"], (0, 37))
 
     def test_bytes_of_texts(self) -> None:
@@ -93,7 +93,7 @@ class Policies(unittest.TestCase):
             (68, 74, "the policy", "outcome"), (75, 75, "the policy", "exit"),
         ]
         self.assertEqual(roles, expected)
-        # behind the call in slot 32 it goes back to slot 1
+        # from the slot after the call, 33, it goes back to slot 1
         self.assertEqual((spans.lines[32], spans.at(32).text), ("call_local -32", "variables.n"))
 
     def test_ignored_errors(self) -> None:

@@ -20,8 +20,8 @@ from ..viewing.writing import element
 
 BOTTOM = 0x1_0000_0200
 TEXT = "object.spec.replicas <= 3"
-# the slot and the words of R0 to R3 after each step; `{field}` is what helper 5 answers for the second field, and
-# `{less}` and `{whole}` what helpers 10 and 23 answer
+# the slot and the words of R0 to R3 after each step; `field` is the reference that helper 5 returns for the
+# second field, `int` that of helper 3, `less` and `whole` those of helpers 10 and 23
 ROWS = [
     (0, 0, 0, 0, 0), (1, 0, 4, 0, 0), (3, 0, 4, 0x4_0000_0000, 0), (4, 0, 4, 0x4_0000_0000, 4),
     (5, 9, 0, 0, 0), (6, 9, 9, 0, 0), (8, 9, 9, 0x4_0000_0004, 0), (9, 9, 9, 0x4_0000_0004, 8),
@@ -123,9 +123,9 @@ class Deciding(unittest.TestCase):
         text = "object.a && object.b"
         slots = slots_of(text)
         left, right = of(slots, "object.a", 3), of(slots, "object.b", 2)
-        self.assertEqual(texts(deciding(of(slots, text, 2, (left, right)))), [text, "object.b"])
+        self.assertEqual(texts(deciding(of(slots, text, 2, (left, right)))), ["object.b"])
         left = of(slots, "object.a", 2)
-        self.assertEqual(texts(deciding(of(slots, text, 2, (left,)))), [text, "object.a"])
+        self.assertEqual(texts(deciding(of(slots, text, 2, (left,)))), ["object.a"])
 
     def test_item(self) -> None:
         text = "object.a.all(i, i == 1)"
@@ -133,8 +133,9 @@ class Deciding(unittest.TestCase):
         head = next(span for span in slots.spans if span.role == "item")
         turns = [Turn(head, 1, 9, [of(slots, "i == 1", 3)]), Turn(head, 2, 10, [of(slots, "i == 1", 2)])]
         whole = of(slots, text, 2, (of(slots, "object.a", 8),), tuple(turns))
-        self.assertEqual([one.reference for one in deciding(whole)], [2, 2])
-        self.assertIs(list(deciding(whole))[1], turns[1].parts[0])
+        self.assertEqual(list(deciding(whole)), [turns[1].parts[0]])
+        # of the error no part decides
+        self.assertEqual(list(deciding(of(slots, text, 0))), [])
 
     def test_items_of_a_list_that_is_made(self) -> None:
         text = "([object.a] + object.b).all(i, i.c)"

@@ -14,7 +14,7 @@ from ..slots.mapping import SlotMap
 from .evaluations import Evaluation
 
 TRUE = [{"expression": "true"}]
-# slots behind the conditions, of a validation `true` with what is behind it, and of the outcome with the exit
+# slots after the conditions, of a validation `true` with its result, and of the outcome with the exit
 DECIDED, LEAST, OUTCOME = 5, 11, 8
 
 

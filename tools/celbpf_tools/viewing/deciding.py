@@ -18,10 +18,12 @@ def inner(one: Evaluation) -> list:
 
 
 def deciding(one: Evaluation) -> Iterator[Evaluation]:
-    """An evaluation and the parts of it that have its value because of theirs."""
-    yield one
-    for part in passed_on(one):
+    """The innermost parts of an evaluation whose values make its own; none of an error, which has origins instead."""
+    parts = passed_on(one)
+    for part in parts:
         yield from deciding(part)
+    if not parts and one.reference != ERROR_REFERENCE:
+        yield one
 
 
 def passed_on(one: Evaluation) -> list:

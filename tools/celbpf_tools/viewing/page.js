@@ -113,8 +113,8 @@
     byId("frames").textContent = ["depth " + open.length, ...open].join("\n");
     const bottom = BigInt(registers[step][10]), words = new Map();
     for (const [at, address, word, isNamed] of run.stored) {
-      const behind = bottom - BigInt(address);
-      if (at <= step && behind > 0n && behind <= FRAME) words.set(Number(behind / 8n) - 1, [word, isNamed]);
+      const below = bottom - BigInt(address);
+      if (at <= step && below > 0n && below <= FRAME) words.set(Number(below / 8n) - 1, [word, isNamed]);
     }
     const sorted = [...words].sort((one, other) => one[0] - other[0]);
     fill("words", sorted.map(([place, [word, isNamed]]) => row([

@@ -42,7 +42,7 @@ class Recording:
 
 
 def said(program: Program, image: str, asked: str) -> list:
-    """The lines that a session answers; only a line feed ends one."""
+    """The lines that a session writes; only a line feed ends one."""
     words = [program.path, "debug", image, *program.documents]
     ran = subprocess.run(words, input=asked.encode(), capture_output=True)
     if ran.returncode:
@@ -57,7 +57,7 @@ def move(line: str) -> tuple:
 
 
 def states_of(lines: list) -> Iterator[State]:
-    """The states in the answers to `r` and `f`, each behind the line of a move."""
+    """The states in the answers to `r` and `f`, each after the line of a move."""
     at = 0
     while at < len(lines):
         _, pc, status = move(lines[at])

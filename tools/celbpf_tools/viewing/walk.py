@@ -11,7 +11,7 @@ MOVE = re.compile(r"mov64 r([0-9]+), (?:r([0-9]+)|-?[0-9]+)$")
 LOAD = re.compile(r"ldxdw r([0-9]+), \[r10(-[0-9]+)\]$")
 STORE = re.compile(r"stxdw \[r10(-[0-9]+)\], r([0-9]+)$")
 MADE = re.compile(r"(?:[a-z]+64|lddw|ldxdw) r([0-9]+)")
-# the helpers whose answers are no references
+# the helpers that return words, not references
 WORDS = (1, 2, 21)
 FIRST_KEPT, LAST_KEPT = 6, 9
 
