@@ -4,6 +4,7 @@ import json
 import unittest
 from typing import Any
 
+from ..asking.policies import Part
 from ..browsing.websocket import frame
 from ..slots.layout import program_of
 from ..slots.mapping import SlotMap
@@ -91,7 +92,7 @@ class Runs(unittest.TestCase):
         (origin,) = origins(whole)
         self.assertEqual(origin.span.text, "object.spec.replicas")
         self.assertEqual(why_error(origin, VALUES), "there is no field replicas")
-        shown = Trees(TEXT, VALUES, whole, True).all()
+        shown = Trees(Part("validation", 0, TEXT, []), VALUES, whole, True).all()
         self.assertIn("the error begins here: there is no field replicas", shown)
         reads = reads_of({("validation", 0): whole}, {}, VALUES)
         self.assertEqual(reads.missing, {("object", "spec", "replicas")})
@@ -126,6 +127,14 @@ class Deciding(unittest.TestCase):
         self.assertEqual(texts(deciding(of(slots, text, 2, (left, right)))), ["object.b"])
         left = of(slots, "object.a", 2)
         self.assertEqual(texts(deciding(of(slots, text, 2, (left,)))), ["object.a"])
+
+    def test_variable(self) -> None:
+        scope = [{"name": "a", "expression": "object"}, {"name": "b", "expression": "object.b"}]
+        slots = SlotMap(program_of({"spec": {"variables": scope, "validations": [{"expression": "variables.b == 1"}]}}))
+        whole = of(slots, "variables.b == 1", 2, (of(slots, "variables.b", 11),))
+        shown = Trees(Part("validation", 0, "variables.b == 1", scope), VALUES, whole, True).all()
+        self.assertIn('<code>variables.b</code> is <span class="value other">3</span>', shown)
+        self.assertIn('href="#variable-1"', shown)
 
     def test_item(self) -> None:
         text = "object.a.all(i, i == 1)"

@@ -98,10 +98,10 @@ def section(decision: Decision, part: Part, shown: Shown) -> Markup:
     heading = element("h3", part.title, " ", value, " ", mark)
     hint = decision.hints.get((part.kind, part.place))
     said = element("p", hint, class_="hint") if hint else None
-    trees = Trees(part.text, shown.run.values, whole, decides)
+    trees = Trees(part, shown.run.values, whole, decides)
     classes = "part decides" if decides else "part"
     content = [heading, denial(decision, part), said, source(part), trees.all()]
-    return element("section", *content, class_=classes)
+    return element("section", *content, class_=classes, id=f"{part.kind}-{part.place}")
 
 
 def order(decision: Decision, part: Part, shown: Shown) -> tuple:

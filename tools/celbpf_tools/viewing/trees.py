@@ -2,8 +2,10 @@
 
 from typing import Optional
 
+from ..asking.policies import Part
 from ..asking.reasons import is_literal, is_path
 from ..asking.splitter import cut
+from ..evaluator.trees import Variable
 from ..slots.nodes import Node
 from .deciding import ERROR_REFERENCE, deciding, inner, origins, why_error
 from .evaluations import Evaluation, Turn, is_macro
@@ -36,10 +38,11 @@ def go(step: int) -> Markup:
 
 
 class Trees:
-    """The trees of one part: `text` is its text, and `values` has the JSON of references."""
+    """The trees of one part; `values` has the JSON of references, and `is_told` says whether the part decides."""
 
-    def __init__(self, text: str, values: dict, whole: Optional[Evaluation], is_told: bool):
-        self.text = text
+    def __init__(self, part: Part, values: dict, whole: Optional[Evaluation], is_told: bool):
+        self.text = part.text
+        self.places = {variable["name"]: place for place, variable in enumerate(part.scope)}
         self.values = values
         self.whole = whole
         self.deciding = set(map(id, deciding(whole))) if whole and is_told else set()
@@ -51,9 +54,17 @@ class Trees:
     def open(self, one: Evaluation) -> bool:
         """Whether an evaluation is or has one that decides or where an error begins; such ones are open."""
         inside = [self.open(part) for part in inner(one)]
-        if any(inside) or id(one) in self.deciding or id(one) in self.origins:
+        if id(one) in self.deciding or id(one) in self.origins:
+            self.open_parts(one)
+        if any(inside):
             self.opened.add(id(one))
         return id(one) in self.opened
+
+    def open_parts(self, one: Evaluation) -> None:
+        """Opens an evaluation and all of its parts, but not the items of macros."""
+        self.opened.add(id(one))
+        for part in one.parts:
+            self.open_parts(part)
 
     def source(self, node: Node) -> Markup:
         """The text of a node on one line."""
@@ -71,7 +82,14 @@ class Trees:
 
     def line(self, one: Evaluation) -> Markup:
         value = badge(value_of(one.reference, self.values))
-        return joined([self.source(one.node), " is ", value, " ", self.marks(one), " ", go(one.step)])
+        return joined([self.source(one.node), " is ", value, " ", self.marks(one), " ", self.link(one), go(one.step)])
+
+    def link(self, one: Evaluation) -> Optional[Markup]:
+        """For the use of a variable, the way to it."""
+        if not isinstance(one.node.tree, Variable):
+            return None
+        place = self.places[one.node.tree.name]
+        return joined([element("a", f"variable {place}", href=f"#variable-{place}", class_="go"), " "])
 
     def tree(self, one: Evaluation) -> Markup:
         """An evaluation, with its parts below it."""
