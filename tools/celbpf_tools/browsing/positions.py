@@ -6,6 +6,7 @@ from ..asking.program import Program
 from ..viewing.recording import REGISTERS, said
 from ..viewing.run import MOST_VALUE
 from ..viewing.trees import shortened
+from ..viewing.writing import printable
 from .browser import Page
 
 # what the page shows at each position of the slider
@@ -54,7 +55,7 @@ def questions(one: dict) -> list:
 def answered(asked: str, line: str) -> str:
     """What a page shows for the answer to a question."""
     if asked.startswith("v "):
-        return shortened(line.split(" ", 2)[2] if line.startswith("value ") else line, MOST_VALUE)
+        return printable(shortened(line.split(" ", 2)[2] if line.startswith("value ") else line, MOST_VALUE))
     return f"0x{int.from_bytes(bytes.fromhex(''.join(line.split()[1:])), 'little'):016x}"
 
 

@@ -7,6 +7,7 @@ from ..slots.mapping import SlotMap
 from .recording import Recording
 from .trees import shortened
 from .walk import Walk
+from .writing import printable
 
 # the most characters of a value in the data
 MOST_VALUE = 2_000
@@ -56,7 +57,7 @@ def data(slots: SlotMap, run: Recording, walk: Walk) -> dict:
     """All that the script of the page shows."""
     parts = parts_of(slots)
     numbers = {id(span): place for place, span in enumerate(slots.spans)}
-    values = {one: shortened(text, MOST_VALUE) for one, text in run.values.items()}
+    values = {one: printable(shortened(text, MOST_VALUE)) for one, text in run.values.items()}
     return {
         "steps": run.steps,
         "slots": [state.pc for state in run.states],

@@ -8,12 +8,14 @@ class Markup(str):
     """A text that is HTML already."""
 
 
+def printable(text: str) -> str:
+    """A text in which characters that would not show, or would turn the text around, are shown by their numbers."""
+    return "".join(one if one.isprintable() or one in "\n\t" else f"\\u{ord(one):04x}" for one in text)
+
+
 def escaped(text: object) -> Markup:
-    """A text as HTML; characters that would not show, or turn the text around, are shown by their numbers."""
-    if isinstance(text, Markup):
-        return text
-    shown = "".join(one if one.isprintable() or one in "\n\t" else f"\\u{ord(one):04x}" for one in str(text))
-    return Markup(html.escape(shown, quote=True))
+    """A text as HTML."""
+    return text if isinstance(text, Markup) else Markup(html.escape(printable(str(text)), quote=True))
 
 
 def element(tag: str, *content: object, **attributes: object) -> Markup:
