@@ -7,6 +7,9 @@
     definitions  the definitions in the folders `specs`, read by their names
     asking       questions to the built program about a policy
     evaluator    what a policy answers to a review, written apart from the crates
+    slots        which sub-expression each slot of a compiled policy belongs to
+    viewing      the page of a decision
+    browsing     a headless browser, for tests of that page
     seeded       policies and reviews from a seed
     copies       copies of the crates, on which scripts work
     measures     runs that are timed

@@ -1,7 +1,7 @@
 """Instructions as the listing has them, and pieces of code that know where the code of each sub-expression is."""
 
 from dataclasses import dataclass, field
-from typing import Any, Callable, Iterable, Optional, Union
+from typing import Any, Iterable, Union
 
 WORD_BITS = 64
 SCRATCH = 0x2_0000_0000
