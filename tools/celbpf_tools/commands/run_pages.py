@@ -4,8 +4,8 @@ usage: tools/run-pages [PROGRAM] [--count N] [--pictures FOLDER]
 
 For each example policy the map from slots to sub-expressions is compared with the listing and with the compiled
 beginnings of the policy; for each run of an example the value of each sub-expression is compared with the evaluator's.
-For each denial of an example a page is written and opened: it may say nothing on the console and ask for nothing else.
-For the first N denials (10), of a policy each, what it shows at every position of the slider is compared with what a
+For each denial of an example a page is made and opened: it may say nothing on the console and ask for nothing else.
+For the first N denials (10), of a policy each, tools/why makes it, what it shows at every position of the slider is compared with what a
 session of `celbpf debug` shows at that step, and keys and buttons are pressed. A page of hostile texts has to stay
 whole. With `--pictures` the pages of some denials are kept as pictures, light and dark, wide and narrow. It needs
 Debian's `chromium`; if there is none, only the maps are compared, and the status is 10.
@@ -28,7 +28,8 @@ from ..entry import Stop, usage_of
 from ..home import EXAMPLES, TOOLS
 from ..slots.mapping import parts_of
 from ..viewing.checking import Evaluator, count, map_faults
-from ..viewing.page import Decision, shown_run
+from ..viewing.page import Decision, page, shown_run
+from .why import OUTCOMES
 
 SIZES = {"wide": (1280, 900), "narrow": (420, 900)}
 SCHEMES = ("light", "dark")
@@ -92,6 +93,16 @@ def written(page: Path, policy: Path, documents: list, path: Path) -> None:
         raise Stop(f"tools/why ends with status {ran.returncode}: {ran.stderr}")
 
 
+def page_alone(example: Example, program: Program) -> str:
+    """The page of a denial without what to change, which takes most of the time of tools/why."""
+    verdict = program.verdict(str(example.policy))
+    places = [int(line.split()[1]) for line in verdict if line.startswith("validation ")]
+    denials = {place: ("", "") for place in places}
+    outcome = OUTCOMES[verdict[0].split()[1]]
+    document = json.loads(example.policy.read_text())
+    return page(Decision(document, outcome, [str(example.policy), example.name], "", denials), program)
+
+
 def opened(page: Page, file: Path) -> Iterator[str]:
     """What an open page says on the console, and what it asks for beside itself."""
     page.errors.clear()
@@ -126,10 +137,14 @@ class Pages:
     def take(self, example: Example) -> None:
         """Writes and opens the page of a denial."""
         file = self.folder / "page.html"
-        written(file, example.policy, example.documents(), self.path)
+        is_moved = example.policy not in self.moved and len(self.moved) < self.given.count
+        if is_moved:
+            written(file, example.policy, example.documents(), self.path)
+        else:
+            file.write_text(page_alone(example, Program(self.path, str(self.folder), example.documents())))
         self.opened += 1
         faults = list(opened(self.page, file))
-        if example.policy not in self.moved and len(self.moved) < self.given.count:
+        if is_moved:
             self.moved.add(example.policy)
             faults += self.move(example)
         self.faults += [f"{example.name}: {one}" for one in faults]
