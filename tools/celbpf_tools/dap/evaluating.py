@@ -1,0 +1,61 @@
+"""What is typed at a place of the run: a register, a line of the debugger that only shows, or an expression of CEL."""
+
+import json
+import re
+
+from ..asking import policies
+from ..asking.program import NotAnswered, Program
+from .arguments import BadRequest
+from .child import Place, Refused
+from .variables import View
+
+REGISTER = re.compile(r"r(?:10|[0-9])$")
+VALUE = re.compile(r"v (?:0|[1-9][0-9]*)$")
+SHOWS = re.compile(r"(?:m 0x[0-9a-f]{1,16} [1-9][0-9]{0,2}|[rflw])$")
+REFUSED = ("? what", "? range", "? memory")
+
+
+class Evaluator:
+    """Answers texts at the place of a session; `scope` are the policy's variables."""
+
+    def __init__(self, view: View, program: Program, scope: list):
+        self.view = view
+        self.program = program
+        self.scope = scope
+
+    def variable(self, text: str, place: Place) -> dict:
+        """What a text names, as a variable; a text that names nothing is a `BadRequest`."""
+        text = text.strip()
+        where = {"pc": str(place.pc), "step": str(place.step), "status": place.status}
+        if text in where:
+            return self.view.plain(text, where[text])
+        if REGISTER.match(text):
+            words = dict(line.split() for line in self.view.child.many("r"))
+            return self.view.word_of(text, words[text])
+        if VALUE.match(text):
+            return self.view.value(text, int(text[2:]))
+        if SHOWS.match(text):
+            return self.shown(text)
+        return self.of_cel(text)
+
+    def shown(self, line: str) -> dict:
+        """The answer of the debugger to a line."""
+        try:
+            return self.view.plain(line, "\n".join(self.view.child.many(line)))
+        except Refused as why:
+            raise BadRequest(f"{line}: {why}") from why
+
+    def of_cel(self, text: str) -> dict:
+        """The value of an expression over the review, with the policy's variables."""
+        if not text:
+            raise BadRequest("expression: empty")
+        try:
+            found = self.program.value(policies.asking(self.scope, text))
+        except NotAnswered as why:
+            raise BadRequest(f"{text}: celbpf: {why.line}") from why
+        if found == "error":
+            return self.view.plain(text, found, "error")
+        try:
+            return self.view.of_json(text, json.loads(found), text)
+        except (ValueError, RecursionError):
+            return self.view.plain(text, found)

@@ -1,0 +1,149 @@
+"""From the words of a launch to a session: files, the image, its listing, and the process."""
+
+import os
+import subprocess
+import tempfile
+from dataclasses import dataclass, field
+from pathlib import Path
+from typing import Any, Optional
+
+from ..asking import policies
+from ..asking.program import NotAnswered, Program, located
+from ..entry import Stop, told
+from .arguments import Arguments, BadRequest
+from .child import Child, Ended
+from .code import Code
+from .parts import Parts, parts_of
+
+# what a step of an editor goes by: a part of the policy, a sub-expression, or an instruction
+PART, PIECE, INSTRUCTION = "part", "expression", "instruction"
+DOCUMENTS = ("review", "namespace", "params")
+IMAGE = "launched.img"
+
+
+@dataclass
+class Order:
+    """What is to be launched."""
+
+    image: Optional[str]
+    policy: Optional[str]
+    documents: list[str]
+    listing: Optional[str]
+    program: Optional[str]
+    stops_on_entry: bool
+    stops_at_all: bool
+    step_by: str = PART
+
+    @property
+    def title(self) -> str:
+        """The file that was given."""
+        return Path(self.policy or self.image or "").name
+
+
+def ordered(given: Arguments, program: Optional[str]) -> Order:
+    """The order in the arguments of a launch; a relative path is one of the folder `cwd`."""
+    folder = given.text("cwd") or ""
+
+    def path(key: str) -> Optional[str]:
+        name = given.text(key)
+        return os.path.abspath(os.path.join(folder, os.path.expanduser(name))) if name else None
+
+    image, policy = path("image"), path("policy")
+    if bool(image) == bool(policy):
+        raise BadRequest("launch: either image or policy has to be given")
+    documents = [word for key in DOCUMENTS if (name := path(key)) for word in (f"--{key}", name)]
+    stops = not given.truth("noDebug", False)
+    on_entry = given.truth("stopOnEntry", True) and stops
+    step_by = given.text("stepBy") or PART
+    if step_by not in (PART, PIECE, INSTRUCTION):
+        raise BadRequest(f"stepBy: not {PART}, {PIECE} or {INSTRUCTION}")
+    return Order(image, policy, documents, path("listing"), path("program") or program, on_entry, stops, step_by)
+
+
+@dataclass
+class Launched:
+    """A session with what it runs; `close` ends the process and removes the files."""
+
+    order: Order
+    code: Code
+    child: Child
+    program: Program
+    folder: tempfile.TemporaryDirectory
+    parts: Parts = field(default_factory=Parts)
+    scope: list = field(default_factory=list)
+
+    def close(self) -> None:
+        """Ends the process and removes the files."""
+        self.child.end()
+        self.folder.cleanup()
+
+
+def readable(path: str) -> bytes:
+    """The bytes of a file."""
+    try:
+        return Path(path).read_bytes()
+    except OSError as why:
+        raise BadRequest(told(why)) from why
+
+
+def image_of(order: Order, program: Program, folder: str) -> str:
+    """The file of the image, which is made of the policy if one was given."""
+    if order.image:
+        return order.image
+    image = os.path.join(folder, IMAGE)
+    ran = program.run("compile", str(order.policy), image)
+    if ran.returncode:
+        raise NotAnswered(ran)
+    return image
+
+
+def started(order: Order, folder: tempfile.TemporaryDirectory) -> Launched:
+    """The session of an order, in a folder for its files."""
+    for path in filter(None, [order.image, order.policy, *order.documents[1::2]]):
+        readable(path)
+    program = Program(located(order.program), folder.name, order.documents)
+    image = image_of(order, program, folder.name)
+    listed = program.run("list", image)
+    if listed.returncode:
+        raise NotAnswered(listed)
+    code = Code(readable(image), listed.stdout)
+    if order.listing:
+        write_listing(order.listing, code.text)
+    child = Child([program.path, "debug", image, *order.documents])
+    made = Launched(order, code, child, program, folder)
+    if order.policy:
+        document = policies.read(order.policy)
+        made.scope = document["spec"].get("variables", [])
+        made.parts = parts_of(document, listed.stdout)
+    return made
+
+
+def write_listing(path: str, text: str) -> None:
+    """Writes the listing for clients that open files alone."""
+    try:
+        Path(path).write_text(text, encoding="utf-8")
+    except OSError as why:
+        raise BadRequest(told(why)) from why
+
+
+def launched(order: Order) -> Launched:
+    """The session of an order; what hinders it is a `BadRequest`, and leaves no process and no file."""
+    folder = tempfile.TemporaryDirectory(prefix="celbpf-dap-")
+    made: Any = None
+    try:
+        made = started(order, folder)
+        # the process refuses its documents before it answers a line
+        made.child.ask("f")
+        return made
+    except NotAnswered as why:
+        reason = f"celbpf: {why.line}"
+    except (BadRequest, Ended) as why:
+        reason = str(why)
+    except (Stop, OSError, subprocess.SubprocessError) as why:
+        reason = f"the program cannot be run: {why}"
+    except SystemExit as why:
+        reason = f"the program cannot be run or built: status {why}"
+    if made:
+        made.child.end()
+    folder.cleanup()
+    raise BadRequest(reason)
