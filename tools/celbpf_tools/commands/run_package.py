@@ -8,6 +8,7 @@ man page and the completion; then nothing of the package may be left. The tar ar
 """
 
 import argparse
+import json
 import os
 import shutil
 import subprocess
@@ -55,6 +56,12 @@ class Checks:
         )
 
 
+def dap_launch(policy: Path) -> str:
+    """What an editor writes to launch a policy."""
+    body = json.dumps({"seq": 1, "type": "request", "command": "launch", "arguments": {"policy": str(policy)}})
+    return f"Content-Length: {len(body)}\r\n\r\n{body}"
+
+
 def check_programs(checks: Checks, prefix: Path) -> None:
     """The programs and the scripts below a prefix, on the examples there."""
     examples = prefix / "share" / "doc" / "celbpf" / "examples"
@@ -74,6 +81,7 @@ def check_programs(checks: Checks, prefix: Path) -> None:
     checks.run([f"{program}-reviews", policy, review], 1, f"{review}: denied")
     checks.run([f"{program}-test", replicas], 0, "TAP version 13\n1..3\nok 1")
     checks.run([f"{program}-adapt", policy], 0, '{\n  "apiVersion"')
+    checks.run([f"{program}-dap"], 0, "Content-Length: ", dap_launch(policy))
     # its name and its usage are those that it is installed by
     checks.run([f"{program}-test", "--help"], 0, "usage: celbpf-test [--junit F]")
 

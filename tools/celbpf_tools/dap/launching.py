@@ -40,12 +40,20 @@ class Order:
         return Path(self.policy or self.image or "").name
 
 
+def named(given: Arguments, key: str) -> Optional[str]:
+    """The name of a file or a folder, or `None`."""
+    name = given.text(key)
+    if name and ("\0" in name or any("\ud800" <= letter <= "\udfff" for letter in name)):
+        raise BadRequest(f"{key}: not a path")
+    return name
+
+
 def ordered(given: Arguments, program: Optional[str]) -> Order:
     """The order in the arguments of a launch; a relative path is one of the folder `cwd`."""
-    folder = given.text("cwd") or ""
+    folder = named(given, "cwd") or ""
 
     def path(key: str) -> Optional[str]:
-        name = given.text(key)
+        name = named(given, key)
         return os.path.abspath(os.path.join(folder, os.path.expanduser(name))) if name else None
 
     image, policy = path("image"), path("policy")

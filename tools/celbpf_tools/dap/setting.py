@@ -37,7 +37,8 @@ class Setting:
         self.launch_words = Arguments({})
         self.is_configured = False
         self.handlers = {
-            "initialize": self.initialize, "launch": self.launch, "attach": self.attach, "configurationDone": self.configured,
+            "initialize": self.initialize, "launch": self.launch, "attach": self.attach,
+            "configurationDone": self.configured,
             "setBreakpoints": self.lines, "setInstructionBreakpoints": self.instructions,
             "setFunctionBreakpoints": self.functions, "setExceptionBreakpoints": self.exceptions,
             "setDataBreakpoints": self.data, "breakpointLocations": self.locations,
@@ -116,7 +117,8 @@ class Setting:
             return (slots, "") if slots else ((), f"{wish.name}: {has_parts}")
         if kind == INSTRUCTION:
             has = session.code.has(wish.slot)
-            return ((wish.slot,), "") if has else ((), f"slot {wish.slot} is outside the code, which has {session.code.slots}")
+            outside = f"slot {wish.slot} is outside the code, which has {session.code.slots}"
+            return ((wish.slot,), "") if has else ((), outside)
         if name:
             return (), NO_SOURCE
         slot = session.code.slot_of(wish.line)
@@ -140,7 +142,8 @@ class Setting:
     def lines(self, given: Arguments) -> Optional[dict]:
         session = self.debuggee.launched()
         name = self.source_name(session, given.part("source"))
-        return self.asked((LINE, name), [{"line": self.debuggee.own_line(one.number("line"))} for one in given.parts("breakpoints")])
+        wishes = [{"line": self.debuggee.own_line(one.number("line"))} for one in given.parts("breakpoints")]
+        return self.asked((LINE, name), wishes)
 
     def instructions(self, given: Arguments) -> Optional[dict]:
         wishes = [
@@ -156,9 +159,8 @@ class Setting:
         options = [one.needed_text("filterId") for one in given.parts("filterOptions")]
         asked = given.texts("filters") + options
         self.debuggee.filters = {one for one in asked if one == FAULT_FILTER}
-        return {"breakpoints": [
-            {"verified": one == FAULT_FILTER, **({} if one == FAULT_FILTER else {"message": f"{one}: no filter"})} for one in asked
-        ]}
+        unknown = {one: {"message": f"{one}: no filter"} for one in asked if one != FAULT_FILTER}
+        return {"breakpoints": [{"verified": one not in unknown, **unknown.get(one, {})} for one in asked]}
 
     def data(self, given: Arguments) -> Optional[dict]:
         session = self.debuggee.launched()
@@ -168,7 +170,8 @@ class Setting:
             found = DATA_ID.match(name)
             if found:
                 watched.add(int(found[1]))
-            answers.append({"verified": bool(found), **({} if found else {"message": f"{name}: not the name of a value"})})
+            why = {} if found else {"message": f"{name}: not the name of a value"}
+            answers.append({"verified": bool(found), **why})
         session.run.watched = watched
         return {"breakpoints": answers}
 
@@ -178,7 +181,8 @@ class Setting:
             return {"breakpoints": []}
         first = given.number("line")
         last = given.number("endLine", first)
-        found = range(max(1, self.debuggee.own_line(first)), min(len(session.code.lines), self.debuggee.own_line(last)) + 1)
+        least, most = max(1, self.debuggee.own_line(first)), min(len(session.code.lines), self.debuggee.own_line(last))
+        found = range(least, most + 1)
         return {"breakpoints": [{"line": self.debuggee.line(line)} for line in found]}
 
     # -- the end

@@ -11,9 +11,9 @@ from . import manual
 from .completion import OPTIONS, completion
 
 # the scripts for policies, which need nothing of the repository
-SCRIPTS = ("why", "place", "reviews", "test", "adapt")
+SCRIPTS = ("why", "place", "reviews", "test", "adapt", "dap")
 # the packages of Python that these need
-MODULES = ("asking", "adapting", "testing", "evaluator", "slots", "viewing", "commands")
+MODULES = ("asking", "adapting", "testing", "evaluator", "slots", "viewing", "dap", "commands")
 ENTRY = '''#!/usr/bin/env python3
 """{what}"""
 

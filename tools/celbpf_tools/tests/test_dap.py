@@ -94,7 +94,8 @@ class Words(unittest.TestCase):
 class Listing(unittest.TestCase):
     """Of the expression in docs/CODE.md, with its slots counted by hand."""
 
-    code = Code(b"CELBPF02" + bytes([5, 0, 0, 0, 7, 0, 0, 0]) + bytes(range(40)), "mov64 r1, 4\nlddw r2, 0x0000000400000000\nmov64 r3, 4\ncall 5\n")
+    lines = "mov64 r1, 4\nlddw r2, 0x0000000400000000\nmov64 r3, 4\ncall 5\n"
+    code = Code(b"CELBPF02" + bytes([5, 0, 0, 0, 7, 0, 0, 0]) + bytes(range(40)), lines)
 
     def test_slots_and_lines(self) -> None:
         self.assertEqual([line.slot for line in self.code.lines], [0, 1, 3, 4])
@@ -170,7 +171,7 @@ class Requests(Served):
                 self.assertEqual(self.kinds((name, given)), [f"not {name}"])
 
     def test_launches_that_are_refused(self) -> None:
-        for given in ({}, {"image": "a", "policy": "b"}, {"image": "/none"}, {"image": 3}):
+        for given in ({}, {"image": "a", "policy": "b"}, {"image": "/none"}, {"image": 3}, {"image": "a\0"}, {"image": "\ud800"}):
             text = json.dumps({"seq": 1, "type": "request", "command": "launch", "arguments": given}).encode()
             found, stop = self.raw(framed(text) + framed(b'{"seq":2,"type":"request","command":"stackTrace"}'))
             self.assertEqual(([self.kind(one) for one in found], stop), (["not launch", "not stackTrace"], None))
