@@ -5,14 +5,16 @@ usage: tools/run-spread [--count N] [--seed N] [--gatekeeper PROGRAM] [--program
 N reviews (5,000) of the first example, their replicas from a seed (1), are answered by one gatekeeper. Then parallel
 spreads the same lines over one, two and four processes, over two hosts, and over two hosts of which one is killed
 while it answers; each time the output has to be the same bytes. The hosts are two `sshd` on the loopback, with keys
-and settings of their own in a folder that is removed. `--measure` prints lines a second, the best of three runs, and
+and settings of their own in a folder that is removed. N is at least 400. `--measure` prints lines a second, the best of three runs, and
 what a million lines take at that rate. It needs Debian's parallel, openssh-server and openssh-client (status 10
 without).
 """
 
 import argparse
 import shutil
+import signal
 import subprocess
+import sys
 import tempfile
 import time
 from pathlib import Path
@@ -30,10 +32,12 @@ MILLION = 1_000_000
 # the seconds of a run of parallel
 PATIENCE = 300
 TRIES = 3
-# a block in a run with hosts, so that each host gets many
-BLOCK = "200k"
-# gives 50 lines, waits, and gives the rest, so that a host can be killed while it has answered a part of its block
-SLOWLY = "{ sed -u 50q; sleep 0.4; cat; }"
+# how many blocks a run has, so that each host gets several, and the least lines of all
+BLOCKS = 20
+LEAST = 400
+# gives ten lines, waits, and gives the rest, so that a host can be killed after it has answered a part of its block
+SLOWLY = "{ sed -u 10q; sleep 0.4; cat; }"
+TERMINATED = 143
 
 
 class Lines:
@@ -45,6 +49,7 @@ class Lines:
         self.file = folder / "reviews.jsonl"
         self.answer = f"{gatekeeper} --policy {POLICY}"
         self.file.write_bytes(b"".join(reviews(given.count, given.seed)))
+        self.block = str(self.file.stat().st_size // BLOCKS)
         with self.file.open("rb") as lines:
             self.wanted = subprocess.run(self.answer.split(), stdin=lines, capture_output=True, check=True).stdout
 
@@ -78,17 +83,17 @@ class Lines:
 def over_processes(lines: Lines) -> Iterator[bool]:
     """The lines over some processes of this machine, from a file and from a pipe."""
     for number in PROCESSES:
-        yield lines.is_answered(f"a file over {number}", lines.parts("--block", BLOCK, "--jobs", str(number)))
-    yield lines.is_answered("a pipe over 4", lines.blocks("--block", BLOCK, "--jobs", "4"))
+        yield lines.is_answered(f"a file over {number}", lines.parts("--block", lines.block, "--jobs", str(number)))
+    yield lines.is_answered("a pipe over 4", lines.blocks("--block", lines.block, "--jobs", "4"))
 
 
-def with_hosts(lines: Lines, hosts: Hosts, log: Path, command: str = "", block: str = BLOCK) -> list[str]:
+def with_hosts(lines: Lines, hosts: Hosts, log: Path, command: str = "", block: str = "") -> list[str]:
     """A command over two jobs on each host, whose log parallel writes.
 
     A second try needs `--pipe`: after `--pipepart` it gets no line (parallel 20221122), and so gives no answer.
     """
     options = ["--ssh", hosts.ssh, "--sshlogin", ",".join(f"2/{name}" for name in hosts.names), "--joblog", str(log)]
-    return lines.blocks(*options, "--block", block, "--retries", str(TRIES), command=command)
+    return lines.blocks(*options, "--block", block or lines.block, "--retries", str(TRIES), command=command)
 
 
 def jobs_of(log: Path, host: str) -> int:
@@ -107,7 +112,7 @@ def over_hosts(lines: Lines, hosts: Hosts) -> bool:
 
 
 def with_a_death(lines: Lines, hosts: Hosts) -> bool:
-    """The lines over both hosts, of which the second is killed while it has answered a part of a block."""
+    """The lines over both hosts, of which the second is killed after it has answered a part of a block."""
     log, victim = lines.folder / "death.log", hosts.names[1]
     words = with_hosts(lines, hosts, log, f"{SLOWLY} | {lines.answer}")
     pipe = subprocess.PIPE
@@ -162,6 +167,10 @@ def main() -> int:
     parser.add_argument("--measure", action="store_true")
     given = parser.parse_args()
     needed()
+    if given.count < LEAST:
+        parser.error(f"--count: at least {LEAST}")
+    # the hosts are to end with the script
+    signal.signal(signal.SIGTERM, lambda *_: sys.exit(TERMINATED))
     gatekeeper = located_gatekeeper(given.gatekeeper, given.program)
     if gatekeeper is None:
         raise Stop("there is no gatekeeper beside the program", 10)

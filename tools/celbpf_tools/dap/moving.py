@@ -46,11 +46,13 @@ class Moving:
             self.debuggee.after.append(self.debuggee.finish)
 
     def go_on(self, given: Arguments) -> Optional[dict]:
+        """On to a breakpoint, the making of a watched value, or the end."""
         session = self.moved(given)
         self.forward(session, session.run.proceed())
         return {"allThreadsContinued": True}
 
     def next(self, given: Arguments) -> Optional[dict]:
+        """One step on, past local calls."""
         session = self.moved(given)
         run: Run = session.run
         named = self.named(given, session)
@@ -58,6 +60,7 @@ class Moving:
         return None
 
     def step_in(self, given: Arguments) -> Optional[dict]:
+        """One step on, into local calls."""
         session = self.moved(given)
         run: Run = session.run
         named = self.named(given, session)
@@ -65,11 +68,13 @@ class Moving:
         return None
 
     def step_out(self, given: Arguments) -> Optional[dict]:
+        """On to the end of the newest local call, or of the program."""
         session = self.moved(given)
         self.forward(session, session.run.out())
         return None
 
     def step_back(self, given: Arguments) -> Optional[dict]:
+        """One step back."""
         session = self.moved(given)
         run: Run = session.run
         named = self.named(given, session)
@@ -77,6 +82,7 @@ class Moving:
         return None
 
     def reverse(self, given: Arguments) -> Optional[dict]:
+        """Back to a breakpoint, to the making of a watched value, or to step 0."""
         session = self.moved(given)
         self.debuggee.begin(session.run.reverse())
         return None

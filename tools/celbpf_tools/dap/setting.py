@@ -48,10 +48,12 @@ class Setting:
     # -- the beginning
 
     def initialize(self, given: Arguments) -> Optional[dict]:
+        """What the adapter can do; the client says from which number it counts lines."""
         self.debuggee.first = 1 if given.truth("linesStartAt1", True) else 0
         return CAPABILITIES
 
     def launch(self, given: Arguments) -> Optional[dict]:
+        """Launches an image, or a policy that it compiles first; then breakpoints can be set."""
         if self.debuggee.session:
             raise BadRequest("launch: a session is there; restart it, or end it first")
         self.begin(given)
@@ -66,9 +68,11 @@ class Setting:
         self.launch_words = given
 
     def attach(self, _: Arguments) -> Optional[dict]:
+        """Refused: each session has a process of its own."""
         raise BadRequest("attach: there is no process to attach to; launch an image or a policy")
 
     def configured(self, _: Arguments) -> Optional[dict]:
+        """Begins the session once its breakpoints are set."""
         self.debuggee.launched()
         if not self.is_configured:
             self.is_configured = True
@@ -140,12 +144,14 @@ class Setting:
         return "" if is_named else path or source.text("name") or "unknown"
 
     def lines(self, given: Arguments) -> Optional[dict]:
+        """Replaces the breakpoints on lines of a source."""
         session = self.debuggee.launched()
         name = self.source_name(session, given.part("source"))
         wishes = [{"line": self.debuggee.own_line(one.number("line"))} for one in given.parts("breakpoints")]
         return self.asked((LINE, name), wishes)
 
     def instructions(self, given: Arguments) -> Optional[dict]:
+        """Replaces the breakpoints on instructions."""
         wishes = [
             {"slot": number_of(one.needed_text("instructionReference"), "instructionReference") + one.number("offset", 0)}
             for one in given.parts("breakpoints")
@@ -153,9 +159,11 @@ class Setting:
         return self.asked((INSTRUCTION, ""), wishes)
 
     def functions(self, given: Arguments) -> Optional[dict]:
+        """Replaces the breakpoints on parts of the policy."""
         return self.asked((FUNCTION, ""), [{"name": one.needed_text("name")} for one in given.parts("breakpoints")])
 
     def exceptions(self, given: Arguments) -> Optional[dict]:
+        """Replaces the filters: whether a session stops at a fault."""
         options = [one.needed_text("filterId") for one in given.parts("filterOptions")]
         asked = given.texts("filters") + options
         self.debuggee.filters = {one for one in asked if one == FAULT_FILTER}
@@ -163,6 +171,7 @@ class Setting:
         return {"breakpoints": [{"verified": one not in unknown, **unknown.get(one, {})} for one in asked]}
 
     def data(self, given: Arguments) -> Optional[dict]:
+        """Replaces the values at whose making a run stops."""
         session = self.debuggee.launched()
         answers, watched = [], set()
         for one in given.parts("breakpoints"):
@@ -176,6 +185,7 @@ class Setting:
         return {"breakpoints": answers}
 
     def locations(self, given: Arguments) -> Optional[dict]:
+        """The lines of a range on which a breakpoint can be set."""
         session = self.debuggee.launched()
         if self.source_name(session, given.part("source")):
             return {"breakpoints": []}
@@ -211,12 +221,14 @@ class Setting:
                 self.debuggee.connection.event("breakpoint", {"reason": "changed", "breakpoint": one})
 
     def terminate(self, _: Arguments) -> Optional[dict]:
+        """Ends the session; the adapter goes on."""
         self.debuggee.launched()
         self.debuggee.interrupt()
         self.debuggee.after.append(self.debuggee.terminate)
         return None
 
     def disconnect(self, _: Arguments) -> Optional[dict]:
+        """Ends the session and the adapter."""
         self.debuggee.close()
         self.debuggee.is_over = True
         return None

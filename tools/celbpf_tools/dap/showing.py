@@ -46,11 +46,13 @@ class Showing:
         }
 
     def threads(self, _: Arguments) -> Optional[dict]:
+        """The one thread, by the name of the file that is launched."""
         session = self.debuggee.session
         name = session.launched.order.title if session else "nothing is launched"
         return {"threads": [{"id": THREAD, "name": name}]}
 
     def stack(self, given: Arguments) -> Optional[dict]:
+        """The frames, the newest first."""
         session = self.debuggee.shown()
         slots = [session.run.place.pc, *(int(record.split()[1]) for record in session.run.records())]
         start, levels = given.number("startFrame", 0), given.number("levels", 0)
@@ -75,11 +77,13 @@ class Showing:
         return None if frame == 1 else records[frame - 2]
 
     def scopes(self, given: Arguments) -> Optional[dict]:
+        """The groups of variables of a frame."""
         session = self.debuggee.shown()
         record = self.record(session, given.number("frameId"))
         return {"scopes": session.view.scopes(session.run.place, record)}
 
     def variables(self, given: Arguments) -> Optional[dict]:
+        """The variables of a group or of a value."""
         self.debuggee.shown()
         number = given.number("variablesReference")
         kind, start, count = given.text("filter"), given.number("start", 0), given.number("count", 0)
@@ -89,6 +93,7 @@ class Showing:
         return {"variables": found}
 
     def source(self, given: Arguments) -> Optional[dict]:
+        """The text of the listing."""
         session = self.debuggee.launched()
         number = given.part("source").number("sourceReference", given.number("sourceReference", 0))
         if number != LISTING and given.part("source").text("path") != session.launched.order.listing:
@@ -96,9 +101,11 @@ class Showing:
         return {"content": session.code.text, "mimeType": "text/plain"}
 
     def sources(self, _: Arguments) -> Optional[dict]:
+        """The listing, which is the only source."""
         return {"sources": [listing_of(self.debuggee.launched())]}
 
     def disassemble(self, given: Arguments) -> Optional[dict]:
+        """Instructions from one on; as many as asked for, also outside the code."""
         session = self.debuggee.launched()
         slot = number_of(given.needed_text("memoryReference"), "memoryReference") + given.number("offset", 0)
         count = given.number("instructionCount")
@@ -114,6 +121,7 @@ class Showing:
         return {"instructions": found}
 
     def memory(self, given: Arguments) -> Optional[dict]:
+        """Bytes of a region, in base64."""
         session = self.debuggee.shown()
         address = number_of(given.needed_text("memoryReference"), "memoryReference") + given.number("offset", 0)
         count = given.number("count")
@@ -125,6 +133,7 @@ class Showing:
         return {"address": f"0x{address:016x}" if address >= 0 else str(address), **data, **missing}
 
     def evaluate(self, given: Arguments) -> Optional[dict]:
+        """The value of what is typed."""
         session = self.debuggee.shown()
         text = given.needed_text("expression")
         if frame := given.number("frameId", 0):
@@ -134,6 +143,7 @@ class Showing:
         return {"result": found["value"], **{key: found[key] for key in kept if key in found}}
 
     def exception(self, _: Arguments) -> Optional[dict]:
+        """The fault that stopped the machine."""
         session = self.debuggee.shown()
         fault = session.run.place.fault
         if not fault:
