@@ -2,7 +2,7 @@
 
 usage: tools/run-spread [--count N] [--seed N] [--gatekeeper PROGRAM] [--program PROGRAM] [--measure]
 
-N reviews (5,000) of the first example, their replicas from a seed (1), are answered by one gatekeeper. Then parallel
+N reviews (1,000) of the first example, their replicas from a seed (1), are answered by one gatekeeper. Then parallel
 spreads the same lines over one, two and four processes, over two hosts, and over two hosts of which one is killed
 while it answers; each time the output has to be the same bytes. The hosts are two `sshd` on the loopback, with keys
 and settings of their own in a folder that is removed. N is at least 400. `--measure` prints lines a second, the best of three runs, and
@@ -115,17 +115,22 @@ def with_a_death(lines: Lines, hosts: Hosts) -> bool:
     """The lines over both hosts, of which the second is killed after it has answered a part of a block."""
     log, victim = lines.folder / "death.log", hosts.names[1]
     words = with_hosts(lines, hosts, log, f"{SLOWLY} | {lines.answer}")
-    pipe = subprocess.PIPE
-    with lines.file.open("rb") as given, subprocess.Popen(words, stdin=given, stdout=pipe, stderr=pipe) as running:
-        end = time.monotonic() + PATIENCE
-        while running.poll() is None and not (jobs_of(log, victim) and hosts.runs(victim, "sleep")):
-            if time.monotonic() > end:
-                running.kill()
-            time.sleep(0.01)
-        killed = hosts.kill(victim)
-        found, said = running.communicate(timeout=PATIENCE)
+    # files, since a pipe that nobody reads would stop parallel before the host is killed
+    output, errors = lines.folder / "death.out", lines.folder / "death.err"
+    with lines.file.open("rb") as given, output.open("wb") as out, errors.open("wb") as err:
+        running = subprocess.Popen(words, stdin=given, stdout=out, stderr=err)
+        try:
+            end = time.monotonic() + PATIENCE
+            while running.poll() is None and not (jobs_of(log, victim) and hosts.runs(victim, "sleep")):
+                if time.monotonic() > end:
+                    break
+                time.sleep(0.01)
+            killed = hosts.kill(victim)
+            running.wait(PATIENCE)
+        finally:
+            running.kill()
     print(f"a host that dies: {killed} of its processes were killed, after {jobs_of(log, victim)} of its blocks", flush=True)
-    is_same = lines.compared("a host that dies", running.returncode, found, said)
+    is_same = lines.compared("a host that dies", running.returncode, output.read_bytes(), errors.read_bytes())
     return is_same and killed > 1
 
 
@@ -160,7 +165,7 @@ def needed() -> None:
 
 def main() -> int:
     parser = argparse.ArgumentParser(usage=usage_of(__doc__))
-    parser.add_argument("--count", type=int, default=5_000)
+    parser.add_argument("--count", type=int, default=1_000)
     parser.add_argument("--seed", type=int, default=1)
     parser.add_argument("--gatekeeper")
     parser.add_argument("--program")
