@@ -1,5 +1,6 @@
 -- Commands that stand for one another.
-use Rattle.debugger.proofs.Prelude.{◌≡◌, ℕ, ◌<◌, Bool, true, false, List, [], ◌∷◌, ◌++◌, length, length-take, take, nat_le, codes, refl, sym, ap, ◌∙◌, inl, inr, arith, cases_lt, nat_tests, take_all, length_push, take-append_seam, slice_get_past, State, state_after, FitsWords, capped_command, command_of, SessionState, answer_of, may_be_refused, answer_to, AnswersLine, Command}
+use Rattle.std.specs.Prelude.{IsOk}
+use Rattle.debugger.proofs.Prelude.{◌≡◌, ℕ, ◌<◌, Bool, true, false, List, [], ◌++◌, ◌+◌, ◌-◌, ◌≤◌, length, length-take, take, nat_le, codes, refl, sym, ap, ◌∙◌, inl, inr, arith, cases_lt, nat_tests, take_all, length-append, Result, Ok, Err, OnOk, append_assoc, drop, take-append-drop, take_at, slice_get_past, State, state_after, FitsWords, capped_command, command_of, SessionState, answer_of, may_be_refused, answer_to, AnswersLine, Command}
 
 -- a line whose command was obeyed
 pub answers_granted : (s : State) (w next : SessionState) (line : List ℕ) (c : Command) (text : List ℕ) → FitsWords (state_after w.place s) c
@@ -33,8 +34,19 @@ answer_to-take s w line mark = grind (arith, nat_tests, command_of-take)
 pub answers_whole : (s : State) (w next : SessionState) (line text : List ℕ) → AnswersLine s w (take 65 line) next text → AnswersLine s w line next text
 answers_whole s w next line text a = grind (arith, nat_tests, answer_to-take)
 
-pub keep_short : (xs : List ℕ) (b : ℕ) → length xs < 65 → xs ++ b ∷ [] ≡ take 65 (xs ++ b ∷ [])
-keep_short xs b short = sym (take_all 65 (xs ++ b ∷ []) (omega (arith, short, length_push xs b)))
+-- a part of a line, up to the line's 65th byte
+pub keep_all : (xs part : List ℕ) → length part ≤ 65 - length xs → length xs ≤ 65 → xs ++ part ≡ take 65 (xs ++ part)
+keep_all xs part fits short = sym (take_all 65 (xs ++ part) (omega (arith, fits, short, length-append xs part)))
 
-pub keep_long : (xs : List ℕ) (b : ℕ) → length xs ≡ 65 → xs ≡ take 65 (xs ++ b ∷ [])
-keep_long xs b long = sym (take-append_seam xs (b ∷ [])) ∙ ap (λ (n : ℕ). take n (xs ++ b ∷ [])) long
+pub keep_some : (xs part : List ℕ) (len : ℕ) → len ≡ length xs → 65 - len < length part → len ≤ 65 → xs ++ take (65 - len) part ≡ take 65 (xs ++ part)
+keep_some xs part len is long short =
+    let room = 65 - len in
+    let size : length (xs ++ take room part) ≡ 65 = omega (arith, is, length-append xs (take room part), length-take room part, long, short) in
+    sym (ap (λ (more : List ℕ). take 65 (xs ++ more)) (sym (take-append-drop room part))
+      ∙ ap (take 65) (sym (append_assoc xs (take room part) (drop room part)))
+      ∙ take_at (xs ++ take room part) (drop room part) 65 size)
+
+-- what holds of a result that is given
+pub fits_ok : {A E : Type 0} (r : Result A E) (P : Type 0) → IsOk r → OnOk r P → P
+fits_ok (Ok x) P is holds = holds
+fits_ok (Err e) P is holds = absurd (cc)

@@ -3,6 +3,7 @@ mod Asked
 mod Quit
 mod Addresses
 mod Words
+mod Ending
 mod Going
 mod Whole
 mod Marks

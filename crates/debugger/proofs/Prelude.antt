@@ -1,19 +1,19 @@
 -- The names that these proofs cite of the library, of the crates below and of the definitions here. Declares nothing.
 pub use Rattle.std.proofs.Common.{Bool, Err, IfErr, List, None, Ok, OnErr, OnOk, Option, Result, Some, ℕ, ℤ, []}
 pub use Rattle.std.proofs.Common.{add-one, add-zero, ap, append-nil, append_assoc, arith, codes, cond, decimal, drop}
-pub use Rattle.std.proofs.Common.{false, filter, fold, get_or, if◌then◌else◌, inl, inr, insert, length, length-append}
+pub use Rattle.std.proofs.Common.{eqb-true, false, filter, fold, get_or, if◌then◌else◌, inl, inr, insert, length, length-append}
 pub use Rattle.std.proofs.Common.{length-drop, length-take, map, nat_eq, nat_le, nat_lt, negsuc, not, option_map, pos}
 pub use Rattle.std.proofs.Common.{refl, rules, slice_index, string_bytes, subst, suc, sym, take, true, zero, zero-add}
 pub use Rattle.std.proofs.Common.{◌%◌, ◌&&◌, ◌*◌, ◌++◌, ◌+◌, ◌-◌, ◌/◌, ◌<◌, ◌^◌, ◌||◌, ◌∙◌, ◌∷◌, ◌≡◌, ◌≢◌, ◌≤◌, ◌⊎◌}
 pub use Rattle.std.proofs.Math.Bool.{or-false}
 pub use Rattle.std.proofs.Math.Nat.{pow-le-pow_right, pow-suc}
-pub use Rattle.std.proofs.Math.Seq.{take-add, take-append_seam}
+pub use Rattle.std.proofs.Math.Seq.{take-add}
 pub use Rattle.std.proofs.lemmas.Bool.{and_parts, cases_lt, or_parts, or_right}
 pub use Rattle.std.proofs.lemmas.Bool.Decides.{nat_tests}
 pub use Rattle.std.proofs.lemmas.Fmt.{decimal_by_steps_wide, decimal_digit, decimal_step_wide}
 pub use Rattle.std.proofs.lemmas.Grind.{common_steps}
 pub use Rattle.std.proofs.lemmas.List.{append_cancel_left, drop-drop, length-take-le, length_push, map-append}
-pub use Rattle.std.proofs.lemmas.List.{nil_from_length, take-append-drop, take-append-le, take_all}
+pub use Rattle.std.proofs.lemmas.List.{nil_from_length, take-append-drop, take-append-le, take-take, take_all, take_at}
 pub use Rattle.std.proofs.lemmas.List.Elements.{All-from_get_or}
 pub use Rattle.std.proofs.lemmas.List.Folds.{list_any-append, list_any_at, list_any_none}
 pub use Rattle.std.proofs.lemmas.List.Sorted.{searched}
@@ -77,7 +77,6 @@ pub use Rattle.value_store.specs.Value.{ValueOrError}
 pub use Rattle.debugger.specs.Answers.{Answer, Line, SessionState, is_refused, says, session_state_at}
 pub use Rattle.debugger.specs.Breakpoints.{SetsAndClears, has_breakpoint, in_order, place_of, with_breakpoint}
 pub use Rattle.debugger.specs.Breakpoints.{without_breakpoint}
-pub use Rattle.streams.specs.Byte.{GivesByte}
 pub use Rattle.debugger.specs.CommandLines.{AsksFor, CommandsHaveLines, IsLine, IsNumbered}
 pub use Rattle.debugger.specs.Commands.{FitsWords, begins_with, capped_command, hex_value, is_digit, is_hex_digit}
 pub use Rattle.debugger.specs.Commands.{is_quit, leads_with_zero, numbered, read_address, read_digits}
@@ -88,15 +87,17 @@ pub use Rattle.debugger.specs.Rows.{AnswersInLines, StaysInOrder, TellsAll}
 pub use Rattle.debugger.specs.Session.{Dialogue, first_talk, granted, has_quit, says_memory}
 pub use Rattle.streams.specs.Lines.{input_lines}
 pub use Rattle.debugger.specs.Session.{session_text, dialogue_of, with_answer}
-pub use Rattle.streams.specs.Streams.{AddsBytes, KeepsBytes, stream}
+pub use Rattle.streams.specs.Hearing.{HasNoFeed, HeardByResult, ReadsSome, ReadsToEnd}
+pub use Rattle.streams.specs.Streams.{AddsBytes, stream}
 pub use Rattle.debugger.specs.Transcript.{AnswersLine, SessionByResult, TranscriptSoFar, IsDialogue}
+pub use Rattle.debugger.specs.Transcript.{SessionGoesOn, TranscriptToQuit, TranscriptToEnd, TranscriptCut, TranscriptEnds, TranscriptBreaks}
 pub use Rattle.debugger.specs.Transcript.{WritesAnswer, WritesPartOfAnswer, IsSession, TranscriptAll, TranscriptPart}
 pub use Rattle.debugger.specs.Transcript.{TranscriptSome, lines_of}
 pub use Rattle.debugger.specs.Verdict.{message_lines, verdict_word}
 pub use Rattle.debugger.specs.declared.command.Command.{Command}
 pub use Rattle.debugger.specs.declared.command.Command.TheVariants.{MemoryAt, Unknown, ValueAt}
 pub use Rattle.streams.specs.declared.session_error.SessionError.{SessionError}
-pub use Rattle.streams.specs.declared.session_error.SessionError.TheVariants.{WriteFailed}
+pub use Rattle.streams.specs.declared.session_error.SessionError.TheVariants.{ReadFailed, WriteFailed}
 unfoldable pub use Rattle.debugger.specs.Answers.{answer_of, answer_to, break_text, clear_text, may_be_refused}
 unfoldable pub use Rattle.debugger.specs.Commands.{command_of, form_of, move_form_of, number_of, numbered_form_of}
 unfoldable pub use Rattle.debugger.specs.Commands.{shown_form_of}

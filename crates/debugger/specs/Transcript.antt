@@ -101,15 +101,53 @@ pub record WritesPartOfAnswer (s : State) (w : SessionState) (line : List ℕ) (
   pub is_cut : many < length text
   pub line_written : AddsBytes written new (take many text)
 
--- so many bytes were read, and the lines that ended among them were answered, of which none ends a session; the line
--- after them is kept up to its 65th byte, and the session state has these breakpoints and this step
-pub record TranscriptSoFar (s : State) (input before : List ℕ) (read : ℕ) (left written : Option (List ℕ))
-    (line slots : List ℕ) (k : ℕ) : Type 0 where
+-- the lines that ended among these bytes were answered, and none of them ends a session; the line after them is kept up
+-- to its 65th byte, and the session state has these breakpoints and this step
+pub record TranscriptSoFar (s : State) (before heard : List ℕ) (written : Option (List ℕ)) (line slots : List ℕ) (k : ℕ) : Type 0 where
   pub talk : Dialogue
-  pub lines : IsDialogue s (cut (take read input)).0 talk
-  pub goes_on : (n : ℕ) → n ≤ read → has_quit (cut (take n input)).0 ≡ false
-  pub rest : line ≡ take 65 (cut (take read input)).1
-  pub left_is : left ≡ Some (drop read input)
+  pub lines : IsDialogue s (cut heard).0 talk
+  pub goes_on : has_quit (cut heard).0 ≡ false
+  pub rest : line ≡ take 65 (cut heard).1
   pub written_is : written ≡ Some (before ++ talk.text)
   pub world_is : talk.world ≡ session_state_at slots k false
-  pub within : read ≤ length input
+
+-- a session goes on so in its run, which is the run from s
+abbrev pub SessionGoesOn : State → State → List ℕ → List ℕ → List ℕ → ℕ → List ℕ → Option (List ℕ) → Type 0
+SessionGoesOn origin s before line slots k heard written = (origin ≡ s) × TranscriptSoFar s before heard written line slots k
+
+-- these bytes end with the first line that ends a session, and all their lines were answered
+pub record TranscriptToQuit (s : State) (before heard : List ℕ) (written : Option (List ℕ)) : Type 0 where
+  pub talk : Dialogue
+  pub lines : IsDialogue s (cut heard).0 talk
+  pub goes_on : (n : ℕ) → n < length heard → has_quit (cut (take n heard)).0 ≡ false
+  pub quits : has_quit (cut heard).0 ≡ true
+  pub written_is : written ≡ Some (before ++ talk.text)
+  pub ended : talk.world.ended ≡ true
+
+-- these bytes are all, all their lines were answered, and no whole line among them ends a session
+pub record TranscriptToEnd (s : State) (before heard : List ℕ) (written : Option (List ℕ)) : Type 0 where
+  pub talk : Dialogue
+  pub lines : IsDialogue s (input_lines heard) talk
+  pub goes_on : has_quit (cut heard).0 ≡ false
+  pub written_is : written ≡ Some (before ++ talk.text)
+
+-- the answers to all lines of these bytes but the last were written whole, and its own but for a rest
+pub record TranscriptCut (s : State) (before heard : List ℕ) (written : Option (List ℕ)) : Type 0 where
+  pub answered : List Line
+  pub last : Line
+  pub lines_are : lines_of (answered ++ last ∷ []) ≡ input_lines heard
+  pub part : List ℕ
+  pub rest : List ℕ
+  pub part_is : (dialogue_of s (answered ++ last ∷ [])).text ≡ (dialogue_of s answered).text ++ (part ++ rest)
+  pub is_cut : 0 < length rest
+  pub part_written : written ≡ Some (before ++ ((dialogue_of s answered).text ++ part))
+
+-- how a session ends, at a line or at the input's end
+abbrev pub TranscriptEnds : Bool → State → List ℕ → List ℕ → Option (List ℕ) → Type 0
+TranscriptEnds false s before heard written = TranscriptToQuit s before heard written
+TranscriptEnds true s before heard written = TranscriptToEnd s before heard written
+
+-- how a write fails, at a line or at the input's end
+abbrev pub TranscriptBreaks : Bool → State → List ℕ → List ℕ → Option (List ℕ) → Type 0
+TranscriptBreaks false s before heard written = TranscriptCut s before heard written × ((cut heard).1 ≡ [])
+TranscriptBreaks true s before heard written = TranscriptCut s before heard written

@@ -5,6 +5,7 @@ mod answer_text;
 mod answering;
 mod breakpoints;
 mod command;
+mod conversation;
 mod inspecting;
 pub mod laws;
 mod limits;

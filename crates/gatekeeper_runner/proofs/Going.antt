@@ -1,5 +1,8 @@
 -- How the answers go on.
-use Rattle.gatekeeper_runner.proofs.Prelude.{◌≡◌, ℕ, ◌+◌, ◌<◌, ◌≤◌, List, [], ◌∷◌, ◌++◌, length, length-drop, take, drop, Option, Some, refl, sym, ap, ◌∙◌, inl, inr, arith, append_assoc, append-nil, Result, Ok, Err, IfErr, OnErr, OnOk, ◌⊎◌, take-append-drop, AddsBytes, KeepsBytes, GivesByte, cut, input_lines, readable, with_rest, SessionError, WriteFailed, Pieces, cut-none, cut-feed, cut-plain, input_lines-ended, one_within, drop-one, readable-within, readable-end, OneImage, AnswersReviewLine, decided, no_memory, passed_over, too_long, Gatekeeper, Answered, AnsweredPart, AnswersEach, AnswersByResult, AnswersSoFar, AnsweredPartOfLines, AnsweredSomeLines}
+use Rattle.gatekeeper_runner.proofs.Prelude.{◌≡◌, ℕ, ◌<◌, ◌≤◌, Bool, true, false, List, [], ◌∷◌, ◌++◌, length, length-drop, take, drop, Option, Some, refl, sym, ap, subst, ◌∙◌, inl, inr, arith, append_assoc, append-nil, Result, Ok, Err, ◌⊎◌, take-append-drop, AddsBytes, cut, input_lines, readable, with_rest, SessionError, ReadFailed, WriteFailed, Pieces, cut-none, cut-line, cut-part, input_lines-ended, readable-all, HasNoFeed, HeardByResult, OfBytes, OneImage, AnswersReviewLine, decided, no_memory, passed_over, too_long, Gatekeeper, KeepsLine, Answered, AnsweredPart, AnswersEach, AnswersByResult, AnswersSoFar, AnswersToEnd, AnswersCut, AnswersEnd, AnswersBreak, AnsweredPartOfLines, AreGates, gatekeeper_of, UnderPolicies, UnderSame}
+use Rattle.streams.specs.declared.session_error.SessionError.TheVariants.{Memory as SessionMemory}
+use Rattle.gatekeeper_runner.specs.declared.gatekeeper.Gatekeeper.{Gatekeeper as CodeGatekeeper}
+use Rattle.gatekeeper_runner.specs.declared.line.Line.{Line}
 use Rattle.gatekeeper_runner.specs.Told as told
 
 -- nothing is answered to an empty line
@@ -20,70 +23,28 @@ is_line : (t : Gatekeeper) (lines : List (List ℕ)) (rest answer : List ℕ) (n
 is_line t lines [] answer n last some = absurd (let zero = ap length (no_answer t [] answer refl last) in omega (arith, some, zero))
 is_line t lines (b ∷ bs) answer n last some = refl
 
-pub going_start : (t : Gatekeeper) (input before : List ℕ) (left written : Option (List ℕ)) → left ≡ Some input → written ≡ Some before → AnswersSoFar OneImage t input before 0 left written
-going_start t input before left written l w = record {
+pub going_start : (t : Gatekeeper) (before : List ℕ) (written : Option (List ℕ)) → written ≡ Some before → AnswersSoFar OneImage t before [] written
+going_start t before written w = record {
   text = [];
   lines = rw cut-none told.none;
-  left_is = l;
   written_is = w ∙ ap Some (sym (append-nil before));
-  within = omega arith;
 }
 
-module _ (t : Gatekeeper) (input before : List ℕ) (i : ℕ) (left written : Option (List ℕ)) (g : AnswersSoFar OneImage t input before i left written) (after : Option (List ℕ)) where
+module _ (t : Gatekeeper) (before heard : List ℕ) (written : Option (List ℕ)) (g : AnswersSoFar OneImage t before heard written) where
   written-more : (text : List ℕ) (new : Option (List ℕ)) → AddsBytes written new text → new ≡ Some (before ++ (g.text ++ text))
   written-more text new adds = adds (before ++ g.text) g.written_is ∙ ap Some (append_assoc before g.text text)
 
-  -- a read that failed
-  pub told_some : (limit : ℕ) → KeepsBytes left after → readable input ≡ take limit input → i < limit → AnsweredSomeLines OneImage t input before after written
-  told_some limit kept all below = record {
-    read = i;
-    within = readable-within input limit i all (omega (arith, below)) g.within;
-    some_left = kept (drop i input) g.left_is;
-    text = g.text;
-    some_lines = g.lines;
-    some_written = g.written_is;
-  }
+  -- a part of a line
+  pub going_part : (part : List ℕ) → HasNoFeed part → AnswersSoFar OneImage t before (heard ++ part) written
+  going_part part plain = record { text = g.text; lines = rw (cut-part heard part plain) g.lines; written_is = g.written_is }
 
-  module _ (b : ℕ) (gives : (bytes : List ℕ) → left ≡ Some bytes → GivesByte bytes after (Some b)) where
-    -- what reading a byte says of the bytes that were left
-    first : drop i input ≡ b ∷ drop 1 (drop i input)
-    first = (gives (drop i input) g.left_is).0
-
-    rest_left : after ≡ Some (drop (i + 1) input)
-    rest_left = (gives (drop i input) g.left_is).1 ∙ ap Some (drop-one input i)
-
-    -- a byte that ends no line
-    module _ (plain : b ≡ 10 → ⊥) where
-      pub longer : cut (take (i + 1) input) ≡ ((cut (take i input)).0, (cut (take i input)).1 ++ b ∷ [])
-      longer = cut-plain input i b first plain
-
-      pub going_byte : AnswersSoFar OneImage t input before (i + 1) after written
-      going_byte = record { text = g.text; lines = rw longer g.lines; left_is = rest_left; written_is = g.written_is; within = one_within input i b first }
-
-    -- a line's end
-    module _ (feed : b ≡ 10) where
-      pub begun : cut (take (i + 1) input) ≡ ((cut (take i input)).0 ++ (cut (take i input)).1 ∷ [], [])
-      begun = cut-feed input i b first feed
-
-      pub going_line : (new : Option (List ℕ)) → Answered OneImage t (cut (take i input)).1 written new → AnswersSoFar OneImage t input before (i + 1) after new
-      going_line new a = record {
-        text = g.text ++ a.text;
-        lines = rw begun (told.more g.lines a.answers);
-        left_is = rest_left;
-        written_is = written-more a.text new a.written;
-        within = one_within input i b first;
-      }
-
-  -- an answer that was written in part, when so many bytes were read
-  part_told : (read : ℕ) (new : Option (List ℕ)) → AnsweredPart OneImage t (cut (take i input)).1 written new → (cut (take i input)).0 ++ (cut (take i input)).1 ∷ [] ≡ input_lines (take read input) → after ≡ Some (drop read input) → read ≤ length (readable input) → ((cut (take read input)).1 ≡ []) ⊎ (read ≡ length (readable input)) → AnsweredPartOfLines OneImage t input before after new
-  part_told read new a all gone inside ends = record {
-    read = read;
-    within = inside;
-    line_read = ends;
-    part_left = gone;
-    lines = (cut (take i input)).0;
-    last = (cut (take i input)).1;
-    lines_are = all;
+  -- an answer that was written in part
+  part_told : (whole all : List ℕ) (new : Option (List ℕ)) → AnsweredPart OneImage t whole written new → (cut heard).0 ++ whole ∷ [] ≡ input_lines all
+      → AnswersCut OneImage t before all new
+  part_told whole all new a are = record {
+    lines = (cut heard).0;
+    last = whole;
+    lines_are = are;
     text = g.text;
     answered = g.lines;
     part = take a.many a.text;
@@ -93,21 +54,99 @@ module _ (t : Gatekeeper) (input before : List ℕ) (i : ℕ) (left written : Op
     part_written = written-more (take a.many a.text) new a.written;
   }
 
-  -- at a line's end
-  pub told_part : (b : ℕ) → ((bytes : List ℕ) → left ≡ Some bytes → GivesByte bytes after (Some b)) → b ≡ 10 → (new : Option (List ℕ)) (limit : ℕ) → AnsweredPart OneImage t (cut (take i input)).1 written new → readable input ≡ take limit input → i < limit → AnsweredPartOfLines OneImage t input before after new
-  told_part b gives feed new limit a whole below =
-      let c = begun b gives feed in
-      let all = input_lines-ended (take (i + 1) input) (ap (λ (p : Pieces). take 65 p.1) c) ∙ ap (λ (p : Pieces). p.0) c in
-      part_told (i + 1) new a (sym all) (rest_left b gives) (readable-within input limit (i + 1) whole (omega (arith, below)) (one_within input i b (first b gives))) (inl (ap (λ (p : Pieces). p.1) c))
+  -- the rest of a line, and its line feed
+  module _ (rest : List ℕ) (plain : HasNoFeed rest) (new : Option (List ℕ)) where
+    ends_line : cut (heard ++ (rest ++ 10 ∷ [])) ≡ ((cut heard).0 ++ ((cut heard).1 ++ rest) ∷ [], [])
+    ends_line = cut-line heard rest plain
 
-  -- where all is read, and the rest behind the last line feed is answered
-  pub told_rest : (new : Option (List ℕ)) (result : Result (Unit {0}) SessionError) → after ≡ Some (drop i input) → readable input ≡ take i input → OnOk result (Answered OneImage t (cut (take i input)).1 written new) → OnErr result (AnsweredPart OneImage t (cut (take i input)).1 written new) → IfErr result (λ e. e ≡ WriteFailed) → AnswersByResult OneImage t input before after new result
-  told_rest new (Ok u) gone all whole part cause = record {
-    all_left = gone ∙ ap (λ (n : ℕ). Some (drop n input)) (let end = readable-end input i g.within all in omega (arith, end));
-    text = g.text ++ whole.text;
-    all_lines = rw all (with_last t (cut (take i input)).0 (cut (take i input)).1 g.text whole.text g.lines whole.answers);
-    all_written = written-more whole.text new whole.written;
+    pub going_line : Answered OneImage t ((cut heard).1 ++ rest) written new → AnswersSoFar OneImage t before (heard ++ (rest ++ 10 ∷ [])) new
+    going_line a = record {
+      text = g.text ++ a.text;
+      lines = rw ends_line (told.more g.lines a.answers);
+      written_is = written-more a.text new a.written;
+    }
+
+    pub told_part : AnsweredPart OneImage t ((cut heard).1 ++ rest) written new → AnswersBreak false OneImage t before (heard ++ (rest ++ 10 ∷ [])) new
+    told_part a =
+        let all = input_lines-ended (heard ++ (rest ++ 10 ∷ [])) (ap (λ (p : Pieces). take 65 p.1) ends_line) ∙ ap (λ (p : Pieces). p.0) ends_line in
+        (part_told ((cut heard).1 ++ rest) (heard ++ (rest ++ 10 ∷ [])) new a (sym all), ap (λ (p : Pieces). p.1) ends_line)
+
+  -- the end, where the rest behind the last line feed is answered
+  pub end_whole : (new : Option (List ℕ)) → Answered OneImage t (cut heard).1 written new → AnswersToEnd OneImage t before heard new
+  end_whole new a = record {
+    text = g.text ++ a.text;
+    lines = with_last t (cut heard).0 (cut heard).1 g.text a.text g.lines a.answers;
+    written_is = written-more a.text new a.written;
   }
-  told_rest new (Err e) gone all whole part cause =
-      let end = readable-end input i g.within all in
-      rw cause (part_told i new part (is_line t (cut (take i input)).0 (cut (take i input)).1 part.text part.many part.answers part.is_cut) gone (omega (arith, end)) (inr (omega (arith, end))))
+
+  pub end_part : (new : Option (List ℕ)) → AnsweredPart OneImage t (cut heard).1 written new → AnswersCut OneImage t before heard new
+  end_part new a = part_told (cut heard).1 heard new a (is_line t (cut heard).0 (cut heard).1 a.text a.many a.answers a.is_cut)
+
+-- what is kept once the rest of a line, or its end, is heard
+pub kept_part : (line : Line) (heard part : List ℕ) → HasNoFeed part → KeepsLine line ((cut heard).1 ++ part) → KeepsLine line (cut (heard ++ part)).1
+kept_part line heard part plain keeps = rw (cut-part heard part plain) keeps
+
+pub kept_none : (line : Line) (heard rest : List ℕ) → HasNoFeed rest → KeepsLine line [] → KeepsLine line (cut (heard ++ (rest ++ 10 ∷ []))).1
+kept_none line heard rest plain keeps = rw (cut-line heard rest plain) keeps
+
+-- what holds under the gatekeeper of the start
+pub under_start : (keeper start : CodeGatekeeper) (Q : Gatekeeper → Type 0) → UnderSame keeper start Q → UnderPolicies start Q
+under_start keeper start Q h = subst (λ (k : CodeGatekeeper). UnderPolicies k Q) h.0 h.1
+
+module _ (t : Gatekeeper) (input before : List ℕ) (left written : Option (List ℕ)) where
+  -- a write that failed
+  cut_told : (read : ℕ) → read ≤ length (readable input) → left ≡ Some (drop read input) → AnswersCut OneImage t before (take read input) written
+      → ((cut (take read input)).1 ≡ []) ⊎ (read ≡ length (readable input)) → AnsweredPartOfLines OneImage t input before left written
+  cut_told read inside gone a ends = record {
+    read = read;
+    within = inside;
+    line_read = ends;
+    part_left = gone;
+    lines = a.lines;
+    last = a.last;
+    lines_are = a.lines_are;
+    text = a.text;
+    answered = a.answered;
+    part = a.part;
+    rest = a.rest;
+    answers = a.answers;
+    is_cut = a.is_cut;
+    part_written = a.part_written;
+  }
+
+  -- what was read and written once the input was heard
+  pub answers_told : (goes : OfBytes) (ended broke : Bool → OfBytes) (result : Result (Unit {0}) SessionError)
+      → ((heard : List ℕ) → goes heard written → AnswersSoFar OneImage t before heard written)
+      → ((last : Bool) (heard : List ℕ) → ended last heard written → AnswersEnd last OneImage t before heard written)
+      → ((last : Bool) (heard : List ℕ) → broke last heard written → AnswersBreak last OneImage t before heard written)
+      → HeardByResult goes ended broke input left written result → AnswersByResult OneImage t input before left written result
+  answers_told goes ended broke (Ok u) on over broken (inl r) = absurd (over false (take r.read input) r.of_bytes)
+  answers_told goes ended broke (Ok u) on over broken (inr r) =
+      let a = over true (readable input) r.of_bytes in
+      record { all_left = r.left_is; text = a.text; all_lines = a.lines; all_written = a.written_is }
+  answers_told goes ended broke (Err ReadFailed) on over broken r =
+      let a = on (take r.read input) r.of_bytes in
+      record { read = r.read; within = r.within; some_left = r.left_is; text = a.text; some_lines = a.lines; some_written = a.written_is }
+  answers_told goes ended broke (Err WriteFailed) on over broken (inl r) =
+      let a = broken false (take r.read input) r.of_bytes in
+      cut_told r.read r.within r.left_is a.0 (inl a.1)
+  answers_told goes ended broke (Err WriteFailed) on over broken (inr r) =
+      cut_told (length (readable input)) (omega arith) r.left_is
+      (subst (λ (bytes : List ℕ). AnswersCut OneImage t before bytes written) (sym (readable-all input)) (broken true (readable input) r.of_bytes)) (inr refl)
+  answers_told goes ended broke (Err SessionMemory) on over broken none = absurd none
+
+-- the same of what the answers have heard
+pub heard_told : (keeper start : CodeGatekeeper) (line : Line) (policies : List (List ℕ)) → AreGates policies start.gates.items → (input before : List ℕ)
+    (left written : Option (List ℕ)) (result : Result (Unit {0}) SessionError)
+    → HeardByResult (λ heard new. UnderSame keeper start (λ t. AnswersSoFar OneImage t before heard new × KeepsLine line (cut heard).1))
+    (λ last heard new. UnderSame keeper start (λ t. AnswersEnd last OneImage t before heard new))
+    (λ last heard new. UnderSame keeper start (λ t. AnswersBreak last OneImage t before heard new)) input left written result
+    → AnswersByResult OneImage (gatekeeper_of policies start) input before left written result
+heard_told keeper start line policies are input before left written result =
+    answers_told (gatekeeper_of policies start) input before left written
+    (λ heard new. UnderSame keeper start (λ t. AnswersSoFar OneImage t before heard new × KeepsLine line (cut heard).1))
+    (λ last heard new. UnderSame keeper start (λ t. AnswersEnd last OneImage t before heard new))
+    (λ last heard new. UnderSame keeper start (λ t. AnswersBreak last OneImage t before heard new)) result
+    (λ heard h. (under_start keeper start (λ t. AnswersSoFar OneImage t before heard written × KeepsLine line (cut heard).1) h policies are).0)
+    (λ last heard h. under_start keeper start (λ t. AnswersEnd last OneImage t before heard written) h policies are)
+    (λ last heard h. under_start keeper start (λ t. AnswersBreak last OneImage t before heard written) h policies are)

@@ -13,14 +13,12 @@ pub use Rattle.clap.proofs.WalkLemmas.{raw_values-rows}
 unfoldable pub use Rattle.clap.proofs.OnLiterals.{clap_on_literals}
 pub use Rattle.clap.specs.Words.{App, FailsBy, Text, app_of, fault_of, found_of, is_simple, is_simple_and_free}
 pub use Rattle.clap.specs.Words.{matches_of, new_app, with_rule}
-pub use Rattle.streams.proofs.Cut.{Pieces, cut-feed, cut-none, cut-plain, drop-one, input_lines-ended, one_within}
-pub use Rattle.streams.proofs.Cut.{readable-end, readable-is, readable-within, take-end}
-pub use Rattle.streams.specs.Byte.{GivesByte}
+pub use Rattle.streams.proofs.Cut.{Pieces, cut-line, cut-none, cut-part, input_lines-ended, readable-all}
+pub use Rattle.streams.specs.Hearing.{HasNoFeed, HeardByResult, OfBytes}
 pub use Rattle.streams.specs.Lines.{input_lines, with_rest}
-pub use Rattle.streams.specs.Streams.{AddsBytes, KeepsBytes, one_more}
-pub use Rattle.streams.specs.Failures.{FailsByResult}
+pub use Rattle.streams.specs.Streams.{AddsBytes}
 pub use Rattle.streams.specs.declared.session_error.SessionError.{SessionError}
-pub use Rattle.streams.specs.declared.session_error.SessionError.TheVariants.{WriteFailed}
+pub use Rattle.streams.specs.declared.session_error.SessionError.TheVariants.{ReadFailed, WriteFailed}
 unfoldable pub use Rattle.streams.specs.Lines.{cut, readable}
 pub use Rattle.policy_glue.specs.Rejections.{rejection_view}
 pub use Rattle.policy_glue.specs.OneImage.{OneImage}
@@ -57,8 +55,10 @@ pub use Rattle.gatekeeper_runner.specs.Starting.{GatesFrom, IsUnopened, OneUnope
 pub use Rattle.gatekeeper_runner.specs.Starting.{no_params, no_policy, ready, refused, unread}
 pub use Rattle.gatekeeper_runner.specs.Together.{AllSay, AreGates, IsGateOf, OneRefuses, SayTogether, SaysAlone}
 pub use Rattle.gatekeeper_runner.specs.Together.{Gatekeeper, next, none, gatekeeper_of, under, no_decision, with_next}
-pub use Rattle.gatekeeper_runner.specs.Told.{Answered, AnsweredPart, AnswersEach, AnswersByResult, AnswersSoFar}
-pub use Rattle.gatekeeper_runner.specs.Told.{AnsweredAllLines, AnsweredPartOfLines, AnsweredSomeLines}
+pub use Rattle.gatekeeper_runner.specs.Told.{Answered, AnsweredPart, AnswersBreak, AnswersByResult, AnswersCut}
+pub use Rattle.gatekeeper_runner.specs.Told.{AnswersEach, AnswersEnd, AnswersSoFar, AnswersToEnd, UnderPolicies}
+pub use Rattle.gatekeeper_runner.specs.Told.{UnderSame}
+pub use Rattle.gatekeeper_runner.specs.Told.{AnsweredPartOfLines}
 pub use Rattle.gatekeeper_runner.specs.declared.order.Order.{Order}
 unfoldable pub use Rattle.gatekeeper_runner.specs.Lines.{longest_line, refusal_text}
 unfoldable pub use Rattle.gatekeeper_runner.specs.Orders.{entered, faults, gatekeeper_app, policies_rule}

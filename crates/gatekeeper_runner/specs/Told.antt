@@ -1,5 +1,5 @@
 -- What is read and written where lines are answered.
-use Rattle.std.specs.Prelude.{◌≡◌, ℕ, ◌<◌, ◌≤◌, ◌⊎◌, List, [], ◌∷◌, ◌++◌, length, take, drop, Option, Some, Result, Ok, Err}
+use Rattle.std.specs.Prelude.{◌≡◌, ℕ, ◌<◌, ◌≤◌, ◌⊎◌, Bool, true, false, List, [], ◌∷◌, ◌++◌, length, take, drop, Option, Some, Result, Ok, Err}
 use Rattle.streams.specs.Lines.{cut, input_lines, readable}
 use Rattle.streams.specs.Streams.{AddsBytes, Stream}
 use Rattle.streams.specs.Failures.{FailsByResult}
@@ -90,11 +90,41 @@ pub record AnsweredPart (chosen : Images) (t : Gatekeeper) (line : List ℕ) (ol
   pub is_cut : many < length text
   pub written : AddsBytes old new (take many text)
 
--- so many bytes were read, and the lines that ended among them were answered
-pub record AnswersSoFar (chosen : Images) (t : Gatekeeper) (input before : List ℕ) (read : ℕ)
-    (left written : Option (List ℕ)) : Type 0 where
+-- the lines that ended among the bytes that were heard were answered
+pub record AnswersSoFar (chosen : Images) (t : Gatekeeper) (before heard : List ℕ) (written : Option (List ℕ)) : Type 0 where
   pub text : List ℕ
-  pub lines : AnswersEach chosen t (cut (take read input)).0 text
-  pub left_is : left ≡ Some (drop read input)
+  pub lines : AnswersEach chosen t (cut heard).0 text
   pub written_is : written ≡ Some (before ++ text)
-  pub within : read ≤ length input
+
+-- the bytes that were heard are all, and their lines were answered
+pub record AnswersToEnd (chosen : Images) (t : Gatekeeper) (before heard : List ℕ) (written : Option (List ℕ)) : Type 0 where
+  pub text : List ℕ
+  pub lines : AnswersEach chosen t (input_lines heard) text
+  pub written_is : written ≡ Some (before ++ text)
+
+-- the answers to all lines of the bytes that were heard but the last were written whole, and its own but for a rest
+pub record AnswersCut (chosen : Images) (t : Gatekeeper) (before heard : List ℕ) (written : Option (List ℕ)) : Type 0 where
+  pub lines : List (List ℕ)
+  pub last : List ℕ
+  pub lines_are : lines ++ last ∷ [] ≡ input_lines heard
+  pub text : List ℕ
+  pub answered : AnswersEach chosen t lines text
+  pub part : List ℕ
+  pub rest : List ℕ
+  pub answers : AnswersReviewLine chosen t last (part ++ rest)
+  pub is_cut : 0 < length rest
+  pub part_written : written ≡ Some (before ++ (text ++ part))
+
+-- how answering ends: never at a line
+abbrev pub AnswersEnd : Bool → Images → Gatekeeper → List ℕ → List ℕ → Option (List ℕ) → Type 0
+AnswersEnd false chosen t before heard written = ⊥
+AnswersEnd true chosen t before heard written = AnswersToEnd chosen t before heard written
+
+-- how a write fails, at a line or at the input's end
+abbrev pub AnswersBreak : Bool → Images → Gatekeeper → List ℕ → List ℕ → Option (List ℕ) → Type 0
+AnswersBreak false chosen t before heard written = AnswersCut chosen t before heard written × ((cut heard).1 ≡ [])
+AnswersBreak true chosen t before heard written = AnswersCut chosen t before heard written
+
+-- so it is with the policies by which the gates of a gatekeeper decide, which is the one of the start
+abbrev pub UnderSame : CodeGatekeeper → CodeGatekeeper → (Gatekeeper → Type 0) → Type 0
+UnderSame keeper start Q = (keeper ≡ start) × UnderPolicies keeper Q

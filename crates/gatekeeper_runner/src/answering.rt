@@ -1,5 +1,5 @@
 //! Line after line.
-ghost use Rattle.std.specs.Prelude.{◌≡◌, ◌<◌, ◌≤◌, length, IfErr, IfOk, OnErr, OnOk};
+ghost use Rattle.std.specs.Prelude.{◌≡◌, ◌<◌, ◌≤◌, length, IfOk, OnErr, OnOk};
 ghost use Rattle.streams.specs.Streams.{one_more, stream};
 ghost use Rattle.policy_glue.specs.OneImage.{OneImage};
 ghost use Rattle.gatekeeper_runner.specs.Lines.{line_of, longest_line, AnswersReviewLine};
@@ -11,7 +11,7 @@ use crate::refusing::{refusal_text, refused};
 use admission::RunError;
 use policy_glue::response_text;
 use std::alloc::AllocError;
-use streams::{Failed, SessionError, Sink, Source, next_byte, write_all};
+use streams::{Failed, LineSource, Listener, SessionError, Sink, write_all};
 
 /// What is written where there is no memory for a line's answer.
 const NO_MEMORY: &[u8] = b"{\"refused\":\"memory\"}\n";
@@ -22,7 +22,7 @@ const NO_MEMORY: &[u8] = b"{\"refused\":\"memory\"}\n";
 /// # Errors
 ///
 /// `ReadFailed` if a read failed and `WriteFailed` if a write failed or took no byte, which end it.
-pub fn answer_lines<R: Source, W: Sink>(
+pub fn answer_lines<R: LineSource, W: Sink>(
     keeper: &Gatekeeper,
     r: &mut R,
     w: &mut W,
@@ -33,38 +33,49 @@ pub fn answer_lines<R: Source, W: Sink>(
         let read_after = stream (R.left r.new) (R.failed r.new) in
         UnderPolicies keeper.now (λ t. AnswersLines OneImage t read read_after written written_after result) }
 {
-    let mut line = Line::new(keeper.alloc);
-    for i in 0..9_223_372_036_854_775_808u64 {
-        match next_byte(r) {
-            Err(_) => return Err(SessionError::ReadFailed),
-            Ok(None) => return answer_last(keeper, &line, w),
-            Ok(Some(b)) => {
-                if b == 10 {
-                    match answer_line(keeper, &line, w) {
-                        Ok(()) => {}
-                        Err(_) => return Err(SessionError::WriteFailed),
-                    }
-                    line.clear();
-                    continue;
-                }
-                line.push(b);
-            }
-        }
-    }
-    answer_last(keeper, &line, w)
+    let mut answers = Answers {
+        keeper,
+        line: Line::new(keeper.alloc),
+    };
+    r.hear_lines(&mut answers, w)
 }
 
-/// Answers the line behind the last line feed.
-fn answer_last<W: Sink>(keeper: &Gatekeeper, line: &Line, w: &mut W) -> Result<(), SessionError>
-    ensures whole { OnOk result (OfLine keeper.now line.now (λ t bytes. Answered OneImage t bytes (W.taken w.old) (W.taken w.new))) }
-    ensures part { OnErr result (OfLine keeper.now line.now (λ t bytes. AnsweredPart OneImage t bytes (W.taken w.old) (W.taken w.new))) }
-    ensures cause { IfErr result (λ e. e ≡ SessionError.WriteFailed) }
-    ensures ok { OnOk result (W.failed w.new ≡ W.failed w.old) }
-    ensures err { OnErr result (W.failed w.new ≡ one_more (W.failed w.old)) }
-{
-    match answer_line(keeper, line, w) {
-        Ok(()) => Ok(()),
-        Err(_) => Err(SessionError::WriteFailed),
+/// What answers the lines.
+#[derive(Drop)]
+pub struct Answers<'a> {
+    keeper: &'a Gatekeeper,
+    /// What is kept of the next line.
+    line: Line,
+}
+
+impl<'a> Listener for Answers<'a> {
+    ghost use Rattle.gatekeeper_runner.specs.Told.{AnswersBreak, AnswersEnd, AnswersSoFar, UnderSame};
+    ghost use Rattle.gatekeeper_runner.specs.Lines.{KeepsLine};
+    ghost use Rattle.streams.specs.Lines.{cut};
+
+    ghost goes = { λ a start before heard written. UnderSame a.keeper.now start.keeper.now (λ t. AnswersSoFar OneImage t before heard written × KeepsLine a.line (cut heard).1) };
+
+    ghost ended = { λ last a start before heard written. UnderSame a.keeper.now start.keeper.now (λ t. AnswersEnd last OneImage t before heard written) };
+
+    ghost broke = { λ last a start before heard written. UnderSame a.keeper.now start.keeper.now (λ t. AnswersBreak last OneImage t before heard written) };
+
+    fn keep(&mut self, part: &[u8]) {
+        self.line.extend(part);
+    }
+
+    fn hear<W: Sink>(&mut self, rest: &[u8], w: &mut W) -> Result<bool, Failed> {
+        self.line.extend(rest);
+        match answer_line(self.keeper, &self.line, w) {
+            Ok(()) => {
+                self.line.clear();
+                Ok(false)
+            }
+            Err(failed) => Err(failed),
+        }
+    }
+
+    fn hear_end<W: Sink>(&mut self, w: &mut W) -> Result<(), Failed> {
+        answer_line(self.keeper, &self.line, w)
     }
 }
 

@@ -1,11 +1,14 @@
 //! The line that is read.
-ghost use Rattle.std.specs.Prelude.{◌≡◌, ◌++◌, ◌∷◌, [], ◌<◌, ℕ, List, length, nat_lt, true, false};
+ghost use Rattle.std.specs.Prelude.{◌≡◌, ◌++◌, [], ◌<◌, ℕ, List, length, nat_lt, take, true, false};
 ghost use Rattle.gatekeeper_runner.specs.Lines.{longest_line, KeepsLine};
 
 use std::alloc::Global;
 
 /// The most bytes of a line that is read; a longer one is refused.
 const LONGEST: usize = 16_777_216;
+
+/// The most bytes that are kept of a line, one more than the longest line has.
+const KEPT: usize = 16_777_217;
 
 /// What is kept of a line while it is read.
 #[derive(Drop)]
@@ -27,14 +30,15 @@ impl Line {
         }
     }
 
-    /// The line's next byte.
-    pub fn push(&mut self, byte: u8)
-        ensures { (line : List ℕ) → KeepsLine self.old line → KeepsLine self.new (line ++ byte ∷ []) }
+    /// The line's next part.
+    pub fn extend(&mut self, part: &[u8])
+        ensures { (line : List ℕ) → KeepsLine self.old line → KeepsLine self.new (line ++ part.now) }
     {
-        if self.lacks || self.is_too_long() {
+        if self.lacks || part.is_empty() || self.is_too_long() {
             return;
         }
-        match self.bytes.push(byte) {
+        let room = KEPT - self.bytes.len();
+        match self.bytes.extend_from_slice(front(part, room)) {
             Ok(()) => {}
             Err(_) => self.lacks = true,
         }
@@ -62,5 +66,16 @@ impl Line {
         ensures { result ≡ nat_lt longest_line (length self.now.bytes.items) }
     {
         self.bytes.len() > LONGEST
+    }
+}
+
+/// The first bytes, at most so many.
+fn front(bytes: &[u8], most: usize) -> &[u8]
+    ensures { result.now ≡ take most bytes.now }
+{
+    if bytes.len() <= most {
+        bytes
+    } else {
+        &bytes[..most]
     }
 }

@@ -15,13 +15,13 @@ use cli::{Refusal, ended, texts_of};
 use host::{Files, OrderError};
 use std::alloc::Global;
 use std::process::ExitCode;
-use streams::{Sink, Source};
+use streams::{LineSource, Sink};
 
 /// Answers the lines of the input under the policies that the words name, the program's own name
 /// first, and answers the code that the program ends with. A refusal is one line of standard error;
 /// if that cannot be written, the code is the same. `words` is `InvalidArguments` if the system's
 /// words are no texts, and `Memory` where there is no memory for them.
-pub fn exit_code<F: Files, R: Source, W: Sink, E: Sink>(
+pub fn exit_code<F: Files, R: LineSource, W: Sink, E: Sink>(
     alloc: Global,
     words: Result<Vec<String>, OrderError>,
     files: &mut F,
@@ -40,7 +40,7 @@ pub fn exit_code<F: Files, R: Source, W: Sink, E: Sink>(
 }
 
 /// Answers the lines, and answers the status.
-fn ending<F: Files, R: Source, W: Sink>(
+fn ending<F: Files, R: LineSource, W: Sink>(
     alloc: Global,
     words: Result<Vec<String>, OrderError>,
     files: &mut F,

@@ -6,19 +6,17 @@ mod disk;
 mod disk_tests;
 mod file_error;
 mod files;
-mod input;
 mod order_error;
 pub mod words;
 
 pub use disk::Disk;
 pub use file_error::FileError;
 pub use files::Files;
-pub use input::buffered;
 pub use order_error::OrderError;
-pub use streams::Counting;
+pub use streams::{Buffered, Counting};
 
 /// What `$exit_code` answers on the words, the files and the streams of the system that `$rt`
-/// gives.
+/// gives. Standard input is read at most 8,192 bytes at a time, into a buffer that takes no memory.
 #[macro_export]
 macro_rules! on_this_system {
     ($exit_code:path, $rt:ident) => {
@@ -26,7 +24,7 @@ macro_rules! on_this_system {
             $rt.alloc(),
             $crate::words::words(&$rt),
             &mut $crate::Disk::new(&$rt),
-            &mut $crate::Counting::new($crate::buffered(&$rt)),
+            &mut $crate::Buffered::<_, 8192>::new($crate::Counting::new($rt.reader())),
             &mut $crate::Counting::new(std::io::writer(&$rt)),
             &mut $crate::Counting::new($rt.stderr()),
         )

@@ -1,14 +1,5 @@
--- Bytes that are read one by one, and written in pieces.
-use Rattle.streams.proofs.Prelude.{◌≡◌, ℕ, ◌+◌, ◌-◌, List, [], ◌∷◌, ◌++◌, take, drop, get_or, length, Option, Some, sym, ap, ◌∙◌, append_assoc, append-nil, arith, common_steps, take-add, AddsBytes, GivesBytes}
-
--- a read of no byte into a buffer of one
-pub no_byte : (left : List ℕ) (after : Option (List ℕ)) (n : ℕ) (buffer : List ℕ) → GivesBytes left after 1 n buffer → n ≡ 0 → (left ≡ []) × (after ≡ Some [])
-no_byte left after n buffer gives none = grind arith
-
--- a read of one byte
-pub first_byte : (left : List ℕ) (after : Option (List ℕ)) (n : ℕ) (buffer : List ℕ) → GivesBytes left after 1 n buffer → n ≡ 1
-    → (left ≡ get_or buffer 0 0 ∷ drop 1 left) × (after ≡ Some (drop 1 left))
-first_byte left after n buffer gives one = grind arith
+-- Bytes that are written in pieces.
+use Rattle.streams.proofs.Prelude.{◌≡◌, ℕ, ◌+◌, ◌-◌, List, ◌++◌, take, drop, length, Option, Some, sym, ap, ◌∙◌, append_assoc, append-nil, arith, common_steps, take-add, AddsBytes}
 
 pub adds_none : (old : Option (List ℕ)) (bytes : List ℕ) → AddsBytes old old (take 0 bytes)
 adds_none old bytes before known = grind (arith, append-nil)

@@ -1,5 +1,6 @@
--- How an input's lines grow byte by byte.
-use Rattle.streams.proofs.Prelude.{◌≡◌, ℕ, suc, ◌+◌, ◌-◌, ◌≤◌, Bool, List, [], ◌∷◌, ◌++◌, length, take, drop, fold, nat_eq, cond, refl, sym, ap, ◌∙◌, arith, append_assoc, append-nil, length-drop, length-take, take-add, drop-drop, fold_push, fold-append, nat_tests, cut, cut_byte, with_rest, input_lines, readable}
+-- How an input's lines grow with its bytes.
+use Rattle.streams.proofs.Prelude.{◌≡◌, ℕ, suc, ◌+◌, ◌-◌, ◌≤◌, Bool, List, [], ◌∷◌, ◌++◌, length, take, drop, fold, nat_eq, cond, refl, sym, ap, ◌∙◌, arith, append_assoc, append-nil, length-take, take-add, take-append-drop, take-append-le, take_all, fold-append, nat_tests, cut, cut_byte, with_rest, input_lines, readable}
+use Rattle.streams.specs.Hearing.{HasNoFeed}
 
 abbrev pub Pieces : Type 0
 Pieces = List (List ℕ) × List ℕ
@@ -7,16 +8,6 @@ Pieces = List (List ℕ) × List ℕ
 pub cut-none : cut [] ≡ ([], [])
 unfolding cut
 cut-none = grind arith
-
--- a byte that ends a line
-pub cut-feed : (input : List ℕ) (i b : ℕ) → drop i input ≡ b ∷ drop 1 (drop i input) → b ≡ 10 → cut (take (i + 1) input) ≡ ((cut (take i input)).0 ++ (cut (take i input)).1 ∷ [], [])
-unfolding cut
-cut-feed input i b first feed = grind (arith, nat_tests, fold_push, take-add)
-
--- a byte of a line
-pub cut-plain : (input : List ℕ) (i b : ℕ) → drop i input ≡ b ∷ drop 1 (drop i input) → (b ≡ 10 → ⊥) → cut (take (i + 1) input) ≡ ((cut (take i input)).0, (cut (take i input)).1 ++ b ∷ [])
-unfolding cut
-cut-plain input i b first plain = grind (arith, nat_tests, fold_push, take-add, nat_eq)
 
 -- these pieces behind lines that have ended
 abbrev behind : List (List ℕ) → Pieces → Pieces
@@ -37,6 +28,30 @@ cut-append front more =
     fold-append cut_byte ([], []) front more
     ∙ (λ i. fold cut_byte (sym (append-nil (cut front).0) i, (cut front).1) more)
     ∙ cut_behind more (cut front).0 ([], (cut front).1)
+
+-- bytes of a line
+plain_byte : (rest : List ℕ) (b : ℕ) → (b ≡ 10 → ⊥) → cut_byte ([], rest) b ≡ ([], rest ++ b ∷ [])
+plain_byte rest b plain = grind (arith, nat_tests, nat_eq)
+
+open_part : (rest part : List ℕ) → HasNoFeed part → fold cut_byte ([], rest) part ≡ ([], rest ++ part)
+open_part rest [] plain = ap (λ (line : List ℕ). ([], line)) (sym (append-nil rest))
+open_part rest (b ∷ bytes) plain =
+    ap (λ (p : Pieces). fold cut_byte p bytes) (plain_byte rest b (plain 0 (omega arith)))
+    ∙ open_part (rest ++ b ∷ []) bytes (λ k inside. plain (suc k) (omega (arith, inside)))
+    ∙ ap (λ (line : List ℕ). ([], line)) (append_assoc rest (b ∷ []) bytes)
+
+pub cut-part : (heard part : List ℕ) → HasNoFeed part → cut (heard ++ part) ≡ ((cut heard).0, (cut heard).1 ++ part)
+cut-part heard part plain =
+    cut-append heard part
+    ∙ ap (behind (cut heard).0) (open_part (cut heard).1 part plain)
+    ∙ ap (λ (lines : List (List ℕ)). (lines, (cut heard).1 ++ part)) (append-nil (cut heard).0)
+
+-- the rest of a line, and the line feed that ends it
+pub cut-line : (heard rest : List ℕ) → HasNoFeed rest → cut (heard ++ (rest ++ 10 ∷ [])) ≡ ((cut heard).0 ++ ((cut heard).1 ++ rest) ∷ [], [])
+cut-line heard rest plain =
+    ap cut (sym (append_assoc heard rest (10 ∷ [])))
+    ∙ cut-append (heard ++ rest) (10 ∷ [])
+    ∙ ap (λ (p : Pieces). (p.0 ++ p.1 ∷ [], [])) (cut-part heard rest plain)
 
 pub lines-append : (front more : List ℕ) → (later : List (List ℕ)) × ((cut (front ++ more)).0 ≡ (cut front).0 ++ later)
 lines-append front more = ((fold cut_byte ([], (cut front).1) more).0, ap (λ (p : Pieces). p.0) (cut-append front more))
@@ -72,15 +87,9 @@ pub take-end : (input : List ℕ) (i limit : ℕ) → drop i input ≡ [] → i 
 take-end input i limit none before =
     sym (take-split limit i input before) ∙ ap (λ (more : List ℕ). take i input ++ take (limit - i) more) none ∙ ap (λ (more : List ℕ). take i input ++ more) (take-none (limit - i)) ∙ append-nil (take i input)
 
-pub take-push : (n : ℕ) (xs : List ℕ) (b : ℕ) → take n (take n xs ++ b ∷ []) ≡ take n (xs ++ b ∷ [])
-take-push (suc n) (x ∷ xs) b = ap (λ (more : List ℕ). x ∷ more) (take-push n xs b)
-take-push _ _ b = refl
-
-pub one_within : (input : List ℕ) (i b : ℕ) → drop i input ≡ b ∷ drop 1 (drop i input) → i + 1 ≤ length input
-one_within input i b first = let one = ap length first in let all = length-drop i input in omega (arith, one, all)
-
-pub drop-one : (input : List ℕ) (i : ℕ) → drop 1 (drop i input) ≡ drop (i + 1) input
-drop-one input i = drop-drop 1 i input
+pub take-join : (n : ℕ) (xs ys : List ℕ) → take n (take n xs ++ ys) ≡ take n (xs ++ ys)
+take-join (suc n) (x ∷ xs) ys = ap (λ (more : List ℕ). x ∷ more) (take-join n xs ys)
+take-join _ _ ys = refl
 
 pub readable-is : (input : List ℕ) → readable input ≡ take 9223372036854775808 input
 unfolding readable
@@ -93,3 +102,13 @@ readable-within input limit i all low inside = grind (arith, nat_tests, length-t
 -- the place behind the last byte that may be read
 pub readable-end : (input : List ℕ) (i : ℕ) → i ≤ length input → readable input ≡ take i input → i ≡ length (readable input)
 readable-end input i inside all = grind (arith, length-take)
+
+-- the bytes that may be read, and those after them
+readable-split : (input : List ℕ) → readable input ++ drop 9223372036854775808 input ≡ input
+readable-split input = ap (λ (front : List ℕ). front ++ drop 9223372036854775808 input) (readable-is input) ∙ take-append-drop 9223372036854775808 input
+
+pub readable-front : (input : List ℕ) (n : ℕ) → n ≤ length (readable input) → take n (readable input) ≡ take n input
+readable-front input n low = sym (take-append-le n (readable input) (drop 9223372036854775808 input) low) ∙ ap (take n) (readable-split input)
+
+pub readable-all : (input : List ℕ) → take (length (readable input)) input ≡ readable input
+readable-all input = sym (readable-front input (length (readable input)) (omega arith)) ∙ take_all (length (readable input)) (readable input) (omega arith)

@@ -1,9 +1,5 @@
--- The end of the input, and the failures until then.
-use Rattle.streams.proofs.Prelude.{◌≡◌, ℕ, List, [], drop, Option, Some, None, arith, Result, IfErr, OnErr, OnOk, GivesByte, one_more, FailsByResult, SessionError, WriteFailed}
-
-pub end_read : (input : List ℕ) (i : ℕ) (left after : Option (List ℕ)) → left ≡ Some (drop i input)
-    → ((bytes : List ℕ) → left ≡ Some bytes → GivesByte bytes after None) → (drop i input ≡ []) × (after ≡ Some (drop i input))
-end_read input i left after e gives = grind arith
+-- The failures of reads and writes until the end of the input.
+use Rattle.streams.proofs.Prelude.{◌≡◌, ℕ, arith, Result, IfErr, OnErr, OnOk, one_more, FailsByResult, SessionError, WriteFailed}
 
 -- the failures of the reads, and of the writes at the last line
 pub fails_rest : (reads reads_after writes writes_before writes_after : ℕ) (result : Result (Unit {0}) SessionError) → reads_after ≡ reads

@@ -1,4 +1,6 @@
 mod Bytes
+mod Filled
 pub mod Cut
+pub mod Heard
 pub mod LastLine
 pub mod Prelude

@@ -1,6 +1,7 @@
 pub mod Streams
-pub mod Byte
 pub mod Lines
 pub mod Failures
 pub mod ErrorCodes
 pub mod Writing
+pub mod Buffers
+pub mod Hearing

@@ -3,11 +3,12 @@
 use super::doubles::{CutShort, Policies};
 use super::programs::{is_text, words};
 use super::refusal_line;
-use debugger::{Counting, Source};
+use debugger::Counting;
 use gatekeeper_runner::exit_code;
 use std::alloc::{AllocError, Global};
 use std::process::ExitCode;
 use std::test::Fail;
+use streams::{Buffered, LineSource};
 
 const FEW: &str = "gatekeeper --policy few";
 
@@ -83,7 +84,7 @@ const ROWS: [(&str, &str, u8, &str, &str); 10] = [
 
 /// Whether the program with these words and this input ends with the status and both outputs, where
 /// standard output has this room.
-fn ends<R: Source>(
+fn ends<R: LineSource>(
     alloc: Global,
     line: &str,
     input: &mut R,
@@ -107,10 +108,15 @@ fn ends<R: Source>(
 #[test]
 fn answers_each_line(rt: HostRuntime) -> Result<(), Fail> {
     for (row, &(line, input, status, out, refusal)) in ROWS.iter().enumerate() {
-        let mut input = Counting::new(input.as_bytes());
+        let input = input.as_bytes();
         let err = refusal_line(rt.alloc(), refusal)?;
         let due = (status, out.as_bytes(), err.as_str());
-        assert!(rt; ends(rt.alloc(), line, &mut input, 512, due)?, "row {row}");
+        let mut byte = Buffered::<_, 1>::new(Counting::new(input));
+        assert!(rt; ends(rt.alloc(), line, &mut byte, 512, due)?, "row {row}, 1");
+        let mut few = Buffered::<_, 7>::new(Counting::new(input));
+        assert!(rt; ends(rt.alloc(), line, &mut few, 512, due)?, "row {row}, 7");
+        let mut all = Buffered::<_, 1024>::new(Counting::new(input));
+        assert!(rt; ends(rt.alloc(), line, &mut all, 512, due)?, "row {row}, 1024");
     }
     Ok(())
 }
@@ -125,7 +131,7 @@ fn ends_where_a_read_fails(rt: HostRuntime) -> Result<(), Fail> {
             1 => ONE_ANSWER,
             _ => TWO_ANSWERS,
         };
-        let mut input = Counting::new(CutShort { left });
+        let mut input = Buffered::<_, 64>::new(Counting::new(CutShort { left }));
         let due = (3, said.as_bytes(), "celbpf: S1\n");
         assert!(rt;
             ends(rt.alloc(), FEW, &mut input, 512, due)?,
@@ -139,7 +145,7 @@ fn ends_where_a_read_fails(rt: HostRuntime) -> Result<(), Fail> {
 fn ends_where_a_write_fails(rt: HostRuntime) -> Result<(), Fail> {
     let answers = TWO_ANSWERS.as_bytes();
     for room in 0..answers.len() {
-        let mut input = Counting::new(TWO.as_bytes());
+        let mut input = Buffered::<_, 64>::new(Counting::new(TWO.as_bytes()));
         let due = (3, &answers[..room], "celbpf: S2\n");
         assert!(rt;
             ends(rt.alloc(), FEW, &mut input, room, due)?,
