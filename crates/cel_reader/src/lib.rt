@@ -21,7 +21,8 @@ mod word;
 pub use cel_tokens::ReadError;
 pub use expr::Expr;
 pub use laws::{
-    literal_rows_stand, memory_is_for_short_texts, one_answer, one_tree, parts_in_lists, refusal_rows_stand,
+    literal_rows_stand, memory_is_for_short_texts, one_answer, one_tree, parts_in_lists,
+    refusal_rows_stand,
 };
 pub use literal::Literal;
 pub use name::is_identifier;

@@ -43,8 +43,8 @@ keep_some xs part len is long short =
     let room = 65 - len in
     let size : length (xs ++ take room part) ≡ 65 = omega (arith, is, length-append xs (take room part), length-take room part, long, short) in
     sym (ap (λ (more : List ℕ). take 65 (xs ++ more)) (sym (take-append-drop room part))
-      ∙ ap (take 65) (sym (append_assoc xs (take room part) (drop room part)))
-      ∙ take_at (xs ++ take room part) (drop room part) 65 size)
+    ∙ ap (take 65) (sym (append_assoc xs (take room part) (drop room part)))
+    ∙ take_at (xs ++ take room part) (drop room part) 65 size)
 
 -- what holds of a result that is given
 pub fits_ok : {A E : Type 0} (r : Result A E) (P : Type 0) → IsOk r → OnOk r P → P

@@ -16,7 +16,11 @@ pub trait LineSource: Source {
     /// # Errors
     ///
     /// `ReadFailed` if a read fails and `WriteFailed` if the listener's write fails, which end it.
-    fn hear_lines<L: Listener, W: Sink>(&mut self, listener: &mut L, w: &mut W) -> Result<(), SessionError>
+    fn hear_lines<L: Listener, W: Sink>(
+        &mut self,
+        listener: &mut L,
+        w: &mut W,
+    ) -> Result<(), SessionError>
         requires { (before : List ℕ) → W.taken w.old ≡ Some before → L.goes listener.old listener.old before [] (W.taken w.old) }
         ensures told { (input before : List ℕ) → Self.left self.old ≡ Some input → W.taken w.old ≡ Some before
             → HeardByResult (L.goes listener.new listener.old before)

@@ -112,11 +112,17 @@ fn answers_each_line(rt: HostRuntime) -> Result<(), Fail> {
         let err = refusal_line(rt.alloc(), refusal)?;
         let due = (status, out.as_bytes(), err.as_str());
         let mut byte = Buffered::<_, 1>::new(Counting::new(input));
-        assert!(rt; ends(rt.alloc(), line, &mut byte, 512, due)?, "row {row}, 1");
+        assert!(rt;
+            ends(rt.alloc(), line, &mut byte, 512, due)?,
+            "row {row}, 1"
+        );
         let mut few = Buffered::<_, 7>::new(Counting::new(input));
         assert!(rt; ends(rt.alloc(), line, &mut few, 512, due)?, "row {row}, 7");
         let mut all = Buffered::<_, 1024>::new(Counting::new(input));
-        assert!(rt; ends(rt.alloc(), line, &mut all, 512, due)?, "row {row}, 1024");
+        assert!(rt;
+            ends(rt.alloc(), line, &mut all, 512, due)?,
+            "row {row}, 1024"
+        );
     }
     Ok(())
 }

@@ -33,10 +33,10 @@ pub returns-in-Err-clause-told : goal.returns-in-Err-clause-told
 returns-in-Err-clause-told g c = λ input before e f.
     let hears = rw c.in-Err.is at c.hear_first-n.ensures.broken in
     inl (heard_some _ _ _ _ _ (heard_more (g.L.Listener.goes c.loop-unread.listener c.args.listener.now before) (g.L.Listener.broke false c.hear_first-n.new.listener c.args.listener.now before) input
-      c.loop-unread.unread c.fill.new.self c.front-bytes.result.now c.consume.new.self _ _ _ c.hear_first-n.result.0
-      (heard_kept _ _ _ _ _ _ (c.loop-unread.invariant.going input before e f) c.fill.ensures.kept)
-      c.loop-unread.invariant.most (c.front-bytes.ensures ∙ ap (take c.loop-unread.unread) c.ready.ensures) c.hear_first-n.ensures.within c.consume.ensures
-      (hears c.args.listener.now before)) (omega arith))
+    c.loop-unread.unread c.fill.new.self c.front-bytes.result.now c.consume.new.self _ _ _ c.hear_first-n.result.0
+    (heard_kept _ _ _ _ _ _ (c.loop-unread.invariant.going input before e f) c.fill.ensures.kept)
+    c.loop-unread.invariant.most (c.front-bytes.ensures ∙ ap (take c.loop-unread.unread) c.ready.ensures) c.hear_first-n.ensures.within c.consume.ensures
+    (hears c.args.listener.now before)) (omega arith))
 
 pub returns-in-Err-clause-fails : goal.returns-in-Err-clause-fails
 returns-in-Err-clause-fails g c =
@@ -49,10 +49,10 @@ returns-in-Ok-true-clause-told g c = λ input before e f.
     let test = c.in-Ok-true.field-0-test in
     let over : c.hear_first-n.result.1 ≡ Ok true = cc in
     inl (heard_some _ _ _ _ _ (heard_more (g.L.Listener.goes c.loop-unread.listener c.args.listener.now before) (g.L.Listener.ended false c.hear_first-n.new.listener c.args.listener.now before) input
-      c.loop-unread.unread c.fill.new.self c.front-bytes.result.now c.consume.new.self _ _ _ c.hear_first-n.result.0
-      (heard_kept _ _ _ _ _ _ (c.loop-unread.invariant.going input before e f) c.fill.ensures.kept)
-      c.loop-unread.invariant.most (c.front-bytes.ensures ∙ ap (take c.loop-unread.unread) c.ready.ensures) c.hear_first-n.ensures.within c.consume.ensures
-      (c.hear_first-n.ensures.over over c.args.listener.now before)) (omega arith))
+    c.loop-unread.unread c.fill.new.self c.front-bytes.result.now c.consume.new.self _ _ _ c.hear_first-n.result.0
+    (heard_kept _ _ _ _ _ _ (c.loop-unread.invariant.going input before e f) c.fill.ensures.kept)
+    c.loop-unread.invariant.most (c.front-bytes.ensures ∙ ap (take c.loop-unread.unread) c.ready.ensures) c.hear_first-n.ensures.within c.consume.ensures
+    (c.hear_first-n.ensures.over over c.args.listener.now before)) (omega arith))
 
 pub loop-unread-preserved : goal.loop-unread-preserved
 loop-unread-preserved g c =
@@ -63,11 +63,11 @@ loop-unread-preserved g c =
     record {
       most = omega (arith, c.loop-unread.invariant.most);
       going = λ input before e f.
-      heard_more (g.L.Listener.goes c.loop-unread.listener c.args.listener.now before) (g.L.Listener.goes c.hear_first-n.new.listener c.args.listener.now before) input
-      c.loop-unread.unread c.fill.new.self c.front-bytes.result.now c.consume.new.self _ _ _ c.hear_first-n.result.0
-      (heard_kept _ _ _ _ _ _ (c.loop-unread.invariant.going input before e f) c.fill.ensures.kept)
-      c.loop-unread.invariant.most (c.front-bytes.ensures ∙ ap (take c.loop-unread.unread) c.ready.ensures) c.hear_first-n.ensures.within c.consume.ensures
-      (c.hear_first-n.ensures.on on c.args.listener.now before);
+          heard_more (g.L.Listener.goes c.loop-unread.listener c.args.listener.now before) (g.L.Listener.goes c.hear_first-n.new.listener c.args.listener.now before) input
+          c.loop-unread.unread c.fill.new.self c.front-bytes.result.now c.consume.new.self _ _ _ c.hear_first-n.result.0
+          (heard_kept _ _ _ _ _ _ (c.loop-unread.invariant.going input before e f) c.fill.ensures.kept)
+          c.loop-unread.invariant.most (c.front-bytes.ensures ∙ ap (take c.loop-unread.unread) c.ready.ensures) c.hear_first-n.ensures.within c.consume.ensures
+          (c.hear_first-n.ensures.on on c.args.listener.now before);
       read = on_ok_of c.fill.result _ _ c.is_err.ensures.value c.if-is_err.false c.fill.ensures.ok ∙ c.loop-unread.invariant.read;
       wrote = wrote ∙ c.loop-unread.invariant.wrote;
       room = λ short.
