@@ -2,12 +2,12 @@
 
 use serde_json::Value;
 
+mod counting;
 mod doubles;
 mod errors;
 mod histories;
 mod kept_images;
 mod sessions;
-mod streams;
 mod verdicts;
 
 /// Five null roots.
