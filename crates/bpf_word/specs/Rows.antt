@@ -59,6 +59,7 @@ pub record WordRowsHold : Type 0 where
   pub arsh_by_width : alu64_of Arsh 0x8000_0000_0000_0000 64 ≡ 0x8000_0000_0000_0000
   pub arsh_of_positive : alu64_of Arsh 16 2 ≡ 4
   pub arsh_of_32 : alu32_of Arsh 0x8000_0000 63 ≡ 0xffff_ffff
+  pub arsh_of_32_by_33 : alu32_of Arsh 0x8000_0000 33 ≡ 0xc000_0000
   pub sext_of_8 : sext_of B 128 ≡ 0xffff_ffff_ffff_ff80
   pub sext_of_8_positive : sext_of B 0xff7f ≡ 0x7f
   pub sext_of_16 : sext_of H 0x0001_8000 ≡ 0xffff_ffff_ffff_8000

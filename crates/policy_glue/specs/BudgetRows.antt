@@ -1,7 +1,8 @@
 -- What policies visit, spend and have room for, worked by hand.
-use Rattle.std.specs.Prelude.{◌≡◌, [], ◌∷◌, Some, None, codes}
+use Rattle.std.specs.Prelude.{◌≡◌, ◌+◌, ◌*◌, [], ◌∷◌, Some, None, codes}
 use Rattle.cel_reader.specs.Written.{str, yes, no}
 use Rattle.cel_measures.specs.Rows.{conjoined}
+use Rattle.expression_code.specs.Limits.{charge_per_unit}
 use Rattle.policy_glue.specs.Budget.{policy_spent, policy_work}
 use Rattle.policy_glue.specs.DecisionRows.{at_most_three, bare, five, ruled, wrong}
 use Rattle.policy_glue.specs.Limits.{excess, policy_nodes, policy_texts}
@@ -21,6 +22,8 @@ pub record BudgetRowsStand : Type 0 where
   pub work : policy_work Fail few_replicas five ≡ 7
   -- 8 * 7, results of 1, 1, 11, 17 and 1, and field names of 9 and 5
   pub spent : policy_spent Fail few_replicas five ≡ 101
+  -- with the 28 that the review's roots charge, the bound on the charge of the run
+  pub charge_bound : 28 + charge_per_unit * policy_spent Fail few_replicas five ≡ 1644
   -- the policy, two validations of one node, and the one message that is evaluated
   pub messages : policy_work Fail with_messages five ≡ 7
   -- and none where the policy does not run
@@ -29,5 +32,7 @@ pub record BudgetRowsStand : Type 0 where
   pub nodes : policy_nodes with_messages ≡ 9
   pub texts : policy_texts (ruled (bare at_most_three ∷ bare at_most_three ∷ [])) ≡ codes "spec" ∷ codes "replicas" ∷ []
   -- true && true && .. of 255 literals, and of 256
+  pub largest_nodes : policy_nodes (ruled (bare (conjoined 254) ∷ [])) ≡ 511
   pub largest : excess (ruled (bare (conjoined 254) ∷ [])) ≡ None
+  pub too_many_nodes : policy_nodes (ruled (bare (conjoined 255) ∷ [])) ≡ 513
   pub too_large : excess (ruled (bare (conjoined 255) ∷ [])) ≡ Some TooManyNodes

@@ -113,7 +113,7 @@ type Row = (
     &'static str,
 );
 
-const RESPONSES: [Row; 10] = [
+const RESPONSES: [Row; 11] = [
     (REPLICAS, 1, 0, &[0], None, ALLOWED),
     (REPLICAS, 2, 0, &[0], None, UNDECIDED),
     (REPLICAS, 3, 1, &[1], None, PLAIN),
@@ -121,6 +121,7 @@ const RESPONSES: [Row; 10] = [
     (REPLICAS, 3, 1, &[1], Some("replicas 5 above 3"), TOLD),
     (REPLICAS, 3, 1, &[1], Some("  "), PLAIN),
     (REPLICAS, 3, 1, &[1], Some("a\nb"), PLAIN),
+    (REPLICAS, 3, 1, &[1], Some("a\rb"), PLAIN),
     (REPLICAS, 3, 1, &[1], Some(""), PLAIN),
     (TWO, 3, 2, &[1, 2], None, BOTH),
     (TWO_IGNORED, 3, 1, &[1, 2], None, FIRST),
