@@ -178,6 +178,6 @@
     show(MOVES[shifted]());
   });
   byId("most").textContent = last < run.steps
-    ? `of ${last}; the run goes on to step ${run.steps}, which is not in this page` : `of ${last}`;
+    ? `(this page ends at step ${last}, the run at step ${run.steps})` : `(the run ends at step ${last})`;
   show(0);
 })();

@@ -28,7 +28,7 @@ OUTCOMES = {
 ROOTS = range(4, 9)
 # the most characters of a value in a heading
 MOST_HEAD = 80
-LEGEND = element("p", "\u25cf marks what was read", class_="legend")
+LEGEND = element("p", element("span", "\u25cf", class_="sign"), " marks what was read", class_="legend")
 SILENT = element("span", "not evaluated", class_="value silent")
 
 
@@ -86,7 +86,7 @@ def denial(decision: Decision, part: Part) -> Optional[Markup]:
     if part.kind != "validation" or part.place not in decision.denials:
         return None
     message, origin = decision.denials[part.place]
-    return element("p", "message: ", element("q", message), f" ({origin})", class_="message")
+    return element("p", "message: ", element("q", message), f" (from {origin})", class_="message")
 
 
 def section(decision: Decision, part: Part, shown: Shown) -> Markup:
