@@ -87,7 +87,7 @@ def of_case(given: argparse.Namespace, folder: Path) -> argparse.Namespace:
         found = {key: asked.file(case.beside[key], at) for key in ("policy", "namespace", "params") if key in case.beside}
     except Unreadable as why:
         raise Stop(str(why)) from why
-    return argparse.Namespace(**{**vars(given), **found, "review": review})
+    return argparse.Namespace(**{**vars(given), **found, "review": review, "tests": given.policy})
 
 
 def documents(given: argparse.Namespace) -> list:
@@ -160,10 +160,17 @@ def tell(program: Program, policy: dict, verdict: list) -> Decision:
     return decision
 
 
+def files(given: argparse.Namespace) -> list:
+    """The files as a page names them; for a case its test file, since those of its documents are removed."""
+    if given.case is not None:
+        return [f"case {given.case} of {given.tests}"]
+    beside = [f"{name} {file}" for name, file in (("namespace", given.namespace), ("params", given.params)) if file]
+    return [given.policy, given.review, *beside]
+
+
 def write_page(given: argparse.Namespace, program: Program, decision: Decision) -> None:
     """Writes the page of a decision."""
-    beside = [f"{name} {file}" for name, file in (("namespace", given.namespace), ("params", given.params)) if file]
-    decision.files = [given.policy, given.review, *beside]
+    decision.files = files(given)
     try:
         Path(given.html).write_text(page(decision, program), encoding="utf-8")
     except NotMapped as why:

@@ -1,11 +1,13 @@
 """Tests of the page of a decision, on a run that is worked by hand from docs/CODE.md and docs/HELPERS.md."""
 
+import argparse
 import json
 import unittest
 from typing import Any
 
 from ..asking.policies import Part
 from ..browsing.websocket import frame
+from ..commands.why import files
 from ..slots.layout import program_of
 from ..slots.mapping import SlotMap
 from ..viewing import run as run_data
@@ -177,6 +179,13 @@ class Writing(unittest.TestCase):
         rule = head(Decision({}, "denied", ["p", "r"]), "a", "b")
         self.assertIn("style-src &#x27;sha256-ypeBEsobvcr6wjGzmiPcTaeG7/gUfE5yuYB3ha/uSLs=&#x27;", rule)
         self.assertIn("default-src &#x27;none&#x27;", rule)
+
+    def test_files(self) -> None:
+        given = {"policy": "p", "review": "r", "namespace": None, "params": "q", "case": None}
+        self.assertEqual(files(argparse.Namespace(**given)), ["p", "r", "params q"])
+        # the documents of a case are files that do not outlive the script
+        asked = {**given, "policy": "/tmp/x/p", "case": "five", "tests": "t.yaml"}
+        self.assertEqual(files(argparse.Namespace(**asked)), ["case five of t.yaml"])
 
     def test_frame_of_a_web_socket(self) -> None:
         # RFC 6455, section 5.7: a single frame with a masked text
