@@ -14,7 +14,7 @@ from ..viewing import run as run_data
 from ..viewing.deciding import deciding, origins, why_error
 from ..viewing.evaluations import Evaluation, Turn, evaluated
 from ..viewing.page import Decision, head
-from ..viewing.reads import reads_of
+from ..viewing.reads import Reads, reads_of
 from ..viewing.recording import Recording, State, states_of
 from ..viewing.review import Review
 from ..viewing.trees import Trees
@@ -138,6 +138,15 @@ class Deciding(unittest.TestCase):
         self.assertIn('<code>variables.b</code> is <span class="value other">3</span>', shown)
         self.assertIn('href="#variable-1"', shown)
 
+    def test_path_of_a_variable(self) -> None:
+        scope = [{"name": "a", "expression": "object"}]
+        slots = SlotMap(program_of({"spec": {"variables": scope, "validations": [{"expression": "variables.a.b == 1"}]}}))
+        field = of(slots, "variables.a.b", 11, (of(slots, "variables.a", 4),))
+        whole = of(slots, "variables.a.b == 1", 2, (field,))
+        shown = Trees(Part("validation", 0, "variables.a.b == 1", scope), VALUES, whole, True).all()
+        # the line of the path leads to the variable; the comparison, which is no path, does not
+        self.assertEqual(shown.count('href="#variable-0"'), 1)
+
     def test_item(self) -> None:
         text = "object.a.all(i, i == 1)"
         slots = slots_of(text)
@@ -160,6 +169,36 @@ class Deciding(unittest.TestCase):
         whole = of(slots, text, 3, (of(slots, "([object.a] + object.b)", 11, (made, other)),), turns)
         found = reads_of({("validation", 0): whole}, {}, values).paths
         self.assertLessEqual({("object", "a", "c"), ("object", "b", 0, "c")}, found)
+
+
+class Reviews(unittest.TestCase):
+    """What was read, as it is marked in the review."""
+
+    def shown(self, paths: set, missing: set, value: dict) -> str:
+        reads = Reads({})
+        reads.paths, reads.missing = paths | missing, missing
+        return Review(reads).all({4: json.dumps(value)})
+
+    def test_field_that_is_kept(self) -> None:
+        slots = slots_of("object.a.b == 1")
+        # a field that is kept is evaluated by one load, and its root by none
+        kept = of(slots, "object.a", 9)
+        whole = of(slots, "object.a.b == 1", 2, (of(slots, "object.a.b", 10, (kept,)),))
+        found = reads_of({("validation", 0): whole}, {}, {9: '{"b":5}', 10: "5"}).paths
+        self.assertEqual(found, {("object",), ("object", "a"), ("object", "a", "b")})
+
+    def test_short_value_that_was_read(self) -> None:
+        path = ("object", "verbs")
+        short = '<mark class="key">verbs</mark>: <code>[&quot;get&quot;]</code>'
+        self.assertIn(short, self.shown({path}, set(), {"verbs": ["get"]}))
+        self.assertIn("1 item<", self.shown({path}, set(), {"verbs": ["x" * 100]}))
+        self.assertIn("1 item<", self.shown({path, (*path, 0)}, set(), {"verbs": ["get"]}))
+        self.assertIn("1 item<", self.shown({("object",), ("object", "other")}, set(), {"verbs": ["get"], "other": 1}))
+
+    def test_field_that_an_empty_map_lacks(self) -> None:
+        path = ("object", "labels")
+        shown = self.shown({path}, {(*path, "team")}, {"labels": {}})
+        self.assertIn('<mark class="key">team</mark> <em>is not there</em>', shown)
 
 
 class Writing(unittest.TestCase):

@@ -41,7 +41,8 @@ class Reads:
         if isinstance(tree, Variable):
             return self.variables.get(tree.name)
         if isinstance(tree, (Selection, Has)):
-            return self.field(one, given[0] if one.parts else path_of(one.node)[:1])
+            # a field that is kept for all of its uses is a field of a root
+            return self.field(one, given[0] if one.parts else self.read(path_of(one.node)[:1], True))
         if isinstance(tree, Macro):
             return self.turns(one, given[0], items)
         return self.passed(one, given)

@@ -9,6 +9,8 @@ from .writing import Markup, element, joined
 
 FIRST_ROOT = 4
 MOST_TEXT = 300
+# the most characters of a list or map that is shown on one line
+MOST_LINE = 80
 READ = "\u25cf"
 
 
@@ -31,9 +33,17 @@ class Review:
         sign = element("span", READ if is_read else "", class_="sign", title="read" if is_read else None)
         return joined([sign, element("mark" if is_read else "span", name, class_="key")])
 
+    def is_line(self, path: tuple, value: Any) -> bool:
+        """Whether a value is on the line of its name: what has no parts, and what is short and was read as a whole."""
+        if not isinstance(value, (dict, list)):
+            return True
+        if path in self.around:
+            return False
+        return not value or path in self.reads.paths and len(leaf(value)) <= MOST_LINE
+
     def field(self, path: tuple, name: str, value: Any) -> Markup:
-        """A field with its value; lists and maps open, and are open if something in them was read."""
-        if not isinstance(value, (dict, list)) or not value:
+        """A field with its value; other lists and maps can be opened, and are open if something in them was read."""
+        if self.is_line(path, value):
             return element("li", self.named(path, name), ": ", element("code", leaf(value)))
         what = "field" if isinstance(value, dict) else "item"
         count = f"{len(value)} {what}{'' if len(value) == 1 else 's'}"

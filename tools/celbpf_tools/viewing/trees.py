@@ -85,10 +85,13 @@ class Trees:
         return joined([self.source(one.node), " is ", value, " ", self.marks(one), " ", self.link(one), go(one.step)])
 
     def link(self, one: Evaluation) -> Optional[Markup]:
-        """For the use of a variable, the way to it."""
-        if not isinstance(one.node.tree, Variable):
+        """For a variable, and for a path that begins with one, the way to it."""
+        node = one.node
+        while node.parts and self.is_path(one.node):
+            node = node.parts[0]
+        if not isinstance(node.tree, Variable):
             return None
-        place = self.places[one.node.tree.name]
+        place = self.places[node.tree.name]
         return joined([element("a", f"variable {place}", href=f"#variable-{place}", class_="go"), " "])
 
     def tree(self, one: Evaluation) -> Markup:
