@@ -180,9 +180,9 @@ class Reasons:
         place = self.place(piece, frames)
         if piece.form == "has":
             whole = self.place(piece.parts[0], frames)
-            return f"{whole} has to have the field {piece.name}" if target else f"{whole} may not have the field {piece.name}"
+            return f"{whole} has to have the field {piece.name}" if target else f"{whole} must not have the field {piece.name}"
         if piece.form == "method" and piece.name in TESTS:
-            word = "has to" if target else "may not"
+            word = "has to" if target else "must not"
             return f"{self.place(piece.parts[0], frames)} {word} {TESTS[piece.name]} {self.other(piece.parts[1], frames)}"
         return f"{place} has to be {BOOLS[target]}"
 
@@ -193,7 +193,7 @@ class Reasons:
             left, right, form = right, left, SWAPPED[form]
         word = RELATIONS[form][0 if target else 1]
         if form == "in" and (is_literal(left) or self.is_given(left, frames)):
-            return f"{self.place(right, frames)} {'has to' if target else 'may not'} have {self.place(left, frames)}"
+            return f"{self.place(right, frames)} {'has to' if target else 'must not'} have {self.place(left, frames)}"
         left, before = self.branch(left, frames)
         return " and ".join([*before, f"{self.place(left, frames)} has to be {word} {self.other(right, frames)}"])
 
