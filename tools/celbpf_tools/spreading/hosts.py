@@ -1,6 +1,8 @@
 """Two hosts for a test: `sshd` on ports of the loopback, with keys and settings in a folder of their own.
 
 Nothing of the user's or the system's ssh is read or written, but for the folder that sshd of root wants below /run.
+The home of the hosts' commands is that folder too, so no file of the user's shell is run: a host that is killed in one
+would leave what that file holds, as a lock.
 """
 
 import os
@@ -31,6 +33,7 @@ KbdInteractiveAuthentication no
 PermitRootLogin prohibit-password
 MaxStartups 100
 PrintMotd no
+SetEnv HOME={folder}
 """
 CLIENT = """Host {name}
     HostName 127.0.0.1
