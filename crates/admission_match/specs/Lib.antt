@@ -1,3 +1,4 @@
+pub mod BorderRows
 pub mod Laws
 pub mod Matching
 pub mod Requests

@@ -9,7 +9,8 @@ pub enum Answer {
     No,
     /// They do, by the resource that the request names.
     Yes,
-    /// They do if the server serves an equivalent resource that a rule fits, which is not known.
+    /// It may depend on which equivalent resources the server serves: a rule, or one that excludes,
+    /// fits only one of these.
     Unknown,
     /// All else matches, but the labels of the namespace are not known.
     Trouble(Trouble),

@@ -17,7 +17,7 @@ pub struct Attributes<'a, L> {
     pub subresource: &'a str,
     /// Empty on CREATE with `generateName`, and on DELETE of a collection.
     pub name: &'a str,
-    /// The request's namespace; for requests on namespaces their own name.
+    /// The request's namespace; for requests on namespaces of the core group their own name.
     pub namespace: &'a str,
     pub operation: Operation,
     /// The labels of `object`, if it is an object with `metadata`.

@@ -1,4 +1,5 @@
 //! Laws of the definitions, each the clause of a function that does nothing.
+ghost use Rattle.admission_match.specs.BorderRows.{BorderRowsHold};
 ghost use Rattle.admission_match.specs.Laws.{CandidatesMayFit, EveryServerAgrees, ExcludesHaveNoOrder, ExemptInEachVersion, RulesHaveNoOrder};
 ghost use Rattle.admission_match.specs.Rows.{CoversRowsHold, EquivalentRowsHold, ExemptRowsHold, FitsRowsHold, MatchRowsHold};
 
@@ -30,6 +31,12 @@ pub fn exempt_rows_hold()
 #[tactic(auto, unfolding(crate::specs::Matching::match_answer, crate::specs::Rules::covers, crate::specs::Rules::fits, crate::specs::Rules::is_shared, crate::specs::Rules::may_fit))]
 pub fn match_rows_hold()
     ensures { MatchRowsHold }
+{}
+
+/// Rows at the borders of the tables, worked by hand.
+#[tactic(auto, unfolding(crate::specs::Matching::match_answer, crate::specs::Rules::covers, crate::specs::Rules::fits, crate::specs::Rules::is_shared, crate::specs::Rules::is_candidate, crate::specs::Rules::may_fit))]
+pub fn border_rows_hold()
+    ensures { BorderRowsHold }
 {}
 
 /// A resource is exempt in each version or in none.

@@ -7,7 +7,7 @@ ghost use Rattle.admission_match.specs.Rules.{scope_fits};
 pub enum Scope {
     /// `*`: all.
     All,
-    /// Those on cluster-scoped resources, and on namespaces.
+    /// Those on cluster-scoped resources, and on namespaces of the core group.
     Cluster,
     /// Those on namespaced resources.
     Namespaced,
