@@ -19,7 +19,7 @@ import sys
 from pathlib import Path
 from typing import Any
 
-from ..copies import copied, tried, with_driver
+from ..copies import CHECKED, copied, tried, with_driver
 
 VALUES = "serde_json text_kernels value_store value_table"
 SESSIONS = "loader debugger serde_json value_store value_table"
@@ -60,7 +60,7 @@ def refuse(copy: Any, name: str) -> Any:
     driver = with_driver(copy, "refused-allocations", name, crates)
     # of the run's 100,000th allocation all but the work's own ones before it are made first
     words = ["--fail-alloc", "100000", "--cases", str(turns_folder(copy, count))]
-    ran = tried(driver, *words)
+    ran = tried(driver, *CHECKED, *words)
     said = ran.stdout + ran.stderr
     refused = [int(turn) for turn, status in RUN.findall(said) if status == "3"]
     ample = [turn for turn, status in RUN.findall(said) if status == "0"]
