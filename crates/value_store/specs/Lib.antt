@@ -16,3 +16,5 @@ pub mod Plain
 pub mod Nodes
 pub mod Laws
 pub mod Rows
+pub mod Documents
+pub mod Reviews
