@@ -21,3 +21,8 @@ pub mod Lookups
 pub mod Mapped
 pub mod Printing
 pub mod Prelude
+pub mod Conversion
+pub mod PlacedValues
+pub mod PlacedMembers
+pub mod ReadLoops
+pub mod CheckLoops

@@ -15,3 +15,4 @@ pub mod Start
 pub mod Tokens
 pub mod Chunks
 pub mod Lending
+pub mod Reading

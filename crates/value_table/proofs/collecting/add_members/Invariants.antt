@@ -1,0 +1,10 @@
+use Rattle.value_table.proofs.Prelude.{◌≡◌, heap_values, IsHeap}
+use Rattle.value_table.proofs.PlacedMembers.{Collects}
+use Rattle.value_table.proofs.collecting.add_members.Given as goal
+
+abbrev pub invariant-loop-key : goal.invariant-loop-key
+invariant-loop-key l = record {
+  heap : IsHeap l.heap;
+  values : heap_values l.heap ≡ heap_values l.fn.heap;
+  members : Collects l.initial.key-iterator (heap_values l.fn.heap) l.heap.backings.bytes l.keys.items l.places.items l.size l.key-iterator;
+}
