@@ -26,3 +26,8 @@ pub mod PlacedValues
 pub mod PlacedMembers
 pub mod ReadLoops
 pub mod CheckLoops
+pub mod RequestReading
+pub mod ReviewReading
+pub mod RootKinds
+pub mod RootsInOrder
+pub mod ReviewTables

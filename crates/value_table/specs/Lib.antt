@@ -16,3 +16,7 @@ pub mod Tokens
 pub mod Chunks
 pub mod Lending
 pub mod Reading
+pub mod ReviewReading
+pub mod RootKind
+pub mod RootPlaces
+pub mod ReviewTable

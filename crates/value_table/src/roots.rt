@@ -1,12 +1,13 @@
 //! The places of a review's five roots.
 
-ghost use Rattle.std.specs.Prelude.{◌≡◌, map, ◌++◌, IfOk};
+ghost use Rattle.std.specs.Prelude.{◌≡◌, map, ◌++◌, IfOk, OnOk};
 ghost use Rattle.std.specs.List.{AllByRecursion};
 ghost use Rattle.serde_json.specs.View.{view};
 ghost use Rattle.value_store.specs.Value.{value};
 ghost use Rattle.value_store.specs.Placing.{first_values};
 ghost use Rattle.value_store.specs.Plain.{plain_value};
-ghost use Rattle.value_table.specs.Heap.{IsHeap};
+ghost use Rattle.value_table.specs.Growing.{HasGrown};
+ghost use Rattle.value_table.specs.Heap.{heap_values, IsHeap};
 ghost use Rattle.value_table.specs.Start.{StartsWithValues, IsWelcome};
 
 use crate::documents::add_document;
@@ -43,10 +44,11 @@ pub(crate) fn copies(roots: &[Value; 5]) -> Result<[Value; 5], AllocError>
     ])
 }
 
-// The places of null, false and true.
-fn first_places(heap: &mut Heap) -> Result<Sequence<u64>, AllocError>
+/// The places of null, false and true.
+pub(crate) fn first_places(heap: &mut Heap) -> Result<Sequence<u64>, AllocError>
     requires { IsHeap heap.old }
-    ensures { IfOk result (λ ps. StartsWithValues heap.new ps first_values) }
+    ensures starts { IfOk result (λ ps. StartsWithValues heap.new ps first_values) }
+    ensures grown { OnOk result (HasGrown (heap_values heap.old) (heap_values heap.new)) }
 {
     let mut places = Sequence::new(heap.cells.alloc())?;
     places.push(heap.add_null()?)?;

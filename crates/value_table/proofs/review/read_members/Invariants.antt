@@ -1,0 +1,12 @@
+use Rattle.value_table.proofs.Prelude.{length, heap_values, IsHeap}
+use Rattle.value_table.proofs.ReviewReading.{FoundSoFar}
+use Rattle.value_table.proofs.review.read_members.Given as goal
+
+abbrev pub invariant-members : goal.invariant-members
+invariant-members l = record {
+  heap : IsHeap l.heap;
+  found : FoundSoFar 126 l.initial.reader l.reader (heap_values l.heap) l.found;
+}
+
+abbrev pub decreases-members : goal.decreases-members
+decreases-members l = length l.reader

@@ -1,0 +1,33 @@
+-- The roots at the references from 4 on.
+use Rattle.std.specs.Prelude.{◌≡◌, ◌≤◌, ℕ, List, [], ◌∷◌, Option, Result, Ok, Err, ◌⊎◌, ⊤}
+use Rattle.serde_json.specs.Data as json
+use Rattle.value_store.specs.Value.{Value}
+use Rattle.value_store.specs.Placing.{Contents, charge_limit}
+use Rattle.value_store.specs.Roots.{value_of}
+use Rattle.value_store.specs.declared.table_error.TableError.{TableError, TheVariants.NotAnObject, TheVariants.NumberOutOfInt64, TheVariants.RootsTooLarge}
+use Rattle.value_table.specs.Reading.{PlacesValue, IsSoundPlace}
+use Rattle.value_table.specs.References.{reference_values, AreReferences}
+use Rattle.value_table.specs.declared.heap.Heap.{Heap}
+use Rattle.value_table.specs.declared.placed.Placed.{Placed}
+use Rattle.value_table.specs.declared.review_error.ReviewError.{ReviewError}
+use Rattle.value_table.specs.declared.review_error.ReviewError.TheVariants.{InvalidReview, InvalidDocument, RootRefused, ChargeTooLarge, Memory}
+
+-- the values of these documents, one by one
+abbrev pub ArePlacedValues : List Value → List (Option Placed) → List json.Data → Type 0
+ArePlacedValues vs [] [] = ⊤
+ArePlacedValues vs [] (d ∷ ds) = ⊥
+ArePlacedValues vs (p ∷ ps) [] = ⊥
+ArePlacedValues vs (p ∷ ps) (d ∷ ds) = PlacesValue vs p (value_of d) × ArePlacedValues vs ps ds
+
+abbrev pub AreSoundPlaces : List Value → List (Option Placed) → Type 0
+AreSoundPlaces vs [] = ⊤
+AreSoundPlaces vs (p ∷ ps) = IsSoundPlace vs p × AreSoundPlaces vs ps
+
+-- references to the values that are due and the charge, or the refusal that is due
+abbrev pub ChargeReturns : Heap → List ℕ → Result ℕ ReviewError → Result Contents TableError → Type 0
+ChargeReturns h ps (Ok n) due = AreReferences h ps × (n ≤ charge_limit) × (due ≡ Ok (record { values = reference_values h ps; charge = n }))
+ChargeReturns h ps (Err (RootRefused place)) due = (due ≡ Err (NotAnObject place)) ⊎ (due ≡ Err (NumberOutOfInt64 place))
+ChargeReturns h ps (Err ChargeTooLarge) due = due ≡ Err RootsTooLarge
+ChargeReturns h ps (Err Memory) due = ⊤
+ChargeReturns h ps (Err InvalidReview) due = ⊥
+ChargeReturns h ps (Err InvalidDocument) due = ⊥
