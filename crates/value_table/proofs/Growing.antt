@@ -1,5 +1,5 @@
 -- Documents become values one by one.
-use Rattle.value_table.proofs.Prelude.{◌≡◌, ℕ, false, List, [], ◌∷◌, ◌++◌, length, refl, ap, ap₂, ◌∙◌, arith, length-append, append_assoc, append-nil, Result, Ok, Some, or_parts, map-append, AllocError, Value, Items, no_items, item, items_push, items_join, Entries, no_entries, entry, keys_of, values_of, AreItemsOrdered, AreEntriesOrdered, items_have_other, members_have_other, plain_value, plain_items, plain_entries, part_of, items_at, entries_at, AddsValue, IsText, AreTexts, AreBelow, ExtendsBackings, texts_of, values_at, entries_of, Part, Backings, HasGrown, IsValueAt, Enters, heap_values, Gains, Heap}
+use Rattle.value_table.proofs.Prelude.{◌≡◌, ℕ, false, List, [], ◌∷◌, ◌++◌, length, refl, sym, ap, ap₂, ◌∙◌, arith, length-append, append_assoc, append-nil, Result, Ok, Some, or_parts, map-append, AllocError, Value, Items, no_items, item, items_push, items_join, Entries, no_entries, entry, keys_of, values_of, AreItemsOrdered, AreEntriesOrdered, items_have_other, members_have_other, plain_value, plain_items, plain_entries, part_of, items_at, entries_at, AddsValue, IsText, AreTexts, AreBelow, ExtendsBackings, texts_of, values_at, entries_of, Part, Backings, HasGrown, IsValueAt, Enters, heap_values, Gains, Heap}
 use Rattle.serde_json.specs.Data as json
 use Rattle.value_table.proofs.Growth.{value_stable, mapped_stable, items_stable, text_kept, texts_kept}
 use Rattle.value_table.proofs.Listed.{below_le, below_append, items_more}
@@ -8,6 +8,9 @@ use Rattle.value_table.proofs.Named.{place_added}
 
 pub grown_more : (us vs ws : List Value) → HasGrown us vs → HasGrown vs ws → HasGrown us ws
 grown_more us vs ws a b = (a.0 ++ b.0, b.1 ∙ ap (λ xs. xs ++ b.0) a.1 ∙ append_assoc us a.0 b.0)
+
+pub grown_none : (vs : List Value) → HasGrown vs vs
+grown_none vs = ([], sym (append-nil vs))
 
 pub grown_added : (vs ws : List Value) (v : Value) (r : Result ℕ AllocError) → AddsValue vs v r ws → HasGrown vs ws
 grown_added vs ws v r a = grind (arith, append-nil)

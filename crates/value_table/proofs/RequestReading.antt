@@ -1,5 +1,5 @@
 -- The members of a request: looked up, removed, and made its parts.
-use Rattle.value_table.proofs.Prelude.{◌≡◌, ◌<◌, ℕ, List, [], ◌∷◌, length, Bool, true, false, cond, Option, Some, None, option_map, unwrap_or, if◌then◌else◌, Ordering, Less, Greater, refl, sym, ap, ◌∙◌, subst, arith, append-nil, bytes_eq, bytes_eq-Decides, is_eq, is_eq-slice_cmp, nat_cmp, slice_cmp, Value, value_in, heap_values, IsHeap, IsValueAt, same_Some, Heap}
+use Rattle.value_table.proofs.Prelude.{◌≡◌, ◌<◌, ℕ, List, [], ◌∷◌, length, Bool, true, false, cond, Option, Some, None, option_map, unwrap_or, if◌then◌else◌, Ordering, Less, Greater, refl, sym, ap, ◌∙◌, subst, arith, bytes_eq, bytes_eq-Decides, is_eq, is_eq-slice_cmp, nat_cmp, slice_cmp, Value, value_in, heap_values, IsHeap, IsValueAt, same_Some, Heap}
 use Rattle.std.specs.Prelude.{codes}
 use Rattle.std.specs.declared.cmp.Ordering.TheVariants.{Equal}
 use Rattle.std.specs.Ordering.{match_ordering}
@@ -17,7 +17,7 @@ use Rattle.value_table.specs.ReviewReading.{is_text_value, IsPlacedRequest, IsRe
 use Rattle.value_table.specs.declared.placed.Placed.{Placed}
 use Rattle.value_table.proofs.PlacedValues.{answers_stay}
 use Rattle.value_table.proofs.PlacedMembers.{members_stay, members_are}
-use Rattle.value_table.proofs.Growing.{grown_more, stands_on}
+use Rattle.value_table.proofs.Growing.{grown_more, grown_none, stands_on}
 
 -- ---- look-ups
 
@@ -121,7 +121,7 @@ pub take_some : (h : Heap) (key : List ℕ) (es es' : List PlacedEntry) (p : Opt
     → AreMembers (heap_values h) es ms → TakesMember h h key es es' p ms
 take_some h key es es' p ms ok e f a = record {
   heap = ok;
-  grown = ([], sym (append-nil (heap_values h)));
+  grown = grown_none (heap_values h);
   value = answer_some (heap_values h) p (get_member key ms) (subst (λ o. IsFound (heap_values h) o (get_member key ms)) (sym e) (found_there key (heap_values h) es ms a));
   rest = subst (λ xs. AreMembers (heap_values h) xs (without key ms)) (sym f) (removed key (heap_values h) es ms a);
 }
@@ -169,11 +169,12 @@ request_made h0 h1 h2 h3 ms es1 es2 es3 uid object old rest a b c u =
     } in
     record {
       heap = c.heap;
+      grown = grown;
       request = subst (λ v. IsRequestOf (heap_values h3) (Some (record { uid = uid; object = object; old_object = old; rest = rest })) (if v then Some ms else None)) (sym texted) whole;
     }
 
-pub request_none : (h0 h1 : Heap) (ms : json.Members) → IsHeap h1 → is_text (get_member (codes "uid") ms) ≡ false → MakesRequest h0 h1 None ms
-request_none h0 h1 ms ok e = record { heap = ok; request = subst (λ v. IsRequestOf (heap_values h1) None (if v then Some ms else None)) (sym e) tt }
+pub request_none : (h : Heap) (ms : json.Members) → IsHeap h → is_text (get_member (codes "uid") ms) ≡ false → MakesRequest h h None ms
+request_none h ms ok e = record { heap = ok; grown = grown_none (heap_values h); request = subst (λ v. IsRequestOf (heap_values h) None (if v then Some ms else None)) (sym e) tt }
 
 -- ---- answers
 

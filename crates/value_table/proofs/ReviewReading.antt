@@ -18,8 +18,10 @@ use Rattle.value_table.specs.Reading.{PlacedEntry, AreMembers, ReadsEntries, Lea
 use Rattle.value_store.specs.Documents.{is_the_text}
 use Rattle.value_store.specs.Reviews.{is_review, members_in, request_of}
 use Rattle.value_table.specs.ReviewReading.{IsRequestOf, MakesRequest, AreReviewFields, ReadsMember, ReadsMembers, ReadsRequest, ReadsReview, ComparesText, ReadsReviewValue}
+use Rattle.value_table.specs.Growing.{HasGrown}
 use Rattle.value_table.specs.declared.placed_request.PlacedRequest.{PlacedRequest}
 use Rattle.value_table.specs.declared.review_fields.ReviewFields.{ReviewFields}
+use Rattle.value_table.proofs.Growing.{grown_more, grown_none}
 use Rattle.value_table.proofs.Conversion.{converted_array, converted_object, object_member, object_member_refused, object_key_refused, object_end, whole, document_read, document_and_more}
 
 -- ---- the kind of what was read
@@ -186,32 +188,34 @@ pub so_far_no_key : (depth : ℕ) (first now : List Token) (vs : List Value) (f 
     → converted (λ ms. of_members ms json.no_members) (members (value depth) (length first) first) ≡ None
 so_far_no_key depth first now vs f h e = h.is ∙ object_key_refused (value depth) h.found h.turns now e
 
-pub so_far_ends : (depth : ℕ) (first now next : List Token) (h : Heap) (f : ReviewFields) → FoundSoFar depth first now (heap_values h) f → IsHeap h → read_key now ≡ Some (None, next)
-    → ReadsMembers h f (converted (λ ms. of_members ms json.no_members) (members (value depth) (length first) first)) next
-so_far_ends depth first now next h f s ok over = record { members = s.found; is = s.is ∙ object_end (value depth) s.found s.turns now next s.enough over; heap = ok; found = s.are }
+pub so_far_ends : (depth : ℕ) (first now next : List Token) (old h : Heap) (f : ReviewFields) → FoundSoFar depth first now (heap_values h) f → IsHeap h → HasGrown (heap_values old) (heap_values h)
+    → read_key now ≡ Some (None, next) → ReadsMembers old h f (converted (λ ms. of_members ms json.no_members) (members (value depth) (length first) first)) next
+so_far_ends depth first now next old h f s ok up over =
+    record { members = s.found; is = s.is ∙ object_end (value depth) s.found s.turns now next s.enough over; heap = ok; grown = up; found = s.are }
 
 -- ---- a member
 
-pub reads_request : (old new : Heap) (f : ReviewFields) (r : Option PlacedRequest) (k : List ℕ) (o : Option (json.Data × List Token)) (rest : List Token) → k ≡ codes "request" → ReadsRequest new r o rest
+pub reads_request : (old new : Heap) (f : ReviewFields) (r : Option PlacedRequest) (k : List ℕ) (o : Option (json.Data × List Token)) (rest : List Token) → k ≡ codes "request" → ReadsRequest old new r o rest
     → ReadsMember old new f (record f { request = r }) k o rest
 reads_request old new f r k o rest e h = record {
   document = h.document;
   is = h.is;
   heap = h.heap;
+  grown = h.grown;
   found = λ ms are. found_request (heap_values old) (heap_values new) f r k h.document ms e h.request are;
 }
 
 pub reads_version : (old : Heap) (f : ReviewFields) (b : Bool) (k : List ℕ) (o : Option (json.Data × List Token)) (rest : List Token) → IsHeap old → k ≡ codes "apiVersion" → ComparesText b (codes "admission.k8s.io/v1") o rest
     → ReadsMember old old f (record f { version = b }) k o rest
-reads_version old f b k o rest ok e h = record { document = h.document; is = h.is; heap = ok; found = λ ms are. found_version (heap_values old) f b k h.document ms e h.text are }
+reads_version old f b k o rest ok e h = record { document = h.document; is = h.is; heap = ok; grown = grown_none (heap_values old); found = λ ms are. found_version (heap_values old) f b k h.document ms e h.text are }
 
 pub reads_kind : (old : Heap) (f : ReviewFields) (b : Bool) (k : List ℕ) (o : Option (json.Data × List Token)) (rest : List Token) → IsHeap old → k ≡ codes "kind" → ComparesText b (codes "AdmissionReview") o rest
     → ReadsMember old old f (record f { kind = b }) k o rest
-reads_kind old f b k o rest ok e h = record { document = h.document; is = h.is; heap = ok; found = λ ms are. found_kind (heap_values old) f b k h.document ms e h.text are }
+reads_kind old f b k o rest ok e h = record { document = h.document; is = h.is; heap = ok; grown = grown_none (heap_values old); found = λ ms are. found_kind (heap_values old) f b k h.document ms e h.text are }
 
 pub reads_other : (old : Heap) (f : ReviewFields) (k : List ℕ) (o : Option (json.Data × List Token)) (rest : List Token) → IsHeap old → (k ≡ codes "request" → ⊥) → (k ≡ codes "apiVersion" → ⊥)
     → (k ≡ codes "kind" → ⊥) → LeavesTokens o rest → ReadsMember old old f f k o rest
-reads_other old f k o rest ok x y z h = record { document = h.0; is = h.1; heap = ok; found = λ ms are. found_other (heap_values old) f k h.0 ms x y z are }
+reads_other old f k o rest ok x y z h = record { document = h.0; is = h.1; heap = ok; grown = grown_none (heap_values old); found = λ ms are. found_other (heap_values old) f k h.0 ms x y z are }
 
 pub text_read : (depth : ℕ) (s text : List ℕ) (ts : List Token) (b : Bool) → b ≡ bytes_eq s text → ComparesText b text (converted of_json (value depth (token.string s ∷ ts))) ts
 text_read depth s text ts b e = record { document = json.string s; is = ap (converted of_json) (value_is depth (token.string s ∷ ts)); text = e }
@@ -221,21 +225,28 @@ pub text_other : (depth : ℕ) (t : Token) (text : List ℕ) (ts rest : List Tok
 text_other depth t text ts rest n h = record { document = h.0; is = h.1; text = other_text t h.0 text (data_of depth t ts h.0 rest h.1) n }
 
 pub request_other : (h : Heap) (depth : ℕ) (t : Token) (ts rest : List Token) → IsHeap h → (t ≡ token.begin_object → ⊥) → LeavesTokens (converted of_json (value depth (t ∷ ts))) rest
-    → ReadsRequest h None (converted of_json (value depth (t ∷ ts))) rest
+    → ReadsRequest h h None (converted of_json (value depth (t ∷ ts))) rest
 request_other h depth t ts rest ok n l = record {
   document = l.0;
   is = l.1;
   heap = ok;
+  grown = grown_none (heap_values h);
   request = let none = other_request (heap_values h) t l.0 (data_of depth t ts l.0 rest l.1) n in subst (IsRequestOf (heap_values h) None) (sym none.0) tt;
 }
 
 pub request_read : (h0 h1 h2 : Heap) (r : Option PlacedRequest) (es : List PlacedEntry) (depth : ℕ) (ts rest : List Token) → 0 < depth
     → ReadsEntries h0 h1 es (converted (λ ms. of_members ms json.no_members) (members (value (depth - 1)) (length ts) ts)) rest
-    → ((ms : json.Members) → AreMembers (heap_values h1) es ms → MakesRequest h1 h2 r ms) → ReadsRequest h2 r (converted of_json (value depth (token.begin_object ∷ ts))) rest
+    → ((ms : json.Members) → AreMembers (heap_values h1) es ms → MakesRequest h1 h2 r ms) → ReadsRequest h0 h2 r (converted of_json (value depth (token.begin_object ∷ ts))) rest
 request_read h0 h1 h2 r es depth ts rest some g made =
     let opened = ap (converted of_json) (value-begin_object depth ts some) ∙ converted_object (members (value (depth - 1)) (length ts) ts) in
     let q = made g.members g.are in
-    record { document = json.object g.members; is = opened ∙ ap (parse_map json.object) g.is; heap = q.heap; request = q.request }
+    record {
+      document = json.object g.members;
+      is = opened ∙ ap (parse_map json.object) g.is;
+      heap = q.heap;
+      grown = grown_more (heap_values h0) (heap_values h1) (heap_values h2) g.grown q.grown;
+      request = q.request;
+    }
 
 -- ---- the whole
 
@@ -244,10 +255,10 @@ whole_by vs true true r ms h = h
 whole_by vs true false r ms h = tt
 whole_by vs false k r ms h = tt
 
-pub top_read : (h : Heap) (f : ReviewFields) (depth : ℕ) (ts rest : List Token) → 0 < depth
-    → ReadsMembers h f (converted (λ ms. of_members ms json.no_members) (members (value (depth - 1)) (length ts) ts)) rest
-    → ReadsReviewValue h (if f.version && f.kind then f.request else None) (converted of_json (value depth (token.begin_object ∷ ts))) rest
-top_read h f depth ts rest some g =
+pub top_read : (old h : Heap) (f : ReviewFields) (depth : ℕ) (ts rest : List Token) → 0 < depth
+    → ReadsMembers old h f (converted (λ ms. of_members ms json.no_members) (members (value (depth - 1)) (length ts) ts)) rest
+    → ReadsReviewValue old h (if f.version && f.kind then f.request else None) (converted of_json (value depth (token.begin_object ∷ ts))) rest
+top_read old h f depth ts rest some g =
     let opened = ap (converted of_json) (value-begin_object depth ts some) ∙ converted_object (members (value (depth - 1)) (length ts) ts) in
     let both : (f.version && f.kind) ≡ is_review (json.object g.members) = ap₂ (λ v k. v && k) g.found.version g.found.kind in
     let there = whole_by (heap_values h) f.version f.kind f.request _ g.found.request in
@@ -255,23 +266,25 @@ top_read h f depth ts rest some g =
       document = json.object g.members;
       is = opened ∙ ap (parse_map json.object) g.is;
       heap = g.heap;
+      grown = g.grown;
       request = subst (λ b. IsRequestOf (heap_values h) (if f.version && f.kind then f.request else None) (if b then option_and_then members_in (get_member (codes "request") g.members) else None)) both there;
     }
 
 pub top_other : (h : Heap) (depth : ℕ) (t : Token) (ts rest : List Token) → IsHeap h → (t ≡ token.begin_object → ⊥) → LeavesTokens (converted of_json (value depth (t ∷ ts))) rest
-    → ReadsReviewValue h None (converted of_json (value depth (t ∷ ts))) rest
+    → ReadsReviewValue h h None (converted of_json (value depth (t ∷ ts))) rest
 top_other h depth t ts rest ok n l = record {
   document = l.0;
   is = l.1;
   heap = ok;
+  grown = grown_none (heap_values h);
   request = let none = other_request (heap_values h) t l.0 (data_of depth t ts l.0 rest l.1) n in subst (IsRequestOf (heap_values h) None) (sym none.1) tt;
 }
 
-pub review_read : (h : Heap) (r : Option PlacedRequest) (ts : List Token) → ReadsReviewValue h r (converted of_json (value max_depth ts)) [] → ReadsReview h r (whole (value max_depth ts))
-review_read h r ts t = record { document = t.document; is = document_read (value max_depth ts) t.document t.is; heap = t.heap; request = t.request }
+pub review_read : (old h : Heap) (r : Option PlacedRequest) (ts : List Token) → ReadsReviewValue old h r (converted of_json (value max_depth ts)) [] → ReadsReview old h r (whole (value max_depth ts))
+review_read old h r ts t = record { document = t.document; is = document_read (value max_depth ts) t.document t.is; heap = t.heap; grown = t.grown; request = t.request }
 
-pub review_and_more : (h : Heap) (r : Option PlacedRequest) (ts rest : List Token) (t : Token) → ReadsReviewValue h r (converted of_json (value max_depth ts)) (t ∷ rest) → whole (value max_depth ts) ≡ None
-review_and_more h r ts rest t d = document_and_more (value max_depth ts) d.document t rest d.is
+pub review_and_more : (old h : Heap) (r : Option PlacedRequest) (ts rest : List Token) (t : Token) → ReadsReviewValue old h r (converted of_json (value max_depth ts)) (t ∷ rest) → whole (value max_depth ts) ≡ None
+review_and_more old h r ts rest t d = document_and_more (value max_depth ts) d.document t rest d.is
 
 -- ---- tokens that are another
 

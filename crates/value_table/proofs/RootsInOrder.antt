@@ -117,13 +117,10 @@ beyond : (vs : List Value) (n : ℕ) → n ≡ saturated (sizes vs) → 16777216
 beyond vs n e h = let high : 16777216 < sizes vs = omega arith in grind (arith, nat_tests)
 
 pub opening_ends : (h : Heap) (rest : List (Option Placed)) (places : List ℕ) (reference n : ℕ) (ds : List json.Data) → Opening h rest places reference n ds → rest ≡ [] → n ≤ 16777216
-    → AreReferences h places × (n ≤ charge_limit) × (start_contents ds ≡ Ok (record { values = reference_values h places; charge = n }))
-opening_ends h rest places reference n ds s e low = (
-  s.starts.sound,
-  low,
-  over s.done s.left (heap_values h) reference ds (subst (λ r. ArePlacedValues (heap_values h) r s.left) e s.answers) s.is ∙ limited s.done n s.charge low
-      ∙ ap (λ xs. Ok (record { values = xs; charge = n })) (sym s.starts.values),
-)
+    → start_contents ds ≡ Ok (record { values = reference_values h places; charge = n })
+opening_ends h rest places reference n ds s e low =
+    over s.done s.left (heap_values h) reference ds (subst (λ r. ArePlacedValues (heap_values h) r s.left) e s.answers) s.is ∙ limited s.done n s.charge low
+    ∙ ap (λ xs. Ok (record { values = xs; charge = n })) (sym s.starts.values)
 
 pub opening_too_large : (h : Heap) (rest : List (Option Placed)) (places : List ℕ) (reference n : ℕ) (ds : List json.Data) → Opening h rest places reference n ds → rest ≡ [] → 16777216 < n
     → start_contents ds ≡ Err RootsTooLarge

@@ -19,4 +19,5 @@ pub mod Reading
 pub mod ReviewReading
 pub mod RootKind
 pub mod RootPlaces
+pub mod OtherRoots
 pub mod ReviewTable

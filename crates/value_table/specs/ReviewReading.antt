@@ -53,6 +53,7 @@ pub record TakesMember (old new : Heap) (key : List ℕ) (before after : List Pl
 -- the request of these members
 pub record MakesRequest (old new : Heap) (r : Option PlacedRequest) (ms : json.Members) : Type 0 where
   pub heap : IsHeap new
+  pub grown : HasGrown (heap_values old) (heap_values new)
   pub request : IsRequestOf (heap_values new) r (members_in (json.object ms))
 
 abbrev pub is_text_value : Value → Bool
@@ -72,20 +73,23 @@ pub record ReadsMember (old new : Heap) (before after : ReviewFields) (key : Lis
   pub document : json.Data
   pub is : read ≡ Some (document, rest)
   pub heap : IsHeap new
+  pub grown : HasGrown (heap_values old) (heap_values new)
   pub found : (ms : json.Members) → AreReviewFields (heap_values old) before ms → AreReviewFields (heap_values new) after (json.put key document ms)
 
 -- the members of a review were read
-pub record ReadsMembers (new : Heap) (state : ReviewFields) (read : Option (json.Members × List Token)) (rest : List Token) : Type 0 where
+pub record ReadsMembers (old new : Heap) (state : ReviewFields) (read : Option (json.Members × List Token)) (rest : List Token) : Type 0 where
   pub members : json.Members
   pub is : read ≡ Some (members, rest)
   pub heap : IsHeap new
+  pub grown : HasGrown (heap_values old) (heap_values new)
   pub found : AreReviewFields (heap_values new) state members
 
 -- a request was read
-pub record ReadsRequest (new : Heap) (r : Option PlacedRequest) (read : Option (json.Data × List Token)) (rest : List Token) : Type 0 where
+pub record ReadsRequest (old new : Heap) (r : Option PlacedRequest) (read : Option (json.Data × List Token)) (rest : List Token) : Type 0 where
   pub document : json.Data
   pub is : read ≡ Some (document, rest)
   pub heap : IsHeap new
+  pub grown : HasGrown (heap_values old) (heap_values new)
   pub request : IsRequestOf (heap_values new) r (members_in document)
 
 -- the value that was read was compared with a text
@@ -95,15 +99,17 @@ pub record ComparesText (same : Bool) (due : List ℕ) (read : Option (json.Data
   pub text : same ≡ is_the_text (Some document) due
 
 -- a review was read, if it is one
-pub record ReadsReview (new : Heap) (r : Option PlacedRequest) (read : Option json.Data) : Type 0 where
+pub record ReadsReview (old new : Heap) (r : Option PlacedRequest) (read : Option json.Data) : Type 0 where
   pub document : json.Data
   pub is : read ≡ Some document
   pub heap : IsHeap new
+  pub grown : HasGrown (heap_values old) (heap_values new)
   pub request : IsRequestOf (heap_values new) r (request_of document)
 
 -- a value was read, up to the tokens that are left, with its request if it is a review
-pub record ReadsReviewValue (new : Heap) (r : Option PlacedRequest) (read : Option (json.Data × List Token)) (rest : List Token) : Type 0 where
+pub record ReadsReviewValue (old new : Heap) (r : Option PlacedRequest) (read : Option (json.Data × List Token)) (rest : List Token) : Type 0 where
   pub document : json.Data
   pub is : read ≡ Some (document, rest)
   pub heap : IsHeap new
+  pub grown : HasGrown (heap_values old) (heap_values new)
   pub request : IsRequestOf (heap_values new) r (request_of document)

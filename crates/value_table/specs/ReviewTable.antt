@@ -5,33 +5,36 @@ use Rattle.value_store.specs.Placing.{Contents}
 use Rattle.value_store.specs.Roots.{value_of, start_contents}
 use Rattle.value_store.specs.declared.table_error.TableError.{TableError, TheVariants.NotAnObject, TheVariants.NumberOutOfInt64, TheVariants.RootsTooLarge}
 use Rattle.value_table.specs.Heap.{heap_values, IsHeap}
+use Rattle.value_table.specs.Growing.{HasGrown}
 use Rattle.value_table.specs.Reading.{AddsPlaced}
-use Rattle.value_store.specs.Reviews.{ReviewRoots, null_parts, parts_in, request_of, root_documents}
-use Rattle.value_table.specs.ReviewReading.{IsPlacedRequest, IsUid}
-use Rattle.value_table.specs.RootPlaces.{ArePlacedValues, AreSoundPlaces}
+use Rattle.value_store.specs.Reviews.{ReviewRoots, parts_in, request_of, root_documents}
+use Rattle.value_table.specs.ReviewReading.{IsPlacedRequest}
+use Rattle.value_table.specs.RootPlaces.{ArePlacedValues}
+use Rattle.value_table.specs.OtherRoots.{other_values, values_of_others, AreSoundOthers}
 use Rattle.value_table.specs.declared.heap.Heap.{Heap}
+use Rattle.value_table.specs.declared.other_roots.OtherRoots.{OtherRoots}
 use Rattle.value_table.specs.declared.placed.Placed.{Placed}
 use Rattle.value_table.specs.declared.placed_request.PlacedRequest.{PlacedRequest}
-use Rattle.value_table.specs.declared.root_values.RootValues.{RootValues}
 use Rattle.value_table.specs.declared.review_error.ReviewError.{ReviewError}
 use Rattle.value_table.specs.declared.review_error.ReviewError.TheVariants.{InvalidReview, InvalidDocument, RootRefused, ChargeTooLarge, Memory}
 
 -- ---- the review
 
 -- the request of a review's document was read
-pub record ReviewIsRead (h : Heap) (r : PlacedRequest) (review : Option json.Data) : Type 0 where
+pub record ReviewIsRead (old new : Heap) (r : PlacedRequest) (review : Option json.Data) : Type 0 where
   pub members : json.Members
   pub is : option_and_then request_of review ≡ Some members
-  pub heap : IsHeap h
-  pub request : IsPlacedRequest (heap_values h) r members
+  pub heap : IsHeap new
+  pub grown : HasGrown (heap_values old) (heap_values new)
+  pub request : IsPlacedRequest (heap_values new) r members
 
-abbrev pub ReviewReturns : Heap → Result PlacedRequest ReviewError → Option json.Data → Type 0
-ReviewReturns h (Ok r) review = ReviewIsRead h r review
-ReviewReturns h (Err InvalidReview) review = option_and_then parts_in review ≡ None
-ReviewReturns h (Err Memory) review = ⊤
-ReviewReturns h (Err InvalidDocument) review = ⊥
-ReviewReturns h (Err (RootRefused k)) review = ⊥
-ReviewReturns h (Err ChargeTooLarge) review = ⊥
+abbrev pub ReviewReturns : Heap → Heap → Result PlacedRequest ReviewError → Option json.Data → Type 0
+ReviewReturns old new (Ok r) review = ReviewIsRead old new r review
+ReviewReturns old new (Err InvalidReview) review = option_and_then parts_in review ≡ None
+ReviewReturns old new (Err Memory) review = ⊤
+ReviewReturns old new (Err InvalidDocument) review = ⊥
+ReviewReturns old new (Err (RootRefused k)) review = ⊥
+ReviewReturns old new (Err ChargeTooLarge) review = ⊥
 
 -- ---- the namespace and the params
 
@@ -49,44 +52,31 @@ DocumentReturns old new (Err InvalidReview) due = ⊥
 DocumentReturns old new (Err (RootRefused k)) due = ⊥
 DocumentReturns old new (Err ChargeTooLarge) due = ⊥
 
+-- the namespace and the params were read
+pub record OthersAreRead (h : Heap) (o : OtherRoots) (namespace params : Option json.Data) : Type 0 where
+  pub heap : IsHeap h
+  pub sound : AreSoundOthers (heap_values h) (Some o)
+  pub values : values_of_others (heap_values h) (Some o) ≡ other_values namespace params
+
+abbrev pub OthersReturn : Heap → Result OtherRoots ReviewError → Option json.Data → Option json.Data → Type 0
+OthersReturn h (Ok o) namespace params = OthersAreRead h o namespace params
+OthersReturn h (Err InvalidDocument) namespace params = other_values namespace params ≡ None
+OthersReturn h (Err Memory) namespace params = ⊤
+OthersReturn h (Err InvalidReview) namespace params = ⊥
+OthersReturn h (Err (RootRefused k)) namespace params = ⊥
+OthersReturn h (Err ChargeTooLarge) namespace params = ⊥
+
 -- ---- the roots
 
 -- the values of the roots are those of these documents
 pub record RootsArePlaced (h : Heap) (roots : List (Option Placed)) (parts : Option ReviewRoots) (namespace params : Option json.Data) : Type 0 where
   pub documents : List json.Data
   pub is : root_documents parts namespace params ≡ Some documents
-  pub heap : IsHeap h
   pub answer : ArePlacedValues (heap_values h) roots documents
-  pub sound : AreSoundPlaces (heap_values h) roots
-
--- the values of the roots, and the uid
-pub record RootsAreRead (h : Heap) (r : RootValues) (review namespace params : Option json.Data) : Type 0 where
-  pub members : json.Members
-  pub request : option_and_then request_of review ≡ Some members
-  pub uid : IsUid (heap_values h) r.uid members
-  pub placed : RootsArePlaced h r.roots (option_and_then parts_in review) namespace params
 
 -- the review has parts, and another document is not JSON
 abbrev pub OtherIsRefused : Option ReviewRoots → Option json.Data → Option json.Data → Type 0
 OtherIsRefused parts namespace params = IsSome parts × ((namespace ≡ None) ⊎ (params ≡ None))
-
--- or the first refusal: of the review's form, of another document
-abbrev pub RootsReturn : Heap → Result RootValues ReviewError → Option json.Data → Option json.Data → Option json.Data → Type 0
-RootsReturn h (Ok r) review namespace params = RootsAreRead h r review namespace params
-RootsReturn h (Err InvalidReview) review namespace params = option_and_then parts_in review ≡ None
-RootsReturn h (Err InvalidDocument) review namespace params = OtherIsRefused (option_and_then parts_in review) namespace params
-RootsReturn h (Err Memory) review namespace params = ⊤
-RootsReturn h (Err (RootRefused k)) review namespace params = ⊥
-RootsReturn h (Err ChargeTooLarge) review namespace params = ⊥
-
--- the same if no review is given
-abbrev pub OtherRootsReturn : Heap → Result (List (Option Placed)) ReviewError → Option json.Data → Option json.Data → Type 0
-OtherRootsReturn h (Ok roots) namespace params = RootsArePlaced h roots (Some null_parts) namespace params
-OtherRootsReturn h (Err InvalidReview) namespace params = ⊥
-OtherRootsReturn h (Err InvalidDocument) namespace params = (namespace ≡ None) ⊎ (params ≡ None)
-OtherRootsReturn h (Err Memory) namespace params = ⊤
-OtherRootsReturn h (Err (RootRefused k)) namespace params = ⊥
-OtherRootsReturn h (Err ChargeTooLarge) namespace params = ⊥
 
 -- ---- the table
 

@@ -25,9 +25,23 @@ AreSoundPlaces vs (p ∷ ps) = IsSoundPlace vs p × AreSoundPlaces vs ps
 
 -- references to the values that are due and the charge, or the refusal that is due
 abbrev pub ChargeReturns : Heap → List ℕ → Result ℕ ReviewError → Result Contents TableError → Type 0
-ChargeReturns h ps (Ok n) due = AreReferences h ps × (n ≤ charge_limit) × (due ≡ Ok (record { values = reference_values h ps; charge = n }))
+ChargeReturns h ps (Ok n) due = due ≡ Ok (record { values = reference_values h ps; charge = n })
 ChargeReturns h ps (Err (RootRefused place)) due = (due ≡ Err (NotAnObject place)) ⊎ (due ≡ Err (NumberOutOfInt64 place))
 ChargeReturns h ps (Err ChargeTooLarge) due = due ≡ Err RootsTooLarge
 ChargeReturns h ps (Err Memory) due = ⊤
 ChargeReturns h ps (Err InvalidReview) due = ⊥
 ChargeReturns h ps (Err InvalidDocument) due = ⊥
+
+-- references, and a charge within the limit
+pub record IsCharged (h : Heap) (ps : List ℕ) (n : ℕ) : Type 0 where
+  pub references : AreReferences h ps
+  pub limit : n ≤ charge_limit
+
+-- the contents that are due, or the refusal that is due
+abbrev pub TableReturns : {S : Type 0} → (S → Contents) → Result S ReviewError → Result Contents TableError → Type 0
+TableReturns contents (Ok t) due = due ≡ Ok (contents t)
+TableReturns contents (Err (RootRefused place)) due = (due ≡ Err (NotAnObject place)) ⊎ (due ≡ Err (NumberOutOfInt64 place))
+TableReturns contents (Err ChargeTooLarge) due = due ≡ Err RootsTooLarge
+TableReturns contents (Err Memory) due = ⊤
+TableReturns contents (Err InvalidReview) due = ⊥
+TableReturns contents (Err InvalidDocument) due = ⊥

@@ -19,14 +19,15 @@ use json::{Reader, Scratch, Token};
 /// How deep lists and maps may nest in a member of a review.
 const MEMBER_DEPTH: usize = MAX_DEPTH - 1;
 
-/// Reads a review. If the text is one, the heap then has the values of its request and no others.
+/// Reads a review. If the text is one, the heap then has the values of its request behind those
+/// that it had.
 pub(crate) fn read_review(
     heap: &mut Heap,
     text: &str,
     scratch: &mut Scratch,
 ) -> Result<Option<PlacedRequest>, ReadError>
     requires { IsHeap heap.old }
-    ensures read { IfOk result (λ r. ReadsReview heap.new r (read text.now)) }
+    ensures read { IfOk result (λ r. ReadsReview heap.old heap.new r (read text.now)) }
     ensures refused { result ≡ Err ReadError.Invalid → read text.now ≡ None }
 {
     let mut reader = Reader::new(text, scratch)?;
@@ -40,7 +41,7 @@ pub(crate) fn read_review(
 // The request of the next value of the reader, if it is a review.
 fn read_whole(heap: &mut Heap, reader: &mut Reader<'_>) -> Result<Option<PlacedRequest>, ReadError>
     requires { IsHeap heap.old }
-    ensures read { IfOk result (λ r. ReadsReviewValue heap.new r (converted of_json (value max_depth reader.old)) reader.new) }
+    ensures read { IfOk result (λ r. ReadsReviewValue heap.old heap.new r (converted of_json (value max_depth reader.old)) reader.new) }
     ensures refused { result ≡ Err ReadError.Invalid → converted of_json (value max_depth reader.old) ≡ None }
 {
     let token = reader.next().ok_or(ReadError::Invalid)?;
@@ -72,7 +73,7 @@ impl ReviewFields {
 // Reads the members of a review.
 fn read_members(heap: &mut Heap, reader: &mut Reader<'_>) -> Result<ReviewFields, ReadError>
     requires { IsHeap heap.old }
-    ensures read { IfOk result (λ f. ReadsMembers heap.new f (converted (λ ms. of_members ms no_members) (members (value 126) (length reader.old) reader.old)) reader.new) }
+    ensures read { IfOk result (λ f. ReadsMembers heap.old heap.new f (converted (λ ms. of_members ms no_members) (members (value 126) (length reader.old) reader.old)) reader.new) }
     ensures shorter { OnOk result (length reader.new < length reader.old) }
     ensures refused { result ≡ Err ReadError.Invalid → converted (λ ms. of_members ms no_members) (members (value 126) (length reader.old) reader.old) ≡ None }
 {
@@ -131,18 +132,16 @@ fn read_is(reader: &mut Reader<'_>, text: &str) -> Result<bool, ReadError>
     }
 }
 
-// Reads a request into an empty heap, so that nothing of an earlier request is kept.
+// Reads a request. The values of an earlier request stay in the heap, and are not charged.
 fn read_request(
     heap: &mut Heap,
     reader: &mut Reader<'_>,
 ) -> Result<Option<PlacedRequest>, ReadError>
     requires { IsHeap heap.old }
-    ensures read { IfOk result (λ r. ReadsRequest heap.new r (converted of_json (value 126 reader.old)) reader.new) }
+    ensures read { IfOk result (λ r. ReadsRequest heap.old heap.new r (converted of_json (value 126 reader.old)) reader.new) }
     ensures shorter { OnOk result (length reader.new < length reader.old) }
     ensures refused { result ≡ Err ReadError.Invalid → converted of_json (value 126 reader.old) ≡ None }
 {
-    let fresh = Heap::new(heap.cells.alloc())?;
-    *heap = fresh;
     let token = reader.next().ok_or(ReadError::Invalid)?;
     match token {
         Token::BeginObject => {

@@ -1,69 +1,150 @@
-//! The values of the roots that documents give.
+//! Tables of reviews, read from the bytes of their documents.
 
-ghost use Rattle.std.specs.Prelude.{◌≡◌, ◌<◌, ℕ, List, length, Some, option_map, option_and_then};
-ghost use Rattle.serde_json.specs.Data.{null};
+ghost use Rattle.std.specs.Prelude.{◌≡◌, ◌<◌, ℕ, List, length, Option, Some, option_map, option_and_then, string_bytes, IfOk};
+ghost use Rattle.serde_json.specs.Data.{null, Data};
 ghost use Rattle.serde_json.specs.Read.{read as read_text};
 ghost use Rattle.value_store.specs.Value as kind;
 ghost use Rattle.value_table.specs.Growing.{IsValueAt};
 ghost use Rattle.value_table.specs.Heap.{heap_values, IsHeap};
 ghost use Rattle.value_store.specs.Documents.{document_given, document_of};
-ghost use Rattle.value_table.specs.ReviewTable.{DocumentReturns, OtherRootsReturn, ReviewReturns, RootsReturn};
+ghost use Rattle.value_store.specs.Reviews.{null_parts, parts_in, uid_in};
+ghost use Rattle.value_table.specs.OtherRoots.{ArePlaced, ArePlacedOthers};
+ghost use Rattle.value_table.specs.ReviewTable.{DocumentReturns, OthersReturn, ReviewReturns, ReviewTableReturns};
 
 use crate::heap::Heap;
+use crate::other_roots::{OtherRoots, PlacedOthers};
 use crate::placed::Placed;
 use crate::placed_request::PlacedRequest;
 use crate::read_error::ReadError;
 use crate::reading::{add_null, read_text};
 use crate::review::read_review;
 use crate::review_error::ReviewError;
-use crate::root_values::RootValues;
+use crate::table::Table;
 use json::Scratch;
+use std::alloc::{AllocError, Global};
 
-/// Reads the five roots of a review, a namespace and params, each null if it is not given.
-#[tactic(auto, using(crate::proofs::ReviewTables::roots_are_read, crate::proofs::ReviewTables::review_refused, crate::proofs::ReviewTables::namespace_refused, crate::proofs::ReviewTables::params_refused))]
-pub(crate) fn read_roots(
-    heap: &mut Heap,
-    scratch: &mut Scratch,
-    review: &[u8],
-    namespace: Option<&[u8]>,
-    params: Option<&[u8]>,
-) -> Result<RootValues, ReviewError>
-    requires { IsHeap heap.old }
-    ensures { RootsReturn heap.new result (document_of review.now) (document_given (option_map (λ b. b.now) namespace.entry)) (document_given (option_map (λ b. b.now) params.entry)) }
-{
-    let request = review_values(heap, scratch, review)?;
-    let namespace = optional_value(heap, scratch, namespace)?;
-    let params = optional_value(heap, scratch, params)?;
-    Ok(RootValues {
-        roots: [
-            request.object,
-            request.old_object,
-            params,
-            namespace,
-            request.rest,
-        ],
-        uid: request.uid,
-    })
+impl Table {
+    /// The table of the roots of a review (AdmissionReview, `admission.k8s.io/v1`), a namespace and
+    /// params, read in one pass, and the uid of the review's request. A namespace or params that are
+    /// not given are null.
+    ///
+    /// The first refusal counts: of the review's form, of the namespace and the params, of the roots
+    /// by their references, of the charge. An allocation may fail first.
+    pub fn of_review(
+        alloc: Global,
+        review: &[u8],
+        namespace: Option<&[u8]>,
+        params: Option<&[u8]>,
+    ) -> Result<(Table, String), ReviewError>
+        ensures table { let parts = option_and_then parts_in (document_of review.now) in
+            let namespace_given = document_given (option_map (λ b. b.now) namespace.entry) in
+            let params_given = document_given (option_map (λ b. b.now) params.entry) in
+            ReviewTableReturns (λ r. record { values = r.0.values; charge = r.0.charge }) result parts namespace_given params_given }
+        ensures uid { IfOk result (λ r. string_bytes r.1 ≡ uid_in review.now) }
+    {
+        let others = read_others(alloc, namespace, params)?;
+        opened(others, review)
+    }
+
+    /// The same without a review: the roots of the review are null.
+    pub fn without_review(
+        alloc: Global,
+        namespace: Option<&[u8]>,
+        params: Option<&[u8]>,
+    ) -> Result<Table, ReviewError>
+        ensures { let namespace_given = document_given (option_map (λ b. b.now) namespace.entry) in
+            let params_given = document_given (option_map (λ b. b.now) params.entry) in
+            ReviewTableReturns (λ t. record { values = t.values; charge = t.charge }) result (Some null_parts) namespace_given params_given }
+    {
+        let others = read_others(alloc, namespace, params)?;
+        let PlacedOthers { mut heap, places } = others;
+        let Some(places) = places else {
+            return Err(ReviewError::InvalidDocument);
+        };
+        let null = Some(add_null(&mut heap)?);
+        let roots = [null, null, places.params, places.namespace, null];
+        Table::placed(heap, &roots)
+    }
 }
 
-/// Reads the five roots of a namespace and params, each null if it is not given, without a review.
-#[tactic(auto, using(crate::proofs::ReviewTables::other_roots_are_read, crate::proofs::ReviewTables::other_namespace_refused, crate::proofs::ReviewTables::other_params_refused))]
-pub(crate) fn read_other_roots(
+/// The table of a review and of these values, and the uid of the review's request.
+pub(crate) fn opened(others: PlacedOthers, review: &[u8]) -> Result<(Table, String), ReviewError>
+    requires { ArePlaced others }
+    ensures table { (namespace params : Option Data) → ArePlacedOthers others namespace params → ReviewTableReturns (λ r. record { values = r.0.values; charge = r.0.charge }) result (option_and_then parts_in (document_of review.now)) namespace params }
+    ensures uid { IfOk result (λ r. string_bytes r.1 ≡ uid_in review.now) }
+{
+    let PlacedOthers { mut heap, places } = others;
+    let alloc = heap.cells.alloc();
+    let mut scratch = Scratch::new(alloc);
+    let request = review_values(&mut heap, &mut scratch, review)?;
+    let Some(places) = places else {
+        return Err(ReviewError::InvalidDocument);
+    };
+    let uid = String::from_str(alloc, text_at(&heap, request.uid))?;
+    let roots = [
+        request.object,
+        request.old_object,
+        places.params,
+        places.namespace,
+        request.rest,
+    ];
+    let table = Table::placed(heap, &roots)?;
+    Ok((table, uid))
+}
+
+impl PlacedOthers {
+    /// Equal values, which share what does not change.
+    pub(crate) fn copy(&self) -> Result<PlacedOthers, AllocError>
+        requires { ArePlaced self.now }
+        ensures placed { IfOk result (λ o. ArePlaced o) }
+        ensures same { IfOk result (λ o. (namespace params : Option Data) → ArePlacedOthers self.now namespace params → ArePlacedOthers o namespace params) }
+    {
+        Ok(PlacedOthers {
+            heap: self.heap.copy()?,
+            places: self.places,
+        })
+    }
+}
+
+/// Reads a namespace and params. One that is not given is null.
+pub(crate) fn read_others(
+    alloc: Global,
+    namespace: Option<&[u8]>,
+    params: Option<&[u8]>,
+) -> Result<PlacedOthers, AllocError>
+    ensures { IfOk result (λ o. ArePlacedOthers o (document_given (option_map (λ b. b.now) namespace.entry)) (document_given (option_map (λ b. b.now) params.entry))) }
+{
+    let mut heap = Heap::new(alloc)?;
+    let mut scratch = Scratch::new(alloc);
+    match other_roots(&mut heap, &mut scratch, namespace, params) {
+        Ok(places) => Ok(PlacedOthers {
+            heap,
+            places: Some(places),
+        }),
+        Err(ReviewError::InvalidDocument) => Ok(PlacedOthers {
+            heap: Heap::new(alloc)?,
+            places: None,
+        }),
+        Err(_) => Err(AllocError),
+    }
+}
+
+#[tactic(auto, using(crate::proofs::ReviewTables::others_are_read, crate::proofs::ReviewTables::namespace_refused, crate::proofs::ReviewTables::params_refused))]
+fn other_roots(
     heap: &mut Heap,
     scratch: &mut Scratch,
     namespace: Option<&[u8]>,
     params: Option<&[u8]>,
-) -> Result<[Option<Placed>; 5], ReviewError>
+) -> Result<OtherRoots, ReviewError>
     requires { IsHeap heap.old }
-    ensures { OtherRootsReturn heap.new result (document_given (option_map (λ b. b.now) namespace.entry)) (document_given (option_map (λ b. b.now) params.entry)) }
+    ensures { OthersReturn heap.new result (document_given (option_map (λ b. b.now) namespace.entry)) (document_given (option_map (λ b. b.now) params.entry)) }
 {
-    let null = Some(add_null(heap)?);
     let namespace = optional_value(heap, scratch, namespace)?;
     let params = optional_value(heap, scratch, params)?;
-    Ok([null, null, params, namespace, null])
+    Ok(OtherRoots { namespace, params })
 }
 
-// The values of the request of a review.
+// Reads a review, and returns where the values of its request are.
 #[tactic(auto, using(crate::proofs::ReviewTables::review_is_read, crate::proofs::ReviewTables::no_review, crate::proofs::ReviewTables::no_document))]
 fn review_values(
     heap: &mut Heap,
@@ -71,7 +152,7 @@ fn review_values(
     bytes: &[u8],
 ) -> Result<PlacedRequest, ReviewError>
     requires { IsHeap heap.old }
-    ensures { ReviewReturns heap.new result (document_of bytes.now) }
+    ensures { ReviewReturns heap.old heap.new result (document_of bytes.now) }
 {
     let Some(text) = utf8(bytes) else {
         return Err(ReviewError::InvalidReview);
@@ -139,9 +220,9 @@ fn utf8(bytes: &[u8]) -> Option<&str>
     }
 }
 
-/// The text at the place of a text.
+// The text at the place of a text.
 #[tactic(auto, using(crate::proofs::ReviewTables::text_there))]
-pub(crate) fn text_at(heap: &Heap, place: u64) -> &str
+fn text_at(heap: &Heap, place: u64) -> &str
     requires heap { IsHeap heap.now }
     requires inside { place < length (heap_values heap.now) }
     ensures { (s : List ℕ) → IsValueAt (heap_values heap.now) place (kind.text s) → result.now ≡ s }

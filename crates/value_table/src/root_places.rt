@@ -1,11 +1,11 @@
 //! The roots at the references from 4 on.
 
-ghost use Rattle.std.specs.Prelude.{List};
+ghost use Rattle.std.specs.Prelude.{List, IfOk};
 ghost use Rattle.serde_json.specs.Data.{Data};
 ghost use Rattle.value_store.specs.Placing.{first_values};
 ghost use Rattle.value_store.specs.Roots.{start_contents};
 ghost use Rattle.value_table.specs.Heap.{heap_values, IsHeap};
-ghost use Rattle.value_table.specs.RootPlaces.{ArePlacedValues, AreSoundPlaces, ChargeReturns};
+ghost use Rattle.value_table.specs.RootPlaces.{ArePlacedValues, AreSoundPlaces, ChargeReturns, IsCharged};
 ghost use Rattle.value_table.specs.Start.{StartsWithValues};
 
 use crate::heap::Heap;
@@ -25,7 +25,8 @@ pub(crate) fn place_roots(
     requires heap { IsHeap heap.now }
     requires starts { StartsWithValues heap.now places.old first_values }
     requires sound { AreSoundPlaces (heap_values heap.now) roots.now }
-    ensures { (ds : List Data) → ArePlacedValues (heap_values heap.now) roots.now ds → ChargeReturns heap.now places.new result (start_contents ds) }
+    ensures charged { IfOk result (λ n. IsCharged heap.now places.new n) }
+    ensures due { (ds : List Data) → ArePlacedValues (heap_values heap.now) roots.now ds → ChargeReturns heap.now places.new result (start_contents ds) }
 {
     let mut charge = 0u64;
     let mut reference = 4u64;

@@ -1,6 +1,6 @@
 //! The table of values.
 
-ghost use Rattle.std.specs.Prelude.{◌≡◌, ◌≤◌, ◌++◌, map, option_map, option_and_then, string_bytes, Some, IfOk};
+ghost use Rattle.std.specs.Prelude.{◌≡◌, ◌≤◌, ◌++◌, map, List, IfOk};
 ghost use Rattle.std.specs.List.{AllByRecursion};
 ghost use Rattle.serde_json.specs.View.{view};
 ghost use Rattle.value_store.specs.Placing.{charge_limit, first_values};
@@ -8,20 +8,19 @@ ghost use Rattle.value_store.specs.Plain.{plain_value};
 ghost use Rattle.value_store.specs.Roots.{start_contents, StoreStarts};
 ghost use Rattle.value_store.specs.Value.{value};
 ghost use Rattle.value_table.specs.Meaning.{reference_of};
-ghost use Rattle.value_store.specs.Documents.{document_given, document_of};
-ghost use Rattle.value_store.specs.Reviews.{null_parts, parts_in, uid_in};
-ghost use Rattle.value_table.specs.ReviewTable.{ReviewTableReturns};
+ghost use Rattle.serde_json.specs.Data.{Data};
+ghost use Rattle.value_table.specs.Heap.{heap_values, IsHeap};
+ghost use Rattle.value_table.specs.RootPlaces.{ArePlacedValues, AreSoundPlaces, TableReturns};
 ghost use Rattle.value_table.specs.Start.{IsWelcome};
 
 use crate::content::Content;
 use crate::heap::Heap;
+use crate::placed::Placed;
 use crate::places::{next_reference, place, place_of};
 use crate::review_error::ReviewError;
-use crate::review_table::{read_other_roots, read_roots, text_at};
 use crate::root_places::place_roots;
 use crate::roots::{copies, first_places, start_places};
 use crate::sequence::Sequence;
-use json::Scratch;
 use serde_json::Value;
 use std::alloc::{AllocError, Global};
 use std::marker::Model;
@@ -84,53 +83,16 @@ impl Table {
         Ok(table)
     }
 
-    /// The table of the roots of a review (AdmissionReview, `admission.k8s.io/v1`), a namespace and
-    /// params, read in one pass, and the uid of the review's request. A namespace or params that are
-    /// not given are null.
-    ///
-    /// The first refusal counts: of the review's form, of the namespace and the params, of the roots
-    /// by their references, of the charge. An allocation may fail first.
-    pub fn of_review(
-        alloc: Global,
-        review: &[u8],
-        namespace: Option<&[u8]>,
-        params: Option<&[u8]>,
-    ) -> Result<(Table, String), ReviewError>
-        ensures table { let parts = option_and_then parts_in (document_of review.now) in
-            let namespace_given = document_given (option_map (λ b. b.now) namespace.entry) in
-            let params_given = document_given (option_map (λ b. b.now) params.entry) in
-            ReviewTableReturns (λ r. record { values = r.0.values; charge = r.0.charge }) result parts namespace_given params_given }
-        ensures uid { IfOk result (λ r. string_bytes r.1 ≡ uid_in review.now) }
+    /// The table of five roots whose values are in a heap. The first refusal counts: of a root, by its
+    /// reference, then of the charge.
+    pub(crate) fn placed(heap: Heap, roots: &[Option<Placed>; 5]) -> Result<Table, ReviewError>
+        requires heap { IsHeap heap }
+        requires sound { AreSoundPlaces (heap_values heap) roots.now }
+        ensures { (ds : List Data) → ArePlacedValues (heap_values heap) roots.now ds → TableReturns (λ t. record { values = t.values; charge = t.charge }) result (start_contents ds) }
     {
-        let mut heap = Heap::new(alloc)?;
-        let mut scratch = Scratch::new(alloc);
-        let values = read_roots(&mut heap, &mut scratch, review, namespace, params)?;
+        let mut heap = heap;
         let mut places = first_places(&mut heap)?;
-        let charge = place_roots(&heap, &mut places, &values.roots)?;
-        let uid = String::from_str(alloc, text_at(&heap, values.uid))?;
-        let table = Table {
-            heap,
-            places,
-            charge,
-        };
-        Ok((table, uid))
-    }
-
-    /// The same without a review: the roots of the review are null.
-    pub fn without_review(
-        alloc: Global,
-        namespace: Option<&[u8]>,
-        params: Option<&[u8]>,
-    ) -> Result<Table, ReviewError>
-        ensures { let namespace_given = document_given (option_map (λ b. b.now) namespace.entry) in
-            let params_given = document_given (option_map (λ b. b.now) params.entry) in
-            ReviewTableReturns (λ t. record { values = t.values; charge = t.charge }) result (Some null_parts) namespace_given params_given }
-    {
-        let mut heap = Heap::new(alloc)?;
-        let mut scratch = Scratch::new(alloc);
-        let roots = read_other_roots(&mut heap, &mut scratch, namespace, params)?;
-        let mut places = first_places(&mut heap)?;
-        let charge = place_roots(&heap, &mut places, &roots)?;
+        let charge = place_roots(&heap, &mut places, roots)?;
         Ok(Table {
             heap,
             places,

@@ -22,7 +22,7 @@ add_members-requires-clause-sound c =
 
 pub returns-in_default : goal.returns-in_default
 returns-in_default c = λ ms are.
-    request_none c.args.heap.now c.args.heap.now ms c.requires.heap (subst (λ o. IsUidOf (heap_values c.args.heap.now) o ms) c.in_default.is (c.find_uid.ensures ms are))
+    request_none c.args.heap.now ms c.requires.heap (subst (λ o. IsUidOf (heap_values c.args.heap.now) o ms) c.in_default.is (c.find_uid.ensures ms are))
 
 pub returns : goal.returns
 returns c = λ ms are.

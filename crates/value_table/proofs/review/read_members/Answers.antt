@@ -1,10 +1,11 @@
 use Rattle.value_table.proofs.Prelude.{◌≡◌, Some, None, arith, heap_values}
 use Rattle.json.specs.Json.{read_key}
+use Rattle.value_table.proofs.Growing.{grown_more, grown_none}
 use Rattle.value_table.proofs.ReviewReading.{so_far_start, so_far_turn, so_far_stop, so_far_no_key, so_far_ends}
 use Rattle.value_table.proofs.review.read_members.Goals as goal
 
 pub members-init : goal.members-init
-members-init c = record { heap = c.requires; found = so_far_start 126 c.args.reader.now (heap_values c.args.heap.now) }
+members-init c = record { heap = c.requires; grown = grown_none (heap_values c.args.heap.now); found = so_far_start 126 c.args.reader.now (heap_values c.args.heap.now) }
 
 pub returns-in_err-key-clause-refused : goal.returns-in_err-key-clause-refused
 returns-in_err-key-clause-refused c refused =
@@ -17,6 +18,7 @@ members-preserved c =
     let done = c.in_ok-read_member.ensures in
     record {
       heap = done.read.heap;
+      grown = grown_more (heap_values c.args.heap.now) (heap_values l.heap) (heap_values c.read_member.new.heap) l.invariant.grown done.read.grown;
       found = so_far_turn 126 c.args.reader.now l.reader c.next_key.new.self c.read_member.new.reader l.heap c.read_member.new.heap c.in-Some.key.now l.found c.read_member.new.found l.invariant.found named done.read done.shorter;
     }
 
@@ -30,4 +32,4 @@ pub returns-clause-read : goal.returns-clause-read
 returns-clause-read c =
     let l = c.members in
     let over : read_key l.reader ≡ Some (None, c.next_key.new.self) = grind arith in
-    so_far_ends 126 c.args.reader.now l.reader c.next_key.new.self l.heap l.found l.invariant.found l.invariant.heap over
+    so_far_ends 126 c.args.reader.now l.reader c.next_key.new.self c.args.heap.now l.heap l.found l.invariant.found l.invariant.heap l.invariant.grown over

@@ -1,10 +1,11 @@
-use Rattle.value_table.proofs.Prelude.{length, heap_values, IsHeap}
+use Rattle.value_table.proofs.Prelude.{length, HasGrown, heap_values, IsHeap}
 use Rattle.value_table.proofs.ReviewReading.{FoundSoFar}
 use Rattle.value_table.proofs.review.read_members.Given as goal
 
 abbrev pub invariant-members : goal.invariant-members
 invariant-members l = record {
   heap : IsHeap l.heap;
+  grown : HasGrown (heap_values l.fn.heap) (heap_values l.heap);
   found : FoundSoFar 126 l.initial.reader l.reader (heap_values l.heap) l.found;
 }
 

@@ -1,4 +1,4 @@
-use Rattle.std.proofs.Common.{◌≡◌, [], ◌∷◌, length, None, sym, ap, subst, ◌∙◌, lit<, arith, rules}
+use Rattle.std.proofs.Common.{◌≡◌, [], ◌∷◌, length, None, sym, ap, subst, ◌∙◌, lit<, arith}
 use Rattle.json.specs.Json.{members, parse_map, value}
 use Rattle.json.specs.Reads.{token_of}
 use Rattle.json.proofs.Grammar.{value_is, value-begin_object}
@@ -26,15 +26,15 @@ returns-in_ok-request_of-in-BeginObject-clause-read c =
     let first : c.args.reader.now ≡ token_of c.in_ok-token.token ∷ c.next.new.self = grind arith in
     let rest = c.next.new.self in
     let is = first ∙ ap (λ k. token_of k ∷ rest) c.in-BeginObject.is in
-    subst (λ ts. ReadsRequest c.request_of.new.heap c.in_ok-request_of-in-BeginObject.field-0 (converted of_json (value 126 ts)) c.gather_members.new.reader) (sym is)
-    (request_read c.in_ok-fresh.fresh c.gather_members.new.heap c.request_of.new.heap c.in_ok-request_of-in-BeginObject.field-0 c.in_ok-found-in-BeginObject.found.entries 126 rest c.gather_members.new.reader (lit< tt) c.in_ok-found-in-BeginObject.ensures.read c.in_ok-request_of-in-BeginObject.ensures)
+    subst (λ ts. ReadsRequest c.args.heap.now c.request_of.new.heap c.in_ok-request_of-in-BeginObject.field-0 (converted of_json (value 126 ts)) c.gather_members.new.reader) (sym is)
+    (request_read c.args.heap.now c.gather_members.new.heap c.request_of.new.heap c.in_ok-request_of-in-BeginObject.field-0 c.in_ok-found-in-BeginObject.found.entries 126 rest c.gather_members.new.reader (lit< tt) c.in_ok-found-in-BeginObject.ensures.read c.in_ok-request_of-in-BeginObject.ensures)
 
 pub returns-in_ok-check_token-in_default : goal.returns-in_ok-check_token-in_default
 returns-in_ok-check_token-in_default c =
     let first : c.args.reader.now ≡ token_of c.in_ok-token.token ∷ c.next.new.self = grind arith in
-    let read = request_other c.in_ok-fresh.fresh 126 (token_of c.in_ok-token.token) c.next.new.self c.check_token.new.reader (search rules) (not_object c.in_ok-token.token c.in_default.not-BeginObject) c.in_ok-check_token-in_default.ensures.read in
+    let read = request_other c.args.heap.now 126 (token_of c.in_ok-token.token) c.next.new.self c.check_token.new.reader c.requires (not_object c.in_ok-token.token c.in_default.not-BeginObject) c.in_ok-check_token-in_default.ensures.read in
     record {
-      read = subst (λ ts. ReadsRequest c.in_ok-fresh.fresh None (converted of_json (value 126 ts)) c.check_token.new.reader) (sym first) read;
+      read = subst (λ ts. ReadsRequest c.args.heap.now c.args.heap.now None (converted of_json (value 126 ts)) c.check_token.new.reader) (sym first) read;
       shorter = let less = c.in_ok-check_token-in_default.ensures.shorter in grind arith;
       refused = λ e. absurd (cc);
     }

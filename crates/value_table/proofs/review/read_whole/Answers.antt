@@ -28,12 +28,12 @@ returns-in_ok-found-in-BeginObject-clause-read c =
     let rest = c.next.new.self in
     let is = first ∙ ap (λ k. token_of k ∷ rest) c.in-BeginObject.is in
     let found = c.in_ok-found-in-BeginObject in
-    let top = top_read c.read_members.new.heap found.found 127 rest c.read_members.new.reader (lit< tt) found.ensures.read in
-    subst (λ ts. ReadsReviewValue c.read_members.new.heap c.request_of_review.result (converted of_json (value 127 ts)) c.read_members.new.reader) (sym is)
-    (subst (λ r. ReadsReviewValue c.read_members.new.heap r (converted of_json (value 127 (Token.begin_object ∷ rest))) c.read_members.new.reader) (sym c.request_of_review.ensures) top)
+    let top = top_read c.args.heap.now c.read_members.new.heap found.found 127 rest c.read_members.new.reader (lit< tt) found.ensures.read in
+    subst (λ ts. ReadsReviewValue c.args.heap.now c.read_members.new.heap c.request_of_review.result (converted of_json (value 127 ts)) c.read_members.new.reader) (sym is)
+    (subst (λ r. ReadsReviewValue c.args.heap.now c.read_members.new.heap r (converted of_json (value 127 (Token.begin_object ∷ rest))) c.read_members.new.reader) (sym c.request_of_review.ensures) top)
 
 pub returns-in_ok-check_token-in_default : goal.returns-in_ok-check_token-in_default
 returns-in_ok-check_token-in_default c =
     let first : c.args.reader.now ≡ token_of c.in_ok-token.token ∷ c.next.new.self = grind arith in
     let read = top_other c.args.heap.now 127 (token_of c.in_ok-token.token) c.next.new.self c.check_token.new.reader c.requires (not_object c.in_ok-token.token c.in_default.not-BeginObject) c.in_ok-check_token-in_default.ensures.read in
-    record { read = subst (λ ts. ReadsReviewValue c.args.heap.now None (converted of_json (value 127 ts)) c.check_token.new.reader) (sym first) read; refused = λ e. absurd (cc) }
+    record { read = subst (λ ts. ReadsReviewValue c.args.heap.now c.args.heap.now None (converted of_json (value 127 ts)) c.check_token.new.reader) (sym first) read; refused = λ e. absurd (cc) }

@@ -1,23 +1,23 @@
-use Rattle.value_table.proofs.Prelude.{arith}
-use Rattle.value_table.proofs.ReviewTables.{charge_refused, placed_stay}
+use Rattle.value_table.proofs.Prelude.{Some, refl, heap_values}
+use Rattle.value_store.specs.Reviews.{null_parts}
+use Rattle.value_table.proofs.ReviewTables.{no_others, none_given, others_are_placed, others_are_sound, placed_returns, some_given, some_sound}
 use Rattle.value_table.proofs.table.Table.without_review.Goals as goal
 
-pub place_roots-requires-clause-sound : goal.place_roots-requires-clause-sound
-place_roots-requires-clause-sound c =
-    (placed_stay c.read_other_roots.new.heap c.first_places.new.heap c.in_ok-roots.roots _ _ _ c.in_ok-places.ensures.grown c.in_ok-places.ensures.starts.sound.heap c.in_ok-roots.ensures).sound
+pub returns-in_default : goal.returns-in_default
+returns-in_default c =
+    let others = c.in_ok-others.others in
+    no_others (Some null_parts) _ _ refl (none_given (heap_values others.heap) others.places _ _ c.in_default.is c.in_ok-others.ensures.values)
 
-pub returns-in_err-charge : goal.returns-in_err-charge
-returns-in_err-charge c =
-    let placed = placed_stay c.read_other_roots.new.heap c.first_places.new.heap c.in_ok-roots.roots _ _ _ c.in_ok-places.ensures.grown c.in_ok-places.ensures.starts.sound.heap c.in_ok-roots.ensures in
-    charge_refused _ c.from_residual-in_err-charge.result c.in_err-charge.field-0.0 c.first_places.new.heap c.place_roots.new.places _ _ _ placed.documents (grind arith) placed.is (c.in_err-charge.ensures placed.documents placed.answer)
-
-pub invariant_of-result : goal.invariant_of-result
-invariant_of-result c =
-    let placed = placed_stay c.read_other_roots.new.heap c.first_places.new.heap c.in_ok-roots.roots _ _ _ c.in_ok-places.ensures.grown c.in_ok-places.ensures.starts.sound.heap c.in_ok-roots.ensures in
-    let all = c.in_ok-charge.ensures placed.documents placed.answer in
-    (all.0, all.1)
+pub placed-requires-clause-sound : goal.placed-requires-clause-sound
+placed-requires-clause-sound c =
+    let others = c.in_ok-others.others in
+    let sound = some_sound (heap_values others.heap) others.places c.in-Some.places c.in-Some.is c.in_ok-others.ensures.placed.sound in
+    others_are_sound others.heap c.add_null.new.heap (Some c.in_ok-add_null.field-0) c.in-Some.places c.in_ok-add_null.ensures sound
 
 pub returns : goal.returns
 returns c =
-    let placed = placed_stay c.read_other_roots.new.heap c.first_places.new.heap c.in_ok-roots.roots _ _ _ c.in_ok-places.ensures.grown c.in_ok-places.ensures.starts.sound.heap c.in_ok-roots.ensures in
-    (placed.documents, placed.is, (c.in_ok-charge.ensures placed.documents placed.answer).2)
+    let others = c.in_ok-others.others in
+    let sound = some_sound (heap_values others.heap) others.places c.in-Some.places c.in-Some.is c.in_ok-others.ensures.placed.sound in
+    let values = some_given (heap_values others.heap) others.places c.in-Some.places _ _ c.in-Some.is c.in_ok-others.ensures.values in
+    let at = others_are_placed others.heap c.add_null.new.heap (Some c.in_ok-add_null.field-0) c.in-Some.places _ _ c.in_ok-add_null.ensures sound values in
+    placed_returns _ c.add_null.new.heap _ _ _ _ c.placed.result at c.placed.ensures

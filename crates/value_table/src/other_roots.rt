@@ -1,0 +1,20 @@
+//! Where the values of a namespace and params are.
+
+use crate::heap::Heap;
+use crate::placed::Placed;
+
+/// Where the values of a namespace and params are. One that contains a number which is not an
+/// integer of 64 bits signed has none.
+#[derive(Clone, Copy, Debug, Drop)]
+pub(crate) struct OtherRoots {
+    pub(crate) namespace: Option<Placed>,
+    pub(crate) params: Option<Placed>,
+}
+
+/// The values of a namespace and params.
+#[derive(Drop)]
+pub(crate) struct PlacedOthers {
+    pub(crate) heap: Heap,
+    /// Where they are. None if one of the documents is not JSON.
+    pub(crate) places: Option<OtherRoots>,
+}
