@@ -1,13 +1,17 @@
 -- Reviews, from the states in which the policies' programs stand.
-use Rattle.admission.proofs.Prelude.{◌≡◌, ℕ, ◌+◌, ◌*◌, ◌≤◌, ◌⊎◌, Bool, false, List, [], ◌∷◌, ◌++◌, length, Option, Some, Result, Ok, Err, refl, sym, ap, ◌∙◌, subst, arith, inl, inr, get_or, map, slice_get, if◌then◌else◌, cases_lt, length-map, length_push, Fault as GuestFault, F8, StartIsCanonical, Contents, StoreStarts, start_contents, TableError, view, Value, Roots, StartsAreTables, State, start_state, StatesAreKept, is_running, state_after, Status, Exited, Running, HasValues, TakenOrRefused, PartsEnd, policy_work, decision_of, outcome_of, outcome_word, Compiles, Verdict, Policy, Decides, OutOfBudget, LeavesByExit, PolicyTree, Finding, decided, judged_by, verdict_of, CompileError, FailurePolicy, PolicyAndImage, Reply, Documents, IsAnswered, IsPolicy, decision, started, values_given, IsPolicyOf, Exit, Exits, HasExited, IsExit, OfVerdict, IsSaid, Decision, said_of, Images, PolicyRun, RunHasStatus, RunAgrees, exactly, ReturnsDue, ReviewRoots, document_given, documents_from, documents_given, parts_given, root_refusal, uid_in, uid_of, RunError, ReviewRefused, NamespaceOrParamsRefused, OutOfSteps, OverLimit}
+use Rattle.admission.proofs.Prelude.{◌≡◌, ℕ, ◌+◌, ◌*◌, ◌≤◌, ◌⊎◌, Bool, false, List, [], ◌∷◌, ◌++◌, length, Option, Some, Result, Ok, Err, refl, sym, ap, ◌∙◌, subst, arith, inl, inr, if◌then◌else◌, cases_lt, length-map, length_push, Fault as GuestFault, F8, StartIsCanonical, Contents, Roots, StartsAreTables, State, start_state, StatesAreKept, is_running, state_after, Status, Exited, Running, HasValues, TakenOrRefused, PartsEnd, policy_work, decision_of, outcome_of, outcome_word, Compiles, Verdict, Policy, Decides, OutOfBudget, LeavesByExit, PolicyTree, Finding, decided, judged_by, verdict_of, CompileError, FailurePolicy, PolicyAndImage, Reply, Documents, IsAnswered, IsPolicy, decision, started, values_given, IsPolicyOf, Exit, Exits, HasExited, IsExit, OfVerdict, IsSaid, Decision, said_of, Images, PolicyRun, RunHasStatus, RunAgrees, exactly, document_given, parts_given, uid_in, RunError, ReviewRefused, NamespaceOrParamsRefused, OutOfSteps, OverLimit}
 use Rattle.serde_json.specs.Data as json
 use Rattle.bpf_machine.specs.declared.status.Status.TheVariants.{Fault}
 use Rattle.policy_glue.specs.Checking as checking
 use Rattle.policy_glue.specs.Response.{response_of}
 use Rattle.policy_glue.specs.declared.outcome.Outcome.{Outcome}
 use Rattle.admission.specs.Deciding.{answer_of, is_allowed}
-use Rattle.admission.specs.declared.run_error.RunError.TheVariants.{Memory}
-use Rattle.admission.proofs.RootContents.{are_five, are_started, contents_are, has_values, refused_documents, refused_roots, uid_is}
+use Rattle.value_table.specs.ReviewTable.{ReviewTableReturns}
+use Rattle.value_table.specs.declared.review_error.ReviewError.{ReviewError}
+use Rattle.value_table.specs.declared.review_error.ReviewError.TheVariants as review_error
+use Rattle.admission.specs.Reviews.{refusal_at, table_refusal}
+use Rattle.admission.proofs.RootTables.{refused_as}
+use Rattle.admission.proofs.RootContents.{given_have_values}
 
 -- ---- findings
 
@@ -49,9 +53,6 @@ pub record Laws : Type 0 where
 abbrev IsOfDocuments : RunError → Type 0
 IsOfDocuments e = (e ≡ ReviewRefused) ⊎ (e ≡ NamespaceOrParamsRefused)
 
-given_refusal : (a : Option ReviewRoots) (b c : Option json.Data) (e : RunError) → documents_from a b c ≡ Err e → IsOfDocuments e
-given_refusal a b c e is = grind arith
-
 by_test : (b : Bool) → IsOfDocuments (if b then NamespaceOrParamsRefused else ReviewRefused)
 by_test b = grind arith
 
@@ -66,101 +67,89 @@ module _ (gate : PolicyAndImage) (d : Documents) (of : IsPolicyOf d.policy gate)
   by_documents : (e : RunError) → values_given d ≡ Err e → IsOfDocuments e → ExitsSo (Err e)
   by_documents e is of = grind (arith, policy)
 
-  -- the documents are refused
-  pub not_given : (e : RunError) → ReturnsDue {B = List Value} (λ ds. map view ds) (documents_given (Some d.review) d.namespace d.params) (Err e) → ExitsSo (Err e)
-  unfolding documents_given
-  not_given Memory due = (tt, tt)
-  not_given e due = by_documents e (refused_documents d.review d.namespace d.params e due) (given_refusal (parts_given (Some d.review)) (document_given d.namespace) (document_given d.params) e due)
+  -- the documents give no table
+  pub not_opened : {S : Type 0} (contents : S → Contents) (e : ReviewError)
+      → ReviewTableReturns contents (Err e) (parts_given (Some d.review)) (document_given d.namespace) (document_given d.params) → ExitsSo (Err (table_refusal e))
+  not_opened contents review_error.Memory h = (tt, tt)
+  not_opened contents review_error.InvalidReview h =
+      by_documents ReviewRefused (refused_as contents (Some d.review) d.namespace d.params review_error.InvalidReview (λ m. absurd (cc)) h) (inl refl)
+  not_opened contents review_error.InvalidDocument h =
+      by_documents NamespaceOrParamsRefused (refused_as contents (Some d.review) d.namespace d.params review_error.InvalidDocument (λ m. absurd (cc)) h) (inr refl)
+  not_opened contents (review_error.RootRefused k) h =
+      by_documents (refusal_at k) (refused_as contents (Some d.review) d.namespace d.params (review_error.RootRefused k) (λ m. absurd (cc)) h) (by_test _)
+  not_opened contents review_error.ChargeTooLarge h =
+      by_documents ReviewRefused (refused_as contents (Some d.review) d.namespace d.params review_error.ChargeTooLarge (λ m. absurd (cc)) h) (inl refl)
 
-  module _ (documents : List json.Data) (are_documents : documents_given (Some d.review) d.namespace d.params ≡ Ok documents) where
-    no_roots : (e : TableError) → start_contents documents ≡ Err e → IsOfDocuments (root_refusal e) → ExitsSo (Err (root_refusal e))
-    no_roots e is = by_documents (root_refusal e) (refused_roots d.review d.namespace d.params documents e are_documents is)
+  module _ (laws : Laws) (roots : Roots) (given : values_given d ≡ Ok (started roots)) (has : HasValues roots (started roots)) where
+    abbrev f : FailurePolicy
+    f = gate.policy.failure_policy
 
-    -- the roots are refused
-    pub not_started : (e : TableError) → StoreStarts {S = Contents} (λ c. c) (start_contents documents) (Err e) → ExitsSo (Err (root_refusal e))
-    not_started e due = grind (arith, by_test, no_roots)
+    abbrev s : State
+    s = state_after n (start_state gate.image (started roots))
 
-    module _ (laws : Laws) (roots : Roots) (starts : start_contents documents ≡ Ok (started roots)) where
-      abbrev f : FailurePolicy
-      f = gate.policy.failure_policy
+    abbrev run : PolicyRun d
+    run = record {
+      case = record { policy = policy; roots = roots; are_given = given };
+      image = gate.image;
+      program = of.1.program;
+    }
 
-      abbrev s : State
-      s = state_after n (start_state gate.image (started roots))
+    -- where it is stopped it has decided
+    stopped : is_running s.status ≡ false → Decides f of.1.trees roots (started roots) s
+    stopped still = of.1.program.stops roots (started roots) n has still
 
-      abbrev run : PolicyRun d
-      run = record {
-        case = record { policy = policy; roots = roots; are_given = contents_are d.review d.namespace d.params documents (started roots) are_documents starts };
-        image = gate.image;
-        program = of.1.program;
-      }
+    decides : 128 * policy_work f of.1.trees roots ≤ n → Decides f of.1.trees roots (started roots) s
+    decides far = of.1.program.decides roots (started roots) n has far
 
-      has : HasValues roots (started roots)
-      has = has_values laws.tables laws.canonical documents roots (are_five (Some d.review) d.namespace d.params documents are_documents) starts
+    not_running : Decides f of.1.trees roots (started roots) s → s.status ≡ Running → ⊥
+    not_running decided running = grind arith
 
-      -- where it is stopped it has decided
-      stopped : is_running s.status ≡ false → Decides f of.1.trees roots (started roots) s
-      stopped still = of.1.program.stops roots (started roots) n has still
+    standing : (due : Verdict → Status) → s.status ≡ due (decision run.case) → RunHasStatus (exactly gate.image) d n due
+    standing due is = record { run = run; is_meant = refl; status = is }
 
-      decides : 128 * policy_work f of.1.trees roots ≤ n → Decides f of.1.trees roots (started roots) s
-      decides far = of.1.program.decides roots (started roots) n has far
+    unended : s.status ≡ Running → ExitsSo (Err OutOfSteps)
+    unended running =
+        elim (cases_lt n (128 * policy_work f of.1.trees roots)) [
+          | inl before ↦ (record { case = run.case; early = before }, standing (λ v. Running) running)
+          | inr not_before ↦ absurd (not_running (decides not_before) running)
+        ]
 
-      not_running : Decides f of.1.trees roots (started roots) s → s.status ≡ Running → ⊥
-      not_running decided running = grind arith
+    stopped_by : (fault : GuestFault) → s.status ≡ Fault fault → Decides f of.1.trees roots (started roots) s → ExitsSo (Err OverLimit)
+    stopped_by fault is (OutOfBudget by why) = (record { case = run.case; beyond = why }, standing (λ v. Fault F8) by)
+    stopped_by fault is (LeavesByExit by layout) = cc
 
-      standing : (due : Verdict → Status) → s.status ≡ due (decision run.case) → RunHasStatus (exactly gate.image) d n due
-      standing due is = record { run = run; is_meant = refl; status = is }
+    exit_by : (w : ℕ) → s.status ≡ Exited w → Decides f of.1.trees roots (started roots) s → ExitsSo (Ok (record { state = s; uid = uid_in d.review }))
+    exit_by w is (OutOfBudget by why) = cc
+    exit_by w is (LeavesByExit by layout) =
+        let memory = (laws.states.after gate.image (started roots) n of.1.program.code of.1.program.constants has.table).memory in
+        let many = compiled_length gate.policy (Ok of.1.trees) of.1.trees of.1.compiles refl in
+        let few : length (decision run.case).findings ≤ length gate.policy.validations = omega (arith, few_findings f of.1.trees roots, many) in
+        (record { case = run.case; of_policy = refl; is_memory = memory; few = few; layout = layout; uid_is = refl }, standing (λ v. Exited (outcome_word v.outcome)) by)
 
-      unended : s.status ≡ Running → ExitsSo (Err OutOfSteps)
-      unended running =
-          elim (cases_lt n (128 * policy_work f of.1.trees roots)) [
-            | inl before ↦ (record { case = run.case; early = before }, standing (λ v. Running) running)
-            | inr not_before ↦ absurd (not_running (decides not_before) running)
-          ]
+    ended : HasExited s.status (Ok tt) → ExitsSo (Ok (record { state = s; uid = uid_in d.review }))
+    ended exited = exit_by exited.0 exited.1 (stopped (ap is_running exited.1))
 
-      stopped_by : (fault : GuestFault) → s.status ≡ Fault fault → Decides f of.1.trees roots (started roots) s → ExitsSo (Err OverLimit)
-      stopped_by fault is (OutOfBudget by why) = (record { case = run.case; beyond = why }, standing (λ v. Fault F8) by)
-      stopped_by fault is (LeavesByExit by layout) = cc
+    not_ended : (e : RunError) → HasExited s.status (Err e) → ExitsSo (Err e)
+    not_ended OutOfSteps running = unended running
+    not_ended OverLimit faulted = stopped_by faulted.0 faulted.1 (stopped (ap is_running faulted.1))
+    not_ended e none = absurd none
 
-      exit_by : (w : ℕ) → s.status ≡ Exited w → Decides f of.1.trees roots (started roots) s → ExitsSo (Ok (record { state = s; uid = uid_in d.review }))
-      exit_by w is (OutOfBudget by why) = cc
-      exit_by w is (LeavesByExit by layout) =
-          let memory = (laws.states.after gate.image (started roots) n of.1.program.code of.1.program.constants has.table).memory in
-          let many = compiled_length gate.policy (Ok of.1.trees) of.1.trees of.1.compiles refl in
-          let few : length (decision run.case).findings ≤ length gate.policy.validations = omega (arith, few_findings f of.1.trees roots, many) in
-          (record { case = run.case; of_policy = refl; is_memory = memory; few = few; layout = layout; uid_is = refl }, standing (λ v. Exited (outcome_word v.outcome)) by)
+  module _ (laws : Laws) (values : Contents) (given : values_given d ≡ Ok values) (machine : State) (is : machine ≡ state_after n (start_state gate.image values)) where
+    -- what holds of a state behind a start on roots holds of the machine
+    of_machine : (P : State → Type 0) → ((roots : Roots) → values_given d ≡ Ok (started roots) → HasValues roots (started roots) → P (state_after n (start_state gate.image (started roots)))) → P machine
+    of_machine P of_roots =
+        let own = given_have_values laws.tables laws.canonical (Some d.review) d.namespace d.params values given in
+        subst P (sym is) (subst (λ (v : Contents). P (state_after n (start_state gate.image v))) (sym own.are) (of_roots own.roots (given ∙ ap Ok own.are) (subst (HasValues own.roots) own.are own.has)))
 
-      ended : HasExited s.status (Ok tt) → ExitsSo (Ok (record { state = s; uid = uid_in d.review }))
-      ended exited = exit_by exited.0 exited.1 (stopped (ap is_running exited.1))
+    -- the program has not exited
+    pub not_exited : (e : RunError) → HasExited machine.status (Err e) → ExitsSo (Err e)
+    not_exited e = of_machine (λ s. HasExited s.status (Err e) → ExitsSo (Err e)) (λ roots begins has. not_ended laws roots begins has e)
 
-      not_ended : (e : RunError) → HasExited s.status (Err e) → ExitsSo (Err e)
-      not_ended OutOfSteps running = unended running
-      not_ended OverLimit faulted = stopped_by faulted.0 faulted.1 (stopped (ap is_running faulted.1))
-      not_ended e none = absurd none
-
-    module _ (laws : Laws) (values : Contents) (starts : start_contents documents ≡ Ok values) (machine : State) (is : machine ≡ state_after n (start_state gate.image values)) where
-      -- what holds of a state behind a start on roots holds of the machine
-      of_machine : (P : State → Type 0) → ((roots : Roots) → start_contents documents ≡ Ok (started roots) → P (state_after n (start_state gate.image (started roots)))) → P machine
-      of_machine P of_roots =
-          let begun = are_started documents values (are_five (Some d.review) d.namespace d.params documents are_documents).five starts in
-          subst P (sym is) (subst (λ (v : Contents). P (state_after n (start_state gate.image v))) (sym begun.are) (of_roots begun.roots (starts ∙ ap Ok begun.are)))
-
-      -- the program has not exited
-      pub not_exited : (e : RunError) → HasExited machine.status (Err e) → ExitsSo (Err e)
-      not_exited e = of_machine (λ s. HasExited s.status (Err e) → ExitsSo (Err e)) (λ roots begins. not_ended laws roots begins e)
-
-      -- the program has exited
-      pub has_exited : (request : json.Data) (uid : List ℕ) → (length documents ≡ 5 → slice_get documents 4 ≡ Some request) → uid ≡ uid_of request
-          → HasExited machine.status (Ok tt) → ExitsSo (Ok (record { state = machine; uid = uid }))
-      has_exited request uid at of_request =
-          let five = (are_five (Some d.review) d.namespace d.params documents are_documents).five in
-          let same : uid ≡ uid_in d.review = of_request ∙ uid_is d.review d.namespace d.params documents request are_documents (at five) in
-          of_machine (λ s. HasExited s.status (Ok tt) → ExitsSo (Ok (record { state = s; uid = uid })))
-          (λ roots begins exited. subst (λ (u : List ℕ). ExitsSo (Ok (record { state = state_after n (start_state gate.image (started roots)); uid = u }))) (sym same) (ended laws roots begins exited))
-
--- the fifth document
-pub at_four : (ds : List Value) (x : Value) → length (map view ds) ≡ 5 → slice_get (map view ds) 4 ≡ Some (view (get_or ds 4 x))
-at_four (a ∷ b ∷ c ∷ e ∷ g ∷ more) x five = refl
-at_four ds x five = absurd (omega (arith, five))
+    -- the program has exited
+    pub has_exited : (uid : List ℕ) → uid ≡ uid_in d.review → HasExited machine.status (Ok tt) → ExitsSo (Ok (record { state = machine; uid = uid }))
+    has_exited uid same =
+        of_machine (λ s. HasExited s.status (Ok tt) → ExitsSo (Ok (record { state = s; uid = uid })))
+        (λ roots begins has exited. subst (λ (u : List ℕ). ExitsSo (Ok (record { state = state_after n (start_state gate.image (started roots)); uid = u }))) (sym same) (ended laws roots begins has exited))
 
 -- ---- what is made of it
 

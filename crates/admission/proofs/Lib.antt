@@ -1,7 +1,7 @@
 pub mod Results
-mod Reviewed
 mod DocumentNumbers
 pub mod RootContents
+pub mod RootTables
 pub mod Decided
 pub mod Standing
 pub mod OneReview

@@ -58,13 +58,13 @@ pub use Rattle.value_store.specs.Roots.{StoreStarts, contents_of, root_of, root_
 pub use Rattle.value_store.specs.declared.table_error.TableError.{TableError}
 pub use Rattle.value_store.specs.declared.table_error.TableError.TheVariants.{RootsTooLarge}
 pub use Rattle.admission.specs.Deciding.{Reply, Case, Documents, IsAnswered, IsPolicy, IsPolicyOf, decision}
-pub use Rattle.admission.specs.Deciding.{started, values_given, values_of_roots}
+pub use Rattle.admission.specs.Deciding.{AreGiven, started, values_given, values_of_roots}
 pub use Rattle.admission.specs.Exiting.{Exit, Exits, HasExited, IsExit, OfVerdict}
 pub use Rattle.admission.specs.Lent.{documents_lent}
 pub use Rattle.admission.specs.OneAnswer.{ReviewHasOneResult}
 pub use Rattle.admission.specs.Reviews.{ReturnsDue, ReviewRoots, accepted, contents_from, document_given, documents_from}
 pub use Rattle.admission.specs.Reviews.{is_review, member_or_null, members_in, parts_given, parts_in, request_of}
-pub use Rattle.admission.specs.Reviews.{root_refusal, text_or_empty, uid_of, without}
+pub use Rattle.admission.specs.Reviews.{root_refusal, text_or_empty, without}
 pub use Rattle.admission.specs.RootValues.{AreOfRoots, DocumentsHaveValues, GivenHaveValues}
 pub use Rattle.admission.specs.Saying.{IsSaid, Decision, said_of}
 pub use Rattle.admission.specs.Standing.{Images, PolicyRun, RunHasStatus, RunAgrees, exactly}

@@ -1,9 +1,8 @@
 -- The contents at the start of a review's roots.
-use Rattle.admission.proofs.Prelude.{◌≡◌, ℕ, suc, Bool, true, false, List, [], ◌∷◌, ◌++◌, length, Option, Some, None, Result, Ok, Err, bytes_eq, refl, sym, ap, ◌∙◌, subst, arith, codes, map, nat_le, option_and_then, option_map, unwrap_or, if◌then◌else◌, slice_get, get, get_member, StartIsCanonical, Contents, charge_limit, first_values, contents_of, root_of, root_then, roots_of, sizes, start_contents, TableError, RootsTooLarge, Roots, AreDocuments, HasNumbers, MembersHaveNumbers, StartsAreTables, HasValues, started, values_of_roots, document_of, ReviewRoots, accepted, contents_from, contents_given, document_given, documents_from, documents_given, is_review, members_in, parts_given, parts_in, parts_of, request_of, root_refusal, text_or_empty, uid_in, uid_of, without, AreOfRoots, DocumentsHaveValues, GivenHaveValues, RunError}
+use Rattle.admission.proofs.Prelude.{◌≡◌, ℕ, suc, Bool, true, false, List, [], ◌∷◌, ◌++◌, length, Option, Some, None, Result, Ok, Err, bytes_eq, refl, sym, ap, ◌∙◌, subst, arith, codes, map, nat_le, option_and_then, option_map, unwrap_or, if◌then◌else◌, get, StartIsCanonical, Contents, charge_limit, first_values, contents_of, root_of, root_then, roots_of, sizes, start_contents, TableError, RootsTooLarge, Roots, AreDocuments, HasNumbers, MembersHaveNumbers, StartsAreTables, HasValues, started, values_of_roots, document_of, ReviewRoots, accepted, contents_from, contents_given, document_given, documents_from, documents_given, is_review, members_in, parts_given, parts_in, parts_of, request_of, without, AreOfRoots, DocumentsHaveValues, GivenHaveValues, RunError}
 use Rattle.serde_json.specs.Data as json
 use Rattle.value_store.specs.Value.{Value, value}
 use Rattle.admission.proofs.DocumentNumbers.{document_fits, get_fits, member_fits}
-use Rattle.admission.proofs.Reviewed.{member_kept}
 
 -- ---- the numbers of the roots
 
@@ -73,28 +72,6 @@ pub are_five : (review namespace params : Option (List ℕ)) (ds : List json.Dat
 unfolding documents_given
 are_five review namespace params ds e = five_by (parts_given review) (document_given namespace) (document_given params) ds (given_fits review) (other_fits namespace) (other_fits params) e
 
--- ---- the uid
-
-uid_kept : (ms : json.Members) → uid_of (parts_of ms).request ≡ text_or_empty (get_member (codes "uid") ms)
-unfolding parts_of
-uid_kept ms = grind (arith, member_kept)
-
-uid_parts : (o : Option json.Members) (p : ReviewRoots) → option_map parts_of o ≡ Some p → uid_of p.request ≡ text_or_empty (option_and_then (get_member (codes "uid")) o)
-uid_parts o p e = grind (arith, uid_kept)
-
-uid_review : (o : Option json.Data) (p : ReviewRoots) → option_and_then parts_in o ≡ Some p
-    → uid_of p.request ≡ text_or_empty (option_and_then (get_member (codes "uid")) (option_and_then request_of o))
-uid_review o p e = grind (arith, uid_parts)
-
-uid_by : (a : Option ReviewRoots) (b c : Option json.Data) (ds : List json.Data) (request : json.Data) (uid : List ℕ)
-    → ((p : ReviewRoots) → a ≡ Some p → uid_of p.request ≡ uid) → documents_from a b c ≡ Ok ds → slice_get ds 4 ≡ Some request → uid_of request ≡ uid
-uid_by a b c ds request uid is e at = grind arith
-
-pub uid_is : (review : List ℕ) (namespace params : Option (List ℕ)) (ds : List json.Data) (request : json.Data)
-    → documents_given (Some review) namespace params ≡ Ok ds → slice_get ds 4 ≡ Some request → uid_of request ≡ uid_in review
-unfolding documents_given uid_in
-uid_is review namespace params ds request e at = grind (arith, uid_review, uid_by)
-
 -- ---- the contents
 
 more_roots : (count : ℕ) (r : Result Value TableError) (rest : Result (List Value) TableError) (vs : List Value)
@@ -153,19 +130,7 @@ unfolding contents_given
 given_have_values tables canonical review namespace params values is =
     values_of_documents (documents_given review namespace params) values is (λ ds documents starts. let own = are_five review namespace params ds documents in roots_have_values tables canonical ds values own.five own.documents starts)
 
--- ---- refusals
-
--- documents that give no roots are refused so
-pub refused_documents : (review : List ℕ) (namespace params : Option (List ℕ)) (e : RunError) → documents_given (Some review) namespace params ≡ Err e
-    → contents_given (Some review) namespace params ≡ Err e
-unfolding contents_given
-refused_documents review namespace params e is = ap contents_from is
-
--- and so are roots that are refused
-pub refused_roots : (review : List ℕ) (namespace params : Option (List ℕ)) (ds : List json.Data) (e : TableError) → documents_given (Some review) namespace params ≡ Ok ds → start_contents ds ≡ Err e → contents_given (Some review) namespace params ≡ Err (root_refusal e)
-unfolding contents_given
-refused_roots review namespace params ds e documents is = ap contents_from documents ∙ ap accepted is
-
+-- documents that are roots give the contents
 pub contents_are : (review : List ℕ) (namespace params : Option (List ℕ)) (ds : List json.Data) (values : Contents) → documents_given (Some review) namespace params ≡ Ok ds → start_contents ds ≡ Ok values → contents_given (Some review) namespace params ≡ Ok values
 unfolding contents_given
 contents_are review namespace params ds values documents is = ap contents_from documents ∙ ap accepted is

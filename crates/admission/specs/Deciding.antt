@@ -94,6 +94,11 @@ pub record Documents : Type 0 where
 abbrev pub values_given : Documents → Result Contents RunError
 values_given d = contents_given (Some d.review) d.namespace d.params
 
+-- the values at the start and the uid are those of these documents
+pub record AreGiven (d : Documents) (values : Contents) (uid : List ℕ) : Type 0 where
+  pub contents : values_given d ≡ Ok values
+  pub uid_is : uid ≡ uid_in d.review
+
 -- what is to be decided: the policy that one document says, and the roots that the others give
 pub record Case (d : Documents) : Type 0 where
   pub policy : IsPolicy d.policy

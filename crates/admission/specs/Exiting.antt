@@ -1,6 +1,5 @@
 -- Where the program of a policy has exited on a review, and the verdict that it left.
-use Rattle.std.specs.Prelude.{◌≡◌, ℕ, ◌≤◌, List, length, Result, Ok, Err, String, string_bytes}
-use Rattle.std.specs.declared.alloc.Global.{Global}
+use Rattle.std.specs.Prelude.{◌≡◌, ℕ, ◌≤◌, List, length, Result, Ok, Err}
 use Rattle.guest_memory.specs.Memory.{IsMemory}
 use Rattle.guest_memory.specs.declared.fault.Fault as guest
 use Rattle.bpf_machine.specs.State.{State}
@@ -17,10 +16,10 @@ pub record Exit : Type 0 where
   pub state : State
   pub uid : List ℕ
 
--- the same of what the code answers
-abbrev pub exit_view : Result (State × String Global) RunError → Result Exit RunError
-exit_view (Ok p) = Ok (record { state = p.0; uid = string_bytes p.1 })
-exit_view (Err e) = Err e
+-- the same of what the code answers, by the uid
+abbrev pub exit_view : List ℕ → Result State RunError → Result Exit RunError
+exit_view uid (Ok state) = Ok (record { state = state; uid = uid })
+exit_view uid (Err e) = Err e
 
 -- the program has exited with the verdict of this policy in its verdict region
 pub record IsExit (p : Policy) (d : Documents) (exit : Exit) : Type 0 where

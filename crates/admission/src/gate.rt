@@ -1,16 +1,14 @@
 //! Policies that are compiled once and decide many reviews.
-ghost use Rattle.std.specs.Prelude.{◌≡◌, ℕ, List, IfOk, string_bytes};
-ghost use Rattle.serde_json.specs.View.{view};
+ghost use Rattle.std.specs.Prelude.{◌≡◌, ℕ, List, IfOk};
 ghost use Rattle.bpf_machine.specs.State.{start_state};
 ghost use Rattle.bpf_machine.specs.Starts.{StartsAreTables};
 ghost use Rattle.bpf_machine.specs.States.{StatesAreKept};
 ghost use Rattle.bpf_machine.specs.Trace.{state_after};
 ghost use Rattle.value_store.specs.Laws.{StartIsCanonical};
 ghost use Rattle.policy_glue.specs.OneImage.{OneImage};
-ghost use Rattle.admission.specs.Deciding.{answer_of, answer_view, is_allowed, CompilesDocument, IsPolicyOf, Reviews};
+ghost use Rattle.admission.specs.Deciding.{answer_of, answer_view, is_allowed, AreGiven, CompilesDocument, Documents, IsPolicyOf, Reviews};
 ghost use Rattle.admission.specs.Exiting.{exit_view, Exits, HasExited, OfVerdict};
 ghost use Rattle.admission.specs.Lent.{documents_lent};
-ghost use Rattle.admission.specs.Reviews.{uid_of};
 ghost use Rattle.admission.specs.Saying.{said_of, said_value, said_view, DecidesReview};
 ghost use Rattle.admission.specs.Standing.{exactly, RunAgrees};
 
@@ -18,13 +16,11 @@ use crate::decision::Decision;
 use crate::policy_and_image::compiled;
 use crate::policy_refusal::PolicyRefusal;
 use crate::reply::Reply;
-use crate::root_values::root_documents;
 use crate::run_error::RunError;
 use bpf_machine::laws::{starts_are_tables, states_are_kept};
 use bpf_machine::{Machine, Program, Status};
 use guest_memory::Guest;
 use policy_glue::{Outcome, Policy, Verdict, rejection_of, respond};
-use serde_json::Value;
 use std::alloc::{AllocError, Global};
 use std::marker::Model;
 use value_store::ValueStore;
@@ -91,51 +87,46 @@ impl Gate {
         // And its image stands as the answer says.
         ensures runs { (policy : List ℕ) → IsPolicyOf policy self.now → RunAgrees (exactly self.now.image) (documents_lent policy review.now namespace.entry params.entry) n (answer_view result) }
     {
-        let (machine, uid) = self.run(review, namespace, params, n)?;
-        Ok(reply(self.alloc, &self.policy, &machine, uid.as_str())?)
+        let (table, uid) = Table::of_review(self.alloc, review, namespace, params)?;
+        self.decide_on(table, uid.as_str(), n)
     }
 
-    /// What the policy says of a review, in the terms of `decide`.
+    /// The response to the review whose roots are in the table, and the uid of whose request this
+    /// is, in the terms of `decide`.
     ///
     /// # Errors
     ///
-    /// The first refusal, as `decide` has them.
-    pub fn say(
-        &self,
-        review: &[u8],
-        namespace: Option<&[u8]>,
-        params: Option<&[u8]>,
-        n: u64,
-    ) -> Result<Decision, RunError>
-        ensures says { (policy : List ℕ) → IsPolicyOf policy self.now → DecidesReview (documents_lent policy review.now namespace.entry params.entry) n (said_view result) }
-        ensures runs { (policy : List ℕ) → IsPolicyOf policy self.now → RunAgrees (exactly self.now.image) (documents_lent policy review.now namespace.entry params.entry) n (said_view result) }
+    /// `OutOfSteps`, `OverLimit` and `Memory`, as `decide` has them.
+    pub fn decide_on(&self, table: Table, uid: &str, n: u64) -> Result<Reply, RunError>
+        ensures reviews { (d : Documents) → IsPolicyOf d.policy self.now → AreGiven d (record { values = ⟦<Table as ValueStore>⟧.values table; charge = ⟦<Table as ValueStore>⟧.charge table }) uid.now → Reviews d n (answer_view result) }
+        ensures runs { (d : Documents) → IsPolicyOf d.policy self.now → AreGiven d (record { values = ⟦<Table as ValueStore>⟧.values table; charge = ⟦<Table as ValueStore>⟧.charge table }) uid.now → RunAgrees (exactly self.now.image) d n (answer_view result) }
     {
-        let (machine, uid) = self.run(review, namespace, params, n)?;
+        let machine = self.run(table, n)?;
+        Ok(reply(self.alloc, &self.policy, &machine, uid)?)
+    }
+
+    /// What the policy says of such a review, in the terms of `decide_on`.
+    ///
+    /// # Errors
+    ///
+    /// The first refusal, as `decide_on` has them.
+    pub fn say_on(&self, table: Table, uid: &str, n: u64) -> Result<Decision, RunError>
+        ensures says { (d : Documents) → IsPolicyOf d.policy self.now → AreGiven d (record { values = ⟦<Table as ValueStore>⟧.values table; charge = ⟦<Table as ValueStore>⟧.charge table }) uid.now → DecidesReview d n (said_view result) }
+        ensures runs { (d : Documents) → IsPolicyOf d.policy self.now → AreGiven d (record { values = ⟦<Table as ValueStore>⟧.values table; charge = ⟦<Table as ValueStore>⟧.charge table }) uid.now → RunAgrees (exactly self.now.image) d n (said_view result) }
+    {
+        let machine = self.run(table, n)?;
         Ok(said(self.alloc, &self.policy, &machine, uid)?)
     }
 
-    /// The machine in which the policy's program has exited on a review, and the uid of its
-    /// request.
-    fn run(
-        &self,
-        review: &[u8],
-        namespace: Option<&[u8]>,
-        params: Option<&[u8]>,
-        n: u64,
-    ) -> Result<(Machine<Table, Guest>, String), RunError>
-        ensures exits { (policy : List ℕ) → IsPolicyOf policy self.now → Exits self.now.policy (documents_lent policy review.now namespace.entry params.entry) n (exit_view result) }
-        ensures runs { (policy : List ℕ) → IsPolicyOf policy self.now → RunAgrees (exactly self.now.image) (documents_lent policy review.now namespace.entry params.entry) n (exit_view result) }
+    /// The machine in which the policy's program has exited on the roots in the table.
+    fn run(&self, table: Table, n: u64) -> Result<Machine<Table, Guest>, RunError>
+        ensures exits { (d : Documents) (uid : List ℕ) → IsPolicyOf d.policy self.now → AreGiven d (record { values = ⟦<Table as ValueStore>⟧.values table; charge = ⟦<Table as ValueStore>⟧.charge table }) uid → Exits self.now.policy d n (exit_view uid result) }
+        ensures runs { (d : Documents) (uid : List ℕ) → IsPolicyOf d.policy self.now → AreGiven d (record { values = ⟦<Table as ValueStore>⟧.values table; charge = ⟦<Table as ValueStore>⟧.charge table }) uid → RunAgrees (exactly self.now.image) d n (exit_view uid result) }
     {
         starts_stand();
-        let documents = root_documents(self.alloc, Some(review), namespace, params)?;
-        // The table takes the documents, and what it refuses counts before want of memory for the
-        // uid.
-        let uid = String::from_str(self.alloc, uid_of(&documents[4]));
-        let table = Table::of_documents(self.alloc, documents)?;
-        let uid = uid?;
         let machine = ran(self.alloc, &self.program, table, n)?;
         has_exited(&machine)?;
-        Ok((machine, uid))
+        Ok(machine)
     }
 }
 
@@ -162,16 +153,6 @@ fn ran(
     let mut machine = Machine::<Table, Guest>::of_program(alloc, program.copy()?, table)?;
     machine.run(n)?;
     Ok(machine)
-}
-
-/// The uid of a request, which has one.
-fn uid_of(request: &Value) -> &str
-    ensures { result.now ≡ uid_of (view request.now) }
-{
-    match request.get("uid") {
-        Some(Value::String(uid)) => uid.as_str(),
-        _ => "",
-    }
 }
 
 /// That the policy's program has exited, or why it left no verdict. It takes no memory.
@@ -216,11 +197,12 @@ fn said(
     alloc: Global,
     policy: &Policy,
     machine: &Machine<Table, Guest>,
-    uid: String,
+    uid: &str,
 ) -> Result<Decision, AllocError>
-    ensures { IfOk result (λ x. OfVerdict policy.now machine.now (λ v. said_value x ≡ said_of policy.now v (string_bytes uid))) }
+    ensures { IfOk result (λ x. OfVerdict policy.now machine.now (λ v. said_value x ≡ said_of policy.now v uid.now)) }
 {
     let verdict = Verdict::of(machine.memory(), machine.values(), policy);
     let rejection = rejection_of(alloc, policy, &verdict)?;
+    let uid = String::from_str(alloc, uid)?;
     Ok(Decision { rejection, uid })
 }

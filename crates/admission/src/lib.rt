@@ -5,11 +5,9 @@
 mod decision;
 mod gate;
 pub mod laws;
-mod optional_document;
 mod policy_and_image;
 mod policy_refusal;
 mod reply;
-mod review_document;
 mod reviewing;
 mod root_values;
 pub mod rows;

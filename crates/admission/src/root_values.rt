@@ -1,12 +1,8 @@
 //! The values of the roots of a review.
-ghost use Rattle.std.specs.Prelude.{◌≡◌, map, option_map};
-ghost use Rattle.serde_json.specs.View.{view};
-ghost use Rattle.admission.specs.Reviews.{contents_given, documents_given, ReturnsDue};
+ghost use Rattle.std.specs.Prelude.{◌≡◌, option_map};
+ghost use Rattle.admission.specs.Reviews.{contents_given, ReturnsDue};
 
-use crate::optional_document::optional_document;
-use crate::review_document::read_review;
 use crate::run_error::RunError;
-use serde_json::Value;
 use std::alloc::Global;
 use value_store::ValueStore;
 use value_table::Table;
@@ -21,7 +17,6 @@ use value_table::Table;
 /// `ReviewRefused` if it is of the review, and where the roots are too large,
 /// `NamespaceOrParamsRefused` if it is of the namespace or the params. `Memory` where memory runs
 /// out, which says nothing of the documents.
-#[tactic(auto, unfolding(crate::specs::Reviews::contents_given))]
 pub fn roots(
     alloc: Global,
     review: Option<&[u8]>,
@@ -31,28 +26,11 @@ pub fn roots(
     ensures { let given = contents_given (option_map (λ b. b.now) review.entry) (option_map (λ b. b.now) namespace.entry) (option_map (λ b. b.now) params.entry) in
         ReturnsDue (λ t. record { values = ⟦<Table as ValueStore>⟧.values t; charge = ⟦<Table as ValueStore>⟧.charge t }) given result }
 {
-    let documents = root_documents(alloc, review, namespace, params)?;
-    Ok(Table::of_documents(alloc, documents)?)
-}
-
-/// The documents of those roots, in the order of their references.
-#[tactic(auto, unfolding(crate::specs::Reviews::documents_given))]
-pub(crate) fn root_documents(
-    alloc: Global,
-    review: Option<&[u8]>,
-    namespace: Option<&[u8]>,
-    params: Option<&[u8]>,
-) -> Result<[Value; 5], RunError>
-    ensures { ReturnsDue (λ ds. map view ds) (documents_given (option_map (λ b. b.now) review.entry) (option_map (λ b. b.now) namespace.entry) (option_map (λ b. b.now) params.entry)) result }
-{
-    let review = read_review(alloc, review)?;
-    let namespace = optional_document(alloc, namespace)?;
-    let params = optional_document(alloc, params)?;
-    Ok([
-        review.object,
-        review.old_object,
-        params,
-        namespace,
-        review.request,
-    ])
+    match review {
+        Some(review) => {
+            let (table, _) = Table::of_review(alloc, review, namespace, params)?;
+            Ok(table)
+        }
+        None => Ok(Table::without_review(alloc, namespace, params)?),
+    }
 }

@@ -1,13 +1,13 @@
 //! Why a review has no response.
 ghost use Rattle.std.specs.Prelude.{◌≡◌};
 ghost use Rattle.admission.specs.Refusals.{run_policy_refusal};
-ghost use Rattle.admission.specs.Reviews.{refusal_at, root_refusal};
+ghost use Rattle.admission.specs.Reviews.{refusal_at, table_refusal};
 ghost use Rattle.admission.specs.declared.run_error.RunError.TheVariants as run_error;
 
 use crate::policy_refusal::PolicyRefusal;
 use std::alloc::AllocError;
 use thiserror::Error;
-use value_store::TableError;
+use value_table::ReviewError;
 
 /// Why a review has no response. The policy is tested first, then the form of the review, the
 /// namespace and the params, then the roots. The program is run last.
@@ -74,15 +74,16 @@ impl From<PolicyRefusal> for RunError {
     }
 }
 
-impl From<TableError> for RunError {
-    ghost from_gives = { λ e r. r ≡ root_refusal e };
+impl From<ReviewError> for RunError {
+    ghost from_gives = { λ e r. r ≡ table_refusal e };
 
-    fn from(error: TableError) -> RunError {
+    fn from(error: ReviewError) -> RunError {
         match error {
-            TableError::NotAnObject(place) => refusal_at(place),
-            TableError::NumberOutOfInt64(place) => refusal_at(place),
-            TableError::RootsTooLarge => RunError::ReviewRefused,
-            TableError::Memory => RunError::Memory,
+            ReviewError::InvalidReview => RunError::ReviewRefused,
+            ReviewError::InvalidDocument => RunError::NamespaceOrParamsRefused,
+            ReviewError::RootRefused(place) => refusal_at(place),
+            ReviewError::ChargeTooLarge => RunError::ReviewRefused,
+            ReviewError::Memory => RunError::Memory,
         }
     }
 }

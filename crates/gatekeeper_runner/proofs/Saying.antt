@@ -1,5 +1,17 @@
 -- What the policies say, gate after gate.
-use Rattle.gatekeeper_runner.proofs.Prelude.{◌≡◌, ℕ, zero, suc, ◌+◌, ◌<◌, ◌≤◌, List, [], ◌∷◌, Ok, Err, drop, length, take, refl, sym, ap, subst, arith, get_or, take_all, take_more, split_at, OneImage, Decision, PolicyAndImage, RunError, AllSay, AreGates, IsGateOf, OneRefuses, SaysAlone, Gatekeeper, next, with_next}
+use Rattle.gatekeeper_runner.proofs.Prelude.{◌≡◌, ℕ, zero, suc, ◌+◌, ◌<◌, ◌≤◌, List, [], ◌∷◌, Ok, Err, drop, length, take, Some, refl, sym, ap, subst, arith, get_or, take_all, take_more, split_at, document_of, OneImage, Decision, PolicyAndImage, RunError, uid_in, of_one, refused_so, AllSay, AreGates, IsGateOf, OneRefuses, SaysAlone, Gatekeeper, next, none, no_decision, under, with_next}
+use Rattle.std.specs.Prelude.{option_and_then}
+use Rattle.value_store.specs.Documents.{document_given}
+use Rattle.value_store.specs.Placing.{Contents}
+use Rattle.value_store.specs.Reviews.{parts_in}
+use Rattle.value_table.specs.ReviewTable.{ReviewTableReturns}
+use Rattle.value_table.specs.declared.review_error.ReviewError.{ReviewError}
+use Rattle.admission.specs.Deciding.{AreGiven}
+use Rattle.admission.specs.Exiting.{Exit}
+use Rattle.admission.specs.Reviews.{table_refusal}
+use Rattle.admission.specs.Standing.{exactly}
+use Rattle.admission.proofs.Decided.{not_opened}
+use Rattle.admission.proofs.RootTables.{table_due}
 
 as_many : (policies : List (List ℕ)) (gates : List PolicyAndImage) → AreGates policies gates → length policies ≡ length gates
 as_many [] [] are = refl
@@ -12,6 +24,38 @@ gate_at (p ∷ ps) (g ∷ gs) zero gate are within = are.0
 gate_at (p ∷ ps) (g ∷ gs) (suc i) gate are within = gate_at ps gs i gate are.1 (omega (arith, within))
 gate_at [] [] i gate are within = absurd (omega (arith, within))
 gate_at policies gates i gate are within = absurd are
+
+-- the values of a review's roots are those of its documents under each policy
+pub are_given : (t : Gatekeeper) (policy review : List ℕ) {S : Type 0} (contents : S → Contents) (s : S) (uid : List ℕ)
+    → ReviewTableReturns contents (Ok s) (option_and_then parts_in (document_of review)) (document_given t.namespace) (document_given t.params) → uid ≡ uid_in review
+    → AreGiven (under t policy review) (contents s) uid
+are_given t policy review contents s uid opened is = record { contents = table_due contents (Some review) t.namespace t.params s opened; uid_is = is }
+
+-- without a policy nothing is said
+pub none_said : (t : Gatekeeper) (review : List ℕ) (policies : List (List ℕ)) (gates : List PolicyAndImage) → t.policies ≡ policies → AreGates policies gates → length gates ≡ 0
+    → AllSay OneImage t review t.policies no_decision
+none_said t review [] [] same are empty = subst (λ (ps : List (List ℕ)). AllSay OneImage t review ps no_decision) (sym same) none
+none_said t review (p ∷ ps) (g ∷ gs) same are empty = absurd (omega (arith, empty))
+none_said t review policies gates same are empty = absurd are
+
+-- a review that gives no table is refused by the first policy
+pub first_refuses : (t : Gatekeeper) (review : List ℕ) (policies : List (List ℕ)) (gates : List PolicyAndImage) → t.policies ≡ policies → AreGates policies gates → 0 < length gates
+    → {S : Type 0} (contents : S → Contents) (e : ReviewError)
+    → ReviewTableReturns contents (Err e) (option_and_then parts_in (document_of review)) (document_given t.namespace) (document_given t.params) → OneRefuses OneImage t review (table_refusal e)
+first_refuses t review (p ∷ ps) (g ∷ gs) same are some contents e none_there =
+    let d = under t p review in
+    let alone = not_opened g d are.0.0 t.steps contents e none_there in
+    record {
+      before = [];
+      policy = p;
+      after = ps;
+      are = same;
+      so_far = no_decision;
+      say = none;
+      refuses = (alone.0, of_one d t.steps g.policy g.image (Err (table_refusal e)) are.0.0.0 are.0.1 (refused_so Exit Decision (exactly g.image) d t.steps (table_refusal e) alone.1));
+    }
+first_refuses t review [] [] same are some contents e none_there = absurd (omega (arith, some))
+first_refuses t review policies gates same are some contents e none_there = absurd are
 
 -- the policies of the gates so far have spoken
 module _ (t : Gatekeeper) (review : List ℕ) (gates : List PolicyAndImage) (are : AreGates t.policies gates) (i : ℕ) (so_far : Decision) (say : AllSay OneImage t review (take i t.policies) so_far) where

@@ -1,5 +1,5 @@
 -- What several policies say of a review together.
-use Rattle.std.specs.Prelude.{◌≡◌, ℕ, List, [], ◌∷◌, ◌++◌, codes, option_map, Option, Some, None, Result, Ok, Err}
+use Rattle.std.specs.Prelude.{◌≡◌, ℕ, List, [], ◌∷◌, ◌++◌, codes, Option, Some, None, Result, Ok, Err}
 use Rattle.policy_glue.specs.Rejections.{Rejection}
 use Rattle.policy_glue.specs.OneImage.{OneImage}
 use Rattle.admission.specs.Deciding.{Documents, IsPolicyOf}
@@ -76,7 +76,7 @@ AreGates (policy ∷ policies) (gate ∷ gates) = IsGateOf policy gate × AreGat
 abbrev pub gatekeeper_of : List (List ℕ) → CodeGatekeeper → Gatekeeper
 gatekeeper_of policies k = record {
   policies = policies;
-  namespace = option_map (λ b. b.items) k.namespace;
-  params = option_map (λ b. b.items) k.params;
+  namespace = k.documents.namespace;
+  params = k.documents.params;
   steps = k.steps;
 }

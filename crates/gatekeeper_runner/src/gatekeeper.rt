@@ -1,12 +1,15 @@
 //! What decides the lines.
 ghost use Rattle.std.specs.Prelude.{ℕ, List};
 ghost use Rattle.policy_glue.specs.OneImage.{OneImage};
+ghost use Rattle.admission.specs.Deciding.{AreGiven};
 ghost use Rattle.admission.specs.Saying.{said_view};
-ghost use Rattle.gatekeeper_runner.specs.Together.{gatekeeper_of, AreGates, IsGateOf, SayTogether, SaysAlone};
+ghost use Rattle.gatekeeper_runner.specs.Together.{gatekeeper_of, under, AreGates, IsGateOf, SayTogether, SaysAlone};
 
 use crate::together::{unsaid, with_next};
 use admission::{Decision, Gate, RunError};
 use std::alloc::Global;
+use value_store::ValueStore;
+use value_table::{SharedDocuments, Table};
 
 /// The policies and the documents under which each line is decided. No line changes them.
 #[derive(Drop)]
@@ -14,10 +17,8 @@ pub struct Gatekeeper {
     pub alloc: Global,
     /// The policies, in their order.
     pub gates: Vec<Gate>,
-    /// The document of the namespace, null where none is given.
-    pub namespace: Option<Vec<u8>>,
-    /// The document of the params, null where none is given.
-    pub params: Option<Vec<u8>>,
+    /// The namespace and the params, each null if it is not given. They are read once.
+    pub documents: SharedDocuments,
     /// The most steps that a policy's program may take.
     pub steps: u64,
 }
@@ -29,21 +30,22 @@ impl Gatekeeper {
     {
         let mut said = unsaid(self.alloc);
         let gates = self.gates.as_slice();
+        if gates.is_empty() {
+            return Ok(said);
+        }
+        let (table, uid) = self.documents.table_of(review)?;
         for gate in gates {
-            let next = self.say_by(gate, review)?;
+            let next = self.say_by(gate, &table, uid.as_str())?;
             said = with_next(said, next)?;
         }
         Ok(said)
     }
-    /// What one policy says of a review.
-    fn say_by(&self, gate: &Gate, review: &[u8]) -> Result<Decision, RunError>
-        ensures { (policies : List (List ℕ)) (policy : List ℕ) → IsGateOf policy gate.now → SaysAlone OneImage (gatekeeper_of policies self.now) policy review.now (said_view result) }
+
+    /// What one policy says of the review whose roots are in the table. The program runs on a copy,
+    /// which shares the table's values.
+    fn say_by(&self, gate: &Gate, table: &Table, uid: &str) -> Result<Decision, RunError>
+        ensures { (policies : List (List ℕ)) (policy review : List ℕ) → IsGateOf policy gate.now → AreGiven (under (gatekeeper_of policies self.now) policy review) (record { values = ⟦<Table as ValueStore>⟧.values table.now; charge = ⟦<Table as ValueStore>⟧.charge table.now }) uid.now → SaysAlone OneImage (gatekeeper_of policies self.now) policy review (said_view result) }
     {
-        gate.say(
-            review,
-            self.namespace.as_deref(),
-            self.params.as_deref(),
-            self.steps,
-        )
+        gate.say_on(table.copy()?, uid, self.steps)
     }
 }

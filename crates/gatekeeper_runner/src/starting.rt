@@ -9,6 +9,7 @@ use admission::Gate;
 use cli::{Refusal, read_given};
 use host::Files;
 use std::alloc::Global;
+use value_table::SharedDocuments;
 
 /// Compiles the policies in the files that the order names, in their order, and reads the other
 /// files.
@@ -24,11 +25,11 @@ pub fn start<F: Files>(alloc: Global, order: &Order, files: &mut F) -> Result<Ga
     let gates = open_each(alloc, order.policies.as_slice(), files)?;
     let namespace = read_given(alloc, &order.namespace, files)?;
     let params = read_given(alloc, &order.params, files)?;
+    let documents = SharedDocuments::new(alloc, namespace, params);
     Ok(Gatekeeper {
         alloc,
         gates,
-        namespace,
-        params,
+        documents,
         steps: order.steps,
     })
 }

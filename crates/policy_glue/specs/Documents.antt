@@ -1,13 +1,10 @@
 -- JSON documents as `serde_json` reads them, part by part.
 use Rattle.std.specs.Prelude.{ℕ, ◌&&◌, Bool, true, false, List, [], ◌∷◌, Option, Some, None, if◌then◌else◌}
 use Rattle.std.specs.List.{list_any}
-use Rattle.std.specs.Str.{bytes_eq, is_utf8}
+use Rattle.std.specs.Str.{bytes_eq}
 use Rattle.serde_json.specs.Data as json
-use Rattle.serde_json.specs.Read.{read}
-
--- what a document says (RFC 8259), and nothing where it is no JSON text
-unfoldable pub document_of : List ℕ → Option json.Data
-document_of bytes = if is_utf8 bytes then read bytes else None
+unfoldable pub use Rattle.value_store.specs.Documents.{document_of}
+pub use Rattle.value_store.specs.Documents.{is_the_text}
 
 -- each key is one of those known
 abbrev pub keys_within : List (List ℕ) → json.Members → Bool
@@ -24,11 +21,6 @@ abbrev pub is_object_or_absent : Option json.Data → Bool
 is_object_or_absent None = true
 is_object_or_absent (Some (json.object ms)) = true
 is_object_or_absent (Some _) = false
-
--- this very text
-abbrev pub is_the_text : Option json.Data → List ℕ → Bool
-is_the_text (Some (json.string s)) text = bytes_eq s text
-is_the_text _ text = false
 
 -- a text that has to be there
 abbrev pub text_of : Option json.Data → Option (List ℕ)

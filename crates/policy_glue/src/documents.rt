@@ -64,7 +64,7 @@ pub fn is_object_or_absent(value: Option<&Value>) -> bool
 }
 
 /// Whether this text stands there.
-pub fn is_the_text(value: Option<&Value>, text: &str) -> bool
+pub(crate) fn is_the_text(value: Option<&Value>, text: &str) -> bool
     ensures { result ≡ is_the_text (option_map (λ v. view v.now) value.entry) text.now }
 {
     match value {

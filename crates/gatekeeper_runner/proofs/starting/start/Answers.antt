@@ -21,4 +21,4 @@ returns-clause-keeps g c =
     let opened = rw c.as_slice.ensures.value at c.in_ok-gates.ensures.gates in
     let namespace = rw c.in_ok-gates.ensures.known at c.in_ok-namespace.ensures.read in
     let params = rw (c.in_ok-namespace.ensures.known, c.in_ok-gates.ensures.known) at c.in_ok-params.ensures.read in
-    (opened.0, opened.1, ready opened.2 namespace params)
+    (opened.0, opened.1, rw (c.new-documents.ensures.namespace, c.new-documents.ensures.params) (ready opened.2 namespace params))

@@ -1,17 +1,32 @@
-use Rattle.admission.proofs.Prelude.{ℕ, List, Reply, Exit, documents_lent, exactly}
-use Rattle.admission.proofs.Decided.{answered, refused_so}
+use Rattle.std.proofs.Common.{Global}
+use Rattle.value_table.specs.declared.table.Table.{Table}
+use Rattle.admission.proofs.Prelude.{String, ◌∙◌, ℕ, List, Some, Contents, Reply, Exit, documents_lent, exactly}
+use Rattle.admission.proofs.Decided.{not_opened, refused_so}
 use Rattle.admission.proofs.Results.{is_err}
+use Rattle.admission.proofs.RootTables.{table_due}
 use Rattle.admission.proofs.gate.Gate.decide.Goals as goal
 
-pub returns-in_err-machine : goal.returns-in_err-machine
-returns-in_err-machine c =
+pub returns-in_err-table : goal.returns-in_err-table
+returns-in_err-table c =
     let documents = λ (policy : List ℕ). documents_lent policy c.args.review.now c.args.namespace c.args.params in
     rw (is_err c.from_residual.ensures.1)
-    (record { reviews = λ policy of. c.in_err-machine.ensures.exits policy of; runs = λ policy of. refused_so Exit Reply (exactly c.args.self.now.image) (documents policy) c.args.n c.in_err-machine.field-0.0 (c.in_err-machine.ensures.runs policy of) })
+    (record {
+      reviews = λ policy of. (not_opened c.args.self.now (documents policy) of c.args.n {S = Table × String Global} (λ r. record { values = r.0.values; charge = r.0.charge }) _ c.in_err-table.ensures.table).0;
+      runs = λ policy of. refused_so Exit Reply (exactly c.args.self.now.image) (documents policy) c.args.n _ (not_opened c.args.self.now (documents policy) of c.args.n {S = Table × String Global} (λ r. record { values = r.0.values; charge = r.0.charge }) _ c.in_err-table.ensures.table).1;
+    })
 
-pub returns : goal.returns
-returns c =
-    let exits = rw (← c.self.view_is) at c.in_ok-machine.ensures.exits in
-    let runs = rw (← c.self.view_is) at c.in_ok-machine.ensures.runs in
-    let told = rw c.as_str.ensures.value at c.in_ok-reply.ensures in
-    rw (← c.self.view_is) (record { reviews = λ policy of. answered _ _ _ _ (exits policy of) told; runs = λ policy of. runs policy of })
+pub returns-clause-reviews : goal.returns-clause-reviews
+returns-clause-reviews c = λ policy of.
+    c.decide_on.ensures.reviews (documents_lent policy c.args.review.now c.args.namespace c.args.params) of
+    (record {
+      contents = table_due {S = Contents} (λ v. v) (Some c.args.review.now) _ _ _ c.in_ok-table.ensures.table;
+      uid_is = c.as_str.ensures.value ∙ c.in_ok-table.ensures.uid;
+    })
+
+pub returns-clause-runs : goal.returns-clause-runs
+returns-clause-runs c = λ policy of.
+    c.decide_on.ensures.runs (documents_lent policy c.args.review.now c.args.namespace c.args.params) of
+    (record {
+      contents = table_due {S = Contents} (λ v. v) (Some c.args.review.now) _ _ _ c.in_ok-table.ensures.table;
+      uid_is = c.as_str.ensures.value ∙ c.in_ok-table.ensures.uid;
+    })

@@ -1,6 +1,9 @@
-use Rattle.gatekeeper_runner.proofs.Prelude.{of_one}
+use Rattle.gatekeeper_runner.proofs.Prelude.{of_one, gatekeeper_of, under}
 use Rattle.gatekeeper_runner.proofs.gatekeeper.Gatekeeper.say_by.Goals as goal
 
 pub returns : goal.returns
-returns c policies policy of =
-    rw (← c.as_deref.ensures.value, ← c.as_deref-2.ensures.value) (c.say.ensures.says policy of.0, of_one _ _ _ _ _ of.0.0 of.1 (c.say.ensures.runs policy of.0))
+returns c policies policy review of given =
+    let d = under (gatekeeper_of policies c.args.self.now) policy review in (
+      c.say_on.ensures.says d of.0 (record { contents = rw (c.in_ok-copy.ensures.values, c.in_ok-copy.ensures.charge) given.contents; uid_is = given.uid_is }),
+      of_one d _ _ _ _ of.0.0 of.1 (c.say_on.ensures.runs d of.0 (record { contents = rw (c.in_ok-copy.ensures.values, c.in_ok-copy.ensures.charge) given.contents; uid_is = given.uid_is })),
+    )
