@@ -1,5 +1,5 @@
 -- Reviews, from the states in which the policies' programs stand.
-use Rattle.admission.proofs.Prelude.{◌≡◌, ℕ, ◌+◌, ◌*◌, ◌≤◌, ◌⊎◌, Bool, false, List, [], ◌∷◌, ◌++◌, length, Option, Some, Result, Ok, Err, refl, sym, ap, ◌∙◌, subst, arith, inl, inr, if◌then◌else◌, cases_lt, length-map, length_push, Fault as GuestFault, F8, StartIsCanonical, Contents, Roots, StartsAreTables, State, start_state, StatesAreKept, is_running, state_after, Status, Exited, Running, HasValues, TakenOrRefused, PartsEnd, policy_work, decision_of, outcome_of, outcome_word, Compiles, Verdict, Policy, Decides, OutOfBudget, LeavesByExit, PolicyTree, Finding, decided, judged_by, verdict_of, CompileError, FailurePolicy, PolicyAndImage, Reply, Documents, IsAnswered, IsPolicy, decision, started, values_given, IsPolicyOf, Exit, Exits, HasExited, IsExit, OfVerdict, IsSaid, Decision, said_of, Images, PolicyRun, RunHasStatus, RunAgrees, exactly, document_given, parts_given, uid_in, RunError, ReviewRefused, NamespaceOrParamsRefused, OutOfSteps, OverLimit}
+use Rattle.admission.proofs.Prelude.{◌≡◌, ℕ, ◌+◌, ◌*◌, ◌≤◌, ◌⊎◌, Bool, false, List, [], ◌∷◌, ◌++◌, length, Option, Some, Result, Ok, Err, refl, sym, ap, ◌∙◌, subst, arith, inl, inr, if◌then◌else◌, cases_lt, length-map, length_push, Fault as GuestFault, F8, StartIsCanonical, Contents, Roots, StartsAreTables, State, start_state, StatesAreKept, is_running, state_after, Status, Exited, Running, HasValues, TakenOrRefused, PartsEnd, policy_work, decision_of, outcome_of, outcome_word, Compiles, Verdict, Policy, Decides, OutOfBudget, LeavesByExit, PolicyTree, Finding, decided, judged_by, verdict_of, CompileError, FailurePolicy, PolicyAndImage, Reply, Documents, IsAnswered, IsPolicy, decision, started, values_given, IsPolicyOf, Exit, Exits, HasExited, IsExit, OfVerdict, IsDecisionOf, Decision, decision_from_verdict, Images, PolicyRun, RunHasStatus, RunAgrees, exactly, document_given, parts_given, uid_in, RunError, ReviewRefused, NamespaceOrParamsRefused, OutOfSteps, OverLimit}
 use Rattle.serde_json.specs.Data as json
 use Rattle.bpf_machine.specs.declared.status.Status.TheVariants.{Fault}
 use Rattle.policy_glue.specs.Checking as checking
@@ -58,7 +58,7 @@ by_test b = grind arith
 
 module _ (gate : PolicyAndImage) (d : Documents) (of : IsPolicyOf d.policy gate) (n : ℕ) where
   abbrev policy : IsPolicy d.policy
-  policy = record { rules = gate.policy; is_said = of.0; trees = of.1.trees; compiles = of.1.compiles }
+  policy = record { parsed = gate.policy; is_said = of.0; trees = of.1.trees; compiles = of.1.compiles }
 
   -- what the program has left of a review, and how the image stands
   abbrev pub ExitsSo : Result Exit RunError → Type 0
@@ -105,7 +105,7 @@ module _ (gate : PolicyAndImage) (d : Documents) (of : IsPolicyOf d.policy gate)
     not_running decided running = grind arith
 
     standing : (due : Verdict → Status) → s.status ≡ due (decision run.case) → RunHasStatus (exactly gate.image) d n due
-    standing due is = record { run = run; is_meant = refl; status = is }
+    standing due is = record { run = run; is_chosen = refl; status = is }
 
     unended : s.status ≡ Running → ExitsSo (Err OutOfSteps)
     unended running =
@@ -177,9 +177,9 @@ answered p d exit answer is of = record {
 }
 
 -- what the verdict that was left says
-pub said_so : (p : Policy) (d : Documents) (exit : Exit) (said : Decision) → IsExit p d exit → OfVerdict p exit.state (λ v. said ≡ said_of p v exit.uid) → IsSaid d said
+pub said_so : (p : Policy) (d : Documents) (exit : Exit) (said : Decision) → IsExit p d exit → OfVerdict p exit.state (λ v. said ≡ decision_from_verdict p v exit.uid) → IsDecisionOf d said
 said_so p d exit said is of = record {
   case = is.case;
-  said_is = of (decision is.case) is.is_memory is.few is.layout ∙ ap (said_of p (decision is.case)) is.uid_is
-      ∙ ap (λ (q : Policy). said_of q (decision is.case) (uid_in d.review)) (sym is.of_policy);
+  decision_is = of (decision is.case) is.is_memory is.few is.layout ∙ ap (decision_from_verdict p (decision is.case)) is.uid_is
+      ∙ ap (λ (q : Policy). decision_from_verdict q (decision is.case) (uid_in d.review)) (sym is.of_policy);
 }

@@ -7,7 +7,7 @@ pub roots_once : (r s : Roots) → started r ≡ started s → r ≡ s
 roots_once r s is = grind arith
 
 -- what is to be decided is one case
-pub cases_once : policy.CompileHasOneResult → (d : Documents) (c e : Case d) → (c.policy.rules ≡ e.policy.rules) × (c.policy.trees ≡ e.policy.trees) × (c.roots ≡ e.roots)
+pub cases_once : policy.CompileHasOneResult → (d : Documents) (c e : Case d) → (c.policy.parsed ≡ e.policy.parsed) × (c.policy.trees ≡ e.policy.trees) × (c.roots ≡ e.roots)
 cases_once compiles d c e = grind arith
 
 pub one_review : policy.CompileHasOneResult → HasOneImage → ReviewHasOneResult

@@ -66,7 +66,7 @@ pub use Rattle.admission.specs.Reviews.{ReturnsDue, ReviewRoots, accepted, conte
 pub use Rattle.admission.specs.Reviews.{is_review, member_or_null, members_in, parts_given, parts_in, request_of}
 pub use Rattle.admission.specs.Reviews.{root_refusal, text_or_empty, without}
 pub use Rattle.admission.specs.RootValues.{AreOfRoots, DocumentsHaveValues, GivenHaveValues}
-pub use Rattle.admission.specs.Saying.{IsSaid, Decision, said_of}
+pub use Rattle.admission.specs.Decisions.{IsDecisionOf, Decision, decision_from_verdict}
 pub use Rattle.admission.specs.Standing.{Images, PolicyRun, RunHasStatus, RunAgrees, exactly}
 pub use Rattle.admission.specs.declared.policy_and_image.PolicyAndImage.{PolicyAndImage}
 pub use Rattle.admission.specs.declared.run_error.RunError.{RunError}

@@ -6,10 +6,10 @@ use Rattle.admission.proofs.Results.{ok_same}
 one_stands : (d : Documents) (n : ℕ) (due : Verdict → Status) (p : Policy) (image : loader.Image) → policy_in d.policy ≡ Ok p → OneImage p image
     → RunHasStatus (exactly image) d n due → RunHasStatus OneImage d n due
 one_stands d n due p image said one stands =
-    let same : p ≡ stands.run.case.policy.rules = ok_same (policy_in d.policy) p stands.run.case.policy.rules said stands.run.case.policy.is_said in
+    let same : p ≡ stands.run.case.policy.parsed = ok_same (policy_in d.policy) p stands.run.case.policy.parsed said stands.run.case.policy.is_said in
     record {
       run = stands.run;
-      is_meant = subst (λ (i : loader.Image). OneImage stands.run.case.policy.rules i) (sym stands.is_meant) (subst (λ (q : Policy). OneImage q image) same one);
+      is_chosen = subst (λ (i : loader.Image). OneImage stands.run.case.policy.parsed i) (sym stands.is_chosen) (subst (λ (q : Policy). OneImage q image) same one);
       status = stands.status;
     }
 

@@ -49,10 +49,10 @@ answer_view (Err e) = Err e
 
 -- a document says a policy that is compiled
 pub record IsPolicy (document : List ℕ) : Type 0 where
-  pub rules : Policy
-  pub is_said : policy_in document ≡ Ok rules
+  pub parsed : Policy
+  pub is_said : policy_in document ≡ Ok parsed
   pub trees : PolicyTree
-  pub compiles : Compiles rules (Ok trees)
+  pub compiles : Compiles parsed (Ok trees)
 
 -- why a document gives no image
 abbrev pub IsPolicyRefused : List ℕ → PolicyRefusal → Type 0
@@ -107,22 +107,22 @@ pub record Case (d : Documents) : Type 0 where
 
 -- what the policy decides
 abbrev pub decision : {d : Documents} → Case d → Verdict
-decision case = decision_of case.policy.rules.failure_policy case.policy.trees case.roots
+decision case = decision_of case.policy.parsed.failure_policy case.policy.trees case.roots
 
 -- the units of work of deciding it
 abbrev pub work : {d : Documents} → Case d → ℕ
-work case = policy_work case.policy.rules.failure_policy case.policy.trees case.roots
+work case = policy_work case.policy.parsed.failure_policy case.policy.trees case.roots
 
 -- the bound on its charge is above the limit, or a value is too deep
 abbrev pub IsBeyond : {d : Documents} → Case d → Type 0
 IsBeyond case =
-    (charge_limit < (started case.roots).charge + 16 * policy_spent case.policy.rules.failure_policy case.policy.trees case.roots)
-    ⊎ IsDeepPolicy case.policy.rules.failure_policy case.policy.trees case.roots
+    (charge_limit < (started case.roots).charge + 16 * policy_spent case.policy.parsed.failure_policy case.policy.trees case.roots)
+    ⊎ IsDeepPolicy case.policy.parsed.failure_policy case.policy.trees case.roots
 
 -- the answer is that to the policy's verdict
 pub record IsAnswered (d : Documents) (answer : Reply) : Type 0 where
   pub case : Case d
-  pub answer_is : answer ≡ answer_of case.policy.rules (decision case) (uid_in d.review)
+  pub answer_is : answer ≡ answer_of case.policy.parsed (decision case) (uid_in d.review)
 
 -- n steps are fewer than the work may take
 pub record IsUnended (d : Documents) (n : ℕ) : Type 0 where

@@ -24,7 +24,7 @@ exit_view uid (Err e) = Err e
 -- the program has exited with the verdict of this policy in its verdict region
 pub record IsExit (p : Policy) (d : Documents) (exit : Exit) : Type 0 where
   pub case : Case d
-  pub of_policy : case.policy.rules ≡ p
+  pub of_policy : case.policy.parsed ≡ p
   pub is_memory : IsMemory exit.state.memory
   pub few : length (decision case).findings ≤ length p.validations
   pub layout : IsLayout p.failure_policy (decision case) exit.state.values.values exit.state.memory.verdict

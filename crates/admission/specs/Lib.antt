@@ -4,7 +4,7 @@ pub mod Reviews
 pub mod Deciding
 pub mod Lent
 pub mod OneAnswer
-pub mod Saying
+pub mod Decisions
 pub mod Exiting
 pub mod Standing
 pub mod RootRows

@@ -29,7 +29,7 @@ exactly image p other = other ≡ image
 pub record PolicyRun (d : Documents) : Type 0 where
   pub case : Case d
   pub image : loader.Image
-  pub program : IsProgram case.policy.rules.failure_policy case.policy.trees image
+  pub program : IsProgram case.policy.parsed.failure_policy case.policy.trees image
 
 -- where it stands after n steps
 abbrev pub stands : {d : Documents} → PolicyRun d → ℕ → State
@@ -38,7 +38,7 @@ stands run n = state_after n (start_state run.image (started run.case.roots))
 -- after n steps a chosen image has this status, by what the policy decides
 pub record RunHasStatus (chosen : Images) (d : Documents) (n : ℕ) (due : Verdict → Status) : Type 0 where
   pub run : PolicyRun d
-  pub is_meant : chosen run.case.policy.rules run.image
+  pub is_chosen : chosen run.case.policy.parsed run.image
   pub status : (stands run n).status ≡ due (decision run.case)
 
 -- the program has exited where the review is answered, with the word of the outcome; it still runs after n steps where

@@ -9,11 +9,11 @@ ghost use Rattle.policy_glue.specs.OneImage.{OneImage};
 ghost use Rattle.admission.specs.Deciding.{answer_of, answer_view, is_allowed, AreGiven, CompilesDocument, Documents, IsPolicyOf, Reviews};
 ghost use Rattle.admission.specs.Exiting.{exit_view, Exits, HasExited, OfVerdict};
 ghost use Rattle.admission.specs.Lent.{documents_lent};
-ghost use Rattle.admission.specs.Saying.{said_of, said_value, said_view, DecidesReview};
+ghost use Rattle.admission.specs.Decisions.{decision_from_verdict, decision_value, decision_view, DecidesReview};
 ghost use Rattle.admission.specs.Standing.{exactly, RunAgrees};
 
 use crate::decision::Decision;
-use crate::policy_and_image::compiled;
+use crate::policy_and_image::compile_document;
 use crate::policy_refusal::PolicyRefusal;
 use crate::reply::Reply;
 use crate::run_error::RunError;
@@ -57,7 +57,7 @@ impl Gate {
         // Which image it has, of those that decide as the policy does.
         ensures one { IfOk result (λ g. OneImage g.policy g.image) }
     {
-        let compiled = compiled(alloc, policy)?;
+        let compiled = compile_document(alloc, policy)?;
         let program = Program::new(alloc, compiled.image)?;
         Ok(Gate {
             alloc,
@@ -111,11 +111,11 @@ impl Gate {
     ///
     /// The first refusal, as `decide_on` has them.
     pub fn say_on(&self, table: Table, uid: &str, n: u64) -> Result<Decision, RunError>
-        ensures says { (d : Documents) → IsPolicyOf d.policy self.now → AreGiven d (record { values = ⟦<Table as ValueStore>⟧.values table; charge = ⟦<Table as ValueStore>⟧.charge table }) uid.now → DecidesReview d n (said_view result) }
-        ensures runs { (d : Documents) → IsPolicyOf d.policy self.now → AreGiven d (record { values = ⟦<Table as ValueStore>⟧.values table; charge = ⟦<Table as ValueStore>⟧.charge table }) uid.now → RunAgrees (exactly self.now.image) d n (said_view result) }
+        ensures says { (d : Documents) → IsPolicyOf d.policy self.now → AreGiven d (record { values = ⟦<Table as ValueStore>⟧.values table; charge = ⟦<Table as ValueStore>⟧.charge table }) uid.now → DecidesReview d n (decision_view result) }
+        ensures runs { (d : Documents) → IsPolicyOf d.policy self.now → AreGiven d (record { values = ⟦<Table as ValueStore>⟧.values table; charge = ⟦<Table as ValueStore>⟧.charge table }) uid.now → RunAgrees (exactly self.now.image) d n (decision_view result) }
     {
         let machine = self.run(table, n)?;
-        Ok(said(self.alloc, &self.policy, &machine, uid)?)
+        Ok(decision_of_verdict(self.alloc, &self.policy, &machine, uid)?)
     }
 
     /// The machine in which the policy's program has exited on the roots in the table.
@@ -193,13 +193,13 @@ fn allows(outcome: Outcome) -> bool
 }
 
 /// What is said to the request with this uid, by the verdict that the policy's program has left.
-fn said(
+fn decision_of_verdict(
     alloc: Global,
     policy: &Policy,
     machine: &Machine<Table, Guest>,
     uid: &str,
 ) -> Result<Decision, AllocError>
-    ensures { IfOk result (λ x. OfVerdict policy.now machine.now (λ v. said_value x ≡ said_of policy.now v uid.now)) }
+    ensures { IfOk result (λ x. OfVerdict policy.now machine.now (λ v. decision_value x ≡ decision_from_verdict policy.now v uid.now)) }
 {
     let verdict = Verdict::of(machine.memory(), machine.values(), policy);
     let rejection = rejection_of(alloc, policy, &verdict)?;

@@ -16,7 +16,7 @@ pub struct PolicyAndImage {
 }
 
 /// The policy in a document, compiled.
-pub fn compiled(alloc: Global, document: &[u8]) -> Result<PolicyAndImage, PolicyRefusal>
+pub fn compile_document(alloc: Global, document: &[u8]) -> Result<PolicyAndImage, PolicyRefusal>
     ensures compiles { CompilesDocument document.now result }
     ensures one { IfOk result (λ c. OneImage c.policy c.image) }
 {

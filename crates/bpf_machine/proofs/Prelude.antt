@@ -70,7 +70,7 @@ pub use Rattle.bpf_machine.specs.Atomics.{exchanged, is_read_only, is_stored, ta
 pub use Rattle.bpf_machine.specs.Atomics.{taker, where_stores}
 pub use Rattle.bpf_machine.specs.Conversions.{atomic_memory_size, memory_size}
 pub use Rattle.bpf_machine.specs.Decoding.{DecodesSpelling, fetched, slot_count}
-pub use Rattle.bpf_machine.specs.Going.{Goes}
+pub use Rattle.bpf_machine.specs.StepResults.{NextPcIs}
 pub use Rattle.bpf_machine.specs.HelperCalls.{answered, arguments}
 pub use Rattle.bpf_machine.specs.Jumps.{called, caller, newest, returned}
 pub use Rattle.bpf_machine.specs.Laws.{is_running-true, state_after-stop, state_after-zero, stays_stopped}

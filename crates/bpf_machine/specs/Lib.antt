@@ -12,7 +12,7 @@ pub mod Atomics
 pub mod Writables
 pub mod Slots
 pub mod Step
-pub mod Going
+pub mod StepResults
 pub mod Trace
 pub mod States
 pub mod Starts

@@ -12,7 +12,7 @@ use streams::{Sink, write_all};
 
 /// The code that the program ends with. A refusal is one line of standard error; if that cannot be
 /// written, the code is the same.
-pub fn ended<E: Sink>(alloc: Global, ending: Result<u8, Refusal>, errors: &mut E) -> ExitCode
+pub fn exit_with<E: Sink>(alloc: Global, ending: Result<u8, Refusal>, errors: &mut E) -> ExitCode
     ensures status { exit_status result ≡ ending_status ending }
     ensures says { WritesError (stream (E.taken errors.old) (E.failed errors.old)) (stream (E.taken errors.new) (E.failed errors.new)) ending }
 {

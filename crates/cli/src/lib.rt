@@ -12,7 +12,7 @@ mod refusal;
 mod values;
 
 pub use arguments::{option_argument, required_option_argument, steps_argument, with_documents};
-pub use ending::{ended, texts_of};
+pub use ending::{exit_with, texts_of};
 pub use given_files::{read_given, read_named};
 pub use lines::{LONGEST_LINE, RefusalLine, refusal_line};
 pub use parsing::parse;

@@ -1,5 +1,5 @@
 -- The code of an expression that an image has room for can be spelled: the numbers of its instructions are in range.
-use Rattle.codegen.proofs.Prelude.{◌≡◌, ℕ, ◌+◌, ◌*◌, ◌^◌, ◌<◌, ◌≤◌, List, [], ◌∷◌, ◌++◌, length, Option, Some, arith, unwrap_or, option_map, AllByRecursion, Insn, Register, R1, IsWellFormedLiteral, BinaryOperator, UnaryOperator, Core, Cores, CoreEntries, no_cores, more_cores, no_core_entries, more_core_entries, plain_entries, plain_tree, plain_trees, lookup, Function, TextTest, nodes, nodes_of, entries_nodes, need, needs, entries_need, saturated, Declaration, AreInsns, size, kept_size, operand_code, operands_code, FrameUse, RootField, with_name, SimpleOperand, MayBeNear, absorbing_insns, difference_insns, divided_insns, entry_insns, equal_insns, field_insns, has_insns, index_insns, insns_append, item_insns, less_insns, list_insns, macro_insns, map_insns, map_where_insns, member_insns, name_insns, name_near, negation_insns, not_insns, not_less_insns, operand_insns, operands_insns, product_insns, size_insns, string_insns, sum_insns, ternary_insns, test_insns, unequal_insns, binary_code, binary_tail, code_of, entries_code, function_code, items_code, leaf_of, left_size, method_function_code, no_code, routine_named, test_code, unary_code, variable_code, field_leaf, kept_or, address_of, literal_code, literal_leaf, place_of, EntriesHaveLiterals, HasLiterals, HaveLiterals, routines_of, frame_words, word_limit, short_size, slot_reach, memo_limit, call_reach, part_slots_per_node, node_limit, function_in}
+use Rattle.codegen.proofs.Prelude.{◌≡◌, ℕ, ◌+◌, ◌*◌, ◌^◌, ◌<◌, ◌≤◌, List, [], ◌∷◌, ◌++◌, length, Option, Some, arith, unwrap_or, option_map, AllByRecursion, Insn, Register, R1, IsWellFormedLiteral, BinaryOperator, UnaryOperator, Core, Cores, CoreEntries, no_cores, more_cores, no_core_entries, more_core_entries, plain_entries, plain_tree, plain_trees, lookup, Function, TextTest, nodes, nodes_of, entries_nodes, need, needs, entries_need, saturated, Declaration, AreInsns, size, kept_size, operand_code, operands_code, FrameUse, RootField, with_name, SimpleOperand, MayBeNear, absorbing_insns, difference_insns, divided_insns, entry_insns, equal_insns, field_insns, has_insns, index_insns, insns_append, item_insns, less_insns, list_insns, macro_insns, map_insns, map_where_insns, member_insns, name_insns, name_near, negation_insns, not_insns, not_less_insns, operand_insns, operands_insns, product_insns, size_insns, string_insns, sum_insns, ternary_insns, test_insns, unequal_insns, binary_code, binary_tail, code_of, entries_code, function_code, items_code, leaf_of, left_size, method_function_code, no_code, routine_named, test_code, unary_code, variable_code, field_leaf, kept_or, address_of, literal_code, literal_leaf, place_of, EntriesHaveLiterals, HasLiterals, HaveLiterals, routines_of, frame_words, word_limit, branch_limit, slot_reach, memo_limit, call_reach, part_slots_per_node, node_limit, function_in}
 use Rattle.cel_reader.specs.Tree as tree
 use Rattle.cel_macros.specs.CoreTree as core
 use Rattle.codegen.proofs.Lengths.{short_code}
@@ -53,7 +53,7 @@ module _ (l : Option SimpleOperand) (left : List Insn) (m : Option SimpleOperand
   two_insns : (r q : Register) (tail : List Insn) → AreInsns tail → AreInsns (operands_code l left m right k r q ++ tail)
   two_insns r q tail d = insns_append (operands_code l left m right k r q) tail (operands_insns l left m right k r q (omega arith) near a near_right b) d
 
-  binary_insns : (op : BinaryOperator) → size right ≤ short_size → AreInsns (binary_code op l left m right k)
+  binary_insns : (op : BinaryOperator) → size right ≤ branch_limit → AreInsns (binary_code op l left m right k)
   unfolding binary_tail
   binary_insns op short = grind (arith, absorbing_insns, two_insns, less_insns, not_less_insns, equal_insns, unequal_insns, member_insns, sum_insns, difference_insns, product_insns, divided_insns)
 

@@ -1,5 +1,5 @@
 -- Code takes at most 63 slots for each node, and 8 less.
-use Rattle.codegen.proofs.Prelude.{◌≡◌, ℕ, ◌+◌, ◌*◌, ◌≤◌, List, [], ◌∷◌, ◌++◌, length, arith, Option, Some, None, append_assoc, to_z-of_z, slot_count, Insn, size, size-append, size-cons, map_where_turn, macro_code, exists_one_turn, filter_turn, map_where_code, Register, R0, R1, R2, R6, ℤ, BinaryOperator, UnaryOperator, Core, Cores, CoreEntries, no_cores, more_cores, no_core_entries, more_core_entries, Macro, Function, Size, String, TextTest, nodes, nodes_of, entries_nodes, FrameUse, with_name, product_tail, negation_tail, kept_size, operand_code, operands_code, leaf_code, code_of, items_code, entries_code, binary_code, binary_tail, leaf_of, unary_code, function_code, method_function_code, routine_named, test_code, variable_code, kept_or, fold_code, SimpleOperand, leaf_size, fold_size, loop_size, address_of, literal_code, no_ref, not_tail, yes_ref, absorbing_code, name_leaf, field_tail, has_tail, index_tail, size_tail, string_tail, test_tail, turn_slot_limit, part_slots_per_node, function_in, test_in}
+use Rattle.codegen.proofs.Prelude.{◌≡◌, ℕ, ◌+◌, ◌*◌, ◌≤◌, List, [], ◌∷◌, ◌++◌, length, arith, Option, Some, None, append_assoc, to_z-of_z, slot_count, Insn, size, size-append, size-cons, map_where_turn, macro_code, exists_one_turn, filter_turn, map_where_code, Register, R0, R1, R2, R6, ℤ, BinaryOperator, UnaryOperator, Core, Cores, CoreEntries, no_cores, more_cores, no_core_entries, more_core_entries, Macro, Function, Size, String, TextTest, nodes, nodes_of, entries_nodes, FrameUse, with_name, product_tail, negation_tail, kept_size, operand_code, operands_code, leaf_code, code_of, items_code, entries_code, binary_code, binary_tail, leaf_of, unary_code, function_code, method_function_code, routine_named, test_code, variable_code, kept_or, fold_code, SimpleOperand, leaf_size, fold_size, loop_size, address_of, literal_code, false_ref, not_tail, true_ref, absorbing_code, name_leaf, field_tail, has_tail, index_tail, size_tail, string_tail, test_tail, turn_slot_limit, part_slots_per_node, function_in, test_in}
 use Rattle.cel_reader.specs.Tree as tree
 use Rattle.cel_reader.specs.declared.operator.BinaryOperator.TheVariants as binary
 use Rattle.cel_reader.specs.declared.operator.UnaryOperator.TheVariants as unary
@@ -60,8 +60,8 @@ absorbing_short d o a b k n m ha hb = grind (arith, size-append, size-cons)
 
 binary_code_short : (op : BinaryOperator) (l : Option SimpleOperand) (a : List Insn) (m : Option SimpleOperand) (b : List Insn) (k n i : ℕ) → size a + 8 ≤ part_slots_per_node * n
     → size b + 8 ≤ part_slots_per_node * i → size (binary_code op l a m b k) + 8 ≤ part_slots_per_node * (1 + n + i)
-binary_code_short binary.Or l a m b k n i ha hb = absorbing_short yes_ref no_ref a b k n i ha hb
-binary_code_short binary.And l a m b k n i ha hb = absorbing_short no_ref yes_ref a b k n i ha hb
+binary_code_short binary.Or l a m b k n i ha hb = absorbing_short true_ref false_ref a b k n i ha hb
+binary_code_short binary.And l a m b k n i ha hb = absorbing_short false_ref true_ref a b k n i ha hb
 binary_code_short op l a m b k n i ha hb = two_short l a m b k _ _ _ n i ha hb (binary_short op)
 
 function_short : (f : Option Function) (l : Option SimpleOperand) (a : List Insn) (n : ℕ) → size a + 8 ≤ part_slots_per_node * n → size (function_code f l a) + 8 ≤ part_slots_per_node * (1 + n)

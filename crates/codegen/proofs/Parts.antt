@@ -1,5 +1,5 @@
 -- The code of each construct, where the code of its parts gives theirs within their budgets.
-use Rattle.codegen.proofs.Prelude.{◌≡◌, ℕ, ◌+◌, ◌-◌, ◌*◌, ◌<◌, ◌≤◌, false, List, ◌++◌, Option, arith, Bool, true, ◌||◌, [], ◌∷◌, length, Some, None, refl, ℤ, Insn, Register, is_frame_pointer, result_size, items_size, size_of as value_size, ValueOrError, value, null, Value, boolean, int, text, Items, no_items, item, list_of, Truth, Yes, No, chosen, truth, ternary_of, and_of, not_of, or_of, ComputesPart, Ready, TextsStand, nestings, names, Cost, ◌and◌, node, nothing, spent_by, literal_cost, name_or_text, kept, kept_size, operand_code, operands_code, absorbing_code, ternary_code, no_ref, yes_ref, Context, Evaluates, RunContext, AbsorbingGives, text_length, HasText, AreApart, Combines, Converts, IsLeafOf, size, SimpleOperand, logic_gives, one_gives, two_gives, gives_within, is_utf8-from_IsUtf8, IsWellFormedLiteral, R1, R2, R6, R7, sum_of, difference_of, negation_of, product_of, quotient_of, remainder_of, Core, Cores, CoreEntries, more_cores, no_cores, more_core_entries, no_core_entries, name_value, Function, Size, String, Dyn, TextTest, function_of, string_of, text_test_of, literal_of, list_literal, map_literal, field_of, has_of, index_of, deepest, need, deepest_of, entries_deepest, entries_need, needs, joined_length, Variable, leaf_gives, leaves_give, selection_gives, code_of, function_code, leaf_of, test_code, texts_of, kept_or, binary_tail, entries_code, items_code, texts_of_each, texts_of_entries, address_of, IsAccepted, AreAccepted, AreEntriesAccepted, BinaryOperator, UnaryOperator, equal_of, greater_equal_of, greater_of, less_equal_of, less_of, member_of, unequal_of, binary_of, unary_of, difference_gives, sum_gives, comparison_gives, products_give, negation_gives, Builds, EntriesGive, ItemsGive, list_gives, map_gives, looser, part_charge_per_unit, word_limit, frame_words, record_limit, part_steps_per_visit}
+use Rattle.codegen.proofs.Prelude.{◌≡◌, ℕ, ◌+◌, ◌-◌, ◌*◌, ◌<◌, ◌≤◌, false, List, ◌++◌, Option, arith, Bool, true, ◌||◌, [], ◌∷◌, length, Some, None, refl, ℤ, Insn, Register, is_frame_pointer, result_size, items_size, size_of as value_size, ValueOrError, value, null, Value, boolean, int, text, Items, no_items, item, list_of, Truth, Yes, No, chosen, truth, ternary_of, and_of, not_of, or_of, ComputesPart, Ready, TextsStand, nestings, names, Cost, ◌and◌, node, nothing, spent_by, literal_cost, name_or_text, kept, kept_size, operand_code, operands_code, absorbing_code, ternary_code, false_ref, true_ref, Context, Evaluates, RunContext, AbsorbingGives, text_length, HasText, AreApart, Combines, Converts, IsLeafOf, size, SimpleOperand, logic_gives, one_gives, two_gives, gives_within, is_utf8-from_IsUtf8, IsWellFormedLiteral, R1, R2, R6, R7, sum_of, difference_of, negation_of, product_of, quotient_of, remainder_of, Core, Cores, CoreEntries, more_cores, no_cores, more_core_entries, no_core_entries, name_value, Function, Size, String, Dyn, TextTest, function_of, string_of, text_test_of, literal_of, list_literal, map_literal, field_of, has_of, index_of, deepest, need, deepest_of, entries_deepest, entries_need, needs, joined_length, Variable, leaf_gives, leaves_give, selection_gives, code_of, function_code, leaf_of, test_code, texts_of, kept_or, binary_tail, entries_code, items_code, texts_of_each, texts_of_entries, address_of, IsAccepted, AreAccepted, AreEntriesAccepted, BinaryOperator, UnaryOperator, equal_of, greater_equal_of, greater_of, less_equal_of, less_of, member_of, unequal_of, binary_of, unary_of, difference_gives, sum_gives, comparison_gives, products_give, negation_gives, Builds, EntriesGive, ItemsGive, list_gives, map_gives, looser, part_charge_per_unit, word_limit, frame_words, record_limit, part_steps_per_visit}
 use Rattle.codegen.proofs.Subexpressions.{Subexpression, Valued, valued}
 use Rattle.expression_code.proofs.Sites.{Site, Budget, site_at, in_frame, budget, BuildsAt}
 use Rattle.cel_reader.specs.Tree as tree
@@ -238,9 +238,9 @@ module _ (s : RunContext) (scope : List Variable) (rs : List (List ℕ × ℕ)) 
     pub binary_part : (o : BinaryOperator) → Part s scope rs texts depth c k (core.binary o a b) (binary_of o x y) (node (binary_of o x y) and t and u)
     unfolding code_of binary_tail
     binary_part op.Or ready p =
-        let both = sides op.Or (or_of x y) ready in absorbing s c depth k p yes_ref no_ref or_of logic_gives.or (valued (code a k p) x t) (valued (right_code p) y u) both.low (both.left p) (grind (arith, both.right (p + (size (code a k p) + 2))))
+        let both = sides op.Or (or_of x y) ready in absorbing s c depth k p true_ref false_ref or_of logic_gives.or (valued (code a k p) x t) (valued (right_code p) y u) both.low (both.left p) (grind (arith, both.right (p + (size (code a k p) + 2))))
     binary_part op.And ready p =
-        let both = sides op.And (and_of x y) ready in absorbing s c depth k p no_ref yes_ref and_of logic_gives.and (valued (code a k p) x t) (valued (right_code p) y u) both.low (both.left p) (grind (arith, both.right (p + (size (code a k p) + 2))))
+        let both = sides op.And (and_of x y) ready in absorbing s c depth k p false_ref true_ref and_of logic_gives.and (valued (code a k p) x t) (valued (right_code p) y u) both.low (both.left p) (grind (arith, both.right (p + (size (code a k p) + 2))))
     binary_part op.Add ready p = let short = joined_within x y in by_tail (binary_tail op.Add) R6 R7 (sum_of x y) 20 (5 + joined_length (joined (Some x) (Some y))) kept_two (omega arith) (omega arith) (sides op.Add (sum_of x y) ready) p (λ q low. sum_gives s q k c depth x y low)
     binary_part op.Less ready p =
         by_tail (binary_tail op.Less) R1 R2 (less_of x y) 1 1 first_two (omega arith) (omega arith) (sides op.Less (less_of x y) ready) p (λ q low. comparison_gives.less s q k c depth x y low)

@@ -103,7 +103,7 @@ pub use Rattle.expression_code.specs.Code.Aggregates.{entry_code, item_code}
 pub use Rattle.expression_code.specs.Code.Calls.{kept_size, operand_code, operands_code}
 pub use Rattle.expression_code.specs.Code.Folds.{macro_code, map_where_code, map_where_turn}
 pub use Rattle.expression_code.specs.Code.Leaves.{leaf_code}
-pub use Rattle.expression_code.specs.Code.Logic.{absorbing_code, no_ref, not_tail, ternary_code, yes_ref}
+pub use Rattle.expression_code.specs.Code.Logic.{absorbing_code, false_ref, not_tail, ternary_code, true_ref}
 pub use Rattle.expression_code.specs.Code.Names.{name_leaf}
 pub use Rattle.expression_code.specs.Code.Selection.{field_tail, has_tail, index_tail, size_tail, string_tail, test_tail}
 pub use Rattle.expression_code.specs.Contexts.{Context, Evaluates}
@@ -115,7 +115,7 @@ pub use Rattle.expression_code.specs.Gives.Paths.{kept_path_code}
 pub use Rattle.expression_code.specs.Gives.Selection.{HasText, text_length}
 pub use Rattle.expression_code.specs.Helpers.{joined_length}
 pub use Rattle.expression_code.specs.Instructions.{ja, store}
-pub use Rattle.expression_code.specs.Limits.{call_reach, charge_per_unit, code_limit, fold_limit, frame_words, memo_limit, node_limit, part_charge_per_unit, part_slots_per_node, part_steps_per_visit, short_size, slot_reach, steps_per_visit, turn_slot_limit, variable_depth_limit, word_limit}
+pub use Rattle.expression_code.specs.Limits.{call_reach, charge_per_unit, code_limit, fold_limit, frame_words, memo_limit, node_limit, part_charge_per_unit, part_slots_per_node, part_steps_per_visit, branch_limit, slot_reach, steps_per_visit, turn_slot_limit, variable_depth_limit, word_limit}
 pub use Rattle.expression_code.specs.Loops.{fold_code, loop_code, range_tail, with_item}
 pub use Rattle.expression_code.specs.Operators.{AreApart, Combines, Converts, IsLeafIn, IsLeafOf}
 pub use Rattle.expression_code.specs.Paths.{FrameUse, RootField, nothing_kept, with_name, with_path}

@@ -27,15 +27,15 @@ routines_within around = routines_of (map declaration around.variables.now) arou
 
 -- the code of an expression at a position
 abbrev pub piece_of : Core → EmitPosition → List Insn
-piece_of e spot = code_of e (texts_within spot.around.now) (routines_within spot.around.now) (words_of spot.words.now) spot.word spot.slot
+piece_of e position = code_of e (texts_within position.around.now) (routines_within position.around.now) (words_of position.words.now) position.word position.slot
 
 -- the spot of a right operand behind a left one, which is kept where it is no leaf
 abbrev pub behind_kept : EmitPosition → Option SimpleOperand → List Insn → EmitPosition
-behind_kept spot leaf left = record spot { word = spot.word + 1; slot = spot.slot + kept_size leaf left }
+behind_kept position leaf left = record position { word = position.word + 1; slot = position.slot + kept_size leaf left }
 
 -- the code has words of the frame enough and is so short that jumps in it fit 16 bits, and calls from it to routines 32
-pub record HasFrameRoom (e : Core) (spot : EmitPosition) : Type 0 where
-  pub held : AreWords (words_of spot.words.now)
-  pub room : spot.word + need e ≤ word_limit
+pub record HasFrameRoom (e : Core) (position : EmitPosition) : Type 0 where
+  pub held : AreWords (words_of position.words.now)
+  pub room : position.word + need e ≤ word_limit
   pub short : nodes e ≤ node_limit
-  pub near : spot.slot + part_slots_per_node * nodes e ≤ slot_reach
+  pub near : position.slot + part_slots_per_node * nodes e ≤ slot_reach

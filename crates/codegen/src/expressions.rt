@@ -49,27 +49,27 @@ fn leaf_of(core: &Core, words: &FrameWords) -> Option<SimpleOperand>
 /// A part, and how many slots it takes.
 #[cycle(code)]
 #[tactic(auto, using(crate::proofs::Walks::near_code))]
-fn part(alloc: Global, core: &Core, spot: EmitPosition) -> Result<(Vec<Insn>, usize), AllocError>
-    requires { HasFrameRoom (core_view core.now) spot }
-    ensures code { IfOk result (λ part. part.0.items ≡ piece_of (core_view core.now) spot.entry) }
+fn part(alloc: Global, core: &Core, position: EmitPosition) -> Result<(Vec<Insn>, usize), AllocError>
+    requires { HasFrameRoom (core_view core.now) position }
+    ensures code { IfOk result (λ part. part.0.items ≡ piece_of (core_view core.now) position.entry) }
     ensures slots { IfOk result (λ part. part.1 ≡ size_of_piece part.0.items) }
     ensures short { IfOk result (λ part. part.1 + 8 ≤ part_slots_per_node * nodes (core_view core.now)) }
 {
-    let code = code_of(alloc, core, spot)?;
+    let code = code_of(alloc, core, position)?;
     let slots = size(&code);
     Ok((code, slots))
 }
 
 /// An operand, which may be a simple operand.
 #[cycle(code)]
-fn operand(alloc: Global, core: &Core, spot: EmitPosition) -> Result<Part, AllocError>
-    requires { HasFrameRoom (core_view core.now) spot }
-    ensures leaf { IfOk result (λ part. part.leaf ≡ specs.leaf_of (core_view core.now) (words_of spot.entry.words.now)) }
-    ensures code { IfOk result (λ part. part.code.items ≡ piece_of (core_view core.now) spot.entry) }
+fn operand(alloc: Global, core: &Core, position: EmitPosition) -> Result<Part, AllocError>
+    requires { HasFrameRoom (core_view core.now) position }
+    ensures leaf { IfOk result (λ part. part.leaf ≡ specs.leaf_of (core_view core.now) (words_of position.entry.words.now)) }
+    ensures code { IfOk result (λ part. part.code.items ≡ piece_of (core_view core.now) position.entry) }
     ensures short { IfOk result (λ part. size_of_piece part.code.items + 8 ≤ part_slots_per_node * nodes (core_view core.now)) }
 {
-    let leaf = leaf_of(core, spot.words);
-    let (code, _) = part(alloc, core, spot)?;
+    let leaf = leaf_of(core, position.words);
+    let (code, _) = part(alloc, core, position)?;
     Ok(Part { leaf, code })
 }
 
@@ -79,19 +79,19 @@ fn operands(
     alloc: Global,
     left: &Core,
     right: &Core,
-    spot: EmitPosition,
+    position: EmitPosition,
 ) -> Result<(Part, Part), AllocError>
-    requires { HasFrameRoom (core.index (core_view left.now) (core_view right.now)) spot }
-    ensures left { IfOk result (λ parts. parts.0.leaf ≡ specs.leaf_of (core_view left.now) (words_of spot.entry.words.now)) }
-    ensures left_code { IfOk result (λ parts. parts.0.code.items ≡ piece_of (core_view left.now) spot.entry) }
-    ensures right { IfOk result (λ parts. parts.1.leaf ≡ specs.leaf_of (core_view right.now) (words_of spot.entry.words.now)) }
-    ensures right_code { IfOk result (λ parts. parts.1.code.items ≡ piece_of (core_view right.now) (behind_kept spot.entry parts.0.leaf parts.0.code.items)) }
+    requires { HasFrameRoom (core.index (core_view left.now) (core_view right.now)) position }
+    ensures left { IfOk result (λ parts. parts.0.leaf ≡ specs.leaf_of (core_view left.now) (words_of position.entry.words.now)) }
+    ensures left_code { IfOk result (λ parts. parts.0.code.items ≡ piece_of (core_view left.now) position.entry) }
+    ensures right { IfOk result (λ parts. parts.1.leaf ≡ specs.leaf_of (core_view right.now) (words_of position.entry.words.now)) }
+    ensures right_code { IfOk result (λ parts. parts.1.code.items ≡ piece_of (core_view right.now) (behind_kept position.entry parts.0.leaf parts.0.code.items)) }
 {
-    let first = operand(alloc, left, spot)?;
+    let first = operand(alloc, left, position)?;
     let behind = EmitPosition {
-        word: spot.word + 1,
-        slot: spot.slot + kept_size(&first),
-        ..spot
+        word: position.word + 1,
+        slot: position.slot + kept_size(&first),
+        ..position
     };
     let second = operand(alloc, right, behind)?;
     Ok((first, second))
@@ -99,31 +99,31 @@ fn operands(
 
 /// A field: a simple operand where it is kept.
 #[cycle(code)]
-fn select(alloc: Global, of: &Core, field: &str, spot: EmitPosition) -> Code
-    requires { HasFrameRoom (core.select (core_view of.now) field.now) spot }
-    ensures { IfOk result (λ code. code.items ≡ piece_of (core.select (core_view of.now) field.now) spot.entry) }
+fn select(alloc: Global, of: &Core, field: &str, position: EmitPosition) -> Code
+    requires { HasFrameRoom (core.select (core_view of.now) field.now) position }
+    ensures { IfOk result (λ code. code.items ≡ piece_of (core.select (core_view of.now) field.now) position.entry) }
 {
-    match paths::field_leaf(of, field, spot.words) {
+    match paths::field_leaf(of, field, position.words) {
         Some(leaf) => names::leaf(alloc, leaf),
         None => {
-            let of = operand(alloc, of, spot)?;
-            selection::select(alloc, &of, spot.around.texts, field)
+            let of = operand(alloc, of, position)?;
+            selection::select(alloc, &of, position.around.texts, field)
         }
     }
 }
 
 /// An index.
 #[cycle(code)]
-fn index(alloc: Global, of: &Core, at: &Core, spot: EmitPosition) -> Code
-    requires { HasFrameRoom (core.index (core_view of.now) (core_view at.now)) spot }
-    ensures { IfOk result (λ code. code.items ≡ piece_of (core.index (core_view of.now) (core_view at.now)) spot.entry) }
+fn index(alloc: Global, of: &Core, at: &Core, position: EmitPosition) -> Code
+    requires { HasFrameRoom (core.index (core_view of.now) (core_view at.now)) position }
+    ensures { IfOk result (λ code. code.items ≡ piece_of (core.index (core_view of.now) (core_view at.now)) position.entry) }
 {
-    let (left, right) = operands(alloc, of, at, spot)?;
+    let (left, right) = operands(alloc, of, at, position)?;
     let mut code = operands_code(
         alloc,
         &left,
         &right,
-        spot.word,
+        position.word,
         (Register::R1, Register::R2),
     )?;
     code.push(call_helper(helpers::INDEX))?;
@@ -132,77 +132,77 @@ fn index(alloc: Global, of: &Core, at: &Core, spot: EmitPosition) -> Code
 
 /// An operator of two operands.
 #[cycle(code)]
-fn binary(alloc: Global, op: BinaryOperator, left: &Core, right: &Core, spot: EmitPosition) -> Code
-    requires { HasFrameRoom (core.binary op (core_view left.now) (core_view right.now)) spot }
-    ensures { IfOk result (λ code. code.items ≡ piece_of (core.binary op (core_view left.now) (core_view right.now)) spot.entry) }
+fn binary(alloc: Global, op: BinaryOperator, left: &Core, right: &Core, position: EmitPosition) -> Code
+    requires { HasFrameRoom (core.binary op (core_view left.now) (core_view right.now)) position }
+    ensures { IfOk result (λ code. code.items ≡ piece_of (core.binary op (core_view left.now) (core_view right.now)) position.entry) }
 {
-    let first = operand(alloc, left, spot)?;
+    let first = operand(alloc, left, position)?;
     let behind = EmitPosition {
-        word: spot.word + 1,
-        slot: spot.slot + operators::left_size(op, &first),
-        ..spot
+        word: position.word + 1,
+        slot: position.slot + operators::left_size(op, &first),
+        ..position
     };
     let second = operand(alloc, right, behind)?;
-    operators::binary(alloc, op, &first, &second, spot.word)
+    operators::binary(alloc, op, &first, &second, position.word)
 }
 
 /// A list.
 #[cycle(code)]
-fn list(alloc: Global, parts: &[Core], spot: EmitPosition) -> Code
-    requires { HasFrameRoom (core.list (cores (list.map core_view parts.now))) spot }
-    ensures { IfOk result (λ code. code.items ≡ piece_of (core.list (cores (list.map core_view parts.now))) spot.entry) }
+fn list(alloc: Global, parts: &[Core], position: EmitPosition) -> Code
+    requires { HasFrameRoom (core.list (cores (list.map core_view parts.now))) position }
+    ensures { IfOk result (λ code. code.items ≡ piece_of (core.list (cores (list.map core_view parts.now))) position.entry) }
 {
     let mut items = Vec::new(alloc);
-    let mut slot = spot.slot + aggregates::HEAD_SLOTS;
+    let mut slot = position.slot + aggregates::HEAD_SLOTS;
     for item in parts {
         let place = EmitPosition {
-            word: spot.word + 1,
+            word: position.word + 1,
             slot,
-            ..spot
+            ..position
         };
         let (code, slots) = part(alloc, item, place)?;
-        aggregates::add_item(&mut items, &code, spot.word)?;
+        aggregates::add_item(&mut items, &code, position.word)?;
         slot += slots + aggregates::PUSH_SLOTS;
     }
-    aggregates::list(alloc, &items, spot.word)
+    aggregates::list(alloc, &items, position.word)
 }
 
 /// A map.
 #[cycle(code)]
-fn map(alloc: Global, pairs: &[(Core, Core)], spot: EmitPosition) -> Code
-    requires { HasFrameRoom (core.map (core_entries (list.map core_pair pairs.now))) spot }
-    ensures { IfOk result (λ code. code.items ≡ piece_of (core.map (core_entries (list.map core_pair pairs.now))) spot.entry) }
+fn map(alloc: Global, pairs: &[(Core, Core)], position: EmitPosition) -> Code
+    requires { HasFrameRoom (core.map (core_entries (list.map core_pair pairs.now))) position }
+    ensures { IfOk result (λ code. code.items ≡ piece_of (core.map (core_entries (list.map core_pair pairs.now))) position.entry) }
 {
     let mut entries = Vec::new(alloc);
-    let mut slot = spot.slot + aggregates::HEAD_SLOTS;
+    let mut slot = position.slot + aggregates::HEAD_SLOTS;
     for (key, value) in pairs {
         let place = EmitPosition {
-            word: spot.word + 1,
+            word: position.word + 1,
             slot,
-            ..spot
+            ..position
         };
         let (first, slots) = part(alloc, key, place)?;
         let behind = EmitPosition {
-            word: spot.word + 2,
+            word: position.word + 2,
             slot: slot + slots + aggregates::KEY_SLOTS,
-            ..spot
+            ..position
         };
         let (second, slots) = part(alloc, value, behind)?;
-        aggregates::add_entry(&mut entries, &first, &second, spot.word)?;
+        aggregates::add_entry(&mut entries, &first, &second, position.word)?;
         slot = behind.slot + slots + aggregates::PUT_SLOTS;
     }
-    aggregates::map(alloc, &entries, spot.word)
+    aggregates::map(alloc, &entries, position.word)
 }
 
 /// A call.
 #[cycle(code)]
-fn call(alloc: Global, callee: &Callee, arguments: &[Core], spot: EmitPosition) -> Code
-    requires { HasFrameRoom (core.call (callee_view callee.now) (cores (list.map core_view arguments.now))) spot }
-    ensures { IfOk result (λ code. code.items ≡ piece_of (core.call (callee_view callee.now) (cores (list.map core_view arguments.now))) spot.entry) }
+fn call(alloc: Global, callee: &Callee, arguments: &[Core], position: EmitPosition) -> Code
+    requires { HasFrameRoom (core.call (callee_view callee.now) (cores (list.map core_view arguments.now))) position }
+    ensures { IfOk result (λ code. code.items ≡ piece_of (core.call (callee_view callee.now) (cores (list.map core_view arguments.now))) position.entry) }
 {
     match arguments {
         [argument] => {
-            let of = operand(alloc, argument, spot)?;
+            let of = operand(alloc, argument, position)?;
             names::function(alloc, callee, &of)
         }
         _ => names::nothing(alloc),
@@ -211,18 +211,18 @@ fn call(alloc: Global, callee: &Callee, arguments: &[Core], spot: EmitPosition) 
 
 /// A method.
 #[cycle(code)]
-fn method(alloc: Global, of: &Core, callee: &Callee, arguments: &[Core], spot: EmitPosition) -> Code
-    requires { HasFrameRoom (core.method (core_view of.now) (callee_view callee.now) (cores (list.map core_view arguments.now))) spot }
-    ensures { IfOk result (λ code. code.items ≡ piece_of (core.method (core_view of.now) (callee_view callee.now) (cores (list.map core_view arguments.now))) spot.entry) }
+fn method(alloc: Global, of: &Core, callee: &Callee, arguments: &[Core], position: EmitPosition) -> Code
+    requires { HasFrameRoom (core.method (core_view of.now) (callee_view callee.now) (cores (list.map core_view arguments.now))) position }
+    ensures { IfOk result (λ code. code.items ≡ piece_of (core.method (core_view of.now) (callee_view callee.now) (cores (list.map core_view arguments.now))) position.entry) }
 {
     match arguments {
         [] => {
-            let of = operand(alloc, of, spot)?;
+            let of = operand(alloc, of, position)?;
             names::method(alloc, callee, &of)
         }
         [argument] => {
-            let (left, right) = operands(alloc, of, argument, spot)?;
-            names::test(alloc, callee, &left, &right, spot.word)
+            let (left, right) = operands(alloc, of, argument, position)?;
+            names::test(alloc, callee, &left, &right, position.word)
         }
         _ => names::nothing(alloc),
     }
@@ -230,19 +230,19 @@ fn method(alloc: Global, of: &Core, callee: &Callee, arguments: &[Core], spot: E
 
 /// A conditional.
 #[cycle(code)]
-fn ternary(alloc: Global, test: &Core, yes: &Core, no: &Core, spot: EmitPosition) -> Code
-    requires { HasFrameRoom (core.ternary (core_view test.now) (core_view yes.now) (core_view no.now)) spot }
-    ensures { IfOk result (λ code. code.items ≡ piece_of (core.ternary (core_view test.now) (core_view yes.now) (core_view no.now)) spot.entry) }
+fn ternary(alloc: Global, test: &Core, yes: &Core, no: &Core, position: EmitPosition) -> Code
+    requires { HasFrameRoom (core.ternary (core_view test.now) (core_view yes.now) (core_view no.now)) position }
+    ensures { IfOk result (λ code. code.items ≡ piece_of (core.ternary (core_view test.now) (core_view yes.now) (core_view no.now)) position.entry) }
 {
-    let (condition, slots) = part(alloc, test, spot)?;
+    let (condition, slots) = part(alloc, test, position)?;
     let behind_condition = EmitPosition {
-        slot: spot.slot + slots + logic::CONDITION_SLOTS,
-        ..spot
+        slot: position.slot + slots + logic::TERNARY_JUMP_SLOTS,
+        ..position
     };
     let (first, slots) = part(alloc, yes, behind_condition)?;
     let behind_first = EmitPosition {
         slot: behind_condition.slot + slots + logic::BRANCH_SLOTS,
-        ..spot
+        ..position
     };
     let (second, _) = part(alloc, no, behind_first)?;
     logic::ternary(alloc, &condition, &first, &second)
@@ -250,35 +250,35 @@ fn ternary(alloc: Global, test: &Core, yes: &Core, no: &Core, spot: EmitPosition
 
 /// A macro with one part.
 #[cycle(code)]
-fn fold(alloc: Global, found: Macro, over: Iteration, body: &Core, spot: EmitPosition) -> Code
-    requires { HasFrameRoom (core.fold found over.name.now (core_view over.range.now) (core_view body.now)) spot }
-    ensures { IfOk result (λ code. code.items ≡ piece_of (core.fold found over.entry.name.now (core_view over.entry.range.now) (core_view body.now)) spot.entry) }
+fn fold(alloc: Global, found: Macro, over: Iteration, body: &Core, position: EmitPosition) -> Code
+    requires { HasFrameRoom (core.fold found over.name.now (core_view over.range.now) (core_view body.now)) position }
+    ensures { IfOk result (λ code. code.items ≡ piece_of (core.fold found over.entry.name.now (core_view over.entry.range.now) (core_view body.now)) position.entry) }
 {
-    let (items, slots) = part(alloc, over.range, spot)?;
-    let within = FrameWords::Within(over.name, spot.word + folds::ITEM, &*spot.words);
+    let (items, slots) = part(alloc, over.range, position)?;
+    let within = FrameWords::Within(over.name, position.word + folds::ITEM, &*position.words);
     let inside = EmitPosition {
         words: &within,
-        word: spot.word + folds::LOOP_WORDS,
-        slot: spot.slot + slots + folds::SLOTS_BEFORE_TURN,
-        ..spot
+        word: position.word + folds::LOOP_WORDS,
+        slot: position.slot + slots + folds::SLOTS_BEFORE_TURN,
+        ..position
     };
     let (turn, _) = part(alloc, body, inside)?;
-    folds::macro_of(alloc, found, &items, &turn, spot.word)
+    folds::macro_of(alloc, found, &items, &turn, position.word)
 }
 
 /// `map` with a predicate and a transform.
 #[cycle(code)]
-fn fold_map(alloc: Global, over: Iteration, test: &Core, body: &Core, spot: EmitPosition) -> Code
-    requires { HasFrameRoom (core.fold_map over.name.now (core_view over.range.now) (core_view test.now) (core_view body.now)) spot }
-    ensures { IfOk result (λ code. code.items ≡ piece_of (core.fold_map over.entry.name.now (core_view over.entry.range.now) (core_view test.now) (core_view body.now)) spot.entry) }
+fn fold_map(alloc: Global, over: Iteration, test: &Core, body: &Core, position: EmitPosition) -> Code
+    requires { HasFrameRoom (core.fold_map over.name.now (core_view over.range.now) (core_view test.now) (core_view body.now)) position }
+    ensures { IfOk result (λ code. code.items ≡ piece_of (core.fold_map over.entry.name.now (core_view over.entry.range.now) (core_view test.now) (core_view body.now)) position.entry) }
 {
-    let (items, slots) = part(alloc, over.range, spot)?;
-    let within = FrameWords::Within(over.name, spot.word + folds::ITEM, &*spot.words);
+    let (items, slots) = part(alloc, over.range, position)?;
+    let within = FrameWords::Within(over.name, position.word + folds::ITEM, &*position.words);
     let inside = EmitPosition {
         words: &within,
-        word: spot.word + folds::LOOP_WORDS,
-        slot: spot.slot + slots + folds::SLOTS_BEFORE_TURN,
-        ..spot
+        word: position.word + folds::LOOP_WORDS,
+        slot: position.slot + slots + folds::SLOTS_BEFORE_TURN,
+        ..position
     };
     let (first, slots) = part(alloc, test, inside)?;
     let behind = EmitPosition {
@@ -286,41 +286,41 @@ fn fold_map(alloc: Global, over: Iteration, test: &Core, body: &Core, spot: Emit
         ..inside
     };
     let (turn, _) = part(alloc, body, behind)?;
-    folds::map_where(alloc, &items, &first, &turn, spot.word)
+    folds::map_where(alloc, &items, &first, &turn, position.word)
 }
 
 /// The code of the expression at the position. Within the macros around it the words of the frame
 /// hold their items. The error says that there is no memory for it.
 #[cycle(code)]
-pub(crate) fn code_of(alloc: Global, core: &Core, spot: EmitPosition) -> Code
-    requires { HasFrameRoom (core_view core.now) spot }
-    ensures { IfOk result (λ code. code.items ≡ piece_of (core_view core.now) spot.entry) }
+pub(crate) fn code_of(alloc: Global, core: &Core, position: EmitPosition) -> Code
+    requires { HasFrameRoom (core_view core.now) position }
+    ensures { IfOk result (λ code. code.items ≡ piece_of (core_view core.now) position.entry) }
 {
     match core {
-        Core::Literal(literal) => literals::literal(alloc, spot.around.texts, literal),
-        Core::Name(name) => names::leaf(alloc, names::name_leaf(name, spot.words)),
-        Core::Variable(name) => variables::variable(alloc, name, spot.around, spot.slot),
-        Core::Select(of, field) => select(alloc, of, field, spot),
+        Core::Literal(literal) => literals::literal(alloc, position.around.texts, literal),
+        Core::Name(name) => names::leaf(alloc, names::name_leaf(name, position.words)),
+        Core::Variable(name) => variables::variable(alloc, name, position.around, position.slot),
+        Core::Select(of, field) => select(alloc, of, field, position),
         Core::Has(of, field) => {
-            let of = operand(alloc, of, spot)?;
-            selection::has(alloc, &of, spot.around.texts, field)
+            let of = operand(alloc, of, position)?;
+            selection::has(alloc, &of, position.around.texts, field)
         }
         Core::Unary(op, of) => {
-            let of = operand(alloc, of, spot)?;
+            let of = operand(alloc, of, position)?;
             operators::unary(alloc, *op, &of)
         }
-        Core::Index(of, at) => index(alloc, of, at, spot),
-        Core::Binary(op, left, right) => binary(alloc, *op, left, right, spot),
-        Core::Call(callee, arguments) => call(alloc, callee, arguments, spot),
-        Core::Method(of, callee, arguments) => method(alloc, of, callee, arguments, spot),
-        Core::Ternary(test, yes, no) => ternary(alloc, test, yes, no, spot),
-        Core::List(parts) => list(alloc, parts, spot),
-        Core::Map(pairs) => map(alloc, pairs, spot),
+        Core::Index(of, at) => index(alloc, of, at, position),
+        Core::Binary(op, left, right) => binary(alloc, *op, left, right, position),
+        Core::Call(callee, arguments) => call(alloc, callee, arguments, position),
+        Core::Method(of, callee, arguments) => method(alloc, of, callee, arguments, position),
+        Core::Ternary(test, yes, no) => ternary(alloc, test, yes, no, position),
+        Core::List(parts) => list(alloc, parts, position),
+        Core::Map(pairs) => map(alloc, pairs, position),
         Core::Fold(found, name, range, body) => {
-            fold(alloc, *found, Iteration { name, range }, body, spot)
+            fold(alloc, *found, Iteration { name, range }, body, position)
         }
         Core::FoldMap(name, range, test, body) => {
-            fold_map(alloc, Iteration { name, range }, test, body, spot)
+            fold_map(alloc, Iteration { name, range }, test, body, position)
         }
     }
 }

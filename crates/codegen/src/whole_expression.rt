@@ -47,13 +47,13 @@ fn plain_code(alloc: Global, core: &Core, around: &NameTable, slot: usize) -> Co
     ensures code { IfOk result (λ code. code.items ≡ specs.plain_code (core_view core.now) (texts_within around.now) (routines_within around.now) slot) }
     ensures short { IfOk result (λ code. size_of_piece code.items + 8 ≤ part_slots_per_node * measures.nodes (core_view core.now)) }
 {
-    let spot = EmitPosition {
+    let position = EmitPosition {
         around,
         words: &FrameWords::Outside,
         word: 0,
         slot,
     };
-    code_of(alloc, core, spot)
+    code_of(alloc, core, position)
 }
 
 /// The expression's code at this slot, behind the path's and a store that keeps it in word 0.
@@ -68,13 +68,13 @@ fn keeping_code(alloc: Global, path: Path, core: &Core, around: &NameTable, slot
     let mut code = walk(alloc, around.texts, path)?;
     code.push(store(0, Register::R0))?;
     let words = FrameWords::Keeping(path);
-    let spot = EmitPosition {
+    let position = EmitPosition {
         around,
         words: &words,
         word: 1,
         slot: slot + KEPT_PATH_SLOTS,
     };
-    let rest = code_of(alloc, core, spot)?;
+    let rest = code_of(alloc, core, position)?;
     code.extend_from_slice(&rest)?;
     Ok(code)
 }

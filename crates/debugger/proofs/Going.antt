@@ -1,20 +1,20 @@
 -- How a session goes on with the bytes that it hears.
-use Rattle.debugger.proofs.Prelude.{◌≡◌, ℕ, zero, suc, nat_eq, ◌<◌, ◌≤◌, Bool, true, false, List, [], ◌∷◌, ◌++◌, length, length-append, length-drop, take, drop, map, fold, Option, Some, refl, sym, ap, ◌∙◌, subst, arith, append_assoc, append-nil, nat_tests, map-append, or_parts, list_any-append, take-append-drop, take-append-le, fold_push, fold-append, State, AddsBytes, SessionState, Line, session_state_at, command_of, is_quit, Dialogue, first_talk, hear, dialogue_of, with_answer, granted, cut, has_quit, input_lines, lines_of, IsDialogue, AnswersLine, WritesAnswer, WritesPartOfAnswer, TranscriptSoFar, TranscriptToQuit, TranscriptToEnd, TranscriptCut, TranscriptBreaks, HasNoFeed}
+use Rattle.debugger.proofs.Prelude.{◌≡◌, ℕ, zero, suc, nat_eq, ◌<◌, ◌≤◌, Bool, true, false, List, [], ◌∷◌, ◌++◌, length, length-append, length-drop, take, drop, map, fold, Option, Some, refl, sym, ap, ◌∙◌, subst, arith, append_assoc, append-nil, nat_tests, map-append, or_parts, list_any-append, take-append-drop, take-append-le, fold_push, fold-append, State, AddsBytes, SessionState, Line, session_state_at, command_of, is_quit, Dialogue, start_dialogue, dialogue_after, dialogue_of, with_answer, granted, cut, has_quit, input_lines, lines_of, IsDialogue, AnswersLine, WritesAnswer, WritesPartOfAnswer, TranscriptSoFar, TranscriptToQuit, TranscriptToEnd, TranscriptCut, TranscriptBreaks, HasNoFeed}
 use Rattle.debugger.proofs.Asked.{answers_whole}
 use Rattle.streams.proofs.Cut.{Pieces, cut-line, cut-part, input_lines-ended, lines-append, take-join}
 use Rattle.debugger.proofs.Quit.{answer_to-ended, quit-push}
 
-pub hear-on : (s : State) (t : Dialogue) (l : Line) → t.world.ended ≡ false → hear s t l ≡ with_answer s t l
-unfolding hear
+pub hear-on : (s : State) (t : Dialogue) (l : Line) → t.session_state.ended ≡ false → dialogue_after s t l ≡ with_answer s t l
+unfolding dialogue_after
 hear-on s t l on = grind arith
 
-pub hear-off : (s : State) (t : Dialogue) (l : Line) → t.world.ended ≡ true → hear s t l ≡ t
-unfolding hear
+pub hear-off : (s : State) (t : Dialogue) (l : Line) → t.session_state.ended ≡ true → dialogue_after s t l ≡ t
+unfolding dialogue_after
 hear-off s t l off = grind arith
 
-talk-more : (s : State) (marked : List Line) (t : Dialogue) (l : Line) → dialogue_of s marked ≡ t → t.world.ended ≡ false
+talk-more : (s : State) (marked : List Line) (t : Dialogue) (l : Line) → dialogue_of s marked ≡ t → t.session_state.ended ≡ false
     → dialogue_of s (marked ++ l ∷ []) ≡ with_answer s t l
-unfolding hear
+unfolding dialogue_after
 talk-more s marked t l is on = grind (arith, nat_tests, fold_push)
 
 lines-more : (marked : List Line) (lines : List (List ℕ)) (line : List ℕ) (mark : Bool) → lines_of marked ≡ lines
@@ -22,7 +22,7 @@ lines-more : (marked : List Line) (lines : List (List ℕ)) (line : List ℕ) (m
 lines-more marked lines line mark are = grind (arith, nat_tests, map-append)
 
 -- one line more
-heard-more : (s : State) (lines : List (List ℕ)) (t : Dialogue) (line : List ℕ) (mark : Bool) → IsDialogue s lines t → t.world.ended ≡ false
+heard-more : (s : State) (lines : List (List ℕ)) (t : Dialogue) (line : List ℕ) (mark : Bool) → IsDialogue s lines t → t.session_state.ended ≡ false
     → IsDialogue s (lines ++ line ∷ []) (with_answer s t (line, mark))
 heard-more s lines t line mark h on = record {
   marked = h.marked ++ (line, mark) ∷ [];
@@ -34,16 +34,16 @@ granted-lines : (lines : List (List ℕ)) → lines_of (map granted lines) ≡ l
 granted-lines [] = refl
 granted-lines (line ∷ lines) = ap (λ (ls : List (List ℕ)). line ∷ ls) (granted-lines lines)
 
-granted-off : (s : State) (t : Dialogue) (lines : List (List ℕ)) → t.world.ended ≡ true → fold (hear s) t (map granted lines) ≡ t
+granted-off : (s : State) (t : Dialogue) (lines : List (List ℕ)) → t.session_state.ended ≡ true → fold (dialogue_after s) t (map granted lines) ≡ t
 granted-off s t [] off = refl
-granted-off s t (line ∷ lines) off = ap (λ (u : Dialogue). fold (hear s) u (map granted lines)) (hear-off s t (granted line) off) ∙ granted-off s t lines off
+granted-off s t (line ∷ lines) off = ap (λ (u : Dialogue). fold (dialogue_after s) u (map granted lines)) (hear-off s t (granted line) off) ∙ granted-off s t lines off
 
 -- lines after the end change nothing
-pub heard-off : (s : State) (lines more : List (List ℕ)) (t : Dialogue) → IsDialogue s lines t → t.world.ended ≡ true → IsDialogue s (lines ++ more) t
+pub heard-off : (s : State) (lines more : List (List ℕ)) (t : Dialogue) → IsDialogue s lines t → t.session_state.ended ≡ true → IsDialogue s (lines ++ more) t
 heard-off s lines more t h off = record {
   marked = h.marked ++ map granted more;
   lines_are = map-append (λ (l : Line). l.0) h.marked (map granted more) ∙ (λ i. h.lines_are i ++ granted-lines more i);
-  talk_is = fold-append (hear s) first_talk h.marked (map granted more) ∙ ap (λ (u : Dialogue). fold (hear s) u (map granted more)) h.talk_is
+  talk_is = fold-append (dialogue_after s) start_dialogue h.marked (map granted more) ∙ ap (λ (u : Dialogue). fold (dialogue_after s) u (map granted more)) h.talk_is
       ∙ granted-off s t more off;
 }
 
@@ -58,7 +58,7 @@ quiet_front bytes n none =
 pub going_start : (s : State) (before : List ℕ) (written : Option (List ℕ)) → written ≡ Some before → TranscriptSoFar s before [] written [] [] 0
 unfolding cut
 going_start s before written is = record {
-  talk = first_talk;
+  talk = start_dialogue;
   lines = record { marked = []; lines_are = refl; talk_is = refl };
   goes_on = refl;
   rest = refl;
@@ -75,7 +75,7 @@ record Said (s : State) (before : List ℕ) (lines : List (List ℕ)) (line : Li
   talk : Dialogue
   heard : IsDialogue s (lines ++ line ∷ []) talk
   said_written : new ≡ Some (before ++ talk.text)
-  said_world : talk.world ≡ next
+  said_world : talk.session_state ≡ next
   said_quit : has_quit (lines ++ line ∷ []) ≡ next.ended
 
 -- a session that goes on
@@ -99,7 +99,7 @@ module _ {s : State} {before heard : List ℕ} {written : Option (List ℕ)} {li
   -- a line that is answered, of which up to 65 bytes are kept
   module _ (whole held : List ℕ) (is : held ≡ take 65 whole) (new : Option (List ℕ)) where
     -- its answer at the session state of the dialogue
-    answers_here : (next : SessionState) (text : List ℕ) → AnswersLine s (session_state_at slots k false) held next text → AnswersLine s g.talk.world whole next text
+    answers_here : (next : SessionState) (text : List ℕ) → AnswersLine s (session_state_at slots k false) held next text → AnswersLine s g.talk.session_state whole next text
     answers_here next text a = answers_whole s _ next whole text (rw (g.world_is, ← is) a)
 
     said_line : (next : SessionState) → WritesAnswer s (session_state_at slots k false) held next written new → Said s before (cut heard).0 whole next new
@@ -111,7 +111,7 @@ module _ {s : State} {before heard : List ℕ} {written : Option (List ℕ)} {li
           heard = heard-more s _ g.talk whole a.mark g.lines on;
           said_written = written-more before g.talk.text h.text _ written new g.written_is h.line_written a.text_is;
           said_world = a.next_is;
-          said_quit = quit-push (cut heard).0 whole g.goes_on ∙ sym (answer_to-ended s g.talk.world whole a.mark on)
+          said_quit = quit-push (cut heard).0 whole g.goes_on ∙ sym (answer_to-ended s g.talk.session_state whole a.mark on)
               ∙ ap (λ (w : SessionState). w.ended) a.next_is;
         }
 

@@ -1,5 +1,5 @@
 -- Sessions in which no line answers `? memory`.
-use Rattle.debugger.proofs.Prelude.{◌≡◌, ℕ, Bool, true, false, List, [], ◌∷◌, ◌++◌, map, fold, refl, sym, ap, ◌∙◌, append_assoc, append-nil, codes, Option, Some, Result, arith, nat_tests, OnOk, list_any, bytes_eq, or_parts, or_right, list_any-append, append_cancel_left, State, Line, answer_to, is_refused, Dialogue, hear, granted, cut, says_memory, session_text, lines_of, SessionByResult, TellsAll, SessionError, fold-append}
+use Rattle.debugger.proofs.Prelude.{◌≡◌, ℕ, Bool, true, false, List, [], ◌∷◌, ◌++◌, map, fold, refl, sym, ap, ◌∙◌, append_assoc, append-nil, codes, Option, Some, Result, arith, nat_tests, OnOk, list_any, bytes_eq, or_parts, or_right, list_any-append, append_cancel_left, State, Line, answer_to, is_refused, Dialogue, dialogue_after, granted, cut, says_memory, session_text, lines_of, SessionByResult, TellsAll, SessionError, fold-append}
 use Rattle.streams.proofs.Cut.{Whole, lines-append, whole-append, cut_behind}
 use Rattle.debugger.proofs.Going.{hear-on, hear-off}
 use Rattle.debugger.proofs.Whole.{answers_in_lines}
@@ -16,37 +16,37 @@ unfolding cut
 refusal_says text whole = grind (arith, nat_tests, fold-append, append-nil, cut_behind, list_any-append, or_right)
 
 -- what one line adds to the text
-hear_grows : (s : State) (t : Dialogue) (l : Line) (ended : Bool) → t.world.ended ≡ ended → (more : List ℕ) × ((hear s t l).text ≡ t.text ++ more)
+hear_grows : (s : State) (t : Dialogue) (l : Line) (ended : Bool) → t.session_state.ended ≡ ended → (more : List ℕ) × ((dialogue_after s t l).text ≡ t.text ++ more)
 hear_grows s t l true off = ([], ap (λ (u : Dialogue). u.text) (hear-off s t l off) ∙ sym (append-nil t.text))
-hear_grows s t l false on = ((answer_to s t.world l).text, ap (λ (u : Dialogue). u.text) (hear-on s t l on))
+hear_grows s t l false on = ((answer_to s t.session_state l).text, ap (λ (u : Dialogue). u.text) (hear-on s t l on))
 
-talk_grows : (s : State) (t : Dialogue) (marked : List Line) → (more : List ℕ) × ((fold (hear s) t marked).text ≡ t.text ++ more)
+talk_grows : (s : State) (t : Dialogue) (marked : List Line) → (more : List ℕ) × ((fold (dialogue_after s) t marked).text ≡ t.text ++ more)
 talk_grows s t [] = ([], sym (append-nil t.text))
 talk_grows s t (l ∷ marked) =
-    let one = hear_grows s t l t.world.ended refl in
-    let rest = talk_grows s (hear s t l) marked in
+    let one = hear_grows s t l t.session_state.ended refl in
+    let rest = talk_grows s (dialogue_after s t l) marked in
     (one.0 ++ rest.0, rest.1 ∙ ap (λ (text : List ℕ). text ++ rest.0) one.1 ∙ append_assoc t.text one.0 rest.0)
 
-hear_whole : (s : State) (t : Dialogue) (l : Line) (ended : Bool) → t.world.ended ≡ ended → Whole t.text → Whole (hear s t l).text
+hear_whole : (s : State) (t : Dialogue) (l : Line) (ended : Bool) → t.session_state.ended ≡ ended → Whole t.text → Whole (dialogue_after s t l).text
 hear_whole s t l ended is whole = grind (arith, nat_tests, answers_in_lines, hear-off, hear-on, whole-append)
 
 -- a line that does not answer `? memory` was not refused
-answer_granted : (s : State) (t : Dialogue) (l : Line) (refused : Bool) → is_refused s t.world l ≡ refused → Whole t.text
-    → says_memory (t.text ++ (answer_to s t.world l).text) ≡ false → answer_to s t.world l ≡ answer_to s t.world (granted l.0)
+answer_granted : (s : State) (t : Dialogue) (l : Line) (refused : Bool) → is_refused s t.session_state l ≡ refused → Whole t.text
+    → says_memory (t.text ++ (answer_to s t.session_state l).text) ≡ false → answer_to s t.session_state l ≡ answer_to s t.session_state (granted l.0)
 unfolding answer_to
 answer_granted s t l refused is whole none = grind (arith, nat_tests, refusal_says)
 
-hear_granted : (s : State) (t : Dialogue) (l : Line) (ended : Bool) → t.world.ended ≡ ended → Whole t.text → says_memory (hear s t l).text ≡ false → hear s t l ≡ hear s t (granted l.0)
+hear_granted : (s : State) (t : Dialogue) (l : Line) (ended : Bool) → t.session_state.ended ≡ ended → Whole t.text → says_memory (dialogue_after s t l).text ≡ false → dialogue_after s t l ≡ dialogue_after s t (granted l.0)
 hear_granted s t l ended is whole none = grind (arith, nat_tests, answer_granted, hear-off, hear-on)
 
-talk_granted : (s : State) (t : Dialogue) (marked : List Line) → Whole t.text → says_memory (fold (hear s) t marked).text ≡ false
-    → fold (hear s) t marked ≡ fold (hear s) t (map granted (lines_of marked))
+talk_granted : (s : State) (t : Dialogue) (marked : List Line) → Whole t.text → says_memory (fold (dialogue_after s) t marked).text ≡ false
+    → fold (dialogue_after s) t marked ≡ fold (dialogue_after s) t (map granted (lines_of marked))
 talk_granted s t [] whole none = refl
 talk_granted s t (l ∷ marked) whole none =
-    let next = talk_grows s (hear s t l) marked in
-    let here : says_memory (hear s t l).text ≡ false = beginning_says (hear s t l).text next.0 (ap says_memory (sym next.1) ∙ none) in
-    talk_granted s (hear s t l) marked (hear_whole s t l t.world.ended refl whole) none
-    ∙ ap (λ (u : Dialogue). fold (hear s) u (map granted (lines_of marked))) (hear_granted s t l t.world.ended refl whole here)
+    let next = talk_grows s (dialogue_after s t l) marked in
+    let here : says_memory (dialogue_after s t l).text ≡ false = beginning_says (dialogue_after s t l).text next.0 (ap says_memory (sym next.1) ∙ none) in
+    talk_granted s (dialogue_after s t l) marked (hear_whole s t l t.session_state.ended refl whole) none
+    ∙ ap (λ (u : Dialogue). fold (dialogue_after s) u (map granted (lines_of marked))) (hear_granted s t l t.session_state.ended refl whole here)
 
 pub tells_all : TellsAll
 unfolding cut

@@ -84,7 +84,7 @@ pub use Rattle.debugger.specs.Inspection.{HasRegions, IsSized, StaysSized, bytes
 pub use Rattle.debugger.specs.Inspection.{shown_bytes, value_text}
 pub use Rattle.debugger.specs.Listing.{listing_at, statement_at}
 pub use Rattle.debugger.specs.Rows.{AnswersInLines, StaysInOrder, TellsAll}
-pub use Rattle.debugger.specs.Session.{Dialogue, first_talk, granted, has_quit, says_memory}
+pub use Rattle.debugger.specs.Session.{Dialogue, start_dialogue, granted, has_quit, says_memory}
 pub use Rattle.streams.specs.Lines.{input_lines}
 pub use Rattle.debugger.specs.Session.{session_text, dialogue_of, with_answer}
 pub use Rattle.streams.specs.Hearing.{HasNoFeed, HeardByResult, ReadsSome, ReadsToEnd}
@@ -105,5 +105,5 @@ unfoldable pub use Rattle.debugger.specs.Inspection.{bytes_from, digits_of_bytes
 unfoldable pub use Rattle.debugger.specs.Inspection.{frames_text, memory_line, memory_lines, saved_text, value_line}
 unfoldable pub use Rattle.debugger.specs.Listing.{listing_line, listing_lines, outside_line}
 unfoldable pub use Rattle.streams.specs.Lines.{cut, readable}
-unfoldable pub use Rattle.debugger.specs.Session.{hear}
+unfoldable pub use Rattle.debugger.specs.Session.{dialogue_after}
 unfoldable pub use Rattle.debugger.specs.Verdict.{verdict_line, verdict_lines, word_line, word_lines}

@@ -141,4 +141,4 @@ AnswersInLines = (s : State) (w : SessionState) (l : Line) → (cut (answer_to s
 
 -- whatever is said, the breakpoints stand in order, none twice
 abbrev pub StaysInOrder : Type 0
-StaysInOrder = (s : State) (lines : List Line) → in_order (dialogue_of s lines).world.breakpoints ≡ true
+StaysInOrder = (s : State) (lines : List Line) → in_order (dialogue_of s lines).session_state.breakpoints ≡ true

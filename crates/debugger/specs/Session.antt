@@ -13,27 +13,27 @@ has_quit lines = list_any (λ line. is_quit (command_of line)) lines
 
 -- the session state and the text so far
 pub record Dialogue : Type 0 where
-  pub world : SessionState
+  pub session_state : SessionState
   pub text : List ℕ
 
 -- a session before its first line: at step 0, without breakpoints
-abbrev pub first_talk : Dialogue
-first_talk = record { world = session_state_at [] 0 false; text = [] }
+abbrev pub start_dialogue : Dialogue
+start_dialogue = record { session_state = session_state_at [] 0 false; text = [] }
 
 -- the answer to one more line, behind the text so far
 abbrev pub with_answer : State → Dialogue → Line → Dialogue
 with_answer s t l = record {
-  world = (answer_to s t.world l).next;
-  text = t.text ++ (answer_to s t.world l).text;
+  session_state = (answer_to s t.session_state l).next;
+  text = t.text ++ (answer_to s t.session_state l).text;
 }
 
 -- one more line, which is not heard once the session has ended
-unfoldable pub hear : State → Dialogue → Line → Dialogue
-hear s t l = if t.world.ended then t else with_answer s t l
+unfoldable pub dialogue_after : State → Dialogue → Line → Dialogue
+dialogue_after s t l = if t.session_state.ended then t else with_answer s t l
 
 -- what is said to these lines, from step 0 of the run from s on
 abbrev pub dialogue_of : State → List Line → Dialogue
-dialogue_of s lines = fold (hear s) first_talk lines
+dialogue_of s lines = fold (dialogue_after s) start_dialogue lines
 
 -- a line at which memory is not refused
 abbrev pub granted : List ℕ → Line

@@ -109,7 +109,7 @@ pub record TranscriptSoFar (s : State) (before heard : List ℕ) (written : Opti
   pub goes_on : has_quit (cut heard).0 ≡ false
   pub rest : line ≡ take 65 (cut heard).1
   pub written_is : written ≡ Some (before ++ talk.text)
-  pub world_is : talk.world ≡ session_state_at slots k false
+  pub world_is : talk.session_state ≡ session_state_at slots k false
 
 -- a session goes on so in its run, which is the run from s
 abbrev pub SessionGoesOn : State → State → List ℕ → List ℕ → List ℕ → ℕ → List ℕ → Option (List ℕ) → Type 0
@@ -122,7 +122,7 @@ pub record TranscriptToQuit (s : State) (before heard : List ℕ) (written : Opt
   pub goes_on : (n : ℕ) → n < length heard → has_quit (cut (take n heard)).0 ≡ false
   pub quits : has_quit (cut heard).0 ≡ true
   pub written_is : written ≡ Some (before ++ talk.text)
-  pub ended : talk.world.ended ≡ true
+  pub ended : talk.session_state.ended ≡ true
 
 -- these bytes are all, all their lines were answered, and no whole line among them ends a session
 pub record TranscriptToEnd (s : State) (before heard : List ℕ) (written : Option (List ℕ)) : Type 0 where

@@ -25,7 +25,7 @@ use std::alloc::{AllocError, Global};
 use streams::{Failed, Sink};
 
 /// Writes the answer to a line, and says whether the session has ended.
-pub fn hear_line<H: History, W: Sink>(
+pub fn write_answer<H: History, W: Sink>(
     alloc: Global,
     h: &mut H,
     breakpoints: &mut Breakpoints,

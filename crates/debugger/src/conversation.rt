@@ -3,7 +3,7 @@ ghost use Rattle.std.specs.Prelude.{◌≡◌, ◌++◌, [], take};
 ghost use Rattle.debugger.specs.Inspection.{StaysSized};
 ghost use Rattle.debugger.specs.Transcript.{SessionGoesOn, TranscriptBreaks, TranscriptEnds};
 
-use crate::answering::hear_line;
+use crate::answering::write_answer;
 use crate::breakpoints::Breakpoints;
 use arrayvec::ArrayVec;
 use history::History;
@@ -55,7 +55,7 @@ impl<H: History> Listener for Conversation<H> {
     fn hear<W: Sink>(&mut self, rest: &[u8], w: &mut W) -> Result<bool, Failed> {
         keep_start(&mut self.line, rest);
         let line = self.line.as_slice();
-        match hear_line(
+        match write_answer(
             self.alloc,
             &mut self.history,
             &mut self.breakpoints,
@@ -75,7 +75,7 @@ impl<H: History> Listener for Conversation<H> {
         if line.is_empty() {
             return Ok(());
         }
-        match hear_line(
+        match write_answer(
             self.alloc,
             &mut self.history,
             &mut self.breakpoints,

@@ -1,5 +1,5 @@
 -- The numbers of the instructions are in range: code can be spelled where that of its parts can, and is short.
-use Rattle.expression_code.proofs.Prelude.{◌≡◌, ℕ, ◌+◌, ◌^◌, ◌<◌, ◌≤◌, List, [], ◌∷◌, ◌++◌, Option, Some, None, refl, arith, ℤ, Bool, pos, bytes_eq, FitsSigned, if◌then◌else◌, AllByRecursion, w32, ints, AluOp, Insn, Call, Register, R0, R1, R2, R6, R7, lookup, Macro, Exists, ExistsOne, Filter, Map, TextTest, entry_code, entry_tail, item_code, list_code, list_head, map_code, map_head, push_tail, difference_code, divided_code, divided_tail, int_operands, negation_tail, product_code, product_tail, sum_code, sum_tail, difference_tail, operand_code, operands_code, equal_tail, less_tail, member_tail, not_less_tail, unequal_tail, leaf_insn, absorbing_code, no_ref, not_tail, ternary_code, yes_ref, field_tail, has_tail, index_tail, size_tail, string_tail, test_tail, absorbing_turn, exists_one_end, exists_one_turn, filter_turn, first_empty, first_false, first_true, macro_code, map_turn, map_where_code, held_leaf, name_code, name_leaf, reference_or_error, root_reference, root_references, mov_reg, ja, fold_code, loop_code, loop_head, loop_tail, AreInsns, size, memo_tail, SimpleOperand, Reference, Word, short_size, frame_words, fold_limit, memo_limit}
+use Rattle.expression_code.proofs.Prelude.{◌≡◌, ℕ, ◌+◌, ◌^◌, ◌<◌, ◌≤◌, List, [], ◌∷◌, ◌++◌, Option, Some, None, refl, arith, ℤ, Bool, pos, bytes_eq, FitsSigned, if◌then◌else◌, AllByRecursion, w32, ints, AluOp, Insn, Call, Register, R0, R1, R2, R6, R7, lookup, Macro, Exists, ExistsOne, Filter, Map, TextTest, entry_code, entry_tail, item_code, list_code, list_head, map_code, map_head, push_tail, difference_code, divided_code, divided_tail, int_operands, negation_tail, product_code, product_tail, sum_code, sum_tail, difference_tail, operand_code, operands_code, equal_tail, less_tail, member_tail, not_less_tail, unequal_tail, leaf_insn, absorbing_code, false_ref, not_tail, ternary_code, true_ref, field_tail, has_tail, index_tail, size_tail, string_tail, test_tail, absorbing_turn, exists_one_end, exists_one_turn, filter_turn, first_empty, first_false, first_true, macro_code, map_turn, map_where_code, held_leaf, name_code, name_leaf, reference_or_error, root_reference, root_references, mov_reg, ja, fold_code, loop_code, loop_head, loop_tail, AreInsns, size, memo_tail, SimpleOperand, Reference, Word, branch_limit, frame_words, fold_limit, memo_limit}
 use Rattle.cel_macros.specs.declared.macros.Macro.TheVariants.{All}
 use Rattle.expression_code.proofs.Loops.{loop_size}
 use Rattle.expression_code.proofs.Pieces.{size-append}
@@ -33,13 +33,13 @@ operands_insns l left m right k r q below near first near_right second = grind (
 -- ---- logic
 
 pub absorbing_insns : (decides other : ℤ) (left right : List Insn) (k : ℕ) → FitsSigned w32 decides → FitsSigned w32 other → k < frame_words
-    → size right ≤ short_size → AreInsns left → AreInsns right → AreInsns (absorbing_code decides other left right k)
+    → size right ≤ branch_limit → AreInsns left → AreInsns right → AreInsns (absorbing_code decides other left right k)
 absorbing_insns decides other left right k d e below short first second = grind (arith, insns_append)
 
 pub not_insns : AreInsns not_tail
 not_insns = omega arith
 
-pub ternary_insns : (condition chosen other : List Insn) → size chosen + size other ≤ short_size → AreInsns condition → AreInsns chosen
+pub ternary_insns : (condition chosen other : List Insn) → size chosen + size other ≤ branch_limit → AreInsns condition → AreInsns chosen
     → AreInsns other → AreInsns (ternary_code condition chosen other)
 ternary_insns condition chosen other short first second third = grind (arith, insns_append)
 
@@ -137,26 +137,26 @@ name_insns n words below = leaf_insns (name_leaf n words) R0 (name_near n words 
 
 -- ---- loops and macros
 
-loop_insns : (k : ℕ) (turn : List Insn) → k < fold_limit → size turn ≤ short_size → AreInsns turn → AreInsns (loop_code k turn)
+loop_insns : (k : ℕ) (turn : List Insn) → k < fold_limit → size turn ≤ branch_limit → AreInsns turn → AreInsns (loop_code k turn)
 loop_insns k turn below short first = insns_append (loop_head k (size turn + 8)) _ (omega arith) (insns_append turn (loop_tail k (size turn + 7)) first (omega (arith, ints)))
 
 -- a part and a short turn behind it
-turned : (k : ℕ) (range first part turn : List Insn) → size first ≡ 1 → size turn ≤ 20 → k < fold_limit → size part + 50 ≤ short_size → AreInsns range
+turned : (k : ℕ) (range first part turn : List Insn) → size first ≡ 1 → size turn ≤ 20 → k < fold_limit → size part + 50 ≤ branch_limit → AreInsns range
     → AreInsns first → AreInsns part → AreInsns turn → AreInsns (fold_code k range first (part ++ turn))
 turned k range first part turn one few below short a b c d = grind (arith, size-append, loop_size, ints, loop_insns, insns_append)
 
-pub macro_insns : (m : Macro) (k : ℕ) (range part : List Insn) → k < fold_limit → size part + 50 ≤ short_size → AreInsns range → AreInsns part → AreInsns (macro_code m k range part)
+pub macro_insns : (m : Macro) (k : ℕ) (range part : List Insn) → k < fold_limit → size part + 50 ≤ branch_limit → AreInsns range → AreInsns part → AreInsns (macro_code m k range part)
 unfolding exists_one_turn filter_turn
 macro_insns All k range part below short first second =
-    turned k range first_true part (absorbing_turn no_ref yes_ref k) refl (omega arith) below short first (omega arith) second (omega arith)
+    turned k range first_true part (absorbing_turn false_ref true_ref k) refl (omega arith) below short first (omega arith) second (omega arith)
 macro_insns Exists k range part below short first second =
-    turned k range first_false part (absorbing_turn yes_ref no_ref k) refl (omega arith) below short first (omega arith) second (omega arith)
+    turned k range first_false part (absorbing_turn true_ref false_ref k) refl (omega arith) below short first (omega arith) second (omega arith)
 macro_insns ExistsOne k range part below short first second =
     insns_append (fold_code k range first_false (part ++ exists_one_turn k)) exists_one_end (turned k range first_false part (exists_one_turn k) refl (omega arith) below short first (omega arith) second (omega arith)) (omega arith)
 macro_insns Filter k range part below short first second = turned k range first_empty part (filter_turn k) refl (omega arith) below short first (omega arith) second (omega arith)
 macro_insns Map k range part below short first second = turned k range first_empty part (map_turn k) refl (omega arith) below short first (omega arith) second (omega arith)
 
-pub map_where_insns : (k : ℕ) (range predicate transform : List Insn) → k < fold_limit → size predicate + size transform + 50 ≤ short_size → AreInsns range
+pub map_where_insns : (k : ℕ) (range predicate transform : List Insn) → k < fold_limit → size predicate + size transform + 50 ≤ branch_limit → AreInsns range
     → AreInsns predicate → AreInsns transform → AreInsns (map_where_code k range predicate transform)
 map_where_insns k range predicate transform below short first second third = grind (arith, size-append, loop_size, ints, loop_insns, insns_append)
 

@@ -1,6 +1,6 @@
 -- Operators for which one truth decides, and the code of logical operators and of the conditional.
 -- For the laws in `specs/Gives/Logic`.
-use Rattle.expression_code.proofs.Prelude.{◌≡◌, ℕ, ◌+◌, List, Some, Bool, true, false, not, refl, sym, ap, ◌∙◌, subst, arith, suc, ◌<◌, ◌≤◌, [], ◌∷◌, ◌++◌, ℤ, pos, slice_get, w64, cast_unsigned, Names, Eq, Ne, Insn, R0, R1, W64, ValueOrError, error, is_error, truth, Truth, Yes, No, Other, and_of, chosen, conjunction, disjunction, not_of, of_truth, or_of, ternary_of, compares, CpuState, set_register, Context, IsWellFormedState, LeavesValue, Evaluates, RunContext, RunsTo, IsCodeAt, slots, size, word_at, absorbing_tail, no_ref, ternary_code, yes_ref, AbsorbingGives, LogicGives, frame_words}
+use Rattle.expression_code.proofs.Prelude.{◌≡◌, ℕ, ◌+◌, List, Some, Bool, true, false, not, refl, sym, ap, ◌∙◌, subst, arith, suc, ◌<◌, ◌≤◌, [], ◌∷◌, ◌++◌, ℤ, pos, slice_get, w64, cast_unsigned, Names, Eq, Ne, Insn, R0, R1, W64, ValueOrError, error, is_error, truth, Truth, Yes, No, Other, and_of, chosen, conjunction, disjunction, not_of, of_truth, or_of, ternary_of, compares, CpuState, set_register, Context, IsWellFormedState, LeavesValue, Evaluates, RunContext, RunsTo, IsCodeAt, slots, size, word_at, absorbing_tail, false_ref, ternary_code, true_ref, AbsorbingGives, LogicGives, frame_words}
 use Rattle.expression_code.proofs.Frames.{shows_registers, keeps_then}
 use Rattle.expression_code.proofs.Listings.{mov, no, yes, begins, jump, load}
 use Rattle.expression_code.proofs.Values.{Told, names_error, told}
@@ -153,8 +153,8 @@ joined_by true t u = disjunction t u
 joined_by false t u = conjunction t u
 
 abbrev ref_of : Bool → ℤ
-ref_of true = yes_ref
-ref_of false = no_ref
+ref_of true = true_ref
+ref_of false = false_ref
 
 absorbs : (b : Bool) → Absorbing (ref_of b) (ref_of (not b)) (λ x y. of_truth (joined_by b (truth x) (truth y)))
 absorbs b = record {
@@ -169,11 +169,11 @@ absorbs b = record {
   right_neither = λ x y e f. grind arith;
 }
 
-unfoldable pub and_absorbs : Absorbing no_ref yes_ref and_of
+unfoldable pub and_absorbs : Absorbing false_ref true_ref and_of
 unfolding absorbs
 and_absorbs = absorbs false
 
-unfoldable pub or_absorbs : Absorbing yes_ref no_ref or_of
+unfoldable pub or_absorbs : Absorbing true_ref false_ref or_of
 unfolding absorbs
 or_absorbs = absorbs true
 
@@ -190,10 +190,10 @@ module _ (s : RunContext) (p base : ℕ) (condition one other : List Insn) (c : 
   over = insn.ja (size other + 2)
 
   abbrev to_other : Insn
-  to_other = insn.jump_if_imm Eq R0 no_ref (size one + 2)
+  to_other = insn.jump_if_imm Eq R0 false_ref (size one + 2)
 
   abbrev to_error : Insn
-  to_error = insn.jump_if_imm Ne R0 yes_ref (size one + size other + 2)
+  to_error = insn.jump_if_imm Ne R0 true_ref (size one + size other + 2)
 
   abbrev sides : List Insn
   sides = one ++ over ∷ (other ++ last)
@@ -255,8 +255,8 @@ module _ (s : RunContext) (p base : ℕ) (condition one other : List Insn) (c : 
 
 pub logic_gives : LogicGives
 logic_gives = record {
-  and = absorbing_gives no_ref yes_ref and_of and_absorbs;
-  or = absorbing_gives yes_ref no_ref or_of or_absorbs;
+  and = absorbing_gives false_ref true_ref and_of and_absorbs;
+  or = absorbing_gives true_ref false_ref or_of or_absorbs;
   not = λ s p c depth base x low. calls_give.one s p (pos 23) not_of c depth base x low helpers.not;
   ternary = grind (arith, ternary_runs);
 }

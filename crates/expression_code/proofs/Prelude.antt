@@ -148,7 +148,7 @@ pub use Rattle.expression_code.specs.Code.Folds.{absorbing_turn, exists_one_end,
 pub use Rattle.expression_code.specs.Code.Folds.{macro_code, map_turn, map_where_code, map_where_turn}
 pub use Rattle.expression_code.specs.Code.Leaves.{leaf_code, leaf_insn}
 pub use Rattle.expression_code.specs.Code.Literals.{int_code, null_leaf, text_code, truth_leaf}
-pub use Rattle.expression_code.specs.Code.Logic.{absorbing_code, absorbing_tail, no_ref, not_tail, ternary_code, yes_ref}
+pub use Rattle.expression_code.specs.Code.Logic.{absorbing_code, absorbing_tail, false_ref, not_tail, ternary_code, true_ref}
 pub use Rattle.expression_code.specs.Code.Names.{held_leaf, name_code, name_leaf, reference_or_error, root_references}
 pub use Rattle.expression_code.specs.Code.Selection.{call_with_text, field_tail, has_tail, index_tail, size_tail}
 pub use Rattle.expression_code.specs.Code.Selection.{string_tail, test_tail}
@@ -172,7 +172,7 @@ pub use Rattle.expression_code.specs.Gives.Selection.{HasText, KeyedGives, Selec
 pub use Rattle.expression_code.specs.Helpers.{HelpersAnswer, Holding, KeyHelper, Lends, UnaryHelper, join_of, joined_length}
 pub use Rattle.expression_code.specs.Helpers.{put_of}
 pub use Rattle.expression_code.specs.Instructions.{mov_reg, put_length, ja}
-pub use Rattle.expression_code.specs.Limits.{fold_limit, frame_words, memo_limit, part_charge_per_unit, part_steps_per_visit, short_size, word_limit}
+pub use Rattle.expression_code.specs.Limits.{fold_limit, frame_words, memo_limit, part_charge_per_unit, part_steps_per_visit, branch_limit, word_limit}
 pub use Rattle.expression_code.specs.Loops.{AtTurn, FoldGives, TurnGives, Turned, fold_charge, fold_code, fold_of}
 pub use Rattle.expression_code.specs.Loops.{fold_steps, loop_charge, loop_code, loop_head, loop_steps, loop_tail}
 pub use Rattle.expression_code.specs.Loops.{range_tail, with_item}

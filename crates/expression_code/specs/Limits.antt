@@ -70,8 +70,8 @@ abbrev pub turn_slot_limit : ℕ
 turn_slot_limit = 32300
 
 -- the most slots that a piece leaves out by a jump, beside its own
-abbrev pub short_size : ℕ
-short_size = 32700
+abbrev pub branch_limit : ℕ
+branch_limit = 32700
 
 -- an expression is put after at most so many slots: its calls, of 32 bits, reach each routine
 abbrev pub code_limit : ℕ

@@ -7,10 +7,10 @@ pub const ERROR: i32 = 0;
 pub const NULL: i32 = 1;
 
 /// False.
-pub const NO: i32 = 2;
+pub const FALSE: i32 = 2;
 
 /// True.
-pub const YES: i32 = 3;
+pub const TRUE: i32 = 3;
 
 /// The root `object`.
 pub const OBJECT: i32 = 4;

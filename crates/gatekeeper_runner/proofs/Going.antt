@@ -3,7 +3,7 @@ use Rattle.gatekeeper_runner.proofs.Prelude.{◌≡◌, ℕ, ◌<◌, ◌≤◌,
 use Rattle.streams.specs.declared.session_error.SessionError.TheVariants.{Memory as SessionMemory}
 use Rattle.gatekeeper_runner.specs.declared.gatekeeper.Gatekeeper.{Gatekeeper as CodeGatekeeper}
 use Rattle.gatekeeper_runner.specs.declared.line.Line.{Line}
-use Rattle.gatekeeper_runner.specs.Told as told
+use Rattle.gatekeeper_runner.specs.AnsweredLines as told
 
 -- nothing is answered to an empty line
 pub no_answer : (t : Gatekeeper) (line text : List ℕ) → line ≡ [] → AnswersReviewLine OneImage t line text → text ≡ []

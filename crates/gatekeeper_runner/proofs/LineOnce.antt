@@ -1,5 +1,5 @@
 -- A line has one answer.
-use Rattle.gatekeeper_runner.proofs.Prelude.{◌≡◌, ◌≢◌, ℕ, ◌⊎◌, List, [], ◌∷◌, ◌++◌, Result, Ok, Err, inl, inr, refl, sym, ap, ◌∙◌, subst, arith, OneImage, ReviewHasOneResult, Decision, RunError, Memory, AnswersReviewLine, answer_text, decided, line_of, no_memory, no_memory_text, passed_over, too_long, LinesHaveOneAnswer, AllSay, SayTogether, SaysAlone, Gatekeeper, next, none, under, no_decision, with_next}
+use Rattle.gatekeeper_runner.proofs.Prelude.{◌≡◌, ◌≢◌, ℕ, ◌⊎◌, List, [], ◌∷◌, ◌++◌, Result, Ok, Err, inl, inr, refl, sym, ap, ◌∙◌, subst, arith, OneImage, ReviewHasOneResult, Decision, RunError, Memory, AnswersReviewLine, answer_text, decided, line_of, no_memory, no_memory_text, passed_over, too_long, LinesHaveOneAnswer, AllDecide, DecideTogether, DecidesAlone, Gatekeeper, next, none, under, no_decision, with_next}
 use Rattle.policy_glue.specs.OneAnswer as policy
 use Rattle.gatekeeper_runner.proofs.Going.{no_answer}
 use Rattle.gatekeeper_runner.proofs.SaidOnce.{says_once}
@@ -10,7 +10,7 @@ IsTold result = result ≢ Err Memory
 
 module _ (compiles_once : policy.CompileHasOneResult) (reviews_once : ReviewHasOneResult) (t : Gatekeeper) (line : List ℕ) where
   abbrev By : List ℕ → Result Decision RunError → Type 0
-  By policy result = SaysAlone OneImage t policy line result
+  By policy result = DecidesAlone OneImage t policy line result
 
   -- what is said behind what was said so far, or the refusal, from the first policy on
   Ends : Decision → List (List ℕ) → Result Decision RunError → Type 0
@@ -30,15 +30,15 @@ module _ (compiles_once : policy.CompileHasOneResult) (reviews_once : ReviewHasO
   ends_refused so_far m (q ∷ qs) p after e (inl refused) by = absurd (cc)
   ends_refused so_far m (q ∷ qs) p after e (inr goes) by = inr (goes.0, goes.1, ends_refused (with_next so_far goes.0) m qs p after e goes.2 by)
 
-  all_end : (ps : List (List ℕ)) (said : Decision) → AllSay OneImage t line ps said → Ends no_decision ps (Ok said)
+  all_end : (ps : List (List ℕ)) (said : Decision) → AllDecide OneImage t line ps said → Ends no_decision ps (Ok said)
   unfolding Ends
   all_end ps said none = refl
   all_end ps said (next all by) = ends_more no_decision _ _ _ _ (all_end _ _ all) by
 
-  together_ends : (result : Result Decision RunError) → SayTogether OneImage t line result → Ends no_decision t.policies result
+  together_ends : (result : Result Decision RunError) → DecideTogether OneImage t line result → Ends no_decision t.policies result
   together_ends (Ok said) all = all_end t.policies said all
   together_ends (Err e) one =
-      subst (λ (ps : List (List ℕ)). Ends no_decision ps (Err e)) (sym one.are) (ends_refused no_decision one.so_far one.before one.policy one.after e (all_end one.before one.so_far one.say) one.refuses)
+      subst (λ (ps : List (List ℕ)). Ends no_decision ps (Err e)) (sym one.are) (ends_refused no_decision one.so_far one.before one.policy one.after e (all_end one.before one.so_far one.decide) one.refuses)
 
   once : (d : List ℕ) (r s : Result Decision RunError) → IsTold r → IsTold s → By d r → By d s → r ≡ s
   once d r s = says_once compiles_once reviews_once (under t d line) t.steps r s
@@ -61,7 +61,7 @@ module _ (compiles_once : policy.CompileHasOneResult) (reviews_once : ReviewHasO
       let said : a.0 ≡ b.0 = cc in
       ends_once (with_next so_far b.0) ps r s some other (subst (λ (x : Decision). Ends (with_next so_far x) ps r) said a.2) b.2
 
-  together_once : (r s : Result Decision RunError) → IsTold r → IsTold s → SayTogether OneImage t line r → SayTogether OneImage t line s → r ≡ s
+  together_once : (r s : Result Decision RunError) → IsTold r → IsTold s → DecideTogether OneImage t line r → DecideTogether OneImage t line s → r ≡ s
   together_once r s some other is also = ends_once no_decision t.policies r s some other (together_ends r is) (together_ends s also)
 
   answers_same : (a b : List ℕ) → a ≢ no_memory_text → b ≢ no_memory_text → AnswersReviewLine OneImage t line a → AnswersReviewLine OneImage t line b → a ≡ b

@@ -3,14 +3,14 @@ use Rattle.std.proofs.Common.{◌-◌}
 use Rattle.std.proofs.Math.Seq.{take-add}
 use Rattle.std.proofs.lemmas.List.{drop_at, take_at}
 use Rattle.streams.proofs.Cut.{take-join}
-use Rattle.gatekeeper_runner.proofs.Prelude.{◌≡◌, ◌++◌, ◌+◌, ◌∙◌, refl, ℕ, suc, arith, length-take, ◌<◌, ◌≤◌, Bool, true, false, List, length, take, Option, None, sym, ap, subst, Result, Ok, Err, true≢false, IfOk, IsErr, nat_lt, ltb-true, AddsBytes, response_text, OneImage, document_of, Decision, RunError, ReviewRefused, Memory, AnswersReviewLine, IsKeptOfLine, decided, line_of, longest_line, refusal_text, too_long, uid_shown, SayTogether, Gatekeeper, AnsweredPart}
+use Rattle.gatekeeper_runner.proofs.Prelude.{◌≡◌, ◌++◌, ◌+◌, ◌∙◌, refl, ℕ, suc, arith, length-take, ◌<◌, ◌≤◌, Bool, true, false, List, length, take, Option, None, sym, ap, subst, Result, Ok, Err, true≢false, IfOk, IsErr, nat_lt, ltb-true, AddsBytes, response_text, OneImage, document_of, Decision, RunError, ReviewRefused, Memory, AnswersReviewLine, IsKeptOfLine, decided, line_of, longest_line, refusal_text, too_long, uid_shown, DecideTogether, Gatekeeper, AnsweredPart}
 
 module _ (t : Gatekeeper) where
-  pub all_said : (line text : List ℕ) (said : Decision) → 0 < length line → length line ≤ longest_line → SayTogether OneImage t line (Ok said)
+  pub all_said : (line text : List ℕ) (said : Decision) → 0 < length line → length line ≤ longest_line → DecideTogether OneImage t line (Ok said)
       → text ≡ response_text said.rejection said.uid → AnswersReviewLine OneImage t line (line_of text)
   all_said line text said some short says is = subst (λ (x : List ℕ). AnswersReviewLine OneImage t line (line_of x)) (sym is) (decided {result = Ok said} some short (λ e. cc) says)
 
-  pub one_refused : (line text : List ℕ) (e : RunError) → 0 < length line → length line ≤ longest_line → SayTogether OneImage t line (Err e)
+  pub one_refused : (line text : List ℕ) (e : RunError) → 0 < length line → length line ≤ longest_line → DecideTogether OneImage t line (Err e)
       → (e ≡ Memory → ⊥) → text ≡ refusal_text e (uid_shown (document_of line)) → AnswersReviewLine OneImage t line (line_of text)
   one_refused line text e some short says why is = subst (λ (x : List ℕ). AnswersReviewLine OneImage t line (line_of x)) (sym is) (decided {result = Err e} some short (λ same. why (cc)) says)
 

@@ -10,7 +10,7 @@ unopened_by known name document Memory reading why = no_memory
 unopened_by known name document e reading why = refused {e = e} reading why
 
 is_policy : (document : List ℕ) (gate : PolicyAndImage) → IsGateOf document gate → IsPolicy document
-is_policy document gate of = record { rules = gate.policy; is_said = of.0.0; trees = of.0.1.trees; compiles = of.0.1.compiles }
+is_policy document gate of = record { parsed = gate.policy; is_said = of.0.0; trees = of.0.1.trees; compiles = of.0.1.compiles }
 
 gates_more : (documents : List (List ℕ)) (gates : List PolicyAndImage) (document : List ℕ) (gate : PolicyAndImage) → AreGates documents gates
     → IsGateOf document gate → AreGates (documents ++ document ∷ []) (gates ++ gate ∷ [])

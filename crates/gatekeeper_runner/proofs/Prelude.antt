@@ -33,7 +33,7 @@ pub use Rattle.admission.specs.Deciding.{Reply, CompilesDocument, Documents, IsP
 pub use Rattle.host.specs.FileSystem.{FileSystem, IsReading}
 pub use Rattle.admission.specs.OneAnswer.{ReviewHasOneResult, IsAnswerTo}
 pub use Rattle.cli.specs.Refusals.{order_refusal, policy_refusal_of}
-pub use Rattle.admission.specs.Saying.{IsSaid, Decision, DecidesReview, said_of, said_value}
+pub use Rattle.admission.specs.Decisions.{IsDecisionOf, Decision, DecidesReview, decision_from_verdict, decision_value}
 pub use Rattle.admission.specs.Standing.{RunAgrees}
 pub use Rattle.host.specs.declared.order_error.OrderError.{OrderError}
 pub use Rattle.host.specs.declared.order_error.OrderError.TheVariants.{InvalidArguments}
@@ -53,12 +53,12 @@ pub use Rattle.gatekeeper_runner.specs.Program.{nothing}
 pub use Rattle.gatekeeper_runner.specs.SameAnswers.{LinesHaveOneAnswer}
 pub use Rattle.gatekeeper_runner.specs.Starting.{GatesFrom, IsUnopened, OneUnopened, Opens, OpensGate, no_namespace}
 pub use Rattle.gatekeeper_runner.specs.Starting.{no_params, no_policy, ready, refused, unread}
-pub use Rattle.gatekeeper_runner.specs.Together.{AllSay, AreGates, IsGateOf, OneRefuses, SayTogether, SaysAlone}
+pub use Rattle.gatekeeper_runner.specs.Together.{AllDecide, AreGates, IsGateOf, OneRefuses, DecideTogether, DecidesAlone}
 pub use Rattle.gatekeeper_runner.specs.Together.{Gatekeeper, next, none, gatekeeper_of, under, no_decision, with_next}
-pub use Rattle.gatekeeper_runner.specs.Told.{Answered, AnsweredPart, AnswersBreak, AnswersByResult, AnswersCut}
-pub use Rattle.gatekeeper_runner.specs.Told.{AnswersEach, AnswersEnd, AnswersSoFar, AnswersToEnd, UnderPolicies}
-pub use Rattle.gatekeeper_runner.specs.Told.{UnderSame}
-pub use Rattle.gatekeeper_runner.specs.Told.{AnsweredPartOfLines}
+pub use Rattle.gatekeeper_runner.specs.AnsweredLines.{Answered, AnsweredPart, AnswersBreak, AnswersByResult, AnswersCut}
+pub use Rattle.gatekeeper_runner.specs.AnsweredLines.{AnswersEach, AnswersEnd, AnswersSoFar, AnswersToEnd, UnderPolicies}
+pub use Rattle.gatekeeper_runner.specs.AnsweredLines.{UnderSame}
+pub use Rattle.gatekeeper_runner.specs.AnsweredLines.{AnsweredPartOfLines}
 pub use Rattle.gatekeeper_runner.specs.declared.order.Order.{Order}
 unfoldable pub use Rattle.gatekeeper_runner.specs.Lines.{longest_line, refusal_text}
 unfoldable pub use Rattle.gatekeeper_runner.specs.Orders.{entered, faults, gatekeeper_app, policies_rule}

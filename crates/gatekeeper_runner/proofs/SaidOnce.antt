@@ -1,5 +1,5 @@
 -- A policy says one thing of a review.
-use Rattle.gatekeeper_runner.proofs.Prelude.{◌≡◌, ◌≢◌, ℕ, Result, Ok, Err, refl, sym, ap, ◌∙◌, decision_of, OneImage, Reply, Documents, answer_of, decision, ReviewHasOneResult, IsAnswerTo, uid_in, IsSaid, Decision, DecidesReview, said_of, RunAgrees, RunError, Memory, cases_once, refused_so}
+use Rattle.gatekeeper_runner.proofs.Prelude.{◌≡◌, ◌≢◌, ℕ, Result, Ok, Err, refl, sym, ap, ◌∙◌, decision_of, OneImage, Reply, Documents, answer_of, decision, ReviewHasOneResult, IsAnswerTo, uid_in, IsDecisionOf, Decision, DecidesReview, decision_from_verdict, RunAgrees, RunError, Memory, cases_once, refused_so}
 use Rattle.policy_glue.specs.OneAnswer as policy
 
 -- memory was not wanted
@@ -17,16 +17,16 @@ module _ (compiles_once : policy.CompileHasOneResult) (reviews_once : ReviewHasO
   abbrev pub IsTrue : Result Decision RunError → Type 0
   IsTrue r = DecidesReview d n r × RunAgrees OneImage d n r
 
-  said_same : (x y : Decision) → IsSaid d x → IsSaid d y → x ≡ y
+  said_same : (x y : Decision) → IsDecisionOf d x → IsDecisionOf d y → x ≡ y
   said_same x y is also =
       let same = cases_once compiles_once d is.case also.case in
-      let both : said_of is.case.policy.rules (decision is.case) (uid_in d.review) ≡ said_of also.case.policy.rules (decision also.case) (uid_in d.review) =
-      λ i. said_of (same.0 i) (decision_of (same.0 i).failure_policy (same.1 i) (same.2 i)) (uid_in d.review) in
-      is.said_is ∙ both ∙ sym also.said_is
+      let both : decision_from_verdict is.case.policy.parsed (decision is.case) (uid_in d.review) ≡ decision_from_verdict also.case.policy.parsed (decision also.case) (uid_in d.review) =
+      λ i. decision_from_verdict (same.0 i) (decision_of (same.0 i).failure_policy (same.1 i) (same.2 i)) (uid_in d.review) in
+      is.decision_is ∙ both ∙ sym also.decision_is
 
   -- a review of which something is said has an answer
   answered : (x : Decision) → IsTrue (Ok x) → (a : Reply) × IsAnswerTo d n (Ok a)
-  answered x is = (answer_of is.0.case.policy.rules (decision is.0.case) (uid_in d.review), record { reviews = record { case = is.0.case; answer_is = refl }; runs = is.1 })
+  answered x is = (answer_of is.0.case.policy.parsed (decision is.0.case) (uid_in d.review), record { reviews = record { case = is.0.case; answer_is = refl }; runs = is.1 })
 
   -- and one that is refused has none
   refused : (e : RunError) → IsTrue (Err e) → IsAnswerTo d n (Err e)

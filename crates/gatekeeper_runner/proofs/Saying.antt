@@ -1,5 +1,5 @@
 -- What the policies say, gate after gate.
-use Rattle.gatekeeper_runner.proofs.Prelude.{◌≡◌, ℕ, zero, suc, ◌+◌, ◌<◌, ◌≤◌, List, [], ◌∷◌, Ok, Err, drop, length, take, Some, refl, sym, ap, subst, arith, get_or, take_all, take_more, split_at, document_of, OneImage, Decision, PolicyAndImage, RunError, uid_in, of_one, refused_so, AllSay, AreGates, IsGateOf, OneRefuses, SaysAlone, Gatekeeper, next, none, no_decision, under, with_next}
+use Rattle.gatekeeper_runner.proofs.Prelude.{◌≡◌, ℕ, zero, suc, ◌+◌, ◌<◌, ◌≤◌, List, [], ◌∷◌, Ok, Err, drop, length, take, Some, refl, sym, ap, subst, arith, get_or, take_all, take_more, split_at, document_of, OneImage, Decision, PolicyAndImage, RunError, uid_in, of_one, refused_so, AllDecide, AreGates, IsGateOf, OneRefuses, DecidesAlone, Gatekeeper, next, none, no_decision, under, with_next}
 use Rattle.std.specs.Prelude.{option_and_then}
 use Rattle.value_store.specs.Documents.{document_given}
 use Rattle.value_store.specs.Placing.{Contents}
@@ -33,8 +33,8 @@ are_given t policy review contents s uid opened is = record { contents = table_d
 
 -- without a policy nothing is said
 pub none_said : (t : Gatekeeper) (review : List ℕ) (policies : List (List ℕ)) (gates : List PolicyAndImage) → t.policies ≡ policies → AreGates policies gates → length gates ≡ 0
-    → AllSay OneImage t review t.policies no_decision
-none_said t review [] [] same are empty = subst (λ (ps : List (List ℕ)). AllSay OneImage t review ps no_decision) (sym same) none
+    → AllDecide OneImage t review t.policies no_decision
+none_said t review [] [] same are empty = subst (λ (ps : List (List ℕ)). AllDecide OneImage t review ps no_decision) (sym same) none
 none_said t review (p ∷ ps) (g ∷ gs) same are empty = absurd (omega (arith, empty))
 none_said t review policies gates same are empty = absurd are
 
@@ -58,9 +58,9 @@ first_refuses t review [] [] same are some contents e none_there = absurd (omega
 first_refuses t review policies gates same are some contents e none_there = absurd are
 
 -- the policies of the gates so far have spoken
-module _ (t : Gatekeeper) (review : List ℕ) (gates : List PolicyAndImage) (are : AreGates t.policies gates) (i : ℕ) (so_far : Decision) (say : AllSay OneImage t review (take i t.policies) so_far) where
-  pub all_said : length gates ≤ i → AllSay OneImage t review t.policies so_far
-  all_said past = subst (λ (ps : List (List ℕ)). AllSay OneImage t review ps so_far) (take_all i t.policies (let many = as_many t.policies gates are in omega (arith, past, many))) say
+module _ (t : Gatekeeper) (review : List ℕ) (gates : List PolicyAndImage) (are : AreGates t.policies gates) (i : ℕ) (so_far : Decision) (say : AllDecide OneImage t review (take i t.policies) so_far) where
+  pub all_said : length gates ≤ i → AllDecide OneImage t review t.policies so_far
+  all_said past = subst (λ (ps : List (List ℕ)). AllDecide OneImage t review ps so_far) (take_all i t.policies (let many = as_many t.policies gates are in omega (arith, past, many))) say
 
   module _ (gate : PolicyAndImage) (before : i < length gates) (is : gate ≡ get_or gates i gate) where
     within : i < length t.policies
@@ -69,17 +69,17 @@ module _ (t : Gatekeeper) (review : List ℕ) (gates : List PolicyAndImage) (are
     its_policy : IsGateOf (get_or t.policies i []) gate
     its_policy = subst (IsGateOf (get_or t.policies i [])) (sym is) (gate_at t.policies gates i gate are before)
 
-    pub said_more : (said both : Decision) → ((policy : List ℕ) → IsGateOf policy gate → SaysAlone OneImage t policy review (Ok said))
-        → both ≡ with_next so_far said → AllSay OneImage t review (take (i + 1) t.policies) both
+    pub said_more : (said both : Decision) → ((policy : List ℕ) → IsGateOf policy gate → DecidesAlone OneImage t policy review (Ok said))
+        → both ≡ with_next so_far said → AllDecide OneImage t review (take (i + 1) t.policies) both
     said_more said both says also = rw (also, take_more t.policies i [] within) (next say (says _ its_policy))
 
-    pub refused_at : (e : RunError) → ((policy : List ℕ) → IsGateOf policy gate → SaysAlone OneImage t policy review (Err e)) → OneRefuses OneImage t review e
+    pub refused_at : (e : RunError) → ((policy : List ℕ) → IsGateOf policy gate → DecidesAlone OneImage t policy review (Err e)) → OneRefuses OneImage t review e
     refused_at e says = record {
       before = take i t.policies;
       policy = get_or t.policies i [];
       after = drop (suc i) t.policies;
       are = split_at t.policies i [] within;
       so_far = so_far;
-      say = say;
+      decide = say;
       refuses = says _ its_policy;
     }

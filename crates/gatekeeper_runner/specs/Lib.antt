@@ -1,6 +1,6 @@
 pub mod Together
 pub mod Lines
-pub mod Told
+pub mod AnsweredLines
 pub mod Orders
 pub mod Starting
 pub mod Program

@@ -7,10 +7,10 @@ use Rattle.serde_json.specs.Written.{compact_text}
 use Rattle.policy_glue.specs.Rejections.{response_text}
 use Rattle.policy_glue.specs.Documents.{document_of}
 use Rattle.admission.specs.ErrorCodes.{run_error_code}
-use Rattle.admission.specs.Saying.{Decision}
+use Rattle.admission.specs.Decisions.{Decision}
 use Rattle.admission.specs.Standing.{Images}
 use Rattle.admission.specs.declared.run_error.RunError.{RunError, TheVariants.ReviewRefused, TheVariants.Memory}
-use Rattle.gatekeeper_runner.specs.Together.{SayTogether, Gatekeeper}
+use Rattle.gatekeeper_runner.specs.Together.{DecideTogether, Gatekeeper}
 use Rattle.gatekeeper_runner.specs.declared.line.Line.{Line}
 
 -- ---- refusals
@@ -58,7 +58,7 @@ pub data AnswersReviewLine (chosen : Images) (t : Gatekeeper) (line : List ℕ) 
   passed_over : line ≡ [] → AnswersReviewLine chosen t line []
   too_long : longest_line < length line → AnswersReviewLine chosen t line (line_of (refusal_text ReviewRefused None))
   decided : {result : Result Decision RunError} → 0 < length line → length line ≤ longest_line → (result ≡ Err Memory → ⊥)
-      → SayTogether chosen t line result → AnswersReviewLine chosen t line (line_of (answer_text line result))
+      → DecideTogether chosen t line result → AnswersReviewLine chosen t line (line_of (answer_text line result))
   -- the host has no memory for it, which says nothing of the line
   no_memory : 0 < length line → AnswersReviewLine chosen t line no_memory_text
 

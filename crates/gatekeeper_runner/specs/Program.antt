@@ -9,7 +9,7 @@ use Rattle.cli.specs.declared.refusal.Refusal.{Refusal}
 use Rattle.gatekeeper_runner.specs.Orders.{GatekeeperOrder, entered, faults, order_from}
 use Rattle.gatekeeper_runner.specs.Starting.{GatekeeperStarts}
 use Rattle.gatekeeper_runner.specs.Together.{Gatekeeper}
-use Rattle.gatekeeper_runner.specs.Told.{AnswersLines}
+use Rattle.gatekeeper_runner.specs.AnsweredLines.{AnswersLines}
 
 -- the words are taken, and ask for this
 abbrev pub AsksGatekeeper : Given → GatekeeperOrder → Type 0
@@ -25,9 +25,9 @@ pub data GatekeeperEffect (chosen : Images) (given : Given) (old new : System) :
   nothing : {r : Refusal} → AsksNothing faults given r → new ≡ old → GatekeeperEffect chosen given old new (Err r)
   not_started : {order : GatekeeperOrder} {r : Refusal} → AsksGatekeeper given order → GatekeeperStarts old.files order (Err r) → new ≡ old
       → GatekeeperEffect chosen given old new (Err r)
-  answers : {order : GatekeeperOrder} {terms : Gatekeeper} (result : Result (Unit {0}) SessionError) → AsksGatekeeper given order
-      → GatekeeperStarts old.files order (Ok terms)
-      → AnswersLines chosen terms old.input new.input old.output new.output result → new.files ≡ old.files
+  answers : {order : GatekeeperOrder} {keeper : Gatekeeper} (result : Result (Unit {0}) SessionError) → AsksGatekeeper given order
+      → GatekeeperStarts old.files order (Ok keeper)
+      → AnswersLines chosen keeper old.input new.input old.output new.output result → new.files ≡ old.files
       → GatekeeperEffect chosen given old new (ending_of result)
 
 -- the program ends with this status

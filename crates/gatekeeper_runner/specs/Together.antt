@@ -3,7 +3,7 @@ use Rattle.std.specs.Prelude.{◌≡◌, ℕ, List, [], ◌∷◌, ◌++◌, cod
 use Rattle.policy_glue.specs.Rejections.{Rejection}
 use Rattle.policy_glue.specs.OneImage.{OneImage}
 use Rattle.admission.specs.Deciding.{Documents, IsPolicyOf}
-use Rattle.admission.specs.Saying.{Decision, DecidesReview}
+use Rattle.admission.specs.Decisions.{Decision, DecidesReview}
 use Rattle.admission.specs.Standing.{Images, RunAgrees}
 use Rattle.admission.specs.declared.policy_and_image.PolicyAndImage.{PolicyAndImage}
 use Rattle.admission.specs.declared.run_error.RunError.{RunError}
@@ -35,15 +35,15 @@ abbrev pub with_next : Decision → Decision → Decision
 with_next so_far next = record { rejection = and_also so_far.rejection next.rejection; uid = next.uid }
 
 -- what one policy says of a review, and that the run of its program stands as that tells
-abbrev pub SaysAlone : Images → Gatekeeper → List ℕ → List ℕ → Result Decision RunError → Type 0
-SaysAlone chosen t policy review result =
+abbrev pub DecidesAlone : Images → Gatekeeper → List ℕ → List ℕ → Result Decision RunError → Type 0
+DecidesAlone chosen t policy review result =
     DecidesReview (under t policy review) t.steps result × RunAgrees chosen (under t policy review) t.steps result
 
 -- what policies say of a review, of which none refuses it
-pub data AllSay (chosen : Images) (t : Gatekeeper) (review : List ℕ) : List (List ℕ) → Decision → Type 0 where
-  none : AllSay chosen t review [] no_decision
-  next : {policies : List (List ℕ)} {policy : List ℕ} {so_far said : Decision} → AllSay chosen t review policies so_far
-      → SaysAlone chosen t policy review (Ok said) → AllSay chosen t review (policies ++ policy ∷ []) (with_next so_far said)
+pub data AllDecide (chosen : Images) (t : Gatekeeper) (review : List ℕ) : List (List ℕ) → Decision → Type 0 where
+  none : AllDecide chosen t review [] no_decision
+  next : {policies : List (List ℕ)} {policy : List ℕ} {so_far said : Decision} → AllDecide chosen t review policies so_far
+      → DecidesAlone chosen t policy review (Ok said) → AllDecide chosen t review (policies ++ policy ∷ []) (with_next so_far said)
 
 -- a policy refuses a review, and none before it does
 pub record OneRefuses (chosen : Images) (t : Gatekeeper) (review : List ℕ) (e : RunError) : Type 0 where
@@ -52,13 +52,13 @@ pub record OneRefuses (chosen : Images) (t : Gatekeeper) (review : List ℕ) (e 
   pub after : List (List ℕ)
   pub are : t.policies ≡ before ++ policy ∷ after
   pub so_far : Decision
-  pub say : AllSay chosen t review before so_far
-  pub refuses : SaysAlone chosen t policy review (Err e)
+  pub decide : AllDecide chosen t review before so_far
+  pub refuses : DecidesAlone chosen t policy review (Err e)
 
 -- what the policies say together, or the first refusal
-abbrev pub SayTogether : Images → Gatekeeper → List ℕ → Result Decision RunError → Type 0
-SayTogether chosen t review (Ok said) = AllSay chosen t review t.policies said
-SayTogether chosen t review (Err e) = OneRefuses chosen t review e
+abbrev pub DecideTogether : Images → Gatekeeper → List ℕ → Result Decision RunError → Type 0
+DecideTogether chosen t review (Ok said) = AllDecide chosen t review t.policies said
+DecideTogether chosen t review (Err e) = OneRefuses chosen t review e
 
 -- ---- what keeps them
 

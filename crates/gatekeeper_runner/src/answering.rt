@@ -3,7 +3,7 @@ ghost use Rattle.std.specs.Prelude.{◌≡◌, ◌<◌, ◌≤◌, length, IfOk,
 ghost use Rattle.streams.specs.Streams.{one_more, stream};
 ghost use Rattle.policy_glue.specs.OneImage.{OneImage};
 ghost use Rattle.gatekeeper_runner.specs.Lines.{line_of, longest_line, AnswersReviewLine};
-ghost use Rattle.gatekeeper_runner.specs.Told.{Answered, AnsweredPart, AnswersLines, OfLine, UnderPolicies};
+ghost use Rattle.gatekeeper_runner.specs.AnsweredLines.{Answered, AnsweredPart, AnswersLines, OfLine, UnderPolicies};
 
 use crate::gatekeeper::Gatekeeper;
 use crate::line::Line;
@@ -49,13 +49,13 @@ pub struct Answers<'a> {
 }
 
 impl<'a> Listener for Answers<'a> {
-    ghost use Rattle.gatekeeper_runner.specs.Told.{AnswersBreak, AnswersEnd, AnswersSoFar, UnderSame};
+    ghost use Rattle.gatekeeper_runner.specs.AnsweredLines.{AnswersBreak, AnswersEnd, AnswersSoFar, UnderSame};
     ghost use Rattle.gatekeeper_runner.specs.Lines.{KeepsLine};
     ghost use Rattle.streams.specs.Lines.{cut};
 
     ghost goes = { λ a start before heard written. UnderSame a.keeper.now start.keeper.now (λ t. AnswersSoFar OneImage t before heard written × KeepsLine a.line (cut heard).1) };
 
-    ghost ended = { λ last a start before heard written. UnderSame a.keeper.now start.keeper.now (λ t. AnswersEnd last OneImage t before heard written) };
+    ghost with_line_feed = { λ last a start before heard written. UnderSame a.keeper.now start.keeper.now (λ t. AnswersEnd last OneImage t before heard written) };
 
     ghost broke = { λ last a start before heard written. UnderSame a.keeper.now start.keeper.now (λ t. AnswersBreak last OneImage t before heard written) };
 
@@ -103,13 +103,13 @@ fn answer_of(keeper: &Gatekeeper, line: &Line) -> Result<Vec<u8>, AllocError>
         return Err(AllocError);
     }
     if line.is_too_long() {
-        return ended(refusal_text(keeper.alloc, RunError::ReviewRefused, None)?);
+        return with_line_feed(refusal_text(keeper.alloc, RunError::ReviewRefused, None)?);
     }
-    ended(decision(keeper, line.bytes.as_slice())?)
+    with_line_feed(decision_text(keeper, line.bytes.as_slice())?)
 }
 
 /// The text with a line feed.
-fn ended(text: Vec<u8>) -> Result<Vec<u8>, AllocError>
+fn with_line_feed(text: Vec<u8>) -> Result<Vec<u8>, AllocError>
     ensures { IfOk result (λ line. line.items ≡ line_of text.items) }
 {
     let mut line = text;
@@ -118,10 +118,10 @@ fn ended(text: Vec<u8>) -> Result<Vec<u8>, AllocError>
 }
 
 /// The text by what the policies say of the review in a line.
-fn decision(keeper: &Gatekeeper, line: &[u8]) -> Result<Vec<u8>, AllocError>
+fn decision_text(keeper: &Gatekeeper, line: &[u8]) -> Result<Vec<u8>, AllocError>
     ensures { IfOk result (λ text. UnderPolicies keeper.now (λ t. 0 < length line.now → length line.now ≤ longest_line → AnswersReviewLine OneImage t line.now (line_of text.items))) }
 {
-    match keeper.say(line) {
+    match keeper.decision(line) {
         Ok(said) => response_text(keeper.alloc, &said.rejection, said.uid.as_str()),
         Err(error) => refused(keeper.alloc, error, line),
     }

@@ -2,10 +2,10 @@
 ghost use Rattle.std.specs.Prelude.{ℕ, List};
 ghost use Rattle.policy_glue.specs.OneImage.{OneImage};
 ghost use Rattle.admission.specs.Deciding.{AreGiven};
-ghost use Rattle.admission.specs.Saying.{said_view};
-ghost use Rattle.gatekeeper_runner.specs.Together.{gatekeeper_of, under, AreGates, IsGateOf, SayTogether, SaysAlone};
+ghost use Rattle.admission.specs.Decisions.{decision_view};
+ghost use Rattle.gatekeeper_runner.specs.Together.{gatekeeper_of, under, AreGates, IsGateOf, DecideTogether, DecidesAlone};
 
-use crate::together::{unsaid, with_next};
+use crate::together::{no_decision, with_next};
 use admission::{Decision, Gate, RunError};
 use std::alloc::Global;
 use value_store::ValueStore;
@@ -25,17 +25,17 @@ pub struct Gatekeeper {
 
 impl Gatekeeper {
     /// What the policies say of a review together, or the first refusal.
-    pub fn say(&self, review: &[u8]) -> Result<Decision, RunError>
-        ensures { (policies : List (List ℕ)) → AreGates policies self.now.gates.items → SayTogether OneImage (gatekeeper_of policies self.now) review.now (said_view result) }
+    pub fn decision(&self, review: &[u8]) -> Result<Decision, RunError>
+        ensures { (policies : List (List ℕ)) → AreGates policies self.now.gates.items → DecideTogether OneImage (gatekeeper_of policies self.now) review.now (decision_view result) }
     {
-        let mut said = unsaid(self.alloc);
+        let mut said = no_decision(self.alloc);
         let gates = self.gates.as_slice();
         if gates.is_empty() {
             return Ok(said);
         }
         let (table, uid) = self.documents.table_of(review)?;
         for gate in gates {
-            let next = self.say_by(gate, &table, uid.as_str())?;
+            let next = self.decision_by(gate, &table, uid.as_str())?;
             said = with_next(said, next)?;
         }
         Ok(said)
@@ -43,8 +43,8 @@ impl Gatekeeper {
 
     /// What one policy says of the review whose roots are in the table. The program runs on a copy,
     /// which shares the table's values.
-    fn say_by(&self, gate: &Gate, table: &Table, uid: &str) -> Result<Decision, RunError>
-        ensures { (policies : List (List ℕ)) (policy review : List ℕ) → IsGateOf policy gate.now → AreGiven (under (gatekeeper_of policies self.now) policy review) (record { values = ⟦<Table as ValueStore>⟧.values table.now; charge = ⟦<Table as ValueStore>⟧.charge table.now }) uid.now → SaysAlone OneImage (gatekeeper_of policies self.now) policy review (said_view result) }
+    fn decision_by(&self, gate: &Gate, table: &Table, uid: &str) -> Result<Decision, RunError>
+        ensures { (policies : List (List ℕ)) (policy review : List ℕ) → IsGateOf policy gate.now → AreGiven (under (gatekeeper_of policies self.now) policy review) (record { values = ⟦<Table as ValueStore>⟧.values table.now; charge = ⟦<Table as ValueStore>⟧.charge table.now }) uid.now → DecidesAlone OneImage (gatekeeper_of policies self.now) policy review (decision_view result) }
     {
         gate.say_on(table.copy()?, uid, self.steps)
     }

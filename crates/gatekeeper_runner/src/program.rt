@@ -11,7 +11,7 @@ use crate::answering::answer_lines;
 use crate::order::Order;
 use crate::ordering::order_of;
 use crate::starting::start;
-use cli::{Refusal, ended, texts_of};
+use cli::{Refusal, exit_with, texts_of};
 use host::{Files, OrderError};
 use std::alloc::Global;
 use std::process::ExitCode;
@@ -36,7 +36,7 @@ pub fn exit_code<F: Files, R: LineSource, W: Sink, E: Sink>(
         GatekeeperResult OneImage (given_of words) before after told told_after (exit_status result) }
 {
     let ending = ending(alloc, words, files, requests, answers);
-    ended(alloc, ending, refusals)
+    exit_with(alloc, ending, refusals)
 }
 
 /// Answers the lines, and answers the status.

@@ -6,7 +6,7 @@ ghost use Rattle.admission.specs.declared.run_error.RunError.TheVariants.{Memory
 ghost use Rattle.gatekeeper_runner.specs.Lines.{refusal_text, refusal_tree, uid_shown};
 
 use admission::RunError;
-use policy_glue::document;
+use policy_glue::parse_document;
 use serde_json::{Value, json};
 use std::alloc::{AllocError, Global};
 
@@ -19,7 +19,7 @@ pub fn refused(alloc: Global, error: RunError, line: &[u8]) -> Result<Vec<u8>, A
     if matches!(error, RunError::Memory) {
         return Err(AllocError);
     }
-    match document(alloc, line)? {
+    match parse_document(alloc, line)? {
         Some(value) => refusal_text(alloc, error, uid_shown(&value)),
         None => refusal_text(alloc, error, None),
     }

@@ -1,7 +1,7 @@
 //! What several policies say together.
 ghost use Rattle.std.specs.Prelude.{◌≡◌, option_map, IfOk, Some};
 ghost use Rattle.policy_glue.specs.Rejections.{rejection_view};
-ghost use Rattle.admission.specs.Saying.{said_value};
+ghost use Rattle.admission.specs.Decisions.{decision_value};
 ghost use Rattle.gatekeeper_runner.specs.Together.{and_also, no_decision, with_next};
 
 use admission::Decision;
@@ -9,8 +9,8 @@ use policy_glue::Rejection;
 use std::alloc::{AllocError, Global};
 
 /// What no policy says.
-pub fn unsaid(alloc: Global) -> Decision
-    ensures { said_value result ≡ no_decision }
+pub fn no_decision(alloc: Global) -> Decision
+    ensures { decision_value result ≡ no_decision }
 {
     Decision {
         rejection: None,
@@ -20,7 +20,7 @@ pub fn unsaid(alloc: Global) -> Decision
 
 /// What is said so far and what a further policy says.
 pub fn with_next(so_far: Decision, next: Decision) -> Result<Decision, AllocError>
-    ensures { IfOk result (λ x. said_value x ≡ with_next (said_value so_far) (said_value next)) }
+    ensures { IfOk result (λ x. decision_value x ≡ with_next (decision_value so_far) (decision_value next)) }
 {
     let rejection = and_also(so_far.rejection, next.rejection)?;
     Ok(Decision {

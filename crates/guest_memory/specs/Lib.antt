@@ -4,7 +4,7 @@ pub mod Word
 pub mod Access
 pub mod Answers
 pub mod Pages
-pub mod Spots
+pub mod PageSpans
 pub mod RegionWords
 pub mod Laws
 pub mod Rows

@@ -9,7 +9,7 @@ use crate::fault::Fault;
 use crate::region::Region;
 use crate::regions::Regions;
 use crate::size::Size;
-use crate::spot::Spot;
+use crate::page_span::PageSpan;
 use crate::words::word_at;
 use crate::write_error::WriteError;
 use crate::zero_page::ZeroPage;
@@ -219,25 +219,25 @@ impl Regions for Guest {
     #[tactic(auto, unfolding(crate::specs::Access::read_of))]
     #[inline(always)]
     fn read(&self, addr: u64, size: Size) -> Result<u64, Fault> {
-        match self.stack.spot(STACK, addr, size) {
-            Spot::Within { page, from } => Ok(self.stack.word_in(page, from, size)),
-            Spot::Across => loaded(self.read_across(addr, size)),
-            Spot::Beyond => loaded(self.read_above(addr, size)),
+        match self.stack.page_span(STACK, addr, size) {
+            PageSpan::Within { page, from } => Ok(self.stack.word_in(page, from, size)),
+            PageSpan::Across => loaded(self.read_across(addr, size)),
+            PageSpan::Beyond => loaded(self.read_above(addr, size)),
         }
     }
 
     #[tactic(auto, unfolding(crate::specs::Access::write_of))]
     #[inline(always)]
     fn write(&mut self, addr: u64, size: Size, word: u64) -> Result<(), WriteError> {
-        match self.stack.spot(STACK, addr, size) {
-            Spot::Within { page, from } => {
+        match self.stack.page_span(STACK, addr, size) {
+            PageSpan::Within { page, from } => {
                 let Ok(()) = self.stack.put_in(page, from, size, word) else {
                     return Err(WriteError::Memory);
                 };
                 Ok(())
             }
-            Spot::Across => self.write_across(addr, size, word).result(),
-            Spot::Beyond => self.write_above(addr, size, word).result(),
+            PageSpan::Across => self.write_across(addr, size, word).result(),
+            PageSpan::Beyond => self.write_above(addr, size, word).result(),
         }
     }
 

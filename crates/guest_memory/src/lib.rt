@@ -11,7 +11,7 @@ mod pages;
 mod region;
 mod regions;
 mod size;
-mod spot;
+mod page_span;
 mod words;
 mod write_error;
 mod zero_page;

@@ -1,13 +1,13 @@
 //! A region of bytes that can be written.
 ghost use Rattle.std.specs.Prelude.{◌≡◌, ◌+◌, ◌*◌, ◌%◌, ◌≤◌, length, replicate, IfOk, OnOk, OnErr};
 ghost use Rattle.guest_memory.specs.Access.{size_bytes};
-ghost use Rattle.guest_memory.specs.Spots.{IsSpot};
+ghost use Rattle.guest_memory.specs.PageSpans.{IsPageSpan};
 ghost use Rattle.guest_memory.specs.Word.{low_bytes, overlay, part, word_of};
 
 use crate::page::{PAGE_LENGTH, Page};
 use crate::pages::{put_in, put_word, word_at, word_in};
 use crate::size::Size;
-use crate::spot::Spot;
+use crate::page_span::PageSpan;
 use crate::zero_page::ZeroPage;
 use std::alloc::AllocError;
 use std::array;
@@ -63,20 +63,20 @@ impl<const N: usize> Region<N> {
     /// Where an access is in a region from `base` on. An address below the region is past its end
     /// as well, since the difference wraps.
     #[inline(always)]
-    pub fn spot(&self, base: u64, addr: u64, size: Size) -> Spot
+    pub fn page_span(&self, base: u64, addr: u64, size: Size) -> PageSpan
         requires { base % 256 ≡ 0 }
-        ensures { IsSpot base (length self.now) addr (size_bytes size) result }
+        ensures { IsPageSpan base (length self.now) addr (size_bytes size) result }
     {
         let len = self.len();
         let page = (addr / 256).wrapping_sub(base / 256) as usize;
         if page >= len / PAGE_LENGTH {
-            return Spot::Beyond;
+            return PageSpan::Beyond;
         }
         let from = (addr % 256) as usize;
         if from > PAGE_LENGTH - size.bytes() {
-            return Spot::Across;
+            return PageSpan::Across;
         }
-        Spot::Within { page, from }
+        PageSpan::Within { page, from }
     }
 
     /// The number whose bytes stand in a page from `from` on, the lowest first.

@@ -7,8 +7,8 @@ Adds (Plain w a) added = a ≡ added
 Adds (Named v a) added = a ≡ added
 Adds (Refused f) added = ⊥
 
-pub plan_adds : (vs : List ValueOrError) (a : Placement) (added : ℕ) → Adds (outcome_by vs a added) added
-plan_adds vs a added = grind arith
+pub effect_adds : (vs : List ValueOrError) (a : Placement) (added : ℕ) → Adds (outcome_by vs a added) added
+effect_adds vs a added = grind arith
 
 module _ (old new : List ValueOrError) (charge added : ℕ) where
   fits : (a : ℕ) → a ≡ added → charge + (1 + added) ≤ charge_limit → nat_le (charge + (1 + a)) charge_limit ≡ true

@@ -51,7 +51,7 @@ pub use Rattle.helper_table.specs.Numbers.{helpers, numbered}
 pub use Rattle.helper_table.specs.Operands.{place_part, text_part}
 pub use Rattle.helper_table.specs.Outcome.{Halts, Leaves, Named, RowOutcome, Plain, Refused, answer_among, charged}
 pub use Rattle.helper_table.specs.Outcome.{found, named}
-pub use Rattle.helper_table.specs.Plans.{TakesEffect, outcome_by}
+pub use Rattle.helper_table.specs.Effects.{TakesEffect, outcome_by}
 pub use Rattle.helper_table.specs.Tables.{AreEntriesBounded, AreItemsBounded, IsBounded, IsResultBounded, IsTable}
 pub use Rattle.helper_table.specs.Tables.{TablesAreKept}
 pub use Rattle.helper_table.specs.declared.placement.Placement.{Placement}

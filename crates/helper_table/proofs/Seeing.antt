@@ -1,9 +1,9 @@
 -- A row on what is seen of its operand.
 use Rattle.helper_table.proofs.Prelude.{◌≡◌, ℕ, Option, Some, arith, List, length, sym, option_map, Seen, outcome_view, ValueOrError, text, on_operand, on_lent, RowOutcome, Plain, Named, outcome_by, Placement, cond-true, cond-false, false_from_ne_true, is_utf8-from_IsUtf8, IsUtf8-from_is_utf8, is_utf8, IsUtf8, text_const_row}
-use Rattle.helper_table.specs.declared.placement.Placement.TheVariants as action
+use Rattle.helper_table.specs.declared.placement.Placement.TheVariants as placement
 
 -- an effect that is a word
-pub worded : (vs : List ValueOrError) (a : Placement) (added w : ℕ) → a ≡ action.Word w → added ≡ 0 → outcome_by vs a added ≡ Plain w 0
+pub worded : (vs : List ValueOrError) (a : Placement) (added w : ℕ) → a ≡ placement.Word w → added ≡ 0 → outcome_by vs a added ≡ Plain w 0
 worded vs a added w e f = grind arith
 
 -- what is seen decides, with what the store's words take of the operand

@@ -9,6 +9,6 @@ pub mod Calls
 pub mod Rows
 pub mod Ends
 pub mod Kinds
-pub mod Plans
+pub mod Effects
 pub mod Laws
 pub mod Tables

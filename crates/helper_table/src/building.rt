@@ -6,7 +6,7 @@ ghost use Rattle.helper_table.specs.Calls.{on_value, on_values};
 ghost use Rattle.helper_table.specs.Kinds.{can_join, is_list, is_value, is_absent, is_new_key};
 ghost use Rattle.helper_table.specs.Operands.{text_part};
 ghost use Rattle.helper_table.specs.Outcome.{Plain, Refused};
-ghost use Rattle.helper_table.specs.Plans.{means, CanFollow, outcome_by, CanDo};
+ghost use Rattle.helper_table.specs.Effects.{means, CanFollow, outcome_by, CanDo};
 ghost use Rattle.value_store.specs.Calls.{entries_at, joined};
 ghost use Rattle.value_store.specs.Seen.{outcome_view, shape_view, seen_size};
 ghost use Rattle.value_store.specs.Value.{ValueOrError};
@@ -50,15 +50,15 @@ fn join_plan(a: u64, b: u64, x: Shape<'_>, y: Shape<'_>) -> HelperEffect<'static
     ensures means { (vs : List ValueOrError)
         → option_map outcome_view (slice_get vs a) ≡ Some (shape_view x.entry)
         → option_map outcome_view (slice_get vs b) ≡ Some (shape_view y.entry)
-        → outcome_by vs result.action result.added ≡ sequence (joined (slice_get vs a) (slice_get vs b)) }
+        → outcome_by vs result.placement result.added ≡ sequence (joined (slice_get vs a) (slice_get vs b)) }
     ensures can { (vs : List ValueOrError)
         → option_map outcome_view (slice_get vs a) ≡ Some (shape_view x.entry)
         → option_map outcome_view (slice_get vs b) ≡ Some (shape_view y.entry)
-        → CanDo vs result.action }
+        → CanDo vs result.placement }
 {
     if can_join(x, y) {
         HelperEffect {
-            action: Placement::Join(a, b),
+            placement: Placement::Join(a, b),
             added: size(x) + size(y),
         }
     } else {
@@ -114,23 +114,23 @@ fn can_push(list: Shape<'_>, item: Shape<'_>) -> bool
 
 /// What adds to a list or a map, if it can: 1 more is charged also where nothing is added.
 fn growth(
-    action: Placement<'static>,
+    placement: Placement<'static>,
     can_grow: bool,
     is_within: bool,
 ) -> Result<HelperEffect<'static>, Fault>
-    ensures means { (vs : List ValueOrError) → means vs result ≡ (if can_grow then if is_within then outcome_by vs action.entry 1 else Refused F8 else Plain 0 1) }
-    ensures can { (vs : List ValueOrError) → (can_grow ≡ true → CanDo vs action.entry) → CanFollow vs result }
+    ensures means { (vs : List ValueOrError) → means vs result ≡ (if can_grow then if is_within then outcome_by vs placement.entry 1 else Refused F8 else Plain 0 1) }
+    ensures can { (vs : List ValueOrError) → (can_grow ≡ true → CanDo vs placement.entry) → CanFollow vs result }
 {
     if !can_grow {
         return Ok(HelperEffect {
-            action: Placement::Word(0),
+            placement: Placement::Word(0),
             added: 1,
         });
     }
     if !is_within {
         return Err(Fault::F8);
     }
-    Ok(HelperEffect { action, added: 1 })
+    Ok(HelperEffect { placement, added: 1 })
 }
 
 /// Helper 17: a list with a value behind its items.

@@ -2,7 +2,7 @@
 ghost use Rattle.std.specs.Prelude.{◌≡◌, ℕ, false, IsOk};
 ghost use Rattle.helper_table.specs.Calls.{row_of, outcome_of, call_end};
 ghost use Rattle.helper_table.specs.Outcome.{answer_among, charged};
-ghost use Rattle.helper_table.specs.Plans.{means, CanFollow, outcome_by, CanDo, TakesEffect};
+ghost use Rattle.helper_table.specs.Effects.{means, CanFollow, outcome_by, CanDo, TakesEffect};
 ghost use Rattle.helper_table.specs.Ends.{CallReturns, takes_memory};
 ghost use Rattle.value_store.specs.Placing.{Contents};
 
@@ -22,7 +22,7 @@ use value_store::{CHARGE_LIMIT, ValueStore};
 
 /// What the row of a helper says of these arguments.
 #[tactic(auto, unfolding(crate::specs::Calls::row_of, crate::specs::Comparisons::starts_row, crate::specs::Comparisons::ends_row, crate::specs::Comparisons::contains_row))]
-fn plan_of<'a, V: ValueStore, M: Regions>(
+fn effect_of<'a, V: ValueStore, M: Regions>(
     helper: Helper,
     args: [u64; 5],
     table: &mut V,
@@ -63,12 +63,12 @@ fn plan_of<'a, V: ValueStore, M: Regions>(
 
 /// The word of a placement. The error says that the host has no memory for the value that is
 /// placed.
-fn word_of<V: ValueStore>(table: &mut V, action: Placement<'_>) -> Result<u64, AllocError>
-    requires { CanDo (V.values table.old) action }
-    ensures done { (added : ℕ) → TakesEffect (outcome_by (V.values table.old) action.entry added) result (V.values table.old) (V.values table.new) }
+fn word_of<V: ValueStore>(table: &mut V, placement: Placement<'_>) -> Result<u64, AllocError>
+    requires { CanDo (V.values table.old) placement }
+    ensures done { (added : ℕ) → TakesEffect (outcome_by (V.values table.old) placement.entry added) result (V.values table.old) (V.values table.new) }
     ensures charge { V.charge table.new ≡ V.charge table.old }
 {
-    match action {
+    match placement {
         Placement::Word(word) => Ok(word),
         Placement::Int(n) => table.place_int(n),
         Placement::Text(text) => table.place_text(text),
@@ -84,19 +84,19 @@ fn word_of<V: ValueStore>(table: &mut V, action: Placement<'_>) -> Result<u64, A
 }
 
 /// Charges for an effect and carries it out.
-fn perform<V: ValueStore>(table: &mut V, plan: HelperEffect<'_>) -> Result<HelperEnd, AllocError>
-    requires { CanDo (V.values table.old) plan.action }
+fn perform<V: ValueStore>(table: &mut V, effect: HelperEffect<'_>) -> Result<HelperEnd, AllocError>
+    requires { CanDo (V.values table.old) effect.placement }
     ensures ends { let old : Contents = record { values = V.values table.old; charge = V.charge table.old } in
         CallReturns
-        (charged (answer_among old.values (outcome_by old.values plan.entry.action plan.entry.added)) old.charge)
+        (charged (answer_among old.values (outcome_by old.values effect.entry.placement effect.entry.added)) old.charge)
         result old (record { values = V.values table.new; charge = V.charge table.new }) }
-    ensures memory { takes_memory (outcome_by (V.values table.old) plan.entry.action plan.entry.added) (record { values = V.values table.old; charge = V.charge table.old }) ≡ false → IsOk result }
+    ensures memory { takes_memory (outcome_by (V.values table.old) effect.entry.placement effect.entry.added) (record { values = V.values table.old; charge = V.charge table.old }) ≡ false → IsOk result }
 {
-    if plan.added >= CHARGE_LIMIT - table.charge() {
+    if effect.added >= CHARGE_LIMIT - table.charge() {
         return Ok(HelperEnd::Stop(Fault::F8));
     }
-    let word = word_of(table, plan.action)?;
-    table.spend(1 + plan.added);
+    let word = word_of(table, effect.placement)?;
+    table.spend(1 + effect.added);
     Ok(HelperEnd::Word(word))
 }
 
@@ -124,8 +124,8 @@ pub fn call<V: ValueStore, M: Regions>(
     let Some(helper) = Helper::of_number(id) else {
         return Ok(HelperEnd::Stop(Fault::F5));
     };
-    match plan_of(helper, args, table, memory) {
-        Ok(plan) => perform(table, plan),
+    match effect_of(helper, args, table, memory) {
+        Ok(effect) => perform(table, effect),
         Err(fault) => Ok(HelperEnd::Stop(fault)),
     }
 }

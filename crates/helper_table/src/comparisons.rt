@@ -4,7 +4,7 @@ ghost use Rattle.helper_table.specs.Calls.{on_values};
 ghost use Rattle.helper_table.specs.Comparisons.{equal_row, less_row, member_row, on_texts, test_of, text_row};
 ghost use Rattle.helper_table.specs.Kinds.{is_value, have_order, may_be_in};
 ghost use Rattle.helper_table.specs.Operands.{text_part};
-ghost use Rattle.helper_table.specs.Plans.{means, CanFollow};
+ghost use Rattle.helper_table.specs.Effects.{means, CanFollow};
 ghost use Rattle.value_store.specs.Calls.{equal_at, less_at, member_at};
 ghost use Rattle.value_store.specs.Seen.{shape_view};
 

@@ -3,7 +3,7 @@ ghost use Rattle.std.specs.Prelude.{◌≡◌, not, option_map, List};
 ghost use Rattle.helper_table.specs.Calls.{on_value, on_range};
 ghost use Rattle.helper_table.specs.Conversions.{kind_number, int_word, decimal_of, kind_row, int_of_row, int_new_row, text_const_row, text_of_int_row, not_row};
 ghost use Rattle.helper_table.specs.Operands.{int_part, truth_part};
-ghost use Rattle.helper_table.specs.Plans.{means, CanFollow, outcome_by, CanDo};
+ghost use Rattle.helper_table.specs.Effects.{means, CanFollow, outcome_by, CanDo};
 ghost use Rattle.value_store.specs.Seen.{shape_view};
 ghost use Rattle.value_store.specs.Value.{ValueOrError};
 
@@ -64,19 +64,19 @@ pub(crate) fn int_new(word: u64) -> Result<HelperEffect<'static>, Fault>
     ensures can { (vs : List ValueOrError) → CanFollow vs result }
 {
     Ok(HelperEffect {
-        action: Placement::Int(word.cast_signed()),
+        placement: Placement::Int(word.cast_signed()),
         added: 0,
     })
 }
 
 #[tactic(auto, using(crate::proofs::Seeing::no_text, crate::proofs::Seeing::text_of_utf8))]
 fn text_plan(bytes: &[u8]) -> HelperEffect<'_>
-    ensures means { (vs : List ValueOrError) → outcome_by vs result.action result.added ≡ text_const_row bytes.now }
-    ensures can { (vs : List ValueOrError) → CanDo vs result.action }
+    ensures means { (vs : List ValueOrError) → outcome_by vs result.placement result.added ≡ text_const_row bytes.now }
+    ensures can { (vs : List ValueOrError) → CanDo vs result.placement }
 {
     match std::str::from_utf8(bytes) {
         Ok(text) => HelperEffect {
-            action: Placement::Text(text),
+            placement: Placement::Text(text),
             added: text.len() as u64,
         },
         Err(_) => HelperEffect::word(0),
@@ -97,12 +97,12 @@ pub(crate) fn text_const<M: Regions>(
 }
 
 fn decimal_plan(shape: Shape<'_>) -> HelperEffect<'static>
-    ensures means { (vs : List ValueOrError) → outcome_by vs result.action result.added ≡ decimal_of (int_part (shape_view shape.entry)) }
-    ensures can { (vs : List ValueOrError) → CanDo vs result.action }
+    ensures means { (vs : List ValueOrError) → outcome_by vs result.placement result.added ≡ decimal_of (int_part (shape_view shape.entry)) }
+    ensures can { (vs : List ValueOrError) → CanDo vs result.placement }
 {
     match shape {
         Shape::Int(n) => HelperEffect {
-            action: Placement::Decimal(n),
+            placement: Placement::Decimal(n),
             added: Buffer::new().format(n).len() as u64,
         },
         _ => HelperEffect::word(0),

@@ -1,29 +1,29 @@
 //! What a row says of its operands.
 ghost use Rattle.std.specs.Prelude.{◌≡◌};
 ghost use Rattle.helper_table.specs.Outcome.{truth_word};
-ghost use Rattle.helper_table.specs.declared.placement.Placement.TheVariants as action;
+ghost use Rattle.helper_table.specs.declared.placement.Placement.TheVariants as placement;
 
 use crate::placement::Placement;
 
 /// What is to be done for a call, and what it adds to the charge of 1.
 #[derive(Clone, Copy)]
 pub(crate) struct HelperEffect<'a> {
-    pub(crate) action: Placement<'a>,
+    pub(crate) placement: Placement<'a>,
     pub(crate) added: u64,
 }
 
 impl<'a> HelperEffect<'a> {
     /// Nothing is added to the charge.
-    pub(crate) fn free(action: Placement<'a>) -> HelperEffect<'a>
-        ensures action { result.action ≡ action.entry }
+    pub(crate) fn free(placement: Placement<'a>) -> HelperEffect<'a>
+        ensures placement { result.placement ≡ placement.entry }
         ensures added { result.added ≡ 0 }
     {
-        HelperEffect { action, added: 0 }
+        HelperEffect { placement, added: 0 }
     }
 
     /// A word, at nothing more.
     pub(crate) fn word(word: u64) -> HelperEffect<'a>
-        ensures action { result.action ≡ action.Word word }
+        ensures placement { result.placement ≡ placement.Word word }
         ensures added { result.added ≡ 0 }
     {
         HelperEffect::free(Placement::Word(word))
@@ -31,7 +31,7 @@ impl<'a> HelperEffect<'a> {
 
     /// The reference of a truth; where there is none, that of the error.
     pub(crate) fn truth(answer: Option<bool>) -> HelperEffect<'a>
-        ensures action { result.action ≡ action.Word (truth_word answer) }
+        ensures placement { result.placement ≡ placement.Word (truth_word answer) }
         ensures added { result.added ≡ 0 }
     {
         match answer {

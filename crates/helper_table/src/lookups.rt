@@ -4,7 +4,7 @@ ghost use Rattle.helper_table.specs.Calls.{on_value, on_values, on_range};
 ghost use Rattle.helper_table.specs.Lookups.{value_under, part_by, size_part, size_found, item_or_key, count_word, field_row, has_row, index_row, size_row, item_row, count_row};
 ghost use Rattle.helper_table.specs.Operands.{count_part, place_part};
 ghost use Rattle.helper_table.specs.Outcome.{found};
-ghost use Rattle.helper_table.specs.Plans.{means, CanFollow, outcome_by, CanDo};
+ghost use Rattle.helper_table.specs.Effects.{means, CanFollow, outcome_by, CanDo};
 ghost use Rattle.value_store.specs.Calls.{entries_at, part_at, key_at};
 ghost use Rattle.value_store.specs.Lookup.{has_key, place_of_key};
 ghost use Rattle.value_store.specs.Seen.{outcome_view, shape_view, seen_size, sees_list, sees_map};
@@ -30,8 +30,8 @@ fn place_under<V: ValueStore>(table: &V, m: u64, key: &[u8]) -> Option<u64>
 
 /// A map's value at a key, to be placed; the word of the error where there is none.
 fn part_under<V: ValueStore>(table: &V, m: u64, key: &[u8]) -> HelperEffect<'static>
-    ensures means { outcome_by (V.values table.now) result.action result.added ≡ found (value_under (slice_get (V.values table.now) m) key.now) }
-    ensures can { CanDo (V.values table.now) result.action }
+    ensures means { outcome_by (V.values table.now) result.placement result.added ≡ found (value_under (slice_get (V.values table.now) m) key.now) }
+    ensures can { CanDo (V.values table.now) result.placement }
 {
     match place_under(table, m, key) {
         Some(place) => HelperEffect::free(Placement::Part(m, place)),
@@ -90,8 +90,8 @@ pub(crate) fn has<V: ValueStore, M: Regions>(
 fn item_plan(l: u64, count: u64, place: Option<u64>) -> HelperEffect<'static>
     ensures means { (vs : List ValueOrError)
         → option_map outcome_view (slice_get vs l) ≡ Some (sees_list count)
-        → outcome_by vs result.action result.added ≡ found (option_and_then (part_at (slice_get vs l)) place) }
-    ensures can { (vs : List ValueOrError) → option_map outcome_view (slice_get vs l) ≡ Some (sees_list count) → CanDo vs result.action }
+        → outcome_by vs result.placement result.added ≡ found (option_and_then (part_at (slice_get vs l)) place) }
+    ensures can { (vs : List ValueOrError) → option_map outcome_view (slice_get vs l) ≡ Some (sees_list count) → CanDo vs result.placement }
 {
     match place {
         Some(i) if i < count => HelperEffect::free(Placement::Part(l, i)),
@@ -102,8 +102,8 @@ fn item_plan(l: u64, count: u64, place: Option<u64>) -> HelperEffect<'static>
 /// A map's key at a place, to be placed.
 #[tactic(auto, using(crate::proofs::Maps::key_there, std::proofs::lemmas::Option::slice_get_past))]
 fn key_plan(m: u64, count: u64, i: u64) -> HelperEffect<'static>
-    ensures means { (vs : List ValueOrError) → option_map outcome_view (slice_get vs m) ≡ Some (sees_map count) → outcome_by vs result.action result.added ≡ found (key_at (slice_get vs m) i) }
-    ensures can { (vs : List ValueOrError) → option_map outcome_view (slice_get vs m) ≡ Some (sees_map count) → CanDo vs result.action }
+    ensures means { (vs : List ValueOrError) → option_map outcome_view (slice_get vs m) ≡ Some (sees_map count) → outcome_by vs result.placement result.added ≡ found (key_at (slice_get vs m) i) }
+    ensures can { (vs : List ValueOrError) → option_map outcome_view (slice_get vs m) ≡ Some (sees_map count) → CanDo vs result.placement }
 {
     if i < count {
         HelperEffect::free(Placement::Key(m, i))
@@ -120,8 +120,8 @@ fn part_plan<V: ValueStore>(
     place: Shape<'_>,
 ) -> HelperEffect<'static>
     requires { option_map outcome_view (slice_get (V.values table.now) x) ≡ Some (shape_view container) }
-    ensures means { outcome_by (V.values table.now) result.action result.added ≡ found (part_by (shape_view container.entry) (shape_view place.entry) (slice_get (V.values table.now) x)) }
-    ensures can { CanDo (V.values table.now) result.action }
+    ensures means { outcome_by (V.values table.now) result.placement result.added ≡ found (part_by (shape_view container.entry) (shape_view place.entry) (slice_get (V.values table.now) x)) }
+    ensures can { CanDo (V.values table.now) result.placement }
 {
     match container {
         Shape::List(count) => item_plan(x, count, place_part(place)),
@@ -165,8 +165,8 @@ fn size_part(shape: Shape<'_>) -> Option<u64>
 
 fn size_plan(size: Option<u64>) -> HelperEffect<'static>
     requires { IfSome size (λ n. n < 2 ^ 63) }
-    ensures means { (vs : List ValueOrError) → outcome_by vs result.action result.added ≡ size_found size }
-    ensures can { (vs : List ValueOrError) → CanDo vs result.action }
+    ensures means { (vs : List ValueOrError) → outcome_by vs result.placement result.added ≡ size_found size }
+    ensures can { (vs : List ValueOrError) → CanDo vs result.placement }
 {
     match size {
         Some(size) => HelperEffect::free(Placement::Int(size as i64)),
@@ -188,8 +188,8 @@ pub(crate) fn size<V: ValueStore>(table: &V, h: u64) -> Result<HelperEffect<'sta
 fn item_or_key_plan(h: u64, shape: Shape<'_>, i: u64) -> HelperEffect<'static>
     ensures means { (vs : List ValueOrError)
         → option_map outcome_view (slice_get vs h) ≡ Some (shape_view shape.entry)
-        → outcome_by vs result.action result.added ≡ found (item_or_key (shape_view shape.entry) i (slice_get vs h)) }
-    ensures can { (vs : List ValueOrError) → option_map outcome_view (slice_get vs h) ≡ Some (shape_view shape.entry) → CanDo vs result.action }
+        → outcome_by vs result.placement result.added ≡ found (item_or_key (shape_view shape.entry) i (slice_get vs h)) }
+    ensures can { (vs : List ValueOrError) → option_map outcome_view (slice_get vs h) ≡ Some (shape_view shape.entry) → CanDo vs result.placement }
 {
     match shape {
         Shape::List(count) => item_plan(h, count, Some(i)),

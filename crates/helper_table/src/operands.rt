@@ -4,7 +4,7 @@ ghost use Rattle.guest_memory.specs.declared.fault.Fault.TheVariants.{F3};
 ghost use Rattle.helper_table.specs.Calls.{bytes_at};
 ghost use Rattle.helper_table.specs.Kinds.{has_entries, is_value};
 ghost use Rattle.helper_table.specs.Operands.{place_of, place_part};
-ghost use Rattle.helper_table.specs.Plans.{Sees};
+ghost use Rattle.helper_table.specs.Effects.{Sees};
 ghost use Rattle.value_store.specs.Calls.{entries_at};
 ghost use Rattle.value_store.specs.Seen.{shape_view, seen_size};
 

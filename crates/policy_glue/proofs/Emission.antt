@@ -1,5 +1,5 @@
 -- The program of a policy as it is emitted.
-use Rattle.policy_glue.proofs.Prelude.{◌≡◌, ℕ, zero, suc, ◌+◌, ◌-◌, ◌<◌, ◌≤◌, Bool, true, false, List, [], ◌∷◌, ◌++◌, length, map, take, get_or, Option, Some, None, Result, Ok, OnOk, IfOk, refl, sym, ap, ◌∙◌, subst, arith, append_assoc, length-append, append-nil, ◌*◌, IsErrOf, take-append_seam, if◌then◌else◌, slice_get, slice_index_or, slice_set, option_map, fold, length-map, slice_get-map, slice_get_read, and_from, and_parts, nat_le, leb-true, le-leb, cases_lt, le-ltb, lt-ltb, slot_count, spelling, Insn, Tree, Core, expanded, core_view, CodeCore, depth, need, nodes, Declaration, declared, depths_of, scope_of, typing as type_of, code_at, has_room, with_counted, with_expression, passed, Emitted, with_insn_at, with_nodes, with_piece, no_code, HasTooManyTexts, IsTooLong, slot_spellings, routines_of, whole_short, size, slots, spellings, length-insn_slots, slots-append, size-append, size-cons, validation_expanded, validation_trees, variable_expanded, IsChecked, depth_in, scope_after, type_or_any, with_variable as with_declared, FitInOrder, MayFit, with_condition, with_conditions, with_decided, with_result, with_validation, with_validations, with_variables, with_way, emitted, denial_code, leave_error, message_tail, condition_tail, conditions_code, decided_code, decided_tail, if_true, message_code, outcome_tail, policy_code, result_code, routines_code, validation_code, validations_code, AreConditions, AreValidations, AreVariables, ValidationTree, VariableTree, PolicyTree, CheckedValidation, FailurePolicy, sum_by, fold-append, sum_by-cons, saturated, with_texts, joined, message_nodes, part_nodes, policy_nodes, policy_texts, rule_nodes, validation_texts, excess, Laid, after_condition, after_conditions, after_variables, before_message, condition_codes, laid_conditions, laid_routines, message_codes, nothing_laid, texts_with, tree_code, validation_codes, variable_code, variable_codes, with_routine, with_slots, with_tree, with_message as with_message_laid, program_of, decided_slots, Exit, slot_spellings-append, slots_spelled, Checked, TooManyNodes, TooManyTextBytes, part_slot_limit, code_limit, node_limit, jump_limit, word_limit, variable_depth_limit, slot_limit, slots_per_node}
+use Rattle.policy_glue.proofs.Prelude.{◌≡◌, ℕ, zero, suc, ◌+◌, ◌-◌, ◌<◌, ◌≤◌, Bool, true, false, List, [], ◌∷◌, ◌++◌, length, map, take, get_or, Option, Some, None, Result, Ok, OnOk, IfOk, refl, sym, ap, ◌∙◌, subst, arith, append_assoc, length-append, append-nil, ◌*◌, IsErrOf, take-append_seam, if◌then◌else◌, slice_get, slice_index_or, slice_set, option_map, fold, length-map, slice_get-map, slice_get_read, and_from, and_parts, nat_le, leb-true, le-leb, cases_lt, le-ltb, lt-ltb, slot_count, spelling, Insn, Tree, Core, expanded, core_view, CodeCore, depth, need, nodes, Declaration, declared, depths_of, scope_of, typing as type_of, code_at, has_room, with_counted, with_expression, passed, Emitted, with_insn_at, with_nodes, with_piece, no_code, HasTooManyTexts, IsTooLong, slot_spellings, routines_of, whole_short, size, slots, spellings, length-insn_slots, slots-append, size-append, size-cons, validation_expanded, validation_trees, variable_expanded, IsChecked, depth_in, scope_after, type_or_any, with_variable as with_declared, FitInOrder, MayFit, with_condition, with_conditions, with_decided, with_result, with_validation, with_validations, with_variables, with_way, emitted, denial_code, leave_error, message_tail, condition_tail, conditions_code, decided_code, decided_tail, if_true, message_code, outcome_tail, policy_code, result_code, routines_code, validation_code, validations_code, AreConditions, AreValidations, AreVariables, ValidationTree, VariableTree, PolicyTree, CheckedValidation, FailurePolicy, sum_by, fold-append, sum_by-cons, saturated, with_texts, joined, message_nodes, part_nodes, policy_nodes, policy_texts, validation_nodes, validation_texts, excess, Laid, after_condition, after_conditions, after_variables, before_message, condition_codes, laid_conditions, laid_routines, message_codes, nothing_laid, texts_with, tree_code, validation_codes, variable_code, variable_codes, with_routine, with_slots, with_tree, with_message as with_message_laid, program_of, decided_slots, Exit, slot_spellings-append, slots_spelled, Checked, TooManyNodes, TooManyTextBytes, part_slot_limit, code_limit, node_limit, jump_limit, word_limit, variable_depth_limit, slot_limit, slots_per_node}
 use Rattle.codegen.specs.Added.{with_variable}
 use Rattle.policy_glue.specs.Emission.{FitsFrame, with_message}
 use Rattle.policy_glue.proofs.Programs.Validations.{denial_size, message_tail_size, outcome_tail_size, result_size}
@@ -285,7 +285,7 @@ same_result {e} {l} {code} {n} f i ds (Some a) s =
     grind (arith, taken, put, s.is, size-append, result_size, append_assoc)
 
 same_validation : {e : Emitted} {l : Laid} {code : List Insn} {n : ℕ} (f : FailurePolicy) (i : ℕ) (ds : List Declaration) (r : ValidationTree) → Same e l code n
-    → Same (with_validation f i ds e (validation_expanded r)) (with_message_laid ds (before_message ds l r) r.message) (code ++ validation_code f i (tree_code ds l r.expression, message_codes ds (before_message ds l r) r.message)) (n + rule_nodes r)
+    → Same (with_validation f i ds e (validation_expanded r)) (with_message_laid ds (before_message ds l r) r.message) (code ++ validation_code f i (tree_code ds l r.expression, message_codes ds (before_message ds l r) r.message)) (n + validation_nodes r)
 same_validation f i ds r s = same_at (same_result f i ds r.message (same_expression (same_nodes s 1) ds r.expression)) (simp append_assoc) (omega arith)
 
 -- what stands behind validations
@@ -296,11 +296,11 @@ after_rules ds l (r ∷ more) = after_rules ds (with_message_laid ds (before_mes
 same_validations : (f : FailurePolicy) (ds : List Declaration) (rs : List ValidationTree) (i : ℕ) {e : Emitted} {l : Laid} {code : List Insn} {n : ℕ}
     → Same e l code n
     → Same (with_validations f i ds e (map validation_expanded rs)) (after_rules ds l rs)
-    (code ++ validations_code f i (validation_codes ds l rs)) (n + sum_by rule_nodes rs)
+    (code ++ validations_code f i (validation_codes ds l rs)) (n + sum_by validation_nodes rs)
 unfolding validations_code
 same_validations f ds [] i {code = code} s = same_at s (sym (append-nil code)) (omega arith)
 same_validations f ds (r ∷ more) i s =
-    let counted = sum_by-cons rule_nodes r more in
+    let counted = sum_by-cons validation_nodes r more in
     same_at (same_validations f ds more (i + 1) (same_validation f i ds r s)) (simp append_assoc) (omega (arith, counted))
 
 -- ---- the whole

@@ -125,7 +125,7 @@ pub use Rattle.expression_code.specs.Calls.{Tells, answered}
 pub use Rattle.expression_code.specs.Contexts.{Context, IsWellFormedState, HasValues, LeavesValue}
 pub use Rattle.expression_code.specs.Engine.{RunsTo, ExitsOrRunsOut, RunContext}
 pub use Rattle.expression_code.specs.Instructions.{ja}
-pub use Rattle.expression_code.specs.Limits.{charge_per_unit, code_limit, jump_limit, memo_limit, node_limit, part_slot_limit, part_slots_per_node, short_size, slot_reach, slots_per_node, steps_per_visit, variable_depth_limit, word_limit}
+pub use Rattle.expression_code.specs.Limits.{charge_per_unit, code_limit, jump_limit, memo_limit, node_limit, part_slot_limit, part_slots_per_node, branch_limit, slot_reach, slots_per_node, steps_per_visit, variable_depth_limit, word_limit}
 pub use Rattle.expression_code.specs.Pieces.{AreInsns, IsCodeAt, size, slots, spellings}
 pub use Rattle.expression_code.specs.Programs.{start_body, total}
 pub use Rattle.expression_code.specs.Scopes.{IsScope, Variable, bindings, first_charges, first_steps, scope_setting}
@@ -166,7 +166,7 @@ pub use Rattle.value_store.specs.Placing.{Contents, charge_limit}
 pub use Rattle.value_store.specs.Seen.{outcome_view}
 pub use Rattle.value_store.specs.Value.{ValueOrError, boolean, error, int, list, null, text, value}
 pub use Rattle.policy_glue.specs.Budget.{conditions_cost, is_running, message_cost, policy_spent, policy_work}
-pub use Rattle.policy_glue.specs.Budget.{rules_cost, runs_on, variables_cost}
+pub use Rattle.policy_glue.specs.Budget.{validations_cost, runs_on, variables_cost}
 pub use Rattle.policy_glue.specs.Checked.{PartsChecked, Checks, ChecksConditions, ChecksValidation, ChecksValidations}
 pub use Rattle.policy_glue.specs.Checked.{ChecksVariables, ReadsAndExpands, IsAdded, IsChecked, IsExpanded}
 pub use Rattle.policy_glue.specs.Checked.{IsFormedValidation, IsFormedVariable, Judges, JudgesVariable, Sorts}
@@ -186,13 +186,13 @@ pub use Rattle.policy_glue.specs.Documents.{each, keys_within}
 pub use Rattle.policy_glue.specs.Emission.{EmitsProgram, FitInOrder, HasTrees, MayFit, emitted, with_condition}
 pub use Rattle.policy_glue.specs.Emission.{with_conditions, with_decided, with_result, with_validation}
 pub use Rattle.policy_glue.specs.Emission.{with_validations, with_variables, with_way}
-pub use Rattle.policy_glue.specs.Evaluation.{condition_values, environment_with, rule_value, values_of, with_value}
+pub use Rattle.policy_glue.specs.Evaluation.{condition_values, environment_with, validation_value, values_of, with_value}
 pub use Rattle.policy_glue.specs.Layout.{AreRead, IsLayout, IsMessageWord, Encodes, VerdictWords, finding_word}
 pub use Rattle.policy_glue.specs.Layout.{first_message, first_result, message_at, message_in}
 pub use Rattle.policy_glue.specs.Layout.{ok_or_zero, outcome_of, outcome_word, result_at, text_named, truth_word, words_view}
 pub use Rattle.policy_glue.specs.Limits.{Compiles, condition_texts, excess, message_nodes, message_texts, part_nodes}
-pub use Rattle.policy_glue.specs.Limits.{rule_nodes, rule_texts, tree_texts, validation_texts, variable_texts}
-pub use Rattle.policy_glue.specs.Rejections.{Rejection, objected_tree, rejection_by, rejection_of}
+pub use Rattle.policy_glue.specs.Limits.{validation_nodes, validation_tree_texts, tree_texts, validation_texts, variable_texts}
+pub use Rattle.policy_glue.specs.Rejections.{Rejection, rejection_tree, rejection_by, rejection_of}
 pub use Rattle.policy_glue.specs.Rejections.{rejection_view}
 pub use Rattle.policy_glue.specs.OneAnswer.{HasOneImage}
 pub use Rattle.policy_glue.specs.OneImage.{OneImage, contents}
@@ -209,7 +209,7 @@ pub use Rattle.policy_glue.specs.ProgramLaws.{program_steps, validations_place}
 pub use Rattle.policy_glue.specs.ProgramParts.{ConditionsGive, MessageGives, Part, PartGives, ValidationPart}
 pub use Rattle.policy_glue.specs.ProgramParts.{ValidationsGive, codes_of, conditions_charge, conditions_steps}
 pub use Rattle.policy_glue.specs.ProgramParts.{decided_slots, found, message_charge, message_size, message_steps}
-pub use Rattle.policy_glue.specs.ProgramParts.{rule_charge, rule_code, rule_codes, rule_size, rule_steps, rules_given}
+pub use Rattle.policy_glue.specs.ProgramParts.{validation_charge, codes_of_validation, codes_of_validations, validation_size, validation_steps, values_of_validations}
 pub use Rattle.policy_glue.specs.ProgramParts.{validations_charge, validations_steps, values_given}
 pub use Rattle.policy_glue.specs.ProgramTrees.{AreConditions, AreValidations, AreVariables, Decides, HasProgram}
 pub use Rattle.policy_glue.specs.ProgramTrees.{IsEmittableMessage, ProgramDecides, ProgramIsCode, ProgramIsShort}

@@ -1,5 +1,5 @@
 -- What the words of a verdict tell.
-use Rattle.policy_glue.proofs.Prelude.{◌≡◌, ◌<◌, ◌≤◌, ◌+◌, ◌*◌, ℕ, Bool, true, false, List, [], length, Option, None, nat_lt, arith, refl, sym, ap, ◌∙◌, zero, suc, ◌∷◌, ◌++◌, Some, ◌-◌, map, ltb-false, nat_tests, slice_get_past, slice_get, if◌then◌else◌, slice_index, Memory, IsMemory, base_of, word_in, read_word, ValueOrError, AreRead, IsLayout, Encodes, VerdictWords, finding_word, first_message, message_at, message_in, part_limit, ok_or_zero, result_at, text_named, verdict_word, outcome_of, outcome_word, truth_word, Finding, Verdict, CheckResult, Outcome, denies, FailurePolicy, IsAcceptedPolicy, Parts, denials_told, denies_word, lent, Validation, Policy, validation_view, policy_view, Rejection, objected_tree, rejection_by, rejection_of, response_text, Denial, denials_of, response_of, tree_of}
+use Rattle.policy_glue.proofs.Prelude.{◌≡◌, ◌<◌, ◌≤◌, ◌+◌, ◌*◌, ℕ, Bool, true, false, List, [], length, Option, None, nat_lt, arith, refl, sym, ap, ◌∙◌, zero, suc, ◌∷◌, ◌++◌, Some, ◌-◌, map, ltb-false, nat_tests, slice_get_past, slice_get, if◌then◌else◌, slice_index, Memory, IsMemory, base_of, word_in, read_word, ValueOrError, AreRead, IsLayout, Encodes, VerdictWords, finding_word, first_message, message_at, message_in, part_limit, ok_or_zero, result_at, text_named, verdict_word, outcome_of, outcome_word, truth_word, Finding, Verdict, CheckResult, Outcome, denies, FailurePolicy, IsAcceptedPolicy, Parts, denials_told, denies_word, lent, Validation, Policy, validation_view, policy_view, Rejection, rejection_tree, rejection_by, rejection_of, response_text, Denial, denials_of, response_of, tree_of}
 use Rattle.guest_memory.specs.Memory.{Verdict as VerdictRegion}
 
 word_is : (m : Memory) (i : ℕ) → IsMemory m → i < 256 → verdict_word m i ≡ word_in m.verdict i
@@ -43,8 +43,8 @@ none_told f (r ∷ rs) words i zeros = grind (arith, none_told f rs words (i + 1
 
 one_told : (f : FailurePolicy) (r : Validation) (t : CheckResult) (m : Option (List ℕ)) (word : ℕ) (message : Option (Option (List ℕ))) (told more : List Denial)
     → word ≡ truth_word t → message ≡ Some m → told ≡ more
-    → (if denies_word f word then record { rule = r; message = lent message } ∷ told else told)
-    ≡ (if denies f t then record { rule = r; message = m } ∷ more else more)
+    → (if denies_word f word then record { validation = r; message = lent message } ∷ told else told)
+    ≡ (if denies f t then record { validation = r; message = m } ∷ more else more)
 one_told f r t m word message told more is said same = grind arith
 
 -- the words from place i on are those of these findings
@@ -91,7 +91,7 @@ pub objected : (parts : Parts) (p : Policy) (v : Verdict) (words : VerdictWords)
     → said ≡ rejection_by (outcome_of words.outcome) (denials_told parts.failure_policy (map validation_view parts.validations.items) words 0) → said ≡ rejection_of p v
 objected parts p v words said is accepted told here = grind (arith, rejection_is, few_parts)
 
-tree_by : (o : Outcome) (ds : List Denial) (uid : List ℕ) → objected_tree (rejection_by o ds) uid ≡ tree_of o ds uid
+tree_by : (o : Outcome) (ds : List Denial) (uid : List ℕ) → rejection_tree (rejection_by o ds) uid ≡ tree_of o ds uid
 tree_by o ds uid = grind arith
 
 -- the response by what a verdict says is the one to the verdict

@@ -41,14 +41,14 @@ abbrev pub is_denied : Bool → FailurePolicy → ValueOrError → Bool
 is_denied runs f x = runs && denies f (truth_of x)
 
 -- a validation, and its message expression where it denies; whether the policy runs comes first
-abbrev pub rule_cost : Bool → FailurePolicy → Environment → ValidationTree → Cost
-rule_cost runs f env r =
+abbrev pub validation_cost : Bool → FailurePolicy → Environment → ValidationTree → Cost
+validation_cost runs f env r =
     part_cost env r.expression and message_cost (is_denied runs f (meaning r.expression env)) env r.message
 
 -- all validations, in an environment with every variable
-abbrev pub rules_cost : Bool → FailurePolicy → Environment → List ValidationTree → Cost
-rules_cost runs f env [] = nothing
-rules_cost runs f env (r ∷ rs) = rule_cost runs f env r and rules_cost runs f env rs
+abbrev pub validations_cost : Bool → FailurePolicy → Environment → List ValidationTree → Cost
+validations_cost runs f env [] = nothing
+validations_cost runs f env (r ∷ rs) = validation_cost runs f env r and validations_cost runs f env rs
 
 -- the policy runs where its conditions decide nothing
 abbrev pub is_running : Option Outcome → Bool
@@ -65,7 +65,7 @@ policy_cost f p roots =
     one_visit
     and variables_cost roots [] p.variables
     and conditions_cost roots p.conditions
-    and rules_cost (runs_on f p roots) f (environment_with roots (values_of roots p.variables)) p.validations
+    and validations_cost (runs_on f p roots) f (environment_with roots (values_of roots p.variables)) p.validations
 
 -- how many nodes, items and parts are visited
 abbrev pub policy_work : FailurePolicy → PolicyTree → Roots → ℕ

@@ -10,7 +10,7 @@ use Rattle.policy_glue.specs.declared.denial.Denial.{Denial as CodeDenial}
 use Rattle.policy_glue.specs.declared.failure_policy.FailurePolicy.{FailurePolicy, TheVariants.Fail, TheVariants.Ignore}
 
 abbrev pub denial_view : CodeDenial → Denial
-denial_view d = record { rule = validation_view d.validation.now; message = option_map (λ t. t.now) d.message }
+denial_view d = record { validation = validation_view d.validation.now; message = option_map (λ t. t.now) d.message }
 
 abbrev pub is_fail : FailurePolicy → Bool
 is_fail Fail = true
@@ -29,7 +29,7 @@ abbrev pub denials_told : FailurePolicy → List Validation → VerdictWords →
 denials_told f [] words i = []
 denials_told f (r ∷ rs) words i =
     let more = denials_told f rs words (i + 1) in
-    if denies_word f (slice_index words.results i) then record { rule = r; message = lent (slice_get words.messages i) } ∷ more else more
+    if denies_word f (slice_index words.results i) then record { validation = r; message = lent (slice_get words.messages i) } ∷ more else more
 
 -- those of all validations
 abbrev pub denials_in : Parts → Verdict → List Denial

@@ -4,7 +4,7 @@ use Rattle.std.specs.List.{list_any}
 use Rattle.std.specs.Str.{bytes_eq}
 use Rattle.serde_json.specs.Data as json
 unfoldable pub use Rattle.value_store.specs.Documents.{document_of}
-pub use Rattle.value_store.specs.Documents.{is_the_text}
+pub use Rattle.value_store.specs.Documents.{equals_string}
 
 -- each key is one of those known
 abbrev pub keys_within : List (List ℕ) → json.Members → Bool

@@ -25,13 +25,13 @@ abbrev pub condition_values : Roots → List Tree → List ValueOrError
 condition_values roots conditions = map (λ e. meaning e (environment_with roots [])) conditions
 
 -- what the expression of a validation means, and its message expression, if it has one
-abbrev pub rule_value : Environment → ValidationTree → ValueOrError × Option ValueOrError
-rule_value env r = (meaning r.expression env, option_map (λ m. meaning m env) r.message)
+abbrev pub validation_value : Environment → ValidationTree → ValueOrError × Option ValueOrError
+validation_value env r = (meaning r.expression env, option_map (λ m. meaning m env) r.message)
 
 -- validations and their message expressions may use all variables
-abbrev pub rule_values : Roots → PolicyTree → List (ValueOrError × Option ValueOrError)
-rule_values roots p = map (rule_value (environment_with roots (values_of roots p.variables))) p.validations
+abbrev pub validation_values : Roots → PolicyTree → List (ValueOrError × Option ValueOrError)
+validation_values roots p = map (validation_value (environment_with roots (values_of roots p.variables))) p.validations
 
 -- the verdict on a request with these roots
 unfoldable pub decision_of : FailurePolicy → PolicyTree → Roots → Verdict
-decision_of f p roots = verdict_of f (condition_values roots p.conditions) (rule_values roots p)
+decision_of f p roots = verdict_of f (condition_values roots p.conditions) (validation_values roots p)

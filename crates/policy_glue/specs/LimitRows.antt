@@ -3,7 +3,7 @@ use Rattle.std.specs.Prelude.{◌≡◌, ℕ, zero, suc, List, [], ◌∷◌, �
 use Rattle.policy_glue.specs.Policy.{NamedExpression, Policy, Validation}
 use Rattle.policy_glue.specs.Reading.{failure_named, judged, reason_named}
 use Rattle.policy_glue.specs.Response.{response_of}
-use Rattle.policy_glue.specs.Rows.{denied_as, rule, with_rules}
+use Rattle.policy_glue.specs.Rows.{denied_as, plain_validation, policy_with}
 use Rattle.policy_glue.specs.Verdict.{Fails}
 use Rattle.policy_glue.specs.declared.failure_policy.FailurePolicy.TheVariants.{Fail, Ignore}
 use Rattle.policy_glue.specs.declared.outcome.Outcome.TheVariants.{Denied}
@@ -17,7 +17,7 @@ parts (suc n) = record { name = codes "v" ++ decimal n; expression = codes "true
 
 abbrev pub rules : ℕ → List Validation
 rules zero = []
-rules (suc n) = rule (codes "true") ∷ rules n
+rules (suc n) = plain_validation (codes "true") ∷ rules n
 
 -- a policy with these numbers of conditions, variables and validations
 abbrev pub sized : (conditions variables validations : ℕ) → Policy
@@ -28,7 +28,7 @@ sized conditions variables validations =
 abbrev pub denied_for : Reason → List ℕ
 denied_for reason =
     response_of
-    (with_rules Fail (record { expression = codes "false"; message = codes "m"; reason = reason; message_expression = None } ∷ []))
+    (policy_with Fail (record { expression = codes "false"; message = codes "m"; reason = reason; message_expression = None } ∷ []))
     (record { outcome = Denied; findings = record { truth = Fails; message = None } ∷ [] }) (codes "u1")
 
 pub record LimitRowsStand : Type 0 where

@@ -23,13 +23,13 @@ message_nodes (Some a) = part_nodes a
 message_nodes None = 0
 
 -- of a validation with its message expression
-abbrev pub rule_nodes : ValidationTree → ℕ
-rule_nodes r = part_nodes r.expression + message_nodes r.message
+abbrev pub validation_nodes : ValidationTree → ℕ
+validation_nodes r = part_nodes r.expression + message_nodes r.message
 
 -- the nodes of a whole policy
 unfoldable pub policy_nodes : PolicyTree → ℕ
 policy_nodes p =
-    1 + sum_by (λ v. part_nodes v.expression) p.variables + sum_by part_nodes p.conditions + sum_by rule_nodes p.validations
+    1 + sum_by (λ v. part_nodes v.expression) p.variables + sum_by part_nodes p.conditions + sum_by validation_nodes p.validations
 
 -- ---- texts: the field names and text literals, each once, in order of first use
 
@@ -43,8 +43,8 @@ message_texts (Some a) = tree_texts a
 message_texts None = []
 
 -- those of a validation with its message expression
-abbrev pub rule_texts : ValidationTree → List (List ℕ)
-rule_texts r = tree_texts r.expression ++ message_texts r.message
+abbrev pub validation_tree_texts : ValidationTree → List (List ℕ)
+validation_tree_texts r = tree_texts r.expression ++ message_texts r.message
 
 -- those of all variables
 abbrev pub variable_texts : List VariableTree → List (List ℕ)
@@ -59,7 +59,7 @@ condition_texts (a ∷ more) = tree_texts a ++ condition_texts more
 -- those of all validations
 abbrev pub validation_texts : List ValidationTree → List (List ℕ)
 validation_texts [] = []
-validation_texts (r ∷ rs) = rule_texts r ++ validation_texts rs
+validation_texts (r ∷ rs) = validation_tree_texts r ++ validation_texts rs
 
 -- those of the whole, each once
 unfoldable pub policy_texts : PolicyTree → List (List ℕ)

@@ -19,7 +19,7 @@ use Rattle.policy_glue.specs.Budget.{is_running}
 use Rattle.policy_glue.specs.Layout.{IsLayout, outcome_word}
 use Rattle.policy_glue.specs.Program.{conditions_code, policy_code, routines_code}
 use Rattle.policy_glue.specs.ProgramParts.{ConditionsGive, Part, ValidationPart, ValidationsGive, codes_of, conditions_charge, conditions_steps}
-use Rattle.policy_glue.specs.ProgramParts.{decided_slots, rule_codes, rules_given, validations_charge, validations_steps, values_given}
+use Rattle.policy_glue.specs.ProgramParts.{decided_slots, codes_of_validations, values_of_validations, validations_charge, validations_steps, values_given}
 use Rattle.policy_glue.specs.Verdict.{Verdict, decided_before, truth_of, verdict_of}
 use Rattle.policy_glue.specs.declared.failure_policy.FailurePolicy.{FailurePolicy}
 
@@ -53,7 +53,7 @@ validations_place f routines conditions =
 abbrev pub PolicyDecides : Type 0
 PolicyDecides = (image : loader.Image) (deep : Bool) (values : Contents) (roots : Roots) (scope : List Variable) (f : FailurePolicy)
     (routines : List (List Insn)) (conditions : List Part) (rules : List ValidationPart) (after : List ℕ) (m : ℕ)
-    → let code = policy_code f routines (codes_of conditions) (rule_codes rules) ++ Exit ∷ [] in
+    → let code = policy_code f routines (codes_of conditions) (codes_of_validations rules) ++ Exit ∷ [] in
     image.code ≡ spellings code ++ after → All (λ b. b < 256) image.code → All (λ b. b < 256) image.constants → AreInsns code
     → HasValues roots values → length rules ≤ part_limit
     → let s = scope_setting image deep scope in let c = routine_context roots (bindings scope) image.constants in
@@ -61,4 +61,4 @@ PolicyDecides = (image : loader.Image) (deep : Bool) (values : Contents) (roots 
     → (passes f conditions ≡ true → ValidationsGive f s c (validations_place f routines conditions) rules)
     → program_steps f routines conditions rules + total (first_steps scope) < m
     → ExitsOrRunsOut s (program_charge f conditions rules) (start_body image values)
-    (LeavesVerdict f (verdict_of f (values_given conditions) (rules_given rules))) (state_after m (start_state image values))
+    (LeavesVerdict f (verdict_of f (values_given conditions) (values_of_validations rules))) (state_after m (start_state image values))

@@ -27,21 +27,21 @@ codes_of parts = map (λ a. a.code) parts
 abbrev pub values_given : List Part → List ValueOrError
 values_given parts = map (λ a. a.value) parts
 
-abbrev pub rule_code : ValidationPart → ValidationCode
-rule_code r = (r.expression.code, option_map (λ m. m.code) r.message)
+abbrev pub codes_of_validation : ValidationPart → ValidationCode
+codes_of_validation r = (r.expression.code, option_map (λ m. m.code) r.message)
 
-abbrev pub rule_codes : List ValidationPart → List ValidationCode
-rule_codes rules = map rule_code rules
+abbrev pub codes_of_validations : List ValidationPart → List ValidationCode
+codes_of_validations rules = map codes_of_validation rules
 
-abbrev pub rule_given : ValidationPart → ValueOrError × Option ValueOrError
-rule_given r = (r.expression.value, option_map (λ m. m.value) r.message)
+abbrev pub values_of_validation : ValidationPart → ValueOrError × Option ValueOrError
+values_of_validation r = (r.expression.value, option_map (λ m. m.value) r.message)
 
-abbrev pub rules_given : List ValidationPart → List (ValueOrError × Option ValueOrError)
-rules_given rules = map rule_given rules
+abbrev pub values_of_validations : List ValidationPart → List (ValueOrError × Option ValueOrError)
+values_of_validations rules = map values_of_validation rules
 
 -- the result of a validation
 abbrev pub found : FailurePolicy → ValidationPart → Finding
-found f r = finding_of f (rule_given r)
+found f r = finding_of f (values_of_validation r)
 
 -- ---- places
 
@@ -64,8 +64,8 @@ abbrev pub message_size : Option Part → ℕ
 message_size (Some m) = size m.code + message_slots
 message_size None = 0
 
-abbrev pub rule_size : ValidationPart → ℕ
-rule_size r = size r.expression.code + result_slots + message_size r.message
+abbrev pub validation_size : ValidationPart → ℕ
+validation_size r = size r.expression.code + result_slots + message_size r.message
 
 abbrev pub PartGives : RunContext → Context → ℕ → Part → Type 0
 PartGives s c p a = Evaluates s p a.code c 0 0 a.value a.steps a.charge
@@ -85,7 +85,7 @@ abbrev pub ValidationsGive : FailurePolicy → RunContext → Context → ℕ �
 ValidationsGive f s c p [] = Unit {0}
 ValidationsGive f s c p (r ∷ more) = PartGives s c p r.expression
     × MessageGives s c (p + size r.expression.code + result_slots) (denies f (truth_of r.expression.value)) r.message
-    × ValidationsGive f s c (p + rule_size r) more
+    × ValidationsGive f s c (p + validation_size r) more
 
 -- ---- budgets
 
@@ -98,11 +98,11 @@ abbrev pub message_charge : Bool → Option Part → ℕ
 message_charge denied (Some m) = if denied then m.charge + 1 else 0
 message_charge denied None = 0
 
-abbrev pub rule_steps : FailurePolicy → ValidationPart → ℕ
-rule_steps f r = r.expression.steps + 8 + message_steps (denies f (truth_of r.expression.value)) r.message
+abbrev pub validation_steps : FailurePolicy → ValidationPart → ℕ
+validation_steps f r = r.expression.steps + 8 + message_steps (denies f (truth_of r.expression.value)) r.message
 
-abbrev pub rule_charge : FailurePolicy → ValidationPart → ℕ
-rule_charge f r = r.expression.charge + message_charge (denies f (truth_of r.expression.value)) r.message
+abbrev pub validation_charge : FailurePolicy → ValidationPart → ℕ
+validation_charge f r = r.expression.charge + message_charge (denies f (truth_of r.expression.value)) r.message
 
 abbrev pub conditions_steps : List Part → ℕ
 conditions_steps [] = 0
@@ -114,8 +114,8 @@ conditions_charge (a ∷ more) = a.charge + conditions_charge more
 
 abbrev pub validations_steps : FailurePolicy → List ValidationPart → ℕ
 validations_steps f [] = 0
-validations_steps f (r ∷ more) = rule_steps f r + validations_steps f more
+validations_steps f (r ∷ more) = validation_steps f r + validations_steps f more
 
 abbrev pub validations_charge : FailurePolicy → List ValidationPart → ℕ
 validations_charge f [] = 0
-validations_charge f (r ∷ more) = rule_charge f r + validations_charge f more
+validations_charge f (r ∷ more) = validation_charge f r + validations_charge f more

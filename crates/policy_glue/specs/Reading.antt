@@ -6,7 +6,7 @@ use Rattle.std.specs.Str.{bytes_eq}
 use Rattle.serde_json.specs.Data as json
 use Rattle.serde_json.specs.Find.{get}
 use Rattle.cel_reader.specs.Words.{is_identifier}
-use Rattle.policy_glue.specs.Documents.{document_of, has_only, is_object_or_absent, is_the_text, text_of, optional_text_of}
+use Rattle.policy_glue.specs.Documents.{document_of, has_only, is_object_or_absent, equals_string, text_of, optional_text_of}
 use Rattle.policy_glue.specs.Documents.{text_or_empty_of, list_in, optional_list_in}
 use Rattle.policy_glue.specs.Policy.{NamedExpression, Validation, Policy, part_limit}
 use Rattle.policy_glue.specs.declared.name_rule.NameRule.{NameRule, TheVariants.NotEmpty, TheVariants.Identifier}
@@ -157,8 +157,8 @@ policy_parts_in d = if has_top_form d then spec_in (get (codes "spec") d) else N
 -- the document is one of this API and kind
 unfoldable pub has_head : json.Data → Bool
 has_head d =
-    is_the_text (get (codes "apiVersion") d) (codes "admissionregistration.k8s.io/v1")
-    && is_the_text (get (codes "kind") d) (codes "ValidatingAdmissionPolicy")
+    equals_string (get (codes "apiVersion") d) (codes "admissionregistration.k8s.io/v1")
+    && equals_string (get (codes "kind") d) (codes "ValidatingAdmissionPolicy")
 
 -- ---- the refusals in their order
 

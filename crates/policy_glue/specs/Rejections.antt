@@ -37,10 +37,10 @@ abbrev pub rejection_of : Policy → Verdict → Option Rejection
 rejection_of p verdict = rejection_by verdict.outcome (denials_of p.failure_policy p.validations verdict.findings)
 
 -- the response is allowed where nothing is said against the request, else denied for what is said
-abbrev pub objected_tree : Option Rejection → List ℕ → json.Data
-objected_tree None uid = allowed_tree uid
-objected_tree (Some o) uid = denied_tree uid o.message o.reason
+abbrev pub rejection_tree : Option Rejection → List ℕ → json.Data
+rejection_tree None uid = allowed_tree uid
+rejection_tree (Some o) uid = denied_tree uid o.message o.reason
 
 -- the text of the response by what is said against the request with this uid
 unfoldable pub response_text : Option Rejection → List ℕ → List ℕ
-response_text said uid = compact_text (review_tree (objected_tree said uid))
+response_text said uid = compact_text (review_tree (rejection_tree said uid))

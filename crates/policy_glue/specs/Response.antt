@@ -14,7 +14,7 @@ use Rattle.policy_glue.specs.declared.reason.Reason.{Reason, TheVariants.Invalid
 
 -- a validation that denies, with the text of its message expression, if it gave one
 pub record Denial : Type 0 where
-  pub rule : Validation
+  pub validation : Validation
   pub message : Option (List ℕ)
 
 -- the validations that deny, in their order, each beside what it came to
@@ -22,7 +22,7 @@ abbrev pub denials_of : FailurePolicy → List Validation → List Finding → L
 denials_of f [] xs = []
 denials_of f (r ∷ rs) [] = []
 denials_of f (r ∷ rs) (x ∷ xs) =
-    if is_denial f x then record { rule = r; message = x.message } ∷ denials_of f rs xs else denials_of f rs xs
+    if is_denial f x then record { validation = r; message = x.message } ∷ denials_of f rs xs else denials_of f rs xs
 
 -- the message that is set, and else that the expression failed
 abbrev pub set_message : List ℕ → List ℕ → List ℕ
@@ -48,7 +48,7 @@ message_or None plain = plain
 
 -- the message of one denial
 abbrev pub denial_text : Denial → List ℕ
-denial_text d = message_or d.message (plain_message d.rule)
+denial_text d = message_or d.message (plain_message d.validation)
 
 -- texts with `; ` between them
 abbrev pub joined : List (List ℕ) → List ℕ
@@ -59,7 +59,7 @@ joined (t ∷ u ∷ ts) = t ++ (codes "; " ++ joined (u ∷ ts))
 -- the reason of the first denial
 abbrev pub first_reason : List Denial → Reason
 first_reason [] = Invalid
-first_reason (d ∷ ds) = d.rule.reason
+first_reason (d ∷ ds) = d.validation.reason
 
 -- ---- the response
 

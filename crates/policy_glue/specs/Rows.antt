@@ -18,18 +18,18 @@ said spec =
     policy_in (codes "{\"apiVersion\":\"admissionregistration.k8s.io/v1\",\"kind\":\"ValidatingAdmissionPolicy\",\"spec\":"
     ++ (spec ++ codes "}"))
 
-abbrev pub rule : List ℕ → Validation
-rule expression = record { expression = expression; message = []; reason = Invalid; message_expression = None }
+abbrev pub plain_validation : List ℕ → Validation
+plain_validation expression = record { expression = expression; message = []; reason = Invalid; message_expression = None }
 
-abbrev pub with_rules : FailurePolicy → List Validation → Policy
-with_rules f rules = record { failure_policy = f; conditions = []; variables = []; validations = rules }
+abbrev pub policy_with : FailurePolicy → List Validation → Policy
+policy_with f rules = record { failure_policy = f; conditions = []; variables = []; validations = rules }
 
 abbrev pub few_replicas : Validation
-few_replicas = rule (codes "object.spec.replicas <= 3")
+few_replicas = plain_validation (codes "object.spec.replicas <= 3")
 
 pub record PolicyRowsStand : Type 0 where
   pub one_validation : said (codes "{\"validations\":[{\"expression\":\"object.spec.replicas <= 3\"}]}")
-      ≡ Ok (with_rules Fail (few_replicas ∷ []))
+      ≡ Ok (policy_with Fail (few_replicas ∷ []))
   pub all_keys : said
       (codes "{\"failurePolicy\":\"Ignore\",\"paramKind\":{},\"matchConditions\":[{\"name\":\"c\",\"expression\":\"a\"}],"
       ++ (codes "\"variables\":[{\"expression\":\"b\",\"name\":\"v\"}],\"matchConstraints\":{\"x\":1},"
@@ -103,7 +103,7 @@ denied_as status = answered (codes "{\"allowed\":false,\"status\":" ++ (status +
 -- the response of a policy with one validation, which is false and whose message expression gave this text
 abbrev pub with_text : Option (List ℕ) → List ℕ
 with_text message =
-    response_of (with_rules Fail (few_replicas ∷ []))
+    response_of (policy_with Fail (few_replicas ∷ []))
     (record { outcome = Denied; findings = record { truth = Fails; message = message } ∷ [] }) (codes "u1")
 
 abbrev pub plain : List ℕ
@@ -112,7 +112,7 @@ plain = denied_as (codes "{\"code\":422,\"message\":\"failed expression: object.
 -- false with a message and a reason, and then an error
 abbrev pub two_denials : List Validation
 two_denials =
-    record { expression = codes "false"; message = codes "a"; reason = Forbidden; message_expression = None } ∷ rule (codes "1/0 == 1") ∷ []
+    record { expression = codes "false"; message = codes "a"; reason = Forbidden; message_expression = None } ∷ plain_validation (codes "1/0 == 1") ∷ []
 
 abbrev pub two_findings : Verdict
 two_findings =
@@ -120,12 +120,12 @@ two_findings =
 
 pub record ResponseRowsStand : Type 0 where
   pub admitted :
-      response_of (with_rules Fail (few_replicas ∷ []))
+      response_of (policy_with Fail (few_replicas ∷ []))
       (record { outcome = Admitted; findings = record { truth = Holds; message = None } ∷ [] }) (codes "u1")
       ≡ answered (codes "{\"allowed\":true,\"uid\":\"u1\"}")
-  pub was_skipped : response_of (with_rules Fail (few_replicas ∷ [])) skipped (codes "u1")
+  pub was_skipped : response_of (policy_with Fail (few_replicas ∷ [])) skipped (codes "u1")
       ≡ answered (codes "{\"allowed\":true,\"uid\":\"u1\"}")
-  pub was_rejected : response_of (with_rules Fail (few_replicas ∷ [])) rejected (codes "u1")
+  pub was_rejected : response_of (policy_with Fail (few_replicas ∷ [])) rejected (codes "u1")
       ≡ denied_as (codes "{\"code\":422,\"message\":\"match conditions not decided\",\"reason\":\"Invalid\"}")
   pub denied : with_text None ≡ plain
   pub message : with_text (Some (codes "replicas 5 above 3"))
@@ -133,7 +133,7 @@ pub record ResponseRowsStand : Type 0 where
   pub spaces : with_text (Some (codes "  ")) ≡ plain
   pub empty : with_text (Some []) ≡ plain
   pub line_feed : with_text (Some (codes "a\nb")) ≡ plain
-  pub under_fail : response_of (with_rules Fail two_denials) two_findings (codes "u1")
+  pub under_fail : response_of (policy_with Fail two_denials) two_findings (codes "u1")
       ≡ denied_as (codes "{\"code\":403,\"message\":\"a; failed expression: 1/0 == 1\",\"reason\":\"Forbidden\"}")
-  pub under_ignore : response_of (with_rules Ignore two_denials) two_findings (codes "u1")
+  pub under_ignore : response_of (policy_with Ignore two_denials) two_findings (codes "u1")
       ≡ denied_as (codes "{\"code\":403,\"message\":\"a\",\"reason\":\"Forbidden\"}")

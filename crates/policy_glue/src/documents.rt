@@ -4,7 +4,7 @@ ghost use Rattle.std.specs.Prelude.{◌≡◌, map, option_map, string_bytes, If
 ghost use Rattle.std.specs.List.{list_any};
 ghost use Rattle.std.specs.Str.{bytes_eq};
 ghost use Rattle.serde_json.specs.View.{view, members_view};
-ghost use Rattle.policy_glue.specs.Documents.{document_of, keys_within, has_only, is_object_or_absent, is_the_text, text_of, optional_text_of, text_or_empty_of};
+ghost use Rattle.policy_glue.specs.Documents.{document_of, keys_within, has_only, is_object_or_absent, equals_string, text_of, optional_text_of, text_or_empty_of};
 ghost use Rattle.policy_glue.specs.Reading.{Forms};
 
 use crate::policy_error::PolicyError;
@@ -13,7 +13,7 @@ use std::alloc::{AllocError, Global};
 
 /// What a document says, if it is a JSON text.
 #[tactic(auto, using(crate::proofs::Read::document_read, crate::proofs::Read::document_refused))]
-pub fn document(alloc: Global, bytes: &[u8]) -> Result<Option<Value>, AllocError>
+pub fn parse_document(alloc: Global, bytes: &[u8]) -> Result<Option<Value>, AllocError>
     ensures { IfOk result (λ v. option_map view v ≡ document_of bytes.now) }
 {
     match Value::from_slice(alloc, bytes) {
@@ -64,8 +64,8 @@ pub fn is_object_or_absent(value: Option<&Value>) -> bool
 }
 
 /// Whether this text stands there.
-pub(crate) fn is_the_text(value: Option<&Value>, text: &str) -> bool
-    ensures { result ≡ is_the_text (option_map (λ v. view v.now) value.entry) text.now }
+pub(crate) fn equals_string(value: Option<&Value>, text: &str) -> bool
+    ensures { result ≡ equals_string (option_map (λ v. view v.now) value.entry) text.now }
 {
     match value {
         Some(Value::String(found)) => found.as_str() == text,

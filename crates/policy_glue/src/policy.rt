@@ -7,7 +7,7 @@ ghost use Rattle.policy_glue.specs.Policy.{policy_view};
 ghost use Rattle.policy_glue.specs.Reading.{has_broken_message, has_line_break, has_too_many, judged, policy_in, policy_of, PolicyReadReturns};
 ghost use Rattle.policy_glue.specs.declared.policy_error.PolicyError.TheVariants.{Memory};
 
-use crate::documents::document;
+use crate::documents::parse_document;
 use crate::parts::Parts;
 use crate::policy_error::PolicyError;
 use crate::reading::{has_head, parts};
@@ -49,7 +49,7 @@ impl Policy {
     pub fn read(alloc: Global, bytes: &[u8]) -> Result<Policy, PolicyError>
         ensures { PolicyReadReturns (policy_in bytes.now) result }
     {
-        match document(alloc, bytes)? {
+        match parse_document(alloc, bytes)? {
             Some(value) => policy_of(alloc, &value),
             None => Err(PolicyError::NotJson),
         }

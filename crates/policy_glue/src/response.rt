@@ -4,7 +4,7 @@ ghost use Rattle.std.specs.Prelude.{◌≡◌, option_map, IfOk};
 ghost use Rattle.serde_json.specs.View.{view};
 ghost use Rattle.policy_glue.specs.Verdict as decided;
 ghost use Rattle.policy_glue.specs.Layout.{words_view, Encodes};
-ghost use Rattle.policy_glue.specs.Rejections.{objected_tree, rejection_view, response_text};
+ghost use Rattle.policy_glue.specs.Rejections.{rejection_tree, rejection_view, response_text};
 ghost use Rattle.policy_glue.specs.Response.{allowed_tree, denied_tree, response_of, review_tree, status_tree};
 
 use crate::policy::Policy;
@@ -47,7 +47,7 @@ pub fn response_text(
 }
 
 fn response(alloc: Global, said: &Option<Rejection>, uid: &str) -> Result<Value, AllocError>
-    ensures { IfOk result (λ v. view v ≡ objected_tree (option_map rejection_view said.now) uid.now) }
+    ensures { IfOk result (λ v. view v ≡ rejection_tree (option_map rejection_view said.now) uid.now) }
 {
     match said {
         Some(rejection) => denied(alloc, uid, rejection.message.as_str(), rejection.reason),

@@ -1,5 +1,5 @@
 -- The steps of an order whose words are taken are at most 1,000,000,000.
-use Rattle.review_runner.proofs.Prelude.{◌≡◌, ◌≤◌, List, [], ◌∷◌, ◌++◌, Option, Some, None, Result, IfOk, Bool, true, false, subst, arith, codes, if◌then◌else◌, find, unwrap_or, option_map, option_and_then, slice_get, digits_value, without_leading_plus, option_map_or, bytes_eq-Decides, is_unsigned_in, values_kinds, App, Shape, built, label_of, rows_at, read_as, Row, Rule, Text, answers_to, at_row, default_rows, nothing_held, one_of, reading_by, row_text, rows_after, walk, walk_from, with_default, with_values, entered_fault, level_fault, ErrorKind, ValueSource, CommandLine, file_rule, option_rule, required_option_rule, list_app, steps_rule, making_app, with_documents, review_app, deciding_app, running_app, run_image_app, debug_app, bare_app, celbpf_app, faults, entered, number_of, number_written, OrderReturns, IsWithinLimits, assemble_in, compile_in, debug_in, list_in, order_in, order_view, review_in, run_image_in, task_named, CodeOrder, OrderError, step_limit, default_steps}
+use Rattle.review_runner.proofs.Prelude.{◌≡◌, ◌≤◌, List, [], ◌∷◌, ◌++◌, Option, Some, None, Result, IfOk, Bool, true, false, subst, arith, codes, if◌then◌else◌, find, unwrap_or, option_map, option_and_then, slice_get, digits_value, without_leading_plus, option_map_or, bytes_eq-Decides, is_unsigned_in, values_kinds, App, Shape, built, label_of, rows_at, read_as, Row, Rule, Text, answers_to, at_row, default_rows, nothing_held, one_of, reading_by, row_text, rows_after, walk, walk_from, with_default, with_values, entered_fault, level_fault, ErrorKind, ValueSource, CommandLine, file_rule, option_rule, required_option_rule, list_app, steps_rule, making_app, with_documents, review_app, deciding_app, running_app, run_image_app, debug_app, bare_app, celbpf_app, faults, entered, number_of, number_written, OrderReturns, IsWithinLimits, assemble_in, compile_in, debug_in, list_in, order_in, order_view, review_in, run_image_in, order_named, CodeOrder, OrderError, step_limit, default_steps}
 use Rattle.std.specs.Str.{bytes_eq}
 use Rattle.clap.specs.Simple.{entered as entered_of}
 use Rattle.clap.specs.Walk.{without}
@@ -120,9 +120,9 @@ of_rows : (rows : List Row) → RowsOk rows
     → unwrap_or (number_of (one_of (codes "steps") rows)) default_steps ≤ step_limit
 of_rows rows g = of_row (find (λ r. bytes_eq r.id (codes "steps")) rows) (found_so RowOk (λ r. bytes_eq r.id (codes "steps")) rows g)
 
-of_task : (name : Text) (rows : List Row) → RowsOk rows → IsWithinLimits (task_named name rows)
+of_order_named : (name : Text) (rows : List Row) → RowsOk rows → IsWithinLimits (order_named name rows)
 unfolding compile_in review_in run_image_in assemble_in list_in debug_in
-of_task name rows g = grind (arith, of_rows)
+of_order_named name rows g = grind (arith, of_rows)
 
 of_shape : (o : Option Shape) (words : List Text) → AtOption ShapeOk o
     → option_map_or (λ s. level_fault s [] nothing_held words false []) o [] ≡ []
@@ -140,7 +140,7 @@ of_words words e = let p = nothing _ _ e in of_stop (built celbpf_app) _ shapes 
 
 of_order : (o : Option (Text × List Row)) → AtOption (λ q. RowsOk q.1) o
     → AtOption IsWithinLimits (order_in o)
-of_order o h = grind (arith, of_task)
+of_order o h = grind (arith, of_order_named)
 
 -- the answer's order is within the limits
 pub within_limits : (words : List Text) (r : Result CodeOrder OrderError) → OrderReturns words r

@@ -12,26 +12,26 @@ use Rattle.review_runner.proofs.MadeFiles.{same_files}
 -- ---- files
 
 -- an order that only reads leaves the files
-pub stays : (old new : Option FileSystem) (task : Order) (outcome : OrderOutcome) → PerformsBy OneImage old task new outcome → only_reads task ≡ true → new ≡ old
-stays old new task outcome p is = grind arith
+pub stays : (old new : Option FileSystem) (wanted : Order) (outcome : OrderOutcome) → PerformsBy OneImage old wanted new outcome → only_reads wanted ≡ true → new ≡ old
+stays old new wanted outcome p is = grind arith
 
 kept_by_image : (old new : Option FileSystem) (name : List ℕ) (file : Result (List ℕ) Refusal) (outcome : OrderOutcome) → WritesImage old name file new outcome
     → IsErr outcome → KeepsFiles old new
 kept_by_image old new name file outcome w is = grind arith
 
-kept_by_task : (old new : Option FileSystem) (task : Order) (outcome : OrderOutcome) → Performs OneImage old task new outcome → IsErr outcome → KeepsFiles old new
-kept_by_task old new task outcome p is = grind (arith, kept_by_image)
+kept_by_order : (old new : Option FileSystem) (wanted : Order) (outcome : OrderOutcome) → Performs OneImage old wanted new outcome → IsErr outcome → KeepsFiles old new
+kept_by_order old new wanted outcome p is = grind (arith, kept_by_image)
 
-kept_by_lack : (old new : Option FileSystem) (task : Order) → LacksMemory old task new → KeepsFiles old new
-kept_by_lack old new task l = grind arith
+kept_by_lack : (old new : Option FileSystem) (wanted : Order) → LacksMemory old wanted new → KeepsFiles old new
+kept_by_lack old new wanted l = grind arith
 
 -- an order that is refused keeps the files
-pub kept : (old new : Option FileSystem) (task : Order) (r : Refusal) → PerformsBy OneImage old task new (Err r) → KeepsFiles old new
-kept old new task r p = by (Err r) p refl
+pub kept : (old new : Option FileSystem) (wanted : Order) (r : Refusal) → PerformsBy OneImage old wanted new (Err r) → KeepsFiles old new
+kept old new wanted r p = by (Err r) p refl
   where
-    by : (outcome : OrderOutcome) → PerformsBy OneImage old task new outcome → IsErr outcome → KeepsFiles old new
-    by outcome (performs p) is = kept_by_task old new task outcome p is
-    by outcome (lacks_memory l) is = kept_by_lack old new task l
+    by : (outcome : OrderOutcome) → PerformsBy OneImage old wanted new outcome → IsErr outcome → KeepsFiles old new
+    by outcome (performs p) is = kept_by_order old new wanted outcome p is
+    by outcome (lacks_memory l) is = kept_by_lack old new wanted l
 
 unread_source : (kind : SourceKind) (known : Option FileSystem) (name : List ℕ) → RunsOut kind known name
 unread_source PolicyDocument known name = record { reading = Err file_error.Memory; is_reading = λ f is. tt; may = λ e. cc }
@@ -46,7 +46,7 @@ unread_review known files =
     (unread_file known (named_files files).params)
 
 -- memory may run out before a file is read
-pub no_room : (old : Option FileSystem) (task : Order) → is_session task ≡ false → PerformsBy OneImage old task old (Err Memory)
+pub no_room : (old : Option FileSystem) (wanted : Order) → is_session wanted ≡ false → PerformsBy OneImage old wanted old (Err Memory)
 no_room old (compile policy image) is = lacks_memory (same_files old old refl, unread_source PolicyDocument old policy)
 no_room old (review files n) is = performs (record { held = Err file_error.Memory; holds = unread_review old files; stays = refl; reviews = unread })
 no_room old (run_image image n) is = lacks_memory (refl, unread_image old image)
@@ -61,11 +61,11 @@ abbrev pub answered_with : CodeReport → List ℕ → Done
 answered_with answer err = record { status = answer.status; out = answer.out.items; err = err }
 
 -- an order that was answered
-pub is_answered : (old new : Option FileSystem) (task : Order) (answer : CodeReport) (err : List ℕ) → PerformsBy OneImage old task new (Ok (report_of answer)) → err ≡ []
-    → IsDone OneImage old task new (answered_with answer err)
-is_answered old new task answer err p none = by (Ok (report_of answer)) p refl
+pub is_answered : (old new : Option FileSystem) (wanted : Order) (answer : CodeReport) (err : List ℕ) → PerformsBy OneImage old wanted new (Ok (report_of answer)) → err ≡ []
+    → IsDone OneImage old wanted new (answered_with answer err)
+is_answered old new wanted answer err p none = by (Ok (report_of answer)) p refl
   where
-    by : (outcome : OrderOutcome) → PerformsBy OneImage old task new outcome → outcome ≡ Ok (report_of answer) → IsDone OneImage old task new (answered_with answer err)
+    by : (outcome : OrderOutcome) → PerformsBy OneImage old wanted new outcome → outcome ≡ Ok (report_of answer) → IsDone OneImage old wanted new (answered_with answer err)
     by outcome (performs p) is = record {
       outcome = outcome;
       performs = p;
@@ -75,12 +75,12 @@ is_answered old new task answer err p none = by (Ok (report_of answer)) p refl
     by outcome (lacks_memory l) is = cc
 
 -- an order that was refused
-pub is_refused : (old new : Option FileSystem) (task : Order) (r : Refusal) (result : Result CodeDone AllocError) → PerformsBy OneImage old task new (Err r) → OnOk result (r ≢ Memory)
-    → IfOk result (λ d. output_of d ≡ refused r) → IfOk result (λ d. IsDone OneImage old task new (output_of d))
-is_refused old new task r (Err e) p other is = tt
-is_refused old new task r (Ok d) p other is = by (Err r) p refl
+pub is_refused : (old new : Option FileSystem) (wanted : Order) (r : Refusal) (result : Result CodeDone AllocError) → PerformsBy OneImage old wanted new (Err r) → OnOk result (r ≢ Memory)
+    → IfOk result (λ d. output_of d ≡ refused r) → IfOk result (λ d. IsDone OneImage old wanted new (output_of d))
+is_refused old new wanted r (Err e) p other is = tt
+is_refused old new wanted r (Ok d) p other is = by (Err r) p refl
   where
-    by : (outcome : OrderOutcome) → PerformsBy OneImage old task new outcome → outcome ≡ Err r → IsDone OneImage old task new (output_of d)
+    by : (outcome : OrderOutcome) → PerformsBy OneImage old wanted new outcome → outcome ≡ Err r → IsDone OneImage old wanted new (output_of d)
     by outcome (performs p) so = record {
       outcome = outcome;
       performs = p;
@@ -89,12 +89,12 @@ is_refused old new task r (Ok d) p other is = by (Err r) p refl
     }
     by outcome (lacks_memory l) so = absurd (other (let same : r ≡ Memory = cc in same))
 
-pub lacks_on_err : (old new : Option FileSystem) (task : Order) (r : Refusal) (result : Result CodeDone AllocError) → PerformsBy OneImage old task new (Err r) → OnErr result (r ≡ Memory)
-    → OnErr result (PerformsBy OneImage old task new (Err Memory))
-lacks_on_err old new task r (Ok d) p is = tt
-lacks_on_err old new task r (Err e) p is = subst (λ (q : Refusal). PerformsBy OneImage old task new (Err q)) is p
+pub lacks_on_err : (old new : Option FileSystem) (wanted : Order) (r : Refusal) (result : Result CodeDone AllocError) → PerformsBy OneImage old wanted new (Err r) → OnErr result (r ≡ Memory)
+    → OnErr result (PerformsBy OneImage old wanted new (Err Memory))
+lacks_on_err old new wanted r (Ok d) p is = tt
+lacks_on_err old new wanted r (Err e) p is = subst (λ (q : Refusal). PerformsBy OneImage old wanted new (Err q)) is p
 
-pub kept_on_err : (old new : Option FileSystem) (task : Order) (r : Refusal) (result : Result CodeDone AllocError) → PerformsBy OneImage old task new (Err r)
+pub kept_on_err : (old new : Option FileSystem) (wanted : Order) (r : Refusal) (result : Result CodeDone AllocError) → PerformsBy OneImage old wanted new (Err r)
     → OnErr result (KeepsFiles old new)
-kept_on_err old new task r (Ok d) p = tt
-kept_on_err old new task r (Err e) p = kept old new task r p
+kept_on_err old new wanted r (Ok d) p = tt
+kept_on_err old new wanted r (Err e) p = kept old new wanted r p

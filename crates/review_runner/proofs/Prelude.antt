@@ -79,7 +79,7 @@ pub use Rattle.streams.specs.Streams.{AddsBytes, Stream, one_more}
 pub use Rattle.debugger.specs.Verdict.{verdict_text, verdict_word}
 unfoldable pub use Rattle.debugger.specs.Answers.{answer_of, answer_to}
 unfoldable pub use Rattle.debugger.specs.Commands.{command_of, form_of}
-unfoldable pub use Rattle.debugger.specs.Session.{hear}
+unfoldable pub use Rattle.debugger.specs.Session.{dialogue_after}
 unfoldable pub use Rattle.debugger.specs.Verdict.{verdict_line, verdict_lines, word_line, word_lines}
 pub use Rattle.fast_float.specs.Text.{digits_of, minus, nearest, with_sign}
 unfoldable pub use Rattle.fast_float.specs.Text.{scan}
@@ -136,7 +136,7 @@ pub use Rattle.review_runner.specs.Making.{file_from, no_file, no_program, no_te
 pub use Rattle.cli.specs.Number.{number_written}
 pub use Rattle.review_runner.specs.Opening.{IsDueResult, IsUnrefused, OpensFile, opened, opened_by}
 pub use Rattle.review_runner.specs.Order.{DocumentFiles, IsWithinLimits, OrderReturns, ReviewFiles, Order, is_session}
-pub use Rattle.review_runner.specs.Order.{list, order_in, order_view, review, run_image, task_named}
+pub use Rattle.review_runner.specs.Order.{list, order_in, order_view, review, run_image, order_named}
 pub use Rattle.review_runner.specs.Output.{OrderOutcome, Report, outcome_of, output_by, output_of, refused, report_of}
 pub use Rattle.review_runner.specs.Output.{run_image_outcome, run_outcome, succeeded}
 pub use Rattle.review_runner.specs.Performing.{IsDone, LacksMemory, ListingOutcome, MakesFile, Performs, PerformsBy}
@@ -144,18 +144,18 @@ pub use Rattle.review_runner.specs.Performing.{WritesImage, failed, lacks_memory
 pub use Rattle.review_runner.specs.Performing.{performs, unlisted, written}
 pub use Rattle.review_runner.specs.PolicyFiles.{CompiledFrom, ReviewsHeld, held_with, image, named_files, no_image}
 pub use Rattle.review_runner.specs.PolicyFiles.{review_outcome, reviewed, unread}
-pub use Rattle.review_runner.specs.Program.{AnswersOrder, AsksOrder, ProgramEffect, DoesTask, EndsBy}
+pub use Rattle.review_runner.specs.Program.{AnswersOrder, AsksOrder, ProgramEffect, DoesOrder, EndsBy}
 pub use Rattle.cli.specs.Ending.{Ending}
 pub use Rattle.cli.specs.Ending.{Given, System, ending_line}
 pub use Rattle.review_runner.specs.Program.{Puts, cut}
 pub use Rattle.streams.specs.Writing.{WritesBytes, WritesPart}
-pub use Rattle.review_runner.specs.Program.{order, session, task, whole}
+pub use Rattle.review_runner.specs.Program.{order, session, does_order, whole}
 pub use Rattle.cli.specs.Refusals.{file_refusal, order_refusal, policy_refusal_of, program_refusal}
 pub use Rattle.admission.specs.RootValues.{GivenHaveValues}
 pub use Rattle.review_runner.specs.Running.{run_of}
 pub use Rattle.admission.specs.Standing.{PolicyRun, RunAgrees}
 pub use Rattle.review_runner.specs.Telling.{AreMessageReferences, IsDecided, TellsVerdict, VerdictIsTold}
-pub use Rattle.review_runner.specs.Telling.{numbered_lines, outcome_line, shown_after, start, world_after}
+pub use Rattle.review_runner.specs.Telling.{numbered_lines, outcome_line, shown_after, start, session_state_after}
 pub use Rattle.review_runner.specs.declared.command_line.order.Order.{Order as CodeOrder}
 pub use Rattle.review_runner.specs.declared.done.Done.{Done}
 pub use Rattle.review_runner.specs.declared.images.source_kind.SourceKind.{SourceKind}

@@ -1,5 +1,5 @@
 -- How the program ends.
-use Rattle.review_runner.proofs.Prelude.{◌≡◌, ◌∙◌, ℕ, ◌<◌, ◌==◌, ◌∷◌, ◌++◌, Bool, true, false, List, [], length, take, Option, Result, Ok, Err, Some, refl, sym, ap, subst, arith, append-nil, OnErr, OnOk, OneImage, AddsBytes, Stream, one_more, FileSystem, Order, OrderOutcome, output_by, output_of, IsDone, Performs, performs, AnswersOrder, AsksOrder, ProgramEffect, DoesTask, Ending, EndsBy, Given, Puts, System, WritesBytes, WritesPart, cut, ending_line, order, task, whole, Done as CodeDone, Refusal, File}
+use Rattle.review_runner.proofs.Prelude.{◌≡◌, ◌∙◌, ℕ, ◌<◌, ◌==◌, ◌∷◌, ◌++◌, Bool, true, false, List, [], length, take, Option, Result, Ok, Err, Some, refl, sym, ap, subst, arith, append-nil, OnErr, OnOk, OneImage, AddsBytes, Stream, one_more, FileSystem, Order, OrderOutcome, output_by, output_of, IsDone, Performs, performs, AnswersOrder, AsksOrder, ProgramEffect, DoesOrder, Ending, EndsBy, Given, Puts, System, WritesBytes, WritesPart, cut, ending_line, order, does_order, whole, Done as CodeDone, Refusal, File}
 use Rattle.streams.specs.declared.failed.Failed.{Failed}
 use Rattle.review_runner.specs.Output.{Done}
 use Rattle.review_runner.specs.Program.{ProgramResult, refused}
@@ -63,14 +63,14 @@ module _ (files files_after : Option FileSystem) (asked : Order) (old new : Stre
 -- ---- endings
 
 pub as_task : (old new : System) (asked : Order) (result : Result CodeDone Refusal) → EndsBy (AnswersOrder OneImage old.files new.files asked old.output new.output) result → new.input ≡ old.input
-    → EndsBy (DoesTask OneImage old new asked) result
+    → EndsBy (DoesOrder OneImage old new asked) result
 as_task old new asked (Ok d) by same = (by.0, order by.1 same, by.2)
 as_task old new asked (Err r) by same = order by same
 
-pub as_asked : (given : Given) (old new : System) (asked : Order) (result : Result CodeDone Refusal) → AsksOrder given asked → EndsBy (DoesTask OneImage old new asked) result
+pub as_asked : (given : Given) (old new : System) (asked : Order) (result : Result CodeDone Refusal) → AsksOrder given asked → EndsBy (DoesOrder OneImage old new asked) result
     → EndsBy (ProgramEffect OneImage given old new) result
-as_asked given old new asked (Ok d) asks by = (by.0, task asks by.1, by.2)
-as_asked given old new asked (Err r) asks by = task asks by
+as_asked given old new asked (Ok d) asks by = (by.0, does_order asks by.1, by.2)
+as_asked given old new asked (Err r) asks by = does_order asks by
 
 -- what is left was written
 pub closes : (given : Given) (old new : System) (errors errors_after : Stream) (d : CodeDone) (status : ℕ) → EndsBy (ProgramEffect OneImage given old new) (Ok d) → status ≡ d.status

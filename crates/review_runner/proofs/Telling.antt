@@ -1,5 +1,5 @@
 -- What a session on the image of a policy tells of the policy's verdict.
-use Rattle.review_runner.proofs.Prelude.{◌≡◌, ℕ, ◌≤◌, false, List, [], ◌∷◌, ◌++◌, length, Some, Result, Ok, refl, sym, ap, ◌∙◌, subst, arith, codes, inl, inr, fold_push, version_number, image_in, LoadError, Contents, Roots, State, start_state, state_after, HasValues, IsProgram, Policy, Decides, OutOfBudget, LeavesByExit, policy_in, policy_of, PolicyTree, FailurePolicy, Line, SessionState, answer_of, answer_to, command_of, form_of, Dialogue, granted, hear, dialogue_of, with_answer, verdict_lines, verdict_text, Documents, decision, started, start_of, started_on, opened_by, GivenHaveValues, PolicyRun, held_with, IsDecided, TellsVerdict, VerdictIsTold, shown_after, start, world_after}
+use Rattle.review_runner.proofs.Prelude.{◌≡◌, ℕ, ◌≤◌, false, List, [], ◌∷◌, ◌++◌, length, Some, Result, Ok, refl, sym, ap, ◌∙◌, subst, arith, codes, inl, inr, fold_push, version_number, image_in, LoadError, Contents, Roots, State, start_state, state_after, HasValues, IsProgram, Policy, Decides, OutOfBudget, LeavesByExit, policy_in, policy_of, PolicyTree, FailurePolicy, Line, SessionState, answer_of, answer_to, command_of, form_of, Dialogue, granted, dialogue_after, dialogue_of, with_answer, verdict_lines, verdict_text, Documents, decision, started, start_of, started_on, opened_by, GivenHaveValues, PolicyRun, held_with, IsDecided, TellsVerdict, VerdictIsTold, shown_after, start, session_state_after}
 use Rattle.loader.specs.Contents as loader
 use Rattle.policy_glue.specs.Documents as policy
 use Rattle.debugger.specs.declared.command.Command.TheVariants.{Verdict}
@@ -25,13 +25,13 @@ answered : (s : State) (w : SessionState) → (answer_to s w (granted (codes "w"
 unfolding answer_to answer_of
 answered s w = rw asks_verdict refl
 
-heard : (s : State) (t : Dialogue) (l : Line) → t.world.ended ≡ false → hear s t l ≡ with_answer s t l
-unfolding hear
+heard : (s : State) (t : Dialogue) (l : Line) → t.session_state.ended ≡ false → dialogue_after s t l ≡ with_answer s t l
+unfolding dialogue_after
 heard s t l on = rw on refl
 
 -- what it writes behind these lines, where the session goes on
-written : (s : State) (lines : List Line) → (dialogue_of s lines).world.ended ≡ false
-    → (dialogue_of s (lines ++ granted (codes "w") ∷ [])).text ≡ (dialogue_of s lines).text ++ verdict_text (state_after (dialogue_of s lines).world.place s)
+written : (s : State) (lines : List Line) → (dialogue_of s lines).session_state.ended ≡ false
+    → (dialogue_of s (lines ++ granted (codes "w") ∷ [])).text ≡ (dialogue_of s lines).text ++ verdict_text (state_after (dialogue_of s lines).session_state.place s)
 written s lines on = grind (arith, answered, heard, fold_push)
 
 -- ---- a policy's image
@@ -50,24 +50,24 @@ module _ (have : GivenHaveValues) (d : Documents) (run : PolicyRun d) where
   few : length (decision run.case).findings ≤ 64
   few =
       let trees = run.case.policy.trees in
-      let many = compiled_length run.case.policy.rules (Ok trees) trees run.case.policy.compiles refl in
-      omega (arith, few_findings run.case.policy.rules.failure_policy trees run.case.roots, many, few_validations d.policy run.case.policy.rules run.case.policy.is_said)
+      let many = compiled_length run.case.policy.parsed (Ok trees) trees run.case.policy.compiles refl in
+      omega (arith, few_findings run.case.policy.parsed.failure_policy trees run.case.roots, many, few_validations d.policy run.case.policy.parsed run.case.policy.is_said)
 
-  told : (seen : List Line) → (world_after run seen).ended ≡ false → Decides run.case.policy.rules.failure_policy run.case.policy.trees run.case.roots (started run.case.roots) (shown_after run seen) → TellsVerdict run seen
+  told : (seen : List Line) → (session_state_after run seen).ended ≡ false → Decides run.case.policy.parsed.failure_policy run.case.policy.trees run.case.roots (started run.case.roots) (shown_after run seen) → TellsVerdict run seen
   told seen on (OutOfBudget is why) = TellsVerdict.over is why
   told seen on (LeavesByExit is layout) =
       let s = shown_after run seen in
-      let f = run.case.policy.rules.failure_policy in
+      let f = run.case.policy.parsed.failure_policy in
       let v = decision run.case in
       TellsVerdict.told (lines.references f v s.values.values s.memory layout few) is (lines.are f v s.values.values s.memory layout few)
       (written (start run) seen on
-      ∙ ap (λ (text : List ℕ). (dialogue_of (start run) seen).text ++ text) (ap (λ (n : ℕ). verdict_lines n s.memory) (version_is f run.case.policy.trees run.image (started run.case.roots) (world_after run seen).place run.program) ∙ lines.text_is f v s.values.values s.memory layout few))
+      ∙ ap (λ (text : List ℕ). (dialogue_of (start run) seen).text ++ text) (ap (λ (n : ℕ). verdict_lines n s.memory) (version_is f run.case.policy.trees run.image (started run.case.roots) (session_state_after run seen).place run.program) ∙ lines.text_is f v s.values.values s.memory layout few))
 
-  decides : (seen : List Line) → IsDecided run seen → Decides run.case.policy.rules.failure_policy run.case.policy.trees run.case.roots (started run.case.roots) (shown_after run seen)
+  decides : (seen : List Line) → IsDecided run seen → Decides run.case.policy.parsed.failure_policy run.case.policy.trees run.case.roots (started run.case.roots) (shown_after run seen)
   decides seen is =
       elim is.is_there [
-        | inl stopped ↦ run.program.stops run.case.roots (started run.case.roots) (world_after run seen).place has stopped
-        | inr late ↦ run.program.decides run.case.roots (started run.case.roots) (world_after run seen).place has late
+        | inl stopped ↦ run.program.stops run.case.roots (started run.case.roots) (session_state_after run seen).place has stopped
+        | inr late ↦ run.program.decides run.case.roots (started run.case.roots) (session_state_after run seen).place has late
       ]
 
   tells : (seen : List Line) → IsDecided run seen → TellsVerdict run seen

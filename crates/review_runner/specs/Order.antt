@@ -104,8 +104,8 @@ debug_in rows = debug (unwrap_or (first_of (codes "IMAGE") rows) []) (record {
 })
 
 -- by the command's name; the last command is the one that is left
-abbrev pub task_named : Text → List Row → Order
-task_named name rows =
+abbrev pub order_named : Text → List Row → Order
+order_named name rows =
     if bytes_eq name (codes "compile") then compile_in rows
     else (if bytes_eq name (codes "review") then review_in rows
     else (if bytes_eq name (codes "run-image") then run_image_in rows
@@ -115,16 +115,16 @@ task_named name rows =
 
 -- the order of a command that was entered
 abbrev pub order_in : Option (Text × List Row) → Option Order
-order_in (Some p) = Some (task_named p.0 p.1)
+order_in (Some p) = Some (order_named p.0 p.1)
 order_in None = None
 
 -- ---- answers
 
 -- of one command, whose words were taken: its order, unless memory runs out
 abbrev pub CommandReturns : Order → Result CodeOrder OrderError → Type 0
-CommandReturns task (Ok o) = task ≡ order_view o
-CommandReturns task (Err InvalidArguments) = ⊥
-CommandReturns task (Err Memory) = Unit {0}
+CommandReturns wanted (Ok o) = wanted ≡ order_view o
+CommandReturns wanted (Err InvalidArguments) = ⊥
+CommandReturns wanted (Err Memory) = Unit {0}
 
 -- of the whole command line: an order only where the words are taken, and then theirs
 abbrev pub OrderReturns : List Text → Result CodeOrder OrderError → Type 0

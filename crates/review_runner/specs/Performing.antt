@@ -78,14 +78,14 @@ LacksMemory old (list image) new = (new ≡ old) × OpensFile old image (Err Mem
 LacksMemory old (debug image documents) new = ⊥
 
 -- what comes of an order, with memory or without
-pub data PerformsBy (chosen : Images) (old : Option FileSystem) (task : Order) (new : Option FileSystem) : OrderOutcome → Type 0 where
-  performs : {outcome : OrderOutcome} → Performs chosen old task new outcome → PerformsBy chosen old task new outcome
-  lacks_memory : LacksMemory old task new → PerformsBy chosen old task new (Err Memory)
+pub data PerformsBy (chosen : Images) (old : Option FileSystem) (wanted : Order) (new : Option FileSystem) : OrderOutcome → Type 0 where
+  performs : {outcome : OrderOutcome} → Performs chosen old wanted new outcome → PerformsBy chosen old wanted new outcome
+  lacks_memory : LacksMemory old wanted new → PerformsBy chosen old wanted new (Err Memory)
 
 -- what is to be written once an order is done
-pub record IsDone (chosen : Images) (old : Option FileSystem) (task : Order) (new : Option FileSystem) (output : Done) : Type 0 where
+pub record IsDone (chosen : Images) (old : Option FileSystem) (wanted : Order) (new : Option FileSystem) (output : Done) : Type 0 where
   pub outcome : OrderOutcome
-  pub performs : Performs chosen old task new outcome
+  pub performs : Performs chosen old wanted new outcome
   pub has_memory : outcome ≡ Err Memory → ⊥
   pub output_is : output ≡ output_by outcome
 

@@ -34,26 +34,26 @@ pub data Delivers (old new : Stream) : OrderOutcome → Ending → Type 0 where
   cut : {report : Report} → WritesPart old new report.out → Delivers old new (Ok report) (Err File)
 
 -- what comes of an order is written
-pub record AnswersOrder (chosen : Images) (files files_after : Option FileSystem) (task : Order) (output output_after : Stream)
+pub record AnswersOrder (chosen : Images) (files files_after : Option FileSystem) (wanted : Order) (output output_after : Stream)
     (ending : Ending) : Type 0 where
   pub outcome : OrderOutcome
-  pub performs : PerformsBy chosen files task files_after outcome
+  pub performs : PerformsBy chosen files wanted files_after outcome
   pub delivers : Delivers output output_after outcome ending
 
 -- what becomes of an order
-pub data DoesTask (chosen : Images) (old new : System) : Order → Ending → Type 0 where
+pub data DoesOrder (chosen : Images) (old new : System) : Order → Ending → Type 0 where
   -- an order, whose answer is written
-  order : {task : Order} {ending : Ending} → AnswersOrder chosen old.files new.files task old.output new.output ending
-      → new.input ≡ old.input → DoesTask chosen old new task ending
+  order : {wanted : Order} {ending : Ending} → AnswersOrder chosen old.files new.files wanted old.output new.output ending
+      → new.input ≡ old.input → DoesOrder chosen old new wanted ending
   -- a session, which writes its answers as it goes on
   session : {image : List ℕ} {documents : DocumentFiles} (result : Result (Unit {0}) Refusal)
       → DebugsByResult old.files image documents old.input new.input old.output new.output result
-      → new.files ≡ old.files → DoesTask chosen old new (debug image documents) (ending_of result)
+      → new.files ≡ old.files → DoesOrder chosen old new (debug image documents) (ending_of result)
 
 -- what becomes of the words
 pub data ProgramEffect (chosen : Images) (given : Given) (old new : System) : Ending → Type 0 where
   nothing : {r : Refusal} → AsksNothing faults given r → new ≡ old → ProgramEffect chosen given old new (Err r)
-  task : {task : Order} {ending : Ending} → AsksOrder given task → DoesTask chosen old new task ending
+  does_order : {wanted : Order} {ending : Ending} → AsksOrder given wanted → DoesOrder chosen old new wanted ending
       → ProgramEffect chosen given old new ending
 
 -- the program ends with this status

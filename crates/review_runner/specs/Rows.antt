@@ -6,7 +6,7 @@ use Rattle.review_runner.specs.Order.{DocumentFiles, ReviewFiles, Order, order_i
 
 -- the words are taken, and ask for this
 abbrev pub IsTakenAs : List Text → Order → Type 0
-IsTakenAs words task = (faults words ≡ []) × (order_in (entered words) ≡ Some task)
+IsTakenAs words wanted = (faults words ≡ []) × (order_in (entered words) ≡ Some wanted)
 
 -- clap does not take the words
 abbrev pub AreWordsRefused : List Text → Type 0

@@ -50,17 +50,17 @@ module _ {d : Documents} (run : PolicyRun d) where
   start = start_state run.image (started run.case.roots)
 
   -- what the session knows after these lines
-  abbrev pub world_after : List Line → SessionState
-  world_after lines = (dialogue_of start lines).world
+  abbrev pub session_state_after : List Line → SessionState
+  session_state_after lines = (dialogue_of start lines).session_state
 
   -- the state that it shows then
   abbrev pub shown_after : List Line → State
-  shown_after lines = stands run (world_after lines).place
+  shown_after lines = stands run (session_state_after lines).place
 
   -- it goes on, and shows a state that is stopped, or one behind 128 steps for each unit of the policy's work
   pub record IsDecided (lines : List Line) : Type 0 where
-    pub goes_on : (world_after lines).ended ≡ false
-    pub is_there : (is_running (shown_after lines).status ≡ false) ⊎ (128 * work run.case ≤ (world_after lines).place)
+    pub goes_on : (session_state_after lines).ended ≡ false
+    pub is_there : (is_running (shown_after lines).status ≡ false) ⊎ (128 * work run.case ≤ (session_state_after lines).place)
 
   -- one more line `w` writes this text
   abbrev pub Writes : List Line → List ℕ → Type 0
@@ -72,7 +72,7 @@ module _ {d : Documents} (run : PolicyRun d) where
     told : (references : List ℕ)
         → (shown_after lines).status ≡ Exited (outcome_word (decision run.case).outcome)
         → AreMessageReferences (shown_after lines).values.values (decision run.case).findings references
-        → Writes lines (told_text run.case.policy.rules.failure_policy (decision run.case) references) → TellsVerdict lines
+        → Writes lines (told_text run.case.policy.parsed.failure_policy (decision run.case) references) → TellsVerdict lines
     over : (shown_after lines).status ≡ Fault F8 → IsBeyond run.case → TellsVerdict lines
 
 -- whatever lines were answered before, of whatever moves forward and back

@@ -4,7 +4,7 @@ ghost use Rattle.std.specs.Process.{exit_status};
 ghost use Rattle.policy_glue.specs.OneImage.{OneImage};
 ghost use Rattle.review_runner.specs.Order.{is_session, order_view, OrderReturns};
 ghost use Rattle.cli.specs.Ending.{ending_line, given_of, system, Ending, WritesError};
-ghost use Rattle.review_runner.specs.Program.{AnswersOrder, ProgramEffect, DoesTask, ProgramResult, EndsBy, Puts};
+ghost use Rattle.review_runner.specs.Program.{AnswersOrder, ProgramEffect, DoesOrder, ProgramResult, EndsBy, Puts};
 ghost use Rattle.streams.specs.Streams.{stream};
 
 use crate::command_line::order::Order;
@@ -12,7 +12,7 @@ use crate::command_line::reader::order;
 use crate::done::Done;
 use crate::images::debugging::debug;
 use crate::performing::perform;
-use cli::{Refusal, ended, texts_of};
+use cli::{Refusal, exit_with, texts_of};
 use host::{Files, OrderError};
 use std::alloc::Global;
 use std::process::ExitCode;
@@ -38,7 +38,7 @@ pub fn exit_code<F: Files, R: Source, W: Sink, E: Sink>(
 {
     match ending(alloc, words, files, input, output) {
         Ok(done) => left(&done, errors),
-        Err(refusal) => ended(alloc, Err(refusal), errors),
+        Err(refusal) => exit_with(alloc, Err(refusal), errors),
     }
 }
 
@@ -82,7 +82,7 @@ fn done<F: Files, R: Source, W: Sink>(
 ) -> Result<Done, Refusal>
     ensures { let before = system (F.known files.old) (stream (R.left input.old) (R.failed input.old)) (stream (W.taken output.old) (W.failed output.old)) in
         let after = system (F.known files.new) (stream (R.left input.new) (R.failed input.new)) (stream (W.taken output.new) (W.failed output.new)) in
-        EndsBy (DoesTask OneImage before after (order_view order.now)) result }
+        EndsBy (DoesOrder OneImage before after (order_view order.now)) result }
 {
     match order {
         Order::Compile { .. }

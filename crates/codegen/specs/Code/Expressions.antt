@@ -18,7 +18,7 @@ use Rattle.cel_macros.specs.declared.text_test.TextTest.{TextTest}
 use Rattle.insn_codec.specs.declared.register.Register.{Register, TheVariants.R1, TheVariants.R2, TheVariants.R6, TheVariants.R7}
 use Rattle.expression_code.specs.Code.Leaves.{leaf_code}
 use Rattle.expression_code.specs.Code.Calls.{kept_size, operand_code, operands_code}
-use Rattle.expression_code.specs.Code.Logic.{and_code, branch_slots, condition_slots, left_slots, not_tail, or_code, ternary_code}
+use Rattle.expression_code.specs.Code.Logic.{and_code, branch_slots, ternary_jump_slots, left_slots, not_tail, or_code, ternary_code}
 use Rattle.expression_code.specs.Code.Arithmetic.{sum_code, difference_code, product_code, divided_code, negation_tail}
 use Rattle.expression_code.specs.Code.Comparison.{equal_tail, unequal_tail, less_tail, not_less_tail, member_tail}
 use Rattle.codegen.specs.Code.Literals.{address_of, literal_code, literal_leaf}
@@ -158,8 +158,8 @@ unfoldable mutual
       binary_code op (leaf_of a ws) left (leaf_of b ws) (code_of b ts rs ws (k + 1) (p + left_size op (leaf_of a ws) left)) k
   code_of (core.ternary c a b) ts rs ws k p =
       let condition = code_of c ts rs ws k p in
-      let if_true = code_of a ts rs ws k (p + size condition + condition_slots) in
-      ternary_code condition if_true (code_of b ts rs ws k (p + size condition + condition_slots + size if_true + branch_slots))
+      let if_true = code_of a ts rs ws k (p + size condition + ternary_jump_slots) in
+      ternary_code condition if_true (code_of b ts rs ws k (p + size condition + ternary_jump_slots + size if_true + branch_slots))
   code_of (core.list items) ts rs ws k p = list_code (items_code items ts rs ws k (p + head_slots)) k
   code_of (core.map es) ts rs ws k p = map_code (entries_code es ts rs ws k (p + head_slots)) k
   code_of (core.fold m n r e) ts rs ws k p =

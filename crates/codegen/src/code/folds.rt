@@ -13,7 +13,7 @@ use Register::{R0, R1, R2};
 use cel_macros::Macro;
 use expression_code::helpers;
 use expression_code::instructions::{add, call, jump_if_imm, mov_imm, mov_reg};
-use expression_code::references::{ERROR, NO, NULL, YES};
+use expression_code::references::{ERROR, FALSE, NULL, TRUE};
 use insn_codec::{Comparison, Insn, Register};
 use std::alloc::Global;
 
@@ -136,11 +136,11 @@ fn exists_one_turn(k: usize) -> [Insn; 9]
     ensures { result ≡ specs.exists_one_turn k }
 {
     [
-        jump_if_imm(Comparison::Eq, R0, NO, 8),
-        jump_if_imm(Comparison::Ne, R0, YES, 5),
+        jump_if_imm(Comparison::Eq, R0, FALSE, 8),
+        jump_if_imm(Comparison::Ne, R0, TRUE, 5),
         load(R1, k + ANSWER),
         jump_if_imm(Comparison::Eq, R1, ERROR, 5),
-        jump_if_imm(Comparison::Eq, R1, NO, 3),
+        jump_if_imm(Comparison::Eq, R1, FALSE, 3),
         mov_imm(R0, NULL),
         ja(1),
         mov_imm(R0, ERROR),
@@ -155,8 +155,8 @@ fn filter_turn(k: usize) -> [Insn; 8]
     ensures { result ≡ specs.filter_turn k }
 {
     [
-        jump_if_imm(Comparison::Eq, R0, NO, 7),
-        jump_if_imm(Comparison::Ne, R0, YES, 4),
+        jump_if_imm(Comparison::Eq, R0, FALSE, 7),
+        jump_if_imm(Comparison::Ne, R0, TRUE, 4),
         load(R1, k + ANSWER),
         load(R2, k + ITEM),
         call(helpers::PUSH),
@@ -189,8 +189,8 @@ fn map_where_turn(alloc: Global, transform: &[Insn], k: usize) -> Code
 {
     let slots = size(transform);
     let mut code = [
-        jump_if_imm(Comparison::Eq, R0, NO, slots + 7),
-        jump_if_imm(Comparison::Ne, R0, YES, slots + 4),
+        jump_if_imm(Comparison::Eq, R0, FALSE, slots + 7),
+        jump_if_imm(Comparison::Ne, R0, TRUE, slots + 4),
     ]
     .to_vec(alloc)?;
     code.extend_from_slice(transform)?;
@@ -246,15 +246,15 @@ fn exists_one(alloc: Global, range: &[Insn], predicate: &[Insn], k: usize) -> Co
     let mut code = fold(
         alloc,
         range,
-        mov_imm(R0, NO),
+        mov_imm(R0, FALSE),
         predicate,
         &exists_one_turn(k),
         k,
     )?;
     code.extend_from_slice(&[
         jump_if_imm(Comparison::Eq, R0, ERROR, 2),
-        jump_if_imm(Comparison::Eq, R0, YES, 1),
-        mov_imm(R0, NO),
+        jump_if_imm(Comparison::Eq, R0, TRUE, 1),
+        mov_imm(R0, FALSE),
     ])?;
     Ok(code)
 }
@@ -284,12 +284,12 @@ pub(crate) fn macro_of(alloc: Global, found: Macro, range: &[Insn], part: &[Insn
 {
     match found {
         Macro::All => {
-            let tail = absorbing_turn(NO, YES, k);
-            fold(alloc, range, mov_imm(R0, YES), part, &tail, k)
+            let tail = absorbing_turn(FALSE, TRUE, k);
+            fold(alloc, range, mov_imm(R0, TRUE), part, &tail, k)
         }
         Macro::Exists => {
-            let tail = absorbing_turn(YES, NO, k);
-            fold(alloc, range, mov_imm(R0, NO), part, &tail, k)
+            let tail = absorbing_turn(TRUE, FALSE, k);
+            fold(alloc, range, mov_imm(R0, FALSE), part, &tail, k)
         }
         Macro::ExistsOne => exists_one(alloc, range, part, k),
         Macro::Filter => fold(

@@ -16,7 +16,7 @@ use Register::{R1, R2};
 use cel_reader::Literal;
 use expression_code::helpers;
 use expression_code::instructions::{call, lddw, mov_imm};
-use expression_code::references::{NO, NULL, YES};
+use expression_code::references::{FALSE, NULL, TRUE};
 use expression_code::simple_operand::SimpleOperand;
 use guest_memory::CONSTANTS;
 use insn_codec::{Insn, Register};
@@ -59,7 +59,7 @@ fn truth_leaf(truth: bool) -> SimpleOperand
     ensures leaf { result ≡ base.truth_leaf truth }
     ensures word { IsFrameWord result }
 {
-    SimpleOperand::Reference(if truth { YES } else { NO })
+    SimpleOperand::Reference(if truth { TRUE } else { FALSE })
 }
 
 /// The simple operand that a literal is.

@@ -11,7 +11,7 @@ use crate::instructions::{ja, load, size, store};
 use crate::truths::Truths;
 use expression_code::helpers;
 use expression_code::instructions::{call, jump_if_imm, mov_imm};
-use expression_code::references::{ERROR, NO, YES};
+use expression_code::references::{ERROR, FALSE, TRUE};
 use insn_codec::{Comparison, Insn, Register};
 use std::alloc::Global;
 
@@ -19,7 +19,7 @@ use std::alloc::Global;
 pub(crate) const LEFT_SLOTS: usize = 2;
 
 /// The slots after a condition.
-pub(crate) const CONDITION_SLOTS: usize = 2;
+pub(crate) const TERNARY_JUMP_SLOTS: usize = 2;
 
 /// The slot of the jump between two branches.
 pub(crate) const BRANCH_SLOTS: usize = 1;
@@ -81,8 +81,8 @@ pub(crate) fn ternary(alloc: Global, condition: &[Insn], yes: &[Insn], no: &[Ins
     let behind_yes = size(yes) + 2;
     let behind_no = size(no) + 2;
     let mut code = condition.to_vec(alloc)?;
-    code.push(jump_if_imm(Comparison::Eq, Register::R0, NO, behind_yes))?;
-    code.push(jump_if_imm(Comparison::Ne, Register::R0, YES, size(yes) + behind_no))?;
+    code.push(jump_if_imm(Comparison::Eq, Register::R0, FALSE, behind_yes))?;
+    code.push(jump_if_imm(Comparison::Ne, Register::R0, TRUE, size(yes) + behind_no))?;
     code.extend_from_slice(yes)?;
     code.push(ja(behind_no))?;
     code.extend_from_slice(no)?;

@@ -18,7 +18,7 @@ use Register::{R0, R1, R2, R6, R7};
 use cel_reader::{BinaryOperator, UnaryOperator};
 use expression_code::helpers::{EQUAL, LESS, MEMBER, NOT};
 use expression_code::instructions::{call, mov_reg};
-use expression_code::references::{NO, YES};
+use expression_code::references::{FALSE, TRUE};
 use insn_codec::{AluOp, Insn, Register};
 use std::alloc::Global;
 
@@ -105,15 +105,15 @@ pub(crate) fn binary(alloc: Global, op: BinaryOperator, left: &Part, right: &Par
     match op {
         BinaryOperator::Or => {
             let truths = Truths {
-                decides: YES,
-                other: NO,
+                decides: TRUE,
+                other: FALSE,
             };
             absorbing(alloc, truths, &left.code, &right.code, k)
         }
         BinaryOperator::And => {
             let truths = Truths {
-                decides: NO,
-                other: YES,
+                decides: FALSE,
+                other: TRUE,
             };
             absorbing(alloc, truths, &left.code, &right.code, k)
         }

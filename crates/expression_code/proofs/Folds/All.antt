@@ -1,6 +1,6 @@
 -- The code of each macro gives its fold; `all` and `exists` leave the loop at an item that decides.
 -- The laws of `specs/Gives/Folds`.
-use Rattle.expression_code.proofs.Prelude.{◌≡◌, ℕ, ◌+◌, ◌-◌, ◌<◌, ◌≤◌, List, ◌++◌, Option, Some, Bool, true, false, refl, ap, ◌∙◌, subst, arith, ℤ, Insn, Value, ValueOrError, value, boolean, Macro, Exists, ExistsOne, Filter, Map, end_of, folded, start_of, step_of, Truth, Yes, and_of, chosen, or_of, truth, range_of, absorbing_turn, exists_one_end, exists_one_turn, filter_turn, first_empty, first_false, first_true, macro_code, map_turn, no_ref, yes_ref, Context, Evaluates, RunContext, IsItem, MacroGives, charge_budget, holds_too_deep, is_too_deep, items_spent, items_visits, step_budget, fold_code, fold_of, with_item, size, fold_limit}
+use Rattle.expression_code.proofs.Prelude.{◌≡◌, ℕ, ◌+◌, ◌-◌, ◌<◌, ◌≤◌, List, ◌++◌, Option, Some, Bool, true, false, refl, ap, ◌∙◌, subst, arith, ℤ, Insn, Value, ValueOrError, value, boolean, Macro, Exists, ExistsOne, Filter, Map, end_of, folded, start_of, step_of, Truth, Yes, and_of, chosen, or_of, truth, range_of, absorbing_turn, exists_one_end, exists_one_turn, filter_turn, first_empty, first_false, first_true, macro_code, map_turn, false_ref, true_ref, Context, Evaluates, RunContext, IsItem, MacroGives, charge_budget, holds_too_deep, is_too_deep, items_spent, items_visits, step_budget, fold_code, fold_of, with_item, size, fold_limit}
 use Rattle.expression_code.proofs.Sites.{site_at, in_frame, budget}
 use Rattle.cel_macros.specs.declared.macros.Macro.TheVariants.{All}
 use Rattle.expression_code.proofs.Logic.{Absorbing, and_absorbs, is_answer, is_decides, or_absorbs}
@@ -108,8 +108,8 @@ module _ (s : RunContext) (p k depth : ℕ) (range part : List Insn) (c : Contex
   by_macro : (m : Macro) → ((v : Value) → IsItem r v → holds_too_deep m v (f v) ≡ true → s.is_deep ≡ true)
       → Evaluates s p (macro_code m k range part) c depth k (folded m f (range_of r)) steps charge
   unfolding and_absorbs or_absorbs
-  by_macro All may = absorbing_gives no_ref yes_ref and_of and_absorbs first_true (start_of All) _ refl refl refl (true_gives s start_at c depth (k + 3) (omega arith)) (folds All f (range_of r) (λ a. refl))
-  by_macro Exists may = absorbing_gives yes_ref no_ref or_of or_absorbs first_false (start_of Exists) _ refl refl refl (false_gives s start_at c depth (k + 3) (omega arith)) (folds Exists f (range_of r) (λ a. refl))
+  by_macro All may = absorbing_gives false_ref true_ref and_of and_absorbs first_true (start_of All) _ refl refl refl (true_gives s start_at c depth (k + 3) (omega arith)) (folds All f (range_of r) (λ a. refl))
+  by_macro Exists may = absorbing_gives true_ref false_ref or_of or_absorbs first_false (start_of Exists) _ refl refl refl (false_gives s start_at c depth (k + 3) (omega arith)) (folds Exists f (range_of r) (λ a. refl))
   by_macro ExistsOne may = once_gives
   by_macro Map may =
       whole_gives first_empty (map_turn k) (start_of Map) (step_of Map f) (λ a. false) (is_shallow s.is_deep) 4 2 refl refl (grind arith) (empty_gives s start_at c depth (k + 3) (omega arith)) (λ items is. map_tail items _ is may) _ (folds Map f (range_of r) (λ a. refl)) (omega arith) (omega arith)

@@ -1,5 +1,5 @@
 -- The code of `map` with a predicate gives its fold: the transform runs where the predicate is true.
-use Rattle.expression_code.proofs.Prelude.{◌≡◌, ℕ, suc, ◌+◌, ◌*◌, ◌<◌, ◌≤◌, List, [], ◌∷◌, ◌++◌, Some, Bool, true, false, refl, subst, arith, pos, Eq, Ne, Insn, R0, Value, ValueOrError, error, value, list, no_items, is_error, map_step, pushed, when_true, Truth, Yes, No, Other, chosen, truth, range_of, CpuState, first_empty, map_where_code, map_where_turn, no_ref, yes_ref, Context, Evaluates, RunContext, RunsTo, IsItem, MapWhereGives, charge_budget, is_too_deep, items_spent, items_visits, step_budget, Turned, fold_code, with_item, IsCodeAt, size, fold_limit, part_steps_per_visit, part_charge_per_unit}
+use Rattle.expression_code.proofs.Prelude.{◌≡◌, ℕ, suc, ◌+◌, ◌*◌, ◌<◌, ◌≤◌, List, [], ◌∷◌, ◌++◌, Some, Bool, true, false, refl, subst, arith, pos, Eq, Ne, Insn, R0, Value, ValueOrError, error, value, list, no_items, is_error, map_step, pushed, when_true, Truth, Yes, No, Other, chosen, truth, range_of, CpuState, first_empty, map_where_code, map_where_turn, false_ref, true_ref, Context, Evaluates, RunContext, RunsTo, IsItem, MapWhereGives, charge_budget, is_too_deep, items_spent, items_visits, step_budget, Turned, fold_code, with_item, IsCodeAt, size, fold_limit, part_steps_per_visit, part_charge_per_unit}
 use Rattle.expression_code.proofs.Sites.{site_at, in_frame, budget}
 use Rattle.expression_code.specs.Instructions as insn
 use Rattle.expression_code.proofs.Frames.{shows_registers}
@@ -16,10 +16,10 @@ use Rattle.expression_code.proofs.Values.{Told, names_error}
 
 module _ (s : RunContext) (q : ℕ) (transform : List Insn) (c : Context) (depth k : ℕ) (n : List ℕ) (acc : ValueOrError) (v : Value) (x y : ValueOrError) (n2 x2 : ℕ) (low : k < fold_limit) (has : IsCodeAt s.image.code q (map_where_turn transform k)) where
   abbrev to_kept : Insn
-  to_kept = insn.jump_if_imm Eq R0 no_ref (size transform + 7)
+  to_kept = insn.jump_if_imm Eq R0 false_ref (size transform + 7)
 
   abbrev to_error : Insn
-  to_error = insn.jump_if_imm Ne R0 yes_ref (size transform + 4)
+  to_error = insn.jump_if_imm Ne R0 true_ref (size transform + 4)
 
   abbrev others : List Insn
   others = insn.ja 1 ∷ insn.mov_imm R0 (pos 0) ∷ insn.store (k + 3) R0 ∷ []

@@ -6,7 +6,7 @@ use Rattle.insn_codec.specs.declared.comparison.Comparison.TheVariants.{Eq, Ne}
 use Rattle.insn_codec.specs.declared.insn.Insn.{Insn, TheVariants.Call}
 use Rattle.insn_codec.specs.declared.register.Register.TheVariants.{R0, R1, R2}
 use Rattle.cel_macros.specs.declared.macros.Macro.{Macro, TheVariants.All, TheVariants.Exists, TheVariants.ExistsOne, TheVariants.Filter, TheVariants.Map}
-use Rattle.expression_code.specs.Code.Logic.{no_ref, yes_ref}
+use Rattle.expression_code.specs.Code.Logic.{false_ref, true_ref}
 use Rattle.expression_code.specs.Instructions.{mov_reg, load, mov_imm, ja, jump_if_imm, store}
 use Rattle.expression_code.specs.Loops.{answer_word, fold_code, item_word}
 use Rattle.expression_code.specs.Pieces.{size}
@@ -25,11 +25,11 @@ absorbing_turn decides other k =
 -- was more often, and the error
 unfoldable pub exists_one_turn : ℕ → List Insn
 exists_one_turn k =
-    jump_if_imm Eq R0 no_ref 8
-    ∷ jump_if_imm Ne R0 yes_ref 5
+    jump_if_imm Eq R0 false_ref 8
+    ∷ jump_if_imm Ne R0 true_ref 5
     ∷ load R1 (answer_word k)
     ∷ jump_if_imm Eq R1 (pos 0) 5
-    ∷ jump_if_imm Eq R1 no_ref 3
+    ∷ jump_if_imm Eq R1 false_ref 3
     ∷ mov_imm R0 (pos 1)
     ∷ ja 1
     ∷ mov_imm R0 (pos 0)
@@ -38,13 +38,13 @@ exists_one_turn k =
 
 -- more often than once is not once
 abbrev pub exists_one_end : List Insn
-exists_one_end = jump_if_imm Eq R0 (pos 0) 2 ∷ jump_if_imm Eq R0 yes_ref 1 ∷ mov_imm R0 no_ref ∷ []
+exists_one_end = jump_if_imm Eq R0 (pos 0) 2 ∷ jump_if_imm Eq R0 true_ref 1 ∷ mov_imm R0 false_ref ∷ []
 
 -- `filter`: the item behind the answer so far where the predicate is true
 unfoldable pub filter_turn : ℕ → List Insn
 filter_turn k =
-    jump_if_imm Eq R0 no_ref 7
-    ∷ jump_if_imm Ne R0 yes_ref 4
+    jump_if_imm Eq R0 false_ref 7
+    ∷ jump_if_imm Ne R0 true_ref 4
     ∷ load R1 (answer_word k)
     ∷ load R2 (item_word k)
     ∷ Call (pos 17)
@@ -64,8 +64,8 @@ predicate_slots = 2
 -- `map` with a predicate, whose value is in R0: the transform where it is true
 abbrev pub map_where_turn : List Insn → ℕ → List Insn
 map_where_turn transform k =
-    jump_if_imm Eq R0 no_ref (size transform + 7)
-    ∷ jump_if_imm Ne R0 yes_ref (size transform + 4)
+    jump_if_imm Eq R0 false_ref (size transform + 7)
+    ∷ jump_if_imm Ne R0 true_ref (size transform + 4)
     ∷ (transform
     ++ mov_reg R2 R0
     ∷ load R1 (answer_word k)
@@ -77,19 +77,19 @@ map_where_turn transform k =
 
 -- the answer before the first item
 abbrev pub first_true : List Insn
-first_true = mov_imm R0 yes_ref ∷ []
+first_true = mov_imm R0 true_ref ∷ []
 
 abbrev pub first_false : List Insn
-first_false = mov_imm R0 no_ref ∷ []
+first_false = mov_imm R0 false_ref ∷ []
 
 abbrev pub first_empty : List Insn
 first_empty = Call (pos 16) ∷ []
 
 abbrev pub all_code : ℕ → List Insn → List Insn → List Insn
-all_code k range predicate = fold_code k range first_true (predicate ++ absorbing_turn no_ref yes_ref k)
+all_code k range predicate = fold_code k range first_true (predicate ++ absorbing_turn false_ref true_ref k)
 
 abbrev pub exists_code : ℕ → List Insn → List Insn → List Insn
-exists_code k range predicate = fold_code k range first_false (predicate ++ absorbing_turn yes_ref no_ref k)
+exists_code k range predicate = fold_code k range first_false (predicate ++ absorbing_turn true_ref false_ref k)
 
 abbrev pub exists_one_code : ℕ → List Insn → List Insn → List Insn
 exists_one_code k range predicate = fold_code k range first_false (predicate ++ exists_one_turn k) ++ exists_one_end

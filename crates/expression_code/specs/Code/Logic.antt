@@ -8,12 +8,12 @@ use Rattle.expression_code.specs.Instructions.{load, mov_imm, ja, jump_if_imm, s
 use Rattle.expression_code.specs.Pieces.{size}
 
 -- the reference of false
-abbrev pub no_ref : ℤ
-no_ref = pos 2
+abbrev pub false_ref : ℤ
+false_ref = pos 2
 
 -- the reference of true
-abbrev pub yes_ref : ℤ
-yes_ref = pos 3
+abbrev pub true_ref : ℤ
+true_ref = pos 3
 
 -- the operator for which the one truth decides, with its right side in R0 and its left side, which does not decide, in
 -- word k: R0 stays where it decides, and where both sides are the other truth
@@ -31,8 +31,8 @@ abbrev pub left_slots : ℕ
 left_slots = 2
 
 -- the slots after a condition: two jumps
-abbrev pub condition_slots : ℕ
-condition_slots = 2
+abbrev pub ternary_jump_slots : ℕ
+ternary_jump_slots = 2
 
 -- the slot of the jump between the two branches
 abbrev pub branch_slots : ℕ
@@ -49,11 +49,11 @@ absorbing_code decides other left right k =
 
 -- left && right, with the left side in word k
 abbrev pub and_code : List Insn → List Insn → ℕ → List Insn
-and_code left right k = absorbing_code no_ref yes_ref left right k
+and_code left right k = absorbing_code false_ref true_ref left right k
 
 -- left || right, with the left side in word k
 abbrev pub or_code : List Insn → List Insn → ℕ → List Insn
-or_code left right k = absorbing_code yes_ref no_ref left right k
+or_code left right k = absorbing_code true_ref false_ref left right k
 
 -- !R1
 abbrev pub not_tail : List Insn
@@ -63,8 +63,8 @@ not_tail = Call (pos 23) ∷ []
 abbrev pub ternary_code : List Insn → List Insn → List Insn → List Insn
 ternary_code condition if_true if_false =
     condition
-    ++ jump_if_imm Eq R0 no_ref (size if_true + 2)
-    ∷ jump_if_imm Ne R0 yes_ref (size if_true + size if_false + 2)
+    ++ jump_if_imm Eq R0 false_ref (size if_true + 2)
+    ∷ jump_if_imm Ne R0 true_ref (size if_true + size if_false + 2)
     ∷ (if_true
     ++ ja (size if_false + 2)
     ∷ (if_false

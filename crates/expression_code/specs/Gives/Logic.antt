@@ -6,7 +6,7 @@ use Rattle.insn_codec.specs.declared.register.Register.TheVariants.{R1}
 use Rattle.value_store.specs.Value.{ValueOrError}
 use Rattle.cel_macros.specs.Logic.{Yes, No, and_of, chosen, not_of, or_of, ternary_of, truth}
 use Rattle.expression_code.specs.Limits.{word_limit, frame_words}
-use Rattle.expression_code.specs.Code.Logic.{absorbing_code, no_ref, not_tail, ternary_code, yes_ref}
+use Rattle.expression_code.specs.Code.Logic.{absorbing_code, false_ref, not_tail, ternary_code, true_ref}
 use Rattle.expression_code.specs.Contexts.{Context, Evaluates}
 use Rattle.expression_code.specs.Engine.{RunContext}
 use Rattle.expression_code.specs.Operators.{Converts}
@@ -35,8 +35,8 @@ TernaryGives =
 
 -- what the code of each logical operator and of the conditional gives
 pub record LogicGives : Type 0 where
-  pub and : AbsorbingGives no_ref yes_ref and_of
-  pub or : AbsorbingGives yes_ref no_ref or_of
+  pub and : AbsorbingGives false_ref true_ref and_of
+  pub or : AbsorbingGives true_ref false_ref or_of
   pub not : (s : RunContext) (p : ℕ) (c : Context) (depth base : ℕ) (x : ValueOrError) → base ≤ frame_words
       → Converts s p not_tail R1 c depth base x (not_of x) 1 1
   pub ternary : TernaryGives

@@ -1,5 +1,5 @@
 -- The parts of a policy's program, each with what it gives and within which bounds.
-use Rattle.policy_glue.proofs.Prelude.{◌≡◌, ◌-◌, ◌*◌, ◌≤◌, List, [], ◌∷◌, length, true, refl, ap, arith, Option, Some, None, suc, map, value, Roots, Environment, Declaration, cost, spent_by, conditions_cost, rules_cost, environment_with, condition_values, rule_value, Laid, after_condition, before_message, condition_codes, tree_code, validation_codes, with_message, Tree, ValidationTree, Insn, meaning, Part, ValidationPart, codes_of, conditions_charge, conditions_steps, rule_codes, rules_given, validations_charge, validations_steps, values_given, FailurePolicy, steps_per_visit, charge_per_unit}
+use Rattle.policy_glue.proofs.Prelude.{◌≡◌, ◌-◌, ◌*◌, ◌≤◌, List, [], ◌∷◌, length, true, refl, ap, arith, Option, Some, None, suc, map, value, Roots, Environment, Declaration, cost, spent_by, conditions_cost, validations_cost, environment_with, condition_values, validation_value, Laid, after_condition, before_message, condition_codes, tree_code, validation_codes, with_message, Tree, ValidationTree, Insn, meaning, Part, ValidationPart, codes_of, conditions_charge, conditions_steps, codes_of_validations, values_of_validations, validations_charge, validations_steps, values_given, FailurePolicy, steps_per_visit, charge_per_unit}
 
 -- ---- the parts of the trees
 
@@ -35,12 +35,12 @@ condition_values_are roots l [] = refl
 condition_values_are roots l (a ∷ more) = grind (arith, condition_values_are roots (after_condition l a) more)
 
 pub rule_codes_are : (ds : List Declaration) (l : Laid) (env : Environment) (rs : List ValidationTree)
-    → rule_codes (rule_parts ds l env rs) ≡ validation_codes ds l rs
+    → codes_of_validations (rule_parts ds l env rs) ≡ validation_codes ds l rs
 rule_codes_are ds l env [] = refl
 rule_codes_are ds l env (r ∷ more) = grind (arith, rule_codes_are ds (after_rule ds l r) env more)
 
 pub rule_values_are : (ds : List Declaration) (l : Laid) (env : Environment) (rs : List ValidationTree)
-    → rules_given (rule_parts ds l env rs) ≡ map (rule_value env) rs
+    → values_of_validations (rule_parts ds l env rs) ≡ map (validation_value env) rs
 rule_values_are ds l env [] = refl
 rule_values_are ds l env (r ∷ more) = grind (arith, rule_values_are ds (after_rule ds l r) env more)
 
@@ -53,8 +53,8 @@ conditions_within roots l [] = (omega arith, omega arith)
 conditions_within roots l (a ∷ more) = let rest = conditions_within roots (after_condition l a) more in (omega (arith, rest.0), omega (arith, rest.1))
 
 pub validations_within : (f : FailurePolicy) (ds : List Declaration) (l : Laid) (env : Environment) (rs : List ValidationTree)
-    → (validations_steps f (rule_parts ds l env rs) ≤ steps_per_visit * (rules_cost true f env rs).visits)
-    × (validations_charge f (rule_parts ds l env rs) ≤ charge_per_unit * spent_by (rules_cost true f env rs))
+    → (validations_steps f (rule_parts ds l env rs) ≤ steps_per_visit * (validations_cost true f env rs).visits)
+    × (validations_charge f (rule_parts ds l env rs) ≤ charge_per_unit * spent_by (validations_cost true f env rs))
 validations_within f ds l env [] = (omega arith, omega arith)
 validations_within f ds l env (r ∷ more) = grind (arith, validations_within f ds (after_rule ds l r) env more)
 

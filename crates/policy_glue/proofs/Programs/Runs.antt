@@ -1,5 +1,5 @@
 -- The program of a policy decides as the policy does, within its budget.
-use Rattle.policy_glue.proofs.Prelude.{◌≡◌, ℕ, ◌+◌, ◌-◌, ◌*◌, ◌≤◌, List, [], ◌∷◌, ◌++◌, length, length-append, append-nil, append_assoc, Bool, true, refl, ap, ◌∙◌, subst, sym, arith, Option, ◌<◌, false, ◌||◌, fold, map, All, if◌then◌else◌, map-append, fold-append, ValueOrError, expanded, plain_tree, Roots, Environment, expansion_plain, Declaration, scope_of, typing as type_of, ja, IsCodeAt, size, AreInsns, spellings, total, start_body, IsScope, Variable, bindings, first_charges, first_steps, scope_setting, stands_back, stands_front, stands_rest, environment_in, variable_of, joined, with_text, with_texts, IsDeep, cost, spent_by, Cost, AreShallow, HasConstants, IsEmittable, variable_is_taken, variable_joins, expression_gives, frames_are_enough, variables_cost, conditions_cost, message_cost, rules_cost, is_running, policy_cost, policy_spent, policy_work, runs_on, depth_in, type_or_any, with_variable, scope_after, environment_with, with_value, decision_of, values_of, tree_texts, variable_texts, condition_texts, message_texts, rule_texts, validation_texts, policy_texts, routines_code, policy_code, Laid, after_variables, texts_with, variable_code, variable_codes, with_routine, after_condition, before_message, with_message, laid_conditions, laid_routines, nothing_laid, program_of, AreVariables, AreConditions, AreValidations, IsEmittableMessage, Decides, HasProgram, ProgramDecides, ProgramIsCode, ProgramStops, Tree, VariableTree, ValidationTree, PolicyTree, Insn, meaning, Context, HasValues, RunContext, ExitsOrRunsOut, routine_context, wider_gives, no_scope, ConditionsGive, MessageGives, Part, PartGives, ValidationPart, ValidationsGive, codes_of, message_size, rule_codes, rule_size, rules_given, validations_charge, validations_steps, values_given, denies, truth_of, Verdict, decided_before, verdict_of, FailurePolicy, Exit, Contents, DecodesSpelling, stays_stopped, State, start_state, state_after, CpuState, charges-most, spelled_stands, LeavesVerdict, conditions_place, passes, program_charge, program_steps, validations_place, constants_limit, variable_depth_limit, memo_limit, steps_per_visit, charge_per_unit}
+use Rattle.policy_glue.proofs.Prelude.{◌≡◌, ℕ, ◌+◌, ◌-◌, ◌*◌, ◌≤◌, List, [], ◌∷◌, ◌++◌, length, length-append, append-nil, append_assoc, Bool, true, refl, ap, ◌∙◌, subst, sym, arith, Option, ◌<◌, false, ◌||◌, fold, map, All, if◌then◌else◌, map-append, fold-append, ValueOrError, expanded, plain_tree, Roots, Environment, expansion_plain, Declaration, scope_of, typing as type_of, ja, IsCodeAt, size, AreInsns, spellings, total, start_body, IsScope, Variable, bindings, first_charges, first_steps, scope_setting, stands_back, stands_front, stands_rest, environment_in, variable_of, joined, with_text, with_texts, IsDeep, cost, spent_by, Cost, AreShallow, HasConstants, IsEmittable, variable_is_taken, variable_joins, expression_gives, frames_are_enough, variables_cost, conditions_cost, message_cost, validations_cost, is_running, policy_cost, policy_spent, policy_work, runs_on, depth_in, type_or_any, with_variable, scope_after, environment_with, with_value, decision_of, values_of, tree_texts, variable_texts, condition_texts, message_texts, validation_tree_texts, validation_texts, policy_texts, routines_code, policy_code, Laid, after_variables, texts_with, variable_code, variable_codes, with_routine, after_condition, before_message, with_message, laid_conditions, laid_routines, nothing_laid, program_of, AreVariables, AreConditions, AreValidations, IsEmittableMessage, Decides, HasProgram, ProgramDecides, ProgramIsCode, ProgramStops, Tree, VariableTree, ValidationTree, PolicyTree, Insn, meaning, Context, HasValues, RunContext, ExitsOrRunsOut, routine_context, wider_gives, no_scope, ConditionsGive, MessageGives, Part, PartGives, ValidationPart, ValidationsGive, codes_of, message_size, codes_of_validations, validation_size, values_of_validations, validations_charge, validations_steps, values_given, denies, truth_of, Verdict, decided_before, verdict_of, FailurePolicy, Exit, Contents, DecodesSpelling, stays_stopped, State, start_state, state_after, CpuState, charges-most, spelled_stands, LeavesVerdict, conditions_place, passes, program_charge, program_steps, validations_place, constants_limit, variable_depth_limit, memo_limit, steps_per_visit, charge_per_unit}
 use Rattle.codegen.specs.Layer.{AreTaken}
 use Rattle.policy_glue.proofs.Programs.Sizes.{message_texts_are, conditions_place_is, conditions_slots, variables_place, conditions_texts, variables_texts}
 use Rattle.loader.specs.Contents as loader
@@ -161,7 +161,7 @@ module _ (image : loader.Image) (deep : Bool) (roots : Roots) (everything : List
     message_place l m = grind arith
 
     pub validations_give : (rs : List ValidationTree) (l : Laid) (rest : List (List ℕ)) → AreTaken l.routines ds scope [] → AreValidations ds rs
-        → everything ≡ with_texts l.texts (validation_texts rs ++ rest) → ((rules_cost true f rule_env rs).is_deep ≡ true → deep ≡ true)
+        → everything ≡ with_texts l.texts (validation_texts rs ++ rest) → ((validations_cost true f rule_env rs).is_deep ≡ true → deep ≡ true)
         → ValidationsGive f s c l.place (rule_parts ds l rule_env rs)
     validations_give [] l rest taken expressions used may = tt
     validations_give (r ∷ more) l rest taken expressions used may =
@@ -172,8 +172,8 @@ module _ (image : loader.Image) (deep : Bool) (roots : Roots) (everything : List
         let behind = validation_texts more ++ rest in
         let first_cost = (cost e rule_env).is_deep in
         let told_cost = (message_cost d rule_env r.message).is_deep in
-        let more_cost = (rules_cost true f rule_env more).is_deep in
-        let apart : everything ≡ with_texts l.texts (tree_texts e ++ (message_texts r.message ++ behind)) = used ∙ ap (with_texts l.texts) (append_assoc (rule_texts r) (validation_texts more) rest ∙ append_assoc (tree_texts e) (message_texts r.message) behind) in
+        let more_cost = (validations_cost true f rule_env more).is_deep in
+        let apart : everything ≡ with_texts l.texts (tree_texts e ++ (message_texts r.message ++ behind)) = used ∙ ap (with_texts l.texts) (append_assoc (validation_tree_texts r) (validation_texts more) rest ∙ append_assoc (tree_texts e) (message_texts r.message) behind) in
         let used1 : everything ≡ with_texts l1.texts (message_texts r.message ++ behind) = used_more everything l.texts (tree_texts e) (message_texts r.message ++ behind) apart in
         let used2 : everything ≡ with_texts l2.texts behind = used_more everything l1.texts (message_texts r.message) behind used1
         ∙ ap (λ (ts : List (List ℕ)). with_texts ts behind) (sym (message_texts_are ds l1 r.message)) in
@@ -181,7 +181,7 @@ module _ (image : loader.Image) (deep : Bool) (roots : Roots) (everything : List
         let told = message_gives l1 r.message behind d taken expressions.1 used1 (λ h. may (or_left (first_cost || told_cost) more_cost (or_right first_cost told_cost h))) in
         let taken2 = subst (λ (slots : List ℕ). AreTaken slots ds scope []) (sym (grind arith)) taken in
         let others = validations_give more l2 rest taken2 expressions.2 used2 (λ h. may (or_right (first_cost || told_cost) more_cost h)) in
-        let place : l2.place ≡ l.place + rule_size (rule_part ds l rule_env r) = message_place l1 r.message ∙ omega arith in
+        let place : l2.place ≡ l.place + validation_size (rule_part ds l rule_env r) = message_place l1 r.message ∙ omega arith in
         (first, told, subst (λ (p : ℕ). ValidationsGive f s c p (rule_parts ds l2 rule_env more)) place others)
 
 -- ---- the variables
@@ -228,11 +228,11 @@ module _ (law : DecodesSpelling) (f : FailurePolicy) (p : PolicyTree) (roots : R
   runs_is : passes f conditions ≡ runs_on f p roots
   runs_is = ap (λ vs. is_running (decided_before f (map truth_of vs))) (condition_values_are roots (laid_routines p) p.conditions)
 
-  decision_is : verdict_of f (values_given conditions) (rules_given rules) ≡ decision_of f p roots
+  decision_is : verdict_of f (values_given conditions) (values_of_validations rules) ≡ decision_of f p roots
   unfolding decision_of
   decision_is = grind (arith, condition_values_are, rule_values_are, names_are)
 
-  whole_is : program_of f p ≡ policy_code f routines (codes_of conditions) (rule_codes rules) ++ Exit ∷ []
+  whole_is : program_of f p ≡ policy_code f routines (codes_of conditions) (codes_of_validations rules) ++ Exit ∷ []
   unfolding program_of
   whole_is = grind (arith, condition_codes_are, rule_codes_are)
 
@@ -246,7 +246,7 @@ module _ (law : DecodesSpelling) (f : FailurePolicy) (p : PolicyTree) (roots : R
   unfolding policy_cost
   deep_conditions e = grind (arith, or_left, or_right)
 
-  deep_rules : (rules_cost (runs_on f p roots) f (environment_with roots (values_of roots p.variables)) p.validations).is_deep ≡ true → deep ≡ true
+  deep_rules : (validations_cost (runs_on f p roots) f (environment_with roots (values_of roots p.variables)) p.validations).is_deep ≡ true → deep ≡ true
   unfolding policy_cost
   deep_rules e = grind (arith, or_right)
 
@@ -299,7 +299,7 @@ module _ (law : DecodesSpelling) (f : FailurePolicy) (p : PolicyTree) (roots : R
 
   -- where they run, the validations cost what the policy says
   cost_is : passes f conditions ≡ true
-      → rules_cost true f env p.validations ≡ rules_cost (runs_on f p roots) f (environment_with roots (values_of roots p.variables)) p.validations
+      → validations_cost true f env p.validations ≡ validations_cost (runs_on f p roots) f (environment_with roots (values_of roots p.variables)) p.validations
   cost_is runs = grind (arith, names_are, runs_is)
 
   give_validations : passes f conditions ≡ true
@@ -312,10 +312,10 @@ module _ (law : DecodesSpelling) (f : FailurePolicy) (p : PolicyTree) (roots : R
 
   -- ---- budgets
 
-  rules_paid : (t : Bool) → passes f conditions ≡ t → (if t then validations_steps f rules + 6 else 0) ≤ steps_per_visit * (rules_cost (runs_on f p roots) f (environment_with roots (values_of roots p.variables)) p.validations).visits + 6
+  rules_paid : (t : Bool) → passes f conditions ≡ t → (if t then validations_steps f rules + 6 else 0) ≤ steps_per_visit * (validations_cost (runs_on f p roots) f (environment_with roots (values_of roots p.variables)) p.validations).visits + 6
   rules_paid t runs = grind (arith, validations_within, cost_is)
 
-  rules_spent : (t : Bool) → passes f conditions ≡ t → (if t then validations_charge f rules else 0) ≤ charge_per_unit * spent_by (rules_cost (runs_on f p roots) f (environment_with roots (values_of roots p.variables)) p.validations)
+  rules_spent : (t : Bool) → passes f conditions ≡ t → (if t then validations_charge f rules else 0) ≤ charge_per_unit * spent_by (validations_cost (runs_on f p roots) f (environment_with roots (values_of roots p.variables)) p.validations)
   rules_spent false runs = omega arith
   rules_spent true runs = omega (arith, (validations_within f ds (laid_conditions p) env p.validations).1, ap (λ (k : Cost). spent_by k) (cost_is runs))
 
@@ -342,8 +342,8 @@ module _ (law : DecodesSpelling) (f : FailurePolicy) (p : PolicyTree) (roots : R
 
   pub decides : (m : ℕ) → steps_per_visit * policy_work f p roots ≤ m → Decides f p roots values (state_after m (start_state image values))
   decides m enough =
-      let whole = sym (append-nil (spellings (policy_code f routines (codes_of conditions) (rule_codes rules) ++ Exit ∷ []))) in
-      let code : image.code ≡ spellings (policy_code f routines (codes_of conditions) (rule_codes rules) ++ Exit ∷ []) ++ [] = code_is ∙ ap spellings whole_is ∙ whole in
+      let whole = sym (append-nil (spellings (policy_code f routines (codes_of conditions) (codes_of_validations rules) ++ Exit ∷ []))) in
+      let code : image.code ≡ spellings (policy_code f routines (codes_of conditions) (codes_of_validations rules) ++ Exit ∷ []) ++ [] = code_is ∙ ap spellings whole_is ∙ whole in
       let steps = steps_enough in
       let halts = policy_decides law image deep values roots scope f routines conditions rules [] m code bytes constant_bytes
       (subst AreInsns whole_is insns) table (let few = has.few_validations in let long = rules_length ds (laid_conditions p) env p.validations in omega arith)

@@ -1,5 +1,5 @@
 -- The slots of a policy's program, and that it can be spelled.
-use Rattle.policy_glue.proofs.Prelude.{◌≡◌, ℕ, ◌+◌, ◌*◌, ◌≤◌, List, [], ◌∷◌, ◌++◌, Option, refl, sym, ◌∙◌, arith, suc, ◌<◌, length, length-append, ap, subst, sum_by, fold-append, sum_by-cons, Insn, Tree, expanded, nodes, Declaration, size, AreInsns, size-append, size-cons, with_text, with_texts, routines_of, whole_short, whole_insns, with_variable, scope_after, condition_texts, message_nodes, message_texts, part_nodes, policy_nodes, rule_nodes, tree_texts, variable_texts, condition_tail, conditions_code, message_code, policy_code, routines_code, validation_code, validations_code, denial_code, message_tail, outcome_tail, result_code, Laid, after_condition, after_conditions, after_variables, before_message, condition_codes, message_codes, program_of, texts_with, tree_code, validation_codes, variable_code, variable_codes, with_message, with_routine, laid_conditions, laid_routines, nothing_laid, ProgramIsShort, AreConditions, AreValidations, AreVariables, IsEmittableMessage, ProgramIsCode, ValidationTree, VariableTree, FailurePolicy, memo_tail, insns_append, memo_insns, whole_code, IsEmittable, AreLow, AreNear, near_named, decided_slots, part_slots_per_node, slots_per_node, short_size, part_limit, slot_reach, slot_limit}
+use Rattle.policy_glue.proofs.Prelude.{◌≡◌, ℕ, ◌+◌, ◌*◌, ◌≤◌, List, [], ◌∷◌, ◌++◌, Option, refl, sym, ◌∙◌, arith, suc, ◌<◌, length, length-append, ap, subst, sum_by, fold-append, sum_by-cons, Insn, Tree, expanded, nodes, Declaration, size, AreInsns, size-append, size-cons, with_text, with_texts, routines_of, whole_short, whole_insns, with_variable, scope_after, condition_texts, message_nodes, message_texts, part_nodes, policy_nodes, validation_nodes, tree_texts, variable_texts, condition_tail, conditions_code, message_code, policy_code, routines_code, validation_code, validations_code, denial_code, message_tail, outcome_tail, result_code, Laid, after_condition, after_conditions, after_variables, before_message, condition_codes, message_codes, program_of, texts_with, tree_code, validation_codes, variable_code, variable_codes, with_message, with_routine, laid_conditions, laid_routines, nothing_laid, ProgramIsShort, AreConditions, AreValidations, AreVariables, IsEmittableMessage, ProgramIsCode, ValidationTree, VariableTree, FailurePolicy, memo_tail, insns_append, memo_insns, whole_code, IsEmittable, AreLow, AreNear, near_named, decided_slots, part_slots_per_node, slots_per_node, branch_limit, part_limit, slot_reach, slot_limit}
 use Rattle.policy_glue.proofs.Programs.Validations.{outcome_tail_size, message_tail_size, result_size}
 use Rattle.policy_glue.proofs.Programs.Conditions.{condition_size}
 
@@ -28,13 +28,13 @@ pub message_short : (scope : List Declaration) (l : Laid) (i : ℕ) (m : Option 
 message_short scope l i m = grind (arith, size-append, message_tail_size, tree_short)
 
 pub validations_short : (f : FailurePolicy) (scope : List Declaration) (l : Laid) (i : ℕ) (rs : List ValidationTree)
-    → size (validations_code f i (validation_codes scope l rs)) ≤ slots_per_node * sum_by rule_nodes rs
+    → size (validations_code f i (validation_codes scope l rs)) ≤ slots_per_node * sum_by validation_nodes rs
 unfolding validations_code
 validations_short f scope l i [] = omega arith
 validations_short f scope l i (r ∷ more) =
     let behind = before_message scope l r in
     let rest = validations_short f scope (with_message scope behind r.message) (i + 1) more in
-    omega (arith, size-append, result_size, tree_short, message_short scope behind i r.message, sum_by-cons rule_nodes r more)
+    omega (arith, size-append, result_size, tree_short, message_short scope behind i r.message, sum_by-cons validation_nodes r more)
 
 -- ---- places, and slots of routines
 
@@ -81,7 +81,7 @@ condition_tail_insns f = grind arith
 slots_few : {A : Type 0} (cs : List A) → decided_slots cs ≤ 5
 slots_few cs = grind arith
 
-denial_insns : (f : FailurePolicy) (i n : ℕ) → i < part_limit → n ≤ short_size → AreInsns (denial_code f i n)
+denial_insns : (f : FailurePolicy) (i n : ℕ) → i < part_limit → n ≤ branch_limit → AreInsns (denial_code f i n)
 unfolding denial_code
 denial_insns f i n low short = grind arith
 
@@ -89,7 +89,7 @@ message_tail_insns : (i : ℕ) → i < part_limit → AreInsns (message_tail i)
 unfolding message_tail
 message_tail_insns i low = (tt, (tt, (omega arith, ((omega arith, omega arith), (omega arith, (omega arith, tt))))))
 
-result_insns : (f : FailurePolicy) (i : ℕ) (message : List Insn) → i < part_limit → size message ≤ short_size → AreInsns message → AreInsns (result_code f i message)
+result_insns : (f : FailurePolicy) (i : ℕ) (message : List Insn) → i < part_limit → size message ≤ branch_limit → AreInsns message → AreInsns (result_code f i message)
 result_insns f i message low short insns = ((omega arith, omega arith), insns_append (denial_code f i (size message)) message (denial_insns f i (size message) low short) insns)
 
 outcome_tail_insns : AreInsns outcome_tail
@@ -174,11 +174,11 @@ message_inside : (scope : List Declaration) (l : Laid) (m : Option Tree) → (wi
 message_inside scope l m = grind (arith, tree_short)
 
 validations_insns : (f : FailurePolicy) (scope : List Declaration) (l : Laid) (i : ℕ) (rs : List ValidationTree) → AreValidations scope rs → Low l 0
-    → i + length rs ≤ part_limit → l.place + slots_per_node * sum_by rule_nodes rs ≤ slot_limit → AreInsns (validations_code f i (validation_codes scope l rs))
+    → i + length rs ≤ part_limit → l.place + slots_per_node * sum_by validation_nodes rs ≤ slot_limit → AreInsns (validations_code f i (validation_codes scope l rs))
 unfolding validations_code
 validations_insns f scope l i [] are low few inside = tt
 validations_insns f scope l i (r ∷ more) are low few inside =
-    let counted = sum_by-cons rule_nodes r more in
+    let counted = sum_by-cons validation_nodes r more in
     let long = tree_short scope l r.expression in
     let behind = before_message scope l r in
     let low_behind = same_low l behind refl low in
@@ -186,7 +186,7 @@ validations_insns f scope l i (r ∷ more) are low few inside =
     let long_message = message_short scope behind i r.message in
     let later = same_low behind (with_message scope behind r.message) (grind arith) low_behind in
     let far = message_inside scope behind r.message in
-    let small : size message ≤ short_size = omega (arith, counted, inside, long_message) in
+    let small : size message ≤ branch_limit = omega (arith, counted, inside, long_message) in
     insns_append (validation_code f i (tree_code scope l r.expression, message_codes scope behind r.message)) (validations_code f (i + 1) (validation_codes scope (with_message scope behind r.message) more))
     (insns_append (tree_code scope l r.expression) (result_code f i message)
     (tree_insns scope l r.expression are.0 low (omega (arith, counted, inside)))

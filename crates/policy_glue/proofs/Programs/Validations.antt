@@ -1,5 +1,5 @@
 -- The validations of a policy's program, one behind another, and its outcome.
-use Rattle.policy_glue.proofs.Prelude.{◌≡◌, ℕ, ◌+◌, ◌<◌, ◌%◌, ◌^◌, List, [], ◌∷◌, ◌++◌, length, length-append, None, Bool, true, false, refl, ap, ◌∙◌, sym, arith, true≢false, ◌≤◌, Some, Option, subst, append-nil, append_assoc, if◌then◌else◌, pos, map, option_map, ◌||◌, Insn, R1, R2, R0, R6, ValueOrError, error, value, null, boolean, int, text, list, CpuState, set_register, Context, IsWellFormedState, RunContext, RunsTo, IsCodeAt, size, set_verdict, verdict_address, verdict_at, add_is, differs_no, differs_yes, equal_no, equal_yes, alu, begins, jump, load_wide, no, yes, ask, mov, done, from_place, looser, and_then, to_place, first_result, part_limit, truth_word, IsMessageWord, first_message, finding_word, message_in, denial_code, error_way, result_code, message_tail, if_true, message_code, validation_code, validations_code, outcome_tail, Finding, CheckResult, Holds, Fails, Errs, denies, is_denial, truth_of, text_given, Denied, Admitted, FailurePolicy, cases_lt, kind_number, Names, Ne, W64, text_at, charge_limit, outcome_view, compares, Tells, answered, fits_registers, helpers, fits_told, names_error, small_reference, size-append, size-cons, stands_back, stands_front, MessageGives, Part, PartGives, ValidationPart, ValidationsGive, found, message_charge, message_size, message_steps, rule_charge, rule_code, rule_codes, rule_size, rule_steps, validations_charge, validations_steps, list_any, sum_by-cons}
+use Rattle.policy_glue.proofs.Prelude.{◌≡◌, ℕ, ◌+◌, ◌<◌, ◌%◌, ◌^◌, List, [], ◌∷◌, ◌++◌, length, length-append, None, Bool, true, false, refl, ap, ◌∙◌, sym, arith, true≢false, ◌≤◌, Some, Option, subst, append-nil, append_assoc, if◌then◌else◌, pos, map, option_map, ◌||◌, Insn, R1, R2, R0, R6, ValueOrError, error, value, null, boolean, int, text, list, CpuState, set_register, Context, IsWellFormedState, RunContext, RunsTo, IsCodeAt, size, set_verdict, verdict_address, verdict_at, add_is, differs_no, differs_yes, equal_no, equal_yes, alu, begins, jump, load_wide, no, yes, ask, mov, done, from_place, looser, and_then, to_place, first_result, part_limit, truth_word, IsMessageWord, first_message, finding_word, message_in, denial_code, error_way, result_code, message_tail, if_true, message_code, validation_code, validations_code, outcome_tail, Finding, CheckResult, Holds, Fails, Errs, denies, is_denial, truth_of, text_given, Denied, Admitted, FailurePolicy, cases_lt, kind_number, Names, Ne, W64, text_at, charge_limit, outcome_view, compares, Tells, answered, fits_registers, helpers, fits_told, names_error, small_reference, size-append, size-cons, stands_back, stands_front, MessageGives, Part, PartGives, ValidationPart, ValidationsGive, found, message_charge, message_size, message_steps, validation_charge, codes_of_validation, codes_of_validations, validation_size, validation_steps, validations_charge, validations_steps, list_any, sum_by-cons}
 use Rattle.value_store.specs.Value.{map as map_value}
 use Rattle.policy_glue.proofs.Programs.Words.{Judges, Marked, Marks, denials_stored, marks_registers, marks_told, result_stored, tested, message_stored, marks_shown, outcome_stored, load_verdict, put_verdict, store_verdict, count_more, count_of, count_small, message_none, message_of, result_of, message_last, get_last, get_other, none_more}
 use Rattle.policy_glue.proofs.Programs.Conditions.{part_runs, Ends}
@@ -186,7 +186,7 @@ module _ (s : RunContext) (c : Context) (f : FailurePolicy) (xs : List Finding) 
 -- the slots of validations
 abbrev pub rules_slots : List ValidationPart → ℕ
 rules_slots [] = 0
-rules_slots (r ∷ more) = rule_size r + rules_slots more
+rules_slots (r ∷ more) = validation_size r + rules_slots more
 
 -- what stands before the message of a validation
 abbrev pub result_front : FailurePolicy → ℕ → ℕ → List Insn
@@ -241,17 +241,17 @@ module _ (s : RunContext) (c : Context) (f : FailurePolicy) (xs : List Finding) 
       (and_then s (message_steps true m) (message_charge true m) (o + 10 + message_size m) (Marked c f 0 (xs ++ x ∷ [])) (denied s c f xs x few o code has v b judges truth denial) (λ b1 counted.
       message_given (o + 10) m b1 behind gives is counted))
 
-rule_code_size : (f : FailurePolicy) (i : ℕ) (r : ValidationPart) → size (validation_code f i (rule_code r)) ≡ rule_size r
+rule_code_size : (f : FailurePolicy) (i : ℕ) (r : ValidationPart) → size (validation_code f i (codes_of_validation r)) ≡ validation_size r
 rule_code_size f i r = grind (arith, size-append, result_size, message_code_size)
 
-pub rules_size : (f : FailurePolicy) (i : ℕ) (rules : List ValidationPart) → size (validations_code f i (rule_codes rules)) ≡ rules_slots rules
+pub rules_size : (f : FailurePolicy) (i : ℕ) (rules : List ValidationPart) → size (validations_code f i (codes_of_validations rules)) ≡ rules_slots rules
 unfolding validations_code
 rules_size f i [] = refl
 rules_size f i (r ∷ more) = grind (arith, rules_size f (i + 1) more, size-append, rule_code_size)
 
 module _ (s : RunContext) (c : Context) (f : FailurePolicy) where
   -- a validation, with its message
-  rule_runs : (xs : List Finding) (r : ValidationPart) (p : ℕ) (b : CpuState) → length xs < part_limit → IsCodeAt s.image.code p (validation_code f (length xs) (rule_code r)) → PartGives s c p r.expression → MessageGives s c (p + size r.expression.code + 10) (denies f (truth_of r.expression.value)) r.message → Marked c f 0 xs b → RunsTo s (rule_steps f r) (rule_charge f r) p b (p + rule_size r) (Marked c f 0 (xs ++ found f r ∷ []))
+  rule_runs : (xs : List Finding) (r : ValidationPart) (p : ℕ) (b : CpuState) → length xs < part_limit → IsCodeAt s.image.code p (validation_code f (length xs) (codes_of_validation r)) → PartGives s c p r.expression → MessageGives s c (p + size r.expression.code + 10) (denies f (truth_of r.expression.value)) r.message → Marked c f 0 xs b → RunsTo s (validation_steps f r) (validation_charge f r) p b (p + validation_size r) (Marked c f 0 (xs ++ found f r ∷ []))
   rule_runs xs r p b few has gives told marked =
       let e = r.expression in
       let q = p + size e.code in
@@ -259,27 +259,27 @@ module _ (s : RunContext) (c : Context) (f : FailurePolicy) where
       let code = result_code f (length xs) (message_code (length xs) (codes_in r.message)) in
       let behind = stands_back s.image.code p e.code code has in
       let Q = Marked c f 0 (xs ++ found f r ∷ []) in
-      looser s {n = e.steps + (8 + message_steps d r.message)} {x = e.charge + message_charge d r.message} (rule_steps f r) (rule_charge f r) (omega arith) (omega arith)
-      (to_place s (p + rule_size r) (omega arith)
+      looser s {n = e.steps + (8 + message_steps d r.message)} {x = e.charge + message_charge d r.message} (validation_steps f r) (validation_charge f r) (omega arith) (omega arith)
+      (to_place s (p + validation_size r) (omega arith)
       (and_then s (8 + message_steps d r.message) (message_charge d r.message) (q + 10 + message_size r.message) Q (part_runs s c f 0 p xs e b (stands_front s.image.code p e.code code has) gives marked) (λ b1 judges.
       result_runs s c f xs (found f r) few q r.message e.value d b1 behind told refl refl refl judges)))
 
   -- a row of them
   pub rules_run : (rules : List ValidationPart) (xs : List Finding) (p : ℕ) (b : CpuState) → length xs + length rules ≤ part_limit
-      → IsCodeAt s.image.code p (validations_code f (length xs) (rule_codes rules)) → ValidationsGive f s c p rules → Marked c f 0 xs b
+      → IsCodeAt s.image.code p (validations_code f (length xs) (codes_of_validations rules)) → ValidationsGive f s c p rules → Marked c f 0 xs b
       → RunsTo s (validations_steps f rules) (validations_charge f rules) p b (p + rules_slots rules) (Marked c f 0 (xs ++ map (found f) rules))
   unfolding validations_code
   rules_run [] xs p b few has gives marked =
       to_place s (p + 0) (omega arith) (done s p b (Marked c f 0 (xs ++ [])) (subst (λ (ys : List Finding). Marked c f 0 ys b) (sym (append-nil xs)) marked))
   rules_run (r ∷ more) xs p b few has gives marked =
-      let first = validation_code f (length xs) (rule_code r) in
-      let rest = validations_code f (length xs + 1) (rule_codes more) in
-      let next = p + rule_size r in
+      let first = validation_code f (length xs) (codes_of_validation r) in
+      let rest = validations_code f (length xs + 1) (codes_of_validations more) in
+      let next = p + validation_size r in
       let ys = xs ++ found f r ∷ [] in
       let longer : length ys ≡ length xs + 1 = length-append xs (found f r ∷ []) in
       let joined : ys ++ map (found f) more ≡ xs ++ map (found f) (r ∷ more) = append_assoc xs (found f r ∷ []) (map (found f) more) in
       let has_rest : IsCodeAt s.image.code next rest = subst (λ (n : ℕ). IsCodeAt s.image.code (p + n) rest) (rule_code_size f (length xs) r) (stands_back s.image.code p first rest has) in
-      let has_more = subst (λ (i : ℕ). IsCodeAt s.image.code next (validations_code f i (rule_codes more))) (sym longer) has_rest in
+      let has_more = subst (λ (i : ℕ). IsCodeAt s.image.code next (validations_code f i (codes_of_validations more))) (sym longer) has_rest in
       let Q = Marked c f 0 (xs ++ map (found f) (r ∷ more)) in
       to_place s (p + rules_slots (r ∷ more)) (omega arith)
       (and_then s (validations_steps f more) (validations_charge f more) (next + rules_slots more) Q (rule_runs xs r p b (omega arith) (stands_front s.image.code p first rest has) gives.0 gives.1 marked) (λ b1 marked1.

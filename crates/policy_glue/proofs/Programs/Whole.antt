@@ -1,5 +1,5 @@
 -- The code of a policy, from its start to its exit.
-use Rattle.policy_glue.proofs.Prelude.{◌≡◌, ℕ, ◌+◌, ◌<◌, ◌≤◌, List, [], ◌∷◌, ◌++◌, length, Option, Some, None, true, refl, ap, ◌∙◌, subst, sym, arith, append_assoc, All, map, pos, if◌then◌else◌, list_any, ints, start_memory, Insn, Exit, Contents, ValueOrError, Roots, DecodesSpelling, fetched, State, state_after, Frame, CpuState, Context, HasValues, RunContext, RunsTo, ExitsOrRunsOut, ja, IsCodeAt, size, start_body, bindings, scope_setting, routine_context, comes_to_exit, size-append, size-cons, stands_back, stands_first, stands_front, stands_rest, halts_into, start_fits, start_is, steps-most, word_in-zeros, and_then, done, looser, to_place, spelled_stands, is_running, part_limit, conditions_code, decided_code, outcome_tail, policy_code, routines_code, validations_code, LeavesVerdict, PolicyDecides, conditions_place, program_charge, program_steps, validations_place, ConditionsGive, Part, ValidationPart, ValidationsGive, codes_of, conditions_charge, conditions_steps, found, rule_codes, rules_given, validations_charge, validations_steps, values_given, Denied, Admitted, Finding, Outcome, Verdict, decided, decided_before, finding_of, is_denial, judged_by, truth_of, verdict_of, FailurePolicy}
+use Rattle.policy_glue.proofs.Prelude.{◌≡◌, ℕ, ◌+◌, ◌<◌, ◌≤◌, List, [], ◌∷◌, ◌++◌, length, Option, Some, None, true, refl, ap, ◌∙◌, subst, sym, arith, append_assoc, All, map, pos, if◌then◌else◌, list_any, ints, start_memory, Insn, Exit, Contents, ValueOrError, Roots, DecodesSpelling, fetched, State, state_after, Frame, CpuState, Context, HasValues, RunContext, RunsTo, ExitsOrRunsOut, ja, IsCodeAt, size, start_body, bindings, scope_setting, routine_context, comes_to_exit, size-append, size-cons, stands_back, stands_first, stands_front, stands_rest, halts_into, start_fits, start_is, steps-most, word_in-zeros, and_then, done, looser, to_place, spelled_stands, is_running, part_limit, conditions_code, decided_code, outcome_tail, policy_code, routines_code, validations_code, LeavesVerdict, PolicyDecides, conditions_place, program_charge, program_steps, validations_place, ConditionsGive, Part, ValidationPart, ValidationsGive, codes_of, conditions_charge, conditions_steps, found, codes_of_validations, values_of_validations, validations_charge, validations_steps, values_given, Denied, Admitted, Finding, Outcome, Verdict, decided, decided_before, finding_of, is_denial, judged_by, truth_of, verdict_of, FailurePolicy}
 use Rattle.loader.specs.Contents as loader
 use Rattle.expression_code.proofs.Steps as step
 use Rattle.policy_glue.proofs.Programs.Conditions.{Ends, Exits, conditions_end, conditions_pass, decided_size, truths_of}
@@ -12,7 +12,7 @@ truths_are : (parts : List Part) → map truth_of (values_given parts) ≡ truth
 truths_are [] = refl
 truths_are (a ∷ more) = ap (λ ts. truth_of a.value ∷ ts) (truths_are more)
 
-findings_are : (f : FailurePolicy) (rules : List ValidationPart) → map (finding_of f) (rules_given rules) ≡ map (found f) rules
+findings_are : (f : FailurePolicy) (rules : List ValidationPart) → map (finding_of f) (values_of_validations rules) ≡ map (found f) rules
 findings_are f [] = refl
 findings_are f (r ∷ more) = ap (λ (xs : List Finding). found f r ∷ xs) (findings_are f more)
 
@@ -20,7 +20,7 @@ findings_are f (r ∷ more) = ap (λ (xs : List Finding). found f r ∷ xs) (fin
 abbrev verdict : FailurePolicy → List Part → List ValidationPart → Verdict
 verdict f conditions rules = decided (decided_before f (truths_of conditions)) (judged_by f (map (found f) rules))
 
-verdict_is : (f : FailurePolicy) (conditions : List Part) (rules : List ValidationPart) → verdict_of f (values_given conditions) (rules_given rules) ≡ verdict f conditions rules
+verdict_is : (f : FailurePolicy) (conditions : List Part) (rules : List ValidationPart) → verdict_of f (values_given conditions) (values_of_validations rules) ≡ verdict f conditions rules
 unfolding verdict_of
 verdict_is f conditions rules = grind (arith, truths_are, truths_of, findings_are)
 
@@ -40,7 +40,7 @@ routines_pass s (routine ∷ more) p b has =
 
 -- ---- from the first slot to an exit
 
-module _ (s : RunContext) (c : Context) (f : FailurePolicy) (routines : List (List Insn)) (conditions : List Part) (rules : List ValidationPart) (few : length rules ≤ part_limit) (b : CpuState) (marked : Marked c f 0 [] b) (has : IsCodeAt s.image.code 0 (policy_code f routines (codes_of conditions) (rule_codes rules) ++ Exit ∷ [])) (gives_conditions : ConditionsGive s c (conditions_place routines) conditions) (gives_rules : is_running (decided_before f (truths_of conditions)) ≡ true → ValidationsGive f s c (validations_place f routines conditions) rules) where
+module _ (s : RunContext) (c : Context) (f : FailurePolicy) (routines : List (List Insn)) (conditions : List Part) (rules : List ValidationPart) (few : length rules ≤ part_limit) (b : CpuState) (marked : Marked c f 0 [] b) (has : IsCodeAt s.image.code 0 (policy_code f routines (codes_of conditions) (codes_of_validations rules) ++ Exit ∷ [])) (gives_conditions : ConditionsGive s c (conditions_place routines) conditions) (gives_rules : is_running (decided_before f (truths_of conditions)) ≡ true → ValidationsGive f s c (validations_place f routines conditions) rules) where
   abbrev code : List ℕ
   code = s.image.code
 
@@ -51,7 +51,7 @@ module _ (s : RunContext) (c : Context) (f : FailurePolicy) (routines : List (Li
   decide = decided_code (codes_of conditions)
 
   abbrev rules_row : List Insn
-  rules_row = validations_code f 0 (rule_codes rules)
+  rules_row = validations_code f 0 (codes_of_validations rules)
 
   abbrev running : List Insn
   running = rules_row ++ outcome_tail
@@ -130,7 +130,7 @@ module _ (s : RunContext) (c : Context) (f : FailurePolicy) (routines : List (Li
         here = end.here;
       }
 
-  pub policy_ends : let v = verdict_of f (values_given conditions) (rules_given rules) in Exits s (program_steps f routines conditions rules) (program_charge f conditions rules) 0 b (Ends c f v.outcome v.findings)
+  pub policy_ends : let v = verdict_of f (values_given conditions) (values_of_validations rules) in Exits s (program_steps f routines conditions rules) (program_charge f conditions rules) 0 b (Ends c f v.outcome v.findings)
   policy_ends = grind (arith, verdict_is, truths_are, ends_by, truths_of)
 
 -- ---- from the start
@@ -156,9 +156,9 @@ pub policy_decides : DecodesSpelling → PolicyDecides
 policy_decides law image deep values roots scope f routines conditions rules after m code bytes constants insns table few gives_conditions gives_rules more =
     let s = scope_setting image deep scope in
     let c = routine_context roots (bindings scope) image.constants in
-    let v = verdict_of f (values_given conditions) (rules_given rules) in
+    let v = verdict_of f (values_given conditions) (values_of_validations rules) in
     let start = start_body image values in
-    let whole = policy_code f routines (codes_of conditions) (rule_codes rules) ++ Exit ∷ [] in
+    let whole = policy_code f routines (codes_of conditions) (codes_of_validations rules) ++ Exit ∷ [] in
     let n = program_steps f routines conditions rules in
     let x = program_charge f conditions rules in
     let stands : IsCodeAt image.code 0 whole = subst (λ (bs : List ℕ). IsCodeAt bs 0 whole) (sym code) (spelled_stands law [] after whole 0 refl (subst (λ (bs : List ℕ). All (λ b. b < 256) bs) code bytes) insns) in

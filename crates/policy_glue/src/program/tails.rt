@@ -15,7 +15,7 @@ use expression_code::helpers::{KIND, TEXT_KIND};
 use expression_code::instructions::{
     add, call, jump_if_imm, lddw, load_at, mov_imm, mov_reg, store_at,
 };
-use expression_code::references::{NO, YES};
+use expression_code::references::{FALSE, TRUE};
 use guest_memory::VERDICT;
 use insn_codec::{Comparison, Insn, Register, Size};
 
@@ -52,10 +52,10 @@ pub(super) fn condition_tail(failure_policy: FailurePolicy) -> [Insn; 8]
     ensures { result ≡ specs.condition_tail failure_policy }
 {
     [
-        jump_if_imm(Comparison::Eq, R0, YES, 8),
+        jump_if_imm(Comparison::Eq, R0, TRUE, 8),
         mov_imm(R2, undecided(failure_policy)),
         verdict_word(0),
-        jump_if_imm(Comparison::Ne, R0, NO, 3),
+        jump_if_imm(Comparison::Ne, R0, FALSE, 3),
         mov_imm(R0, SKIPPED as i32),
         store_at(R1, R0),
         Insn::Exit,
@@ -80,7 +80,7 @@ pub(super) fn if_true(slots: u64) -> Insn
     requires { slots < jump_limit }
     ensures { result ≡ specs.if_true slots }
 {
-    jump_if_imm(Comparison::Eq, R0, YES, slots as usize)
+    jump_if_imm(Comparison::Eq, R0, TRUE, slots as usize)
 }
 
 /// Where an error goes: to the count of the denials, or past so many slots where it does not deny.
@@ -116,7 +116,7 @@ pub(super) fn denial_code(failure_policy: FailurePolicy, i: usize) -> [Insn; 8]
 {
     [
         verdict_word(DENIALS),
-        jump_if_imm(Comparison::Eq, R0, NO, 2),
+        jump_if_imm(Comparison::Eq, R0, FALSE, 2),
         put_result(i, ERRS as i32),
         leave_error(failure_policy, DENIAL_SLOTS - LEAVE_SLOT),
         put_result(i, FAILS as i32),

@@ -1,7 +1,7 @@
 //! From the words of a command line to the order that they give.
 ghost use Rattle.std.specs.Prelude.{map, IfOk};
 ghost use Rattle.clap.specs.Words.{found_of, rows_of};
-ghost use Rattle.review_runner.specs.Order.{assemble_in, compile_in, debug_in, list_in, order_view, review_in, run_image_in, task_named};
+ghost use Rattle.review_runner.specs.Order.{assemble_in, compile_in, debug_in, list_in, order_view, review_in, run_image_in, order_named};
 ghost use Rattle.review_runner.specs.Order.{CommandReturns, IsWithinLimits, OrderReturns};
 
 use crate::command_line::commands::celbpf_matches;
@@ -77,7 +77,7 @@ fn debug_order(alloc: Global, matches: &ArgMatches) -> Result<Order, OrderError>
 
 // the order of the command `name`: the last command answers to every name that is left
 fn order_named(alloc: Global, name: &str, matches: &ArgMatches) -> Result<Order, OrderError>
-    ensures { CommandReturns (task_named name.now (rows_of (found_of matches.now))) result }
+    ensures { CommandReturns (order_named name.now (rows_of (found_of matches.now))) result }
 {
     match name {
         "compile" => compile_order(alloc, matches),

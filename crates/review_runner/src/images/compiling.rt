@@ -4,7 +4,7 @@ ghost use Rattle.policy_glue.specs.OneImage.{OneImage};
 ghost use Rattle.review_runner.specs.Making.{MadeBy};
 ghost use Rattle.review_runner.specs.declared.images.source_kind.SourceKind.TheVariants.{PolicyDocument};
 
-use admission::compiled;
+use admission::compile_document;
 use cli::Refusal;
 use std::alloc::Global;
 
@@ -12,7 +12,7 @@ use std::alloc::Global;
 pub fn compiled_file(alloc: Global, document: &[u8]) -> Result<Vec<u8>, Refusal>
     ensures { MadeBy OneImage PolicyDocument (Ok document.now) result }
 {
-    let compiled = compiled(alloc, document)?;
+    let compiled = compile_document(alloc, document)?;
     let file = compiled.image.write()?;
     Ok(file)
 }

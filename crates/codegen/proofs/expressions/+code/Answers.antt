@@ -34,7 +34,7 @@ list-loop-item-preserved t c =
     let some = ap (λ l. nodes_of (cores (map core_view l))) rest in
     let most = ap (λ l. needs (cores (map core_view l))) rest in
     record {
-      so_far = item_more _ _ _ _ _ c.args.parts.now c.loop-item.item-index c.item-item.result c.loop-item.items.items c.add_item.new.items.items c.in_ok-code.code.items _ c.in_ok-code.slots c.loop-item-test.true c.item-item.is c.in_ok-code.ensures.code c.in_ok-code.ensures.slots (c.in_ok-add_item.ensures ∙ ap (λ l. c.loop-item.items.items ++ item_code l c.args.spot.word) c.deref.ensures.value) c.loop-item.invariant.so_far;
+      so_far = item_more _ _ _ _ _ c.args.parts.now c.loop-item.item-index c.item-item.result c.loop-item.items.items c.add_item.new.items.items c.in_ok-code.code.items _ c.in_ok-code.slots c.loop-item-test.true c.item-item.is c.in_ok-code.ensures.code c.in_ok-code.ensures.slots (c.in_ok-add_item.ensures ∙ ap (λ l. c.loop-item.items.items ++ item_code l c.args.position.word) c.deref.ensures.value) c.loop-item.invariant.so_far;
       room = omega arith;
       fewer = omega arith;
       near = omega (arith, c.in_ok-code.ensures.short);
@@ -47,7 +47,7 @@ map-loop-key-preserved t c =
     let some = ap (λ l. entries_nodes (core_entries (map core_pair l))) rest in
     let most = ap (λ l. entries_need (core_entries (map core_pair l))) rest in
     record {
-      so_far = entry_more _ _ _ _ _ c.args.pairs.now c.loop-key.key-index c.loop-key-item.result c.loop-key.entries.items c.add_entry.new.entries.items c.in_ok-first.first.items c.in_ok-second.second.items _ c.in_ok-first.slots c.in_ok-second.slots c.loop-key-test.true c.loop-key-item.is c.in_ok-first.ensures.code c.in_ok-first.ensures.slots c.in_ok-second.ensures.code c.in_ok-second.ensures.slots (c.in_ok-add_entry.ensures ∙ (λ j. c.loop-key.entries.items ++ entry_code (c.deref.ensures.value j) (c.deref-in-loop-key.ensures.value j) c.args.spot.word)) c.loop-key.invariant.so_far;
+      so_far = entry_more _ _ _ _ _ c.args.pairs.now c.loop-key.key-index c.loop-key-item.result c.loop-key.entries.items c.add_entry.new.entries.items c.in_ok-first.first.items c.in_ok-second.second.items _ c.in_ok-first.slots c.in_ok-second.slots c.loop-key-test.true c.loop-key-item.is c.in_ok-first.ensures.code c.in_ok-first.ensures.slots c.in_ok-second.ensures.code c.in_ok-second.ensures.slots (c.in_ok-add_entry.ensures ∙ (λ j. c.loop-key.entries.items ++ entry_code (c.deref.ensures.value j) (c.deref-in-loop-key.ensures.value j) c.args.position.word)) c.loop-key.invariant.so_far;
       room = omega arith;
       fewer = omega arith;
       near = omega (arith, c.in_ok-first.ensures.short, c.in_ok-second.ensures.short);

@@ -47,28 +47,28 @@ decreases-fold_map l = 5 * nodes (core.fold_map l.over.name.now (core_view l.ove
 
 abbrev pub invariant-list-loop-item : goal.invariant-list-loop-item
 invariant-list-loop-item l =
-    let ts = texts_within l.spot.around.now in
-    let rs = routines_within l.spot.around.now in
-    let ws = words_of l.spot.words.now in
+    let ts = texts_within l.position.around.now in
+    let rs = routines_within l.position.around.now in
+    let ws = words_of l.position.words.now in
     let all = cores (list.map core_view l.parts) in
     let rest = cores (list.map core_view (drop l.item-index l.parts)) in
     record {
-      so_far : l.items.items ++ items_code rest ts rs ws l.spot.word l.slot ≡ items_code all ts rs ws l.spot.word (l.spot.slot + 2);
-      room : l.spot.word + 1 + needs rest ≤ word_limit;
+      so_far : l.items.items ++ items_code rest ts rs ws l.position.word l.slot ≡ items_code all ts rs ws l.position.word (l.position.slot + 2);
+      room : l.position.word + 1 + needs rest ≤ word_limit;
       fewer : nodes_of rest ≤ nodes_of all;
       near : l.slot + part_slots_per_node * nodes_of rest ≤ slot_reach;
     }
 
 abbrev pub invariant-map-loop-key : goal.invariant-map-loop-key
 invariant-map-loop-key l =
-    let ts = texts_within l.spot.around.now in
-    let rs = routines_within l.spot.around.now in
-    let ws = words_of l.spot.words.now in
+    let ts = texts_within l.position.around.now in
+    let rs = routines_within l.position.around.now in
+    let ws = words_of l.position.words.now in
     let all = core_entries (list.map core_pair l.pairs) in
     let rest = core_entries (list.map core_pair (drop l.key-index l.pairs)) in
     record {
-      so_far : l.entries.items ++ entries_code rest ts rs ws l.spot.word l.slot ≡ entries_code all ts rs ws l.spot.word (l.spot.slot + 2);
-      room : l.spot.word + entries_need rest ≤ word_limit;
+      so_far : l.entries.items ++ entries_code rest ts rs ws l.position.word l.slot ≡ entries_code all ts rs ws l.position.word (l.position.slot + 2);
+      room : l.position.word + entries_need rest ≤ word_limit;
       fewer : entries_nodes rest ≤ entries_nodes all;
       near : l.slot + part_slots_per_node * entries_nodes rest ≤ slot_reach;
     }

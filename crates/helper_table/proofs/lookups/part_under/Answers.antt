@@ -4,12 +4,12 @@ use Rattle.helper_table.proofs.Seeing.{worded}
 use Rattle.helper_table.proofs.lookups.part_under.Goals as goal
 
 pub returns-in-Some-clause-means : goal.returns-in-Some-clause-means
-returns-in-Some-clause-means g c = rw (c.free.ensures.action, c.free.ensures.added) (ap found (part_is_value _ _ _ c.in-Some.ensures))
+returns-in-Some-clause-means g c = rw (c.free.ensures.placement, c.free.ensures.added) (ap found (part_is_value _ _ _ c.in-Some.ensures))
 
 pub returns-in-Some-clause-can : goal.returns-in-Some-clause-can
-returns-in-Some-clause-can g c = rw c.free.ensures.action (part_is_there _ _ _ c.in-Some.ensures)
+returns-in-Some-clause-can g c = rw c.free.ensures.placement (part_is_there _ _ _ c.in-Some.ensures)
 
 pub returns-in-None-clause-means : goal.returns-in-None-clause-means
 returns-in-None-clause-means g c =
-    worded _ _ _ _ c.word.ensures.action c.word.ensures.added
+    worded _ _ _ _ c.word.ensures.placement c.word.ensures.added
     ∙ sym (ap found (no_value c.args.key.now (entries_at (slice_get (g.V.ValueStore.values c.args.table.now) c.args.m)) c.in-None.ensures))

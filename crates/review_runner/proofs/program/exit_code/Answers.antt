@@ -6,4 +6,4 @@ pub returns-in-Ok : goal.returns-in-Ok
 returns-in-Ok g c = closes _ _ _ _ _ c.in-Ok.done _ c.in-Ok.ensures c.left.ensures.status c.left.ensures.says
 
 pub returns-in-Err : goal.returns-in-Err
-returns-in-Err g c = record { ending = Err _; does = c.in-Err.ensures; status_is = c.ended.ensures.status; says = c.ended.ensures.says }
+returns-in-Err g c = record { ending = Err _; does = c.in-Err.ensures; status_is = c.exit_with.ensures.status; says = c.exit_with.ensures.says }

@@ -17,6 +17,6 @@ returns c =
     let runs = rw (← c.self.view_is) at c.in_ok-machine.ensures.runs in
     rw (← c.self.view_is)
     (record {
-      says = λ d of given. said_so _ _ _ _ (exits d c.args.uid.now of given) c.in_ok-said.ensures;
+      says = λ d of given. said_so _ _ _ _ (exits d c.args.uid.now of given) c.in_ok-decision_of_verdict.ensures;
       runs = λ d of given. runs d c.args.uid.now of given;
     })

@@ -5,7 +5,7 @@ use Rattle.debugger.proofs.conversation.ConversationListener.hear.Goals as goal
 pub returns-in-Ok-clause-on : goal.returns-in-Ok-clause-on
 returns-in-Ok-clause-on g c on start before heard h =
     let said = rw (h.0, c.as_slice-line.ensures.value) at c.in-Ok.ensures.heard in
-    (c.hear_line.ensures.origin ∙ h.0, rw c.clear.ensures (going_line h.1 _ _ c.requires c.keep_start.ensures _ _ _ _ said (cc)))
+    (c.write_answer.ensures.origin ∙ h.0, rw c.clear.ensures (going_line h.1 _ _ c.requires c.keep_start.ensures _ _ _ _ said (cc)))
 
 pub returns-in-Ok-clause-over : goal.returns-in-Ok-clause-over
 returns-in-Ok-clause-over g c over start before heard h =

@@ -9,7 +9,7 @@ use Rattle.value_store.specs.declared.shape.Shape.{Shape}
 use Rattle.value_store.specs.Value.{Value, int, text, list, map, no_items, no_entries, ValueOrError}
 use Rattle.helper_table.specs.Outcome.{RowOutcome, Plain, Named, Refused, named}
 use Rattle.helper_table.specs.declared.placement.Placement.{Placement}
-use Rattle.helper_table.specs.declared.placement.Placement.TheVariants as action
+use Rattle.helper_table.specs.declared.placement.Placement.TheVariants as placement
 use Rattle.helper_table.specs.declared.helper_effect.HelperEffect.{HelperEffect}
 
 -- an operand is seen; where its reference is none, that is the fault
@@ -19,36 +19,36 @@ Sees (Err f) o = (f ≡ F6) × (o ≡ None)
 
 -- the value that a placement places among these values
 abbrev pub value_by : List ValueOrError → Placement → Option Value
-value_by vs (action.Word w) = None
-value_by vs (action.Int n) = Some (int n)
-value_by vs (action.Text s) = Some (text s.now)
-value_by vs (action.Decimal n) = Some (text (signed_decimal n))
-value_by vs (action.Part h i) = part_at (slice_get vs h) i
-value_by vs (action.Key h i) = key_at (slice_get vs h) i
-value_by vs (action.Join a b) = joined (slice_get vs a) (slice_get vs b)
-value_by vs action.List = Some (list no_items)
-value_by vs action.Map = Some (map no_entries)
-value_by vs (action.Push l x) = pushed (slice_get vs l) (slice_get vs x)
-value_by vs (action.Put m k x) = put_in (slice_get vs m) (slice_get vs k) (slice_get vs x)
+value_by vs (placement.Word w) = None
+value_by vs (placement.Int n) = Some (int n)
+value_by vs (placement.Text s) = Some (text s.now)
+value_by vs (placement.Decimal n) = Some (text (signed_decimal n))
+value_by vs (placement.Part h i) = part_at (slice_get vs h) i
+value_by vs (placement.Key h i) = key_at (slice_get vs h) i
+value_by vs (placement.Join a b) = joined (slice_get vs a) (slice_get vs b)
+value_by vs placement.List = Some (list no_items)
+value_by vs placement.Map = Some (map no_entries)
+value_by vs (placement.Push l x) = pushed (slice_get vs l) (slice_get vs x)
+value_by vs (placement.Put m k x) = put_in (slice_get vs m) (slice_get vs k) (slice_get vs x)
 
 -- what a row says where this is to be done
 abbrev pub outcome_by : List ValueOrError → Placement → ℕ → RowOutcome
-outcome_by vs (action.Word w) added = Plain w added
+outcome_by vs (placement.Word w) added = Plain w added
 outcome_by vs a added = named (value_by vs a) added
 
 -- what a row says if its effect is so, or is the fault
 abbrev pub means : List ValueOrError → Result HelperEffect Fault → RowOutcome
-means vs (Ok plan) = outcome_by vs plan.action plan.added
+means vs (Ok effect) = outcome_by vs effect.placement effect.added
 means vs (Err f) = Refused f
 
 -- what a placement places is there
 abbrev pub CanDo : List ValueOrError → Placement → Type 0
-CanDo vs (action.Word w) = Unit {0}
+CanDo vs (placement.Word w) = Unit {0}
 CanDo vs a = IsSome (value_by vs a)
 
 -- what an effect places is there
 abbrev pub CanFollow : List ValueOrError → Result HelperEffect Fault → Type 0
-CanFollow vs (Ok plan) = CanDo vs plan.action
+CanFollow vs (Ok effect) = CanDo vs effect.placement
 CanFollow vs (Err f) = Unit {0}
 
 -- the word is answered, or the value placed; a plain word needs no memory

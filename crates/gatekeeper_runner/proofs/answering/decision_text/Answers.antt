@@ -1,6 +1,6 @@
 use Rattle.gatekeeper_runner.proofs.Prelude.{◌∙◌, ap, option_map, rejection_view, response_text, IfOk-weaker}
 use Rattle.gatekeeper_runner.proofs.OneLine.{all_said, one_refused, refuses}
-use Rattle.gatekeeper_runner.proofs.answering.decision.Goals as goal
+use Rattle.gatekeeper_runner.proofs.answering.decision_text.Goals as goal
 
 pub returns-in-Ok : goal.returns-in-Ok
 returns-in-Ok c = IfOk-weaker c.response_text.result _ _ (λ text is policies are some short. all_said _ _ _ _ some short (c.in-Ok.ensures policies are) (is ∙ ap (response_text (option_map rejection_view c.in-Ok.said.rejection)) c.as_str.ensures.value)) c.response_text.ensures

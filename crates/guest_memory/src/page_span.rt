@@ -2,7 +2,7 @@
 
 /// Where an access is in a region of pages.
 #[derive(Drop)]
-pub enum Spot {
+pub enum PageSpan {
     /// All of its bytes are in one page.
     Within {
         /// The number of the page.

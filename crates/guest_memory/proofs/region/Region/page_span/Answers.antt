@@ -1,7 +1,7 @@
 use Rattle.guest_memory.proofs.Prelude.{arith, refl}
 use Rattle.guest_memory.proofs.Places.{place_beyond, place_in_page}
 use Rattle.guest_memory.proofs.Reading.{some_bytes}
-use Rattle.guest_memory.proofs.region.Region.spot.Goals as goal
+use Rattle.guest_memory.proofs.region.Region.page_span.Goals as goal
 
 pub returns-then-page-len : goal.returns-then-page-len
 returns-then-page-len g c =

@@ -1,5 +1,5 @@
 use Rattle.gatekeeper_runner.proofs.Prelude.{of_one, gatekeeper_of, under}
-use Rattle.gatekeeper_runner.proofs.gatekeeper.Gatekeeper.say_by.Goals as goal
+use Rattle.gatekeeper_runner.proofs.gatekeeper.Gatekeeper.decision_by.Goals as goal
 
 pub returns : goal.returns
 returns c policies policy review of given =

@@ -2,13 +2,13 @@ use Rattle.value_store.specs.Placing.{Contents}
 use Rattle.value_table.specs.declared.table.Table.{Table}
 use Rattle.gatekeeper_runner.proofs.Prelude.{Global, String, refl, ◌∙◌, arith, none, gatekeeper_of, is_err}
 use Rattle.gatekeeper_runner.proofs.Saying.{all_said, are_given, first_refuses, none_said, refused_at, said_more}
-use Rattle.gatekeeper_runner.proofs.gatekeeper.Gatekeeper.say.Goals as goal
+use Rattle.gatekeeper_runner.proofs.gatekeeper.Gatekeeper.decision.Goals as goal
 
 pub loop-gate-init : goal.loop-gate-init
-loop-gate-init c policies are = rw c.unsaid-said.ensures none
+loop-gate-init c policies are = rw c.no_decision-said.ensures none
 
 pub returns-then-is_empty : goal.returns-then-is_empty
-returns-then-is_empty c policies are = rw c.unsaid-said.ensures (none_said (gatekeeper_of policies c.args.self.now) c.args.review.now policies c.args.self.now.gates.items refl are (grind arith))
+returns-then-is_empty c policies are = rw c.no_decision-said.ensures (none_said (gatekeeper_of policies c.args.self.now) c.args.review.now policies c.args.self.now.gates.items refl are (grind arith))
 
 pub returns-in_err-table : goal.returns-in_err-table
 returns-in_err-table c policies are =

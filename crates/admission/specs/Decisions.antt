@@ -14,24 +14,24 @@ pub record Decision : Type 0 where
   pub uid : List ℕ
 
 -- what the code says
-abbrev pub said_value : CodeDecision → Decision
-said_value x = record { rejection = option_map rejection_view x.rejection; uid = string_bytes x.uid }
+abbrev pub decision_value : CodeDecision → Decision
+decision_value x = record { rejection = option_map rejection_view x.rejection; uid = string_bytes x.uid }
 
 -- the same of what the code answers
-abbrev pub said_view : Result CodeDecision RunError → Result Decision RunError
-said_view (Ok x) = Ok (said_value x)
-said_view (Err e) = Err e
+abbrev pub decision_view : Result CodeDecision RunError → Result Decision RunError
+decision_view (Ok x) = Ok (decision_value x)
+decision_view (Err e) = Err e
 
 -- what a verdict says to the request with this uid
-abbrev pub said_of : Policy → Verdict → List ℕ → Decision
-said_of p v uid = record { rejection = rejection_of p v; uid = uid }
+abbrev pub decision_from_verdict : Policy → Verdict → List ℕ → Decision
+decision_from_verdict p v uid = record { rejection = rejection_of p v; uid = uid }
 
 -- this is what the policy's verdict says
-pub record IsSaid (d : Documents) (said : Decision) : Type 0 where
+pub record IsDecisionOf (d : Documents) (said : Decision) : Type 0 where
   pub case : Case d
-  pub said_is : said ≡ said_of case.policy.rules (decision case) (uid_in d.review)
+  pub decision_is : said ≡ decision_from_verdict case.policy.parsed (decision case) (uid_in d.review)
 
 -- what the policy says of a review, or why the review has no response
 abbrev pub DecidesReview : Documents → ℕ → Result Decision RunError → Type 0
-DecidesReview d n (Ok said) = IsSaid d said
+DecidesReview d n (Ok said) = IsDecisionOf d said
 DecidesReview d n (Err e) = HasNoResponse d n e

@@ -1,4 +1,4 @@
-use Rattle.helper_table.proofs.calling.plan_of.Goals as goal
+use Rattle.helper_table.proofs.calling.effect_of.Goals as goal
 
 pub returns-in-IntNew-clause-can : goal.returns-in-IntNew-clause-can
 returns-in-IntNew-clause-can g c = c.int_new.ensures.can _
