@@ -110,7 +110,7 @@ impl Gate {
     /// # Errors
     ///
     /// The first refusal, as `decide_on` has them.
-    pub fn say_on(&self, table: Table, uid: &str, n: u64) -> Result<Decision, RunError>
+    pub fn decision_on(&self, table: Table, uid: &str, n: u64) -> Result<Decision, RunError>
         ensures says { (d : Documents) → IsPolicyOf d.policy self.now → AreGiven d (record { values = ⟦<Table as ValueStore>⟧.values table; charge = ⟦<Table as ValueStore>⟧.charge table }) uid.now → DecidesReview d n (decision_view result) }
         ensures runs { (d : Documents) → IsPolicyOf d.policy self.now → AreGiven d (record { values = ⟦<Table as ValueStore>⟧.values table; charge = ⟦<Table as ValueStore>⟧.charge table }) uid.now → RunAgrees (exactly self.now.image) d n (decision_view result) }
     {

@@ -29,7 +29,7 @@ routines_within around = routines_of (map declaration around.variables.now) arou
 abbrev pub piece_of : Core → EmitPosition → List Insn
 piece_of e position = code_of e (texts_within position.around.now) (routines_within position.around.now) (words_of position.words.now) position.word position.slot
 
--- the spot of a right operand behind a left one, which is kept where it is no leaf
+-- the position of a right operand behind a left one, which is kept where it is no leaf
 abbrev pub behind_kept : EmitPosition → Option SimpleOperand → List Insn → EmitPosition
 behind_kept position leaf left = record position { word = position.word + 1; slot = position.slot + kept_size leaf left }
 

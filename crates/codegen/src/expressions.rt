@@ -49,7 +49,11 @@ fn leaf_of(core: &Core, words: &FrameWords) -> Option<SimpleOperand>
 /// A part, and how many slots it takes.
 #[cycle(code)]
 #[tactic(auto, using(crate::proofs::Walks::near_code))]
-fn part(alloc: Global, core: &Core, position: EmitPosition) -> Result<(Vec<Insn>, usize), AllocError>
+fn part(
+    alloc: Global,
+    core: &Core,
+    position: EmitPosition,
+) -> Result<(Vec<Insn>, usize), AllocError>
     requires { HasFrameRoom (core_view core.now) position }
     ensures code { IfOk result (λ part. part.0.items ≡ piece_of (core_view core.now) position.entry) }
     ensures slots { IfOk result (λ part. part.1 ≡ size_of_piece part.0.items) }
@@ -132,7 +136,13 @@ fn index(alloc: Global, of: &Core, at: &Core, position: EmitPosition) -> Code
 
 /// An operator of two operands.
 #[cycle(code)]
-fn binary(alloc: Global, op: BinaryOperator, left: &Core, right: &Core, position: EmitPosition) -> Code
+fn binary(
+    alloc: Global,
+    op: BinaryOperator,
+    left: &Core,
+    right: &Core,
+    position: EmitPosition,
+) -> Code
     requires { HasFrameRoom (core.binary op (core_view left.now) (core_view right.now)) position }
     ensures { IfOk result (λ code. code.items ≡ piece_of (core.binary op (core_view left.now) (core_view right.now)) position.entry) }
 {
@@ -211,7 +221,13 @@ fn call(alloc: Global, callee: &Callee, arguments: &[Core], position: EmitPositi
 
 /// A method.
 #[cycle(code)]
-fn method(alloc: Global, of: &Core, callee: &Callee, arguments: &[Core], position: EmitPosition) -> Code
+fn method(
+    alloc: Global,
+    of: &Core,
+    callee: &Callee,
+    arguments: &[Core],
+    position: EmitPosition,
+) -> Code
     requires { HasFrameRoom (core.method (core_view of.now) (callee_view callee.now) (cores (list.map core_view arguments.now))) position }
     ensures { IfOk result (λ code. code.items ≡ piece_of (core.method (core_view of.now) (callee_view callee.now) (cores (list.map core_view arguments.now))) position.entry) }
 {
@@ -268,7 +284,13 @@ fn fold(alloc: Global, found: Macro, over: Iteration, body: &Core, position: Emi
 
 /// `map` with a predicate and a transform.
 #[cycle(code)]
-fn fold_map(alloc: Global, over: Iteration, test: &Core, body: &Core, position: EmitPosition) -> Code
+fn fold_map(
+    alloc: Global,
+    over: Iteration,
+    test: &Core,
+    body: &Core,
+    position: EmitPosition,
+) -> Code
     requires { HasFrameRoom (core.fold_map over.name.now (core_view over.range.now) (core_view test.now) (core_view body.now)) position }
     ensures { IfOk result (λ code. code.items ≡ piece_of (core.fold_map over.entry.name.now (core_view over.entry.range.now) (core_view test.now) (core_view body.now)) position.entry) }
 {

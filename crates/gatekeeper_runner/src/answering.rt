@@ -55,7 +55,7 @@ impl<'a> Listener for Answers<'a> {
 
     ghost goes = { λ a start before heard written. UnderSame a.keeper.now start.keeper.now (λ t. AnswersSoFar OneImage t before heard written × KeepsLine a.line (cut heard).1) };
 
-    ghost with_line_feed = { λ last a start before heard written. UnderSame a.keeper.now start.keeper.now (λ t. AnswersEnd last OneImage t before heard written) };
+    ghost ended = { λ last a start before heard written. UnderSame a.keeper.now start.keeper.now (λ t. AnswersEnd last OneImage t before heard written) };
 
     ghost broke = { λ last a start before heard written. UnderSame a.keeper.now start.keeper.now (λ t. AnswersBreak last OneImage t before heard written) };
 

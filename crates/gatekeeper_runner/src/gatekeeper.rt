@@ -46,6 +46,6 @@ impl Gatekeeper {
     fn decision_by(&self, gate: &Gate, table: &Table, uid: &str) -> Result<Decision, RunError>
         ensures { (policies : List (List ℕ)) (policy review : List ℕ) → IsGateOf policy gate.now → AreGiven (under (gatekeeper_of policies self.now) policy review) (record { values = ⟦<Table as ValueStore>⟧.values table.now; charge = ⟦<Table as ValueStore>⟧.charge table.now }) uid.now → DecidesAlone OneImage (gatekeeper_of policies self.now) policy review (decision_view result) }
     {
-        gate.say_on(table.copy()?, uid, self.steps)
+        gate.decision_on(table.copy()?, uid, self.steps)
     }
 }

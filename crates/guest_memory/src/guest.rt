@@ -6,10 +6,10 @@ ghost use Rattle.guest_memory.specs.Memory.{Memory};
 
 use crate::answer::Answer;
 use crate::fault::Fault;
+use crate::page_span::PageSpan;
 use crate::region::Region;
 use crate::regions::Regions;
 use crate::size::Size;
-use crate::page_span::PageSpan;
 use crate::words::word_at;
 use crate::write_error::WriteError;
 use crate::zero_page::ZeroPage;

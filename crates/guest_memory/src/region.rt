@@ -5,9 +5,9 @@ ghost use Rattle.guest_memory.specs.PageSpans.{IsPageSpan};
 ghost use Rattle.guest_memory.specs.Word.{low_bytes, overlay, part, word_of};
 
 use crate::page::{PAGE_LENGTH, Page};
+use crate::page_span::PageSpan;
 use crate::pages::{put_in, put_word, word_at, word_in};
 use crate::size::Size;
-use crate::page_span::PageSpan;
 use crate::zero_page::ZeroPage;
 use std::alloc::AllocError;
 use std::array;

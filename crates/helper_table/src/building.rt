@@ -130,7 +130,10 @@ fn growth(
     if !is_within {
         return Err(Fault::F8);
     }
-    Ok(HelperEffect { placement, added: 1 })
+    Ok(HelperEffect {
+        placement,
+        added: 1,
+    })
 }
 
 /// Helper 17: a list with a value behind its items.

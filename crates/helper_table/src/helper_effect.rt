@@ -18,7 +18,10 @@ impl<'a> HelperEffect<'a> {
         ensures placement { result.placement ≡ placement.entry }
         ensures added { result.added ≡ 0 }
     {
-        HelperEffect { placement, added: 0 }
+        HelperEffect {
+            placement,
+            added: 0,
+        }
     }
 
     /// A word, at nothing more.

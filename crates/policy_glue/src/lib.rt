@@ -37,7 +37,7 @@ pub use cel_reader::ReadError;
 pub use cel_types::TypeError;
 pub use compile_error::CompileError;
 pub use compiling::compile;
-pub use documents::document;
+pub use documents::parse_document;
 pub use expression_error::ExpressionError;
 pub use outcome::Outcome;
 pub use part_kind::PartKind;

@@ -7,7 +7,7 @@ ghost use Rattle.policy_glue.specs.Policy.{policy_view};
 ghost use Rattle.policy_glue.specs.Reading.{failure_in, has_head, has_spec_form, has_top_form, policy_parts_in, spec_in, spec_parts, Forms};
 ghost use Rattle.policy_glue.specs.declared.policy_error.PolicyError.TheVariants.{Memory};
 
-use crate::documents::{has_only_keys, is_object_or_absent, equals_string};
+use crate::documents::{equals_string, has_only_keys, is_object_or_absent};
 use crate::failure_policy::FailurePolicy;
 use crate::name_rule::NameRule;
 use crate::named_list::named_list;

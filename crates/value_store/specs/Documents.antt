@@ -14,9 +14,9 @@ document_given (Some bytes) = document_of bytes
 document_given None = Some json.null
 
 -- this very text
-abbrev pub is_the_text : Option json.Data → List ℕ → Bool
-is_the_text (Some (json.string s)) text = bytes_eq s text
-is_the_text _ text = false
+abbrev pub equals_string : Option json.Data → List ℕ → Bool
+equals_string (Some (json.string s)) text = bytes_eq s text
+equals_string _ text = false
 
 -- a text is there
 abbrev pub is_text : Option json.Data → Bool

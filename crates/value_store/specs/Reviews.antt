@@ -3,13 +3,13 @@ use Rattle.std.specs.Prelude.{ℕ, ◌&&◌, Bool, List, [], ◌∷◌, Option, 
 use Rattle.std.specs.Str.{bytes_eq}
 use Rattle.serde_json.specs.Data as json
 use Rattle.serde_json.specs.Find.{get, get_member}
-use Rattle.value_store.specs.Documents.{document_of, is_text, is_the_text, text_or_empty}
+use Rattle.value_store.specs.Documents.{document_of, is_text, equals_string, text_or_empty}
 
 -- the document is one of this API and kind
 abbrev pub is_review : json.Data → Bool
 is_review d =
-    is_the_text (get (codes "apiVersion") d) (codes "admission.k8s.io/v1")
-    && is_the_text (get (codes "kind") d) (codes "AdmissionReview")
+    equals_string (get (codes "apiVersion") d) (codes "admission.k8s.io/v1")
+    && equals_string (get (codes "kind") d) (codes "AdmissionReview")
 
 -- the members of a request, an object whose `uid` is a text
 abbrev pub members_in : json.Data → Option json.Members

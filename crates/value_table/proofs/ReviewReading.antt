@@ -15,7 +15,7 @@ use Rattle.serde_json.specs.Read.{max_depth, number_of, of_json, of_items, of_me
 use Rattle.serde_json.specs.Find.{get_member}
 use Rattle.serde_json.proofs.Views.{get_member-put, get_member-put_other}
 use Rattle.value_table.specs.Reading.{PlacedEntry, AreMembers, ReadsEntries, LeavesTokens}
-use Rattle.value_store.specs.Documents.{is_the_text}
+use Rattle.value_store.specs.Documents.{equals_string}
 use Rattle.value_store.specs.Reviews.{is_review, members_in, request_of}
 use Rattle.value_table.specs.ReviewReading.{IsRequestOf, MakesRequest, AreReviewFields, ReadsMember, ReadsMembers, ReadsRequest, ReadsReview, ComparesText, ReadsReviewValue}
 use Rattle.value_table.specs.Growing.{HasGrown}
@@ -95,32 +95,32 @@ this_put key k d ms e = ap (λ l. get_member l (json.put k d ms)) (sym e) ∙ ge
 pub found_request : (us vs : List Value) (f : ReviewFields) (r : Option PlacedRequest) (k : List ℕ) (d : json.Data) (ms : json.Members) → k ≡ codes "request" → IsRequestOf vs r (members_in d) → AreReviewFields us f ms
     → AreReviewFields vs (record f { request = r }) (json.put k d ms)
 found_request us vs f r k d ms e a h = record {
-  version = h.version ∙ ap (λ g. is_the_text g (codes "admission.k8s.io/v1")) (sym (other_kept (codes "apiVersion") k d ms (codes "request") e refl));
-  kind = h.kind ∙ ap (λ g. is_the_text g (codes "AdmissionReview")) (sym (other_kept (codes "kind") k d ms (codes "request") e refl));
+  version = h.version ∙ ap (λ g. equals_string g (codes "admission.k8s.io/v1")) (sym (other_kept (codes "apiVersion") k d ms (codes "request") e refl));
+  kind = h.kind ∙ ap (λ g. equals_string g (codes "AdmissionReview")) (sym (other_kept (codes "kind") k d ms (codes "request") e refl));
   request = subst (λ g. IsRequestOf vs r (option_and_then members_in g)) (sym (this_put (codes "request") k d ms e)) a;
 }
 
-pub found_version : (vs : List Value) (f : ReviewFields) (b : Bool) (k : List ℕ) (d : json.Data) (ms : json.Members) → k ≡ codes "apiVersion" → b ≡ is_the_text (Some d) (codes "admission.k8s.io/v1") → AreReviewFields vs f ms
+pub found_version : (vs : List Value) (f : ReviewFields) (b : Bool) (k : List ℕ) (d : json.Data) (ms : json.Members) → k ≡ codes "apiVersion" → b ≡ equals_string (Some d) (codes "admission.k8s.io/v1") → AreReviewFields vs f ms
     → AreReviewFields vs (record f { version = b }) (json.put k d ms)
 found_version vs f b k d ms e a h = record {
-  version = a ∙ ap (λ g. is_the_text g (codes "admission.k8s.io/v1")) (sym (this_put (codes "apiVersion") k d ms e));
-  kind = h.kind ∙ ap (λ g. is_the_text g (codes "AdmissionReview")) (sym (other_kept (codes "kind") k d ms (codes "apiVersion") e refl));
+  version = a ∙ ap (λ g. equals_string g (codes "admission.k8s.io/v1")) (sym (this_put (codes "apiVersion") k d ms e));
+  kind = h.kind ∙ ap (λ g. equals_string g (codes "AdmissionReview")) (sym (other_kept (codes "kind") k d ms (codes "apiVersion") e refl));
   request = subst (λ g. IsRequestOf vs f.request (option_and_then members_in g)) (sym (other_kept (codes "request") k d ms (codes "apiVersion") e refl)) h.request;
 }
 
-pub found_kind : (vs : List Value) (f : ReviewFields) (b : Bool) (k : List ℕ) (d : json.Data) (ms : json.Members) → k ≡ codes "kind" → b ≡ is_the_text (Some d) (codes "AdmissionReview") → AreReviewFields vs f ms
+pub found_kind : (vs : List Value) (f : ReviewFields) (b : Bool) (k : List ℕ) (d : json.Data) (ms : json.Members) → k ≡ codes "kind" → b ≡ equals_string (Some d) (codes "AdmissionReview") → AreReviewFields vs f ms
     → AreReviewFields vs (record f { kind = b }) (json.put k d ms)
 found_kind vs f b k d ms e a h = record {
-  version = h.version ∙ ap (λ g. is_the_text g (codes "admission.k8s.io/v1")) (sym (other_kept (codes "apiVersion") k d ms (codes "kind") e refl));
-  kind = a ∙ ap (λ g. is_the_text g (codes "AdmissionReview")) (sym (this_put (codes "kind") k d ms e));
+  version = h.version ∙ ap (λ g. equals_string g (codes "admission.k8s.io/v1")) (sym (other_kept (codes "apiVersion") k d ms (codes "kind") e refl));
+  kind = a ∙ ap (λ g. equals_string g (codes "AdmissionReview")) (sym (this_put (codes "kind") k d ms e));
   request = subst (λ g. IsRequestOf vs f.request (option_and_then members_in g)) (sym (other_kept (codes "request") k d ms (codes "kind") e refl)) h.request;
 }
 
 pub found_other : (vs : List Value) (f : ReviewFields) (k : List ℕ) (d : json.Data) (ms : json.Members) → (k ≡ codes "request" → ⊥) → (k ≡ codes "apiVersion" → ⊥) → (k ≡ codes "kind" → ⊥) → AreReviewFields vs f ms
     → AreReviewFields vs f (json.put k d ms)
 found_other vs f k d ms x y z h = record {
-  version = h.version ∙ ap (λ g. is_the_text g (codes "admission.k8s.io/v1")) (sym (get_member-put_other (codes "apiVersion") k d ms (λ e. y (sym e))));
-  kind = h.kind ∙ ap (λ g. is_the_text g (codes "AdmissionReview")) (sym (get_member-put_other (codes "kind") k d ms (λ e. z (sym e))));
+  version = h.version ∙ ap (λ g. equals_string g (codes "admission.k8s.io/v1")) (sym (get_member-put_other (codes "apiVersion") k d ms (λ e. y (sym e))));
+  kind = h.kind ∙ ap (λ g. equals_string g (codes "AdmissionReview")) (sym (get_member-put_other (codes "kind") k d ms (λ e. z (sym e))));
   request = subst (λ g. IsRequestOf vs f.request (option_and_then members_in g)) (sym (get_member-put_other (codes "request") k d ms (λ e. x (sym e)))) h.request;
 }
 
@@ -141,7 +141,7 @@ other_request vs (token.boolean b) d h n = rw h (refl, refl)
 other_request vs token.null d h n = rw h (refl, refl)
 other_request vs token.bad d h n = absurd h
 
-pub other_text : (t : Token) (d : json.Data) (text : List ℕ) → DataOf t d → ((s : List ℕ) → t ≡ token.string s → ⊥) → false ≡ is_the_text (Some d) text
+pub other_text : (t : Token) (d : json.Data) (text : List ℕ) → DataOf t d → ((s : List ℕ) → t ≡ token.string s → ⊥) → false ≡ equals_string (Some d) text
 other_text token.begin_object d text h n = rw h.1 refl
 other_text token.end_object d text h n = absurd h
 other_text token.begin_array d text h n = rw h.1 refl

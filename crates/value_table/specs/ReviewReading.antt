@@ -9,7 +9,7 @@ use Rattle.value_store.specs.Roots.{value_of}
 use Rattle.value_table.specs.Growing.{HasGrown, IsValueAt}
 use Rattle.value_table.specs.Heap.{heap_values, IsHeap}
 use Rattle.value_table.specs.Reading.{PlacedEntry, PlacesValue, AreMembers}
-use Rattle.value_store.specs.Documents.{is_the_text, is_text}
+use Rattle.value_store.specs.Documents.{equals_string, is_text}
 use Rattle.value_store.specs.Reviews.{members_in, request_of, without, member_or_null, parts_of}
 use Rattle.value_table.specs.declared.heap.Heap.{Heap}
 use Rattle.value_table.specs.declared.placed.Placed.{Placed}
@@ -64,8 +64,8 @@ is_text_value _ = false
 
 -- the fields of a review with these members
 pub record AreReviewFields (vs : List Value) (found : ReviewFields) (ms : json.Members) : Type 0 where
-  pub version : found.version ≡ is_the_text (get_member (codes "apiVersion") ms) (codes "admission.k8s.io/v1")
-  pub kind : found.kind ≡ is_the_text (get_member (codes "kind") ms) (codes "AdmissionReview")
+  pub version : found.version ≡ equals_string (get_member (codes "apiVersion") ms) (codes "admission.k8s.io/v1")
+  pub kind : found.kind ≡ equals_string (get_member (codes "kind") ms) (codes "AdmissionReview")
   pub request : IsRequestOf vs found.request (option_and_then members_in (get_member (codes "request") ms))
 
 -- one more member was read
@@ -96,7 +96,7 @@ pub record ReadsRequest (old new : Heap) (r : Option PlacedRequest) (read : Opti
 pub record ComparesText (same : Bool) (due : List ℕ) (read : Option (json.Data × List Token)) (rest : List Token) : Type 0 where
   pub document : json.Data
   pub is : read ≡ Some (document, rest)
-  pub text : same ≡ is_the_text (Some document) due
+  pub text : same ≡ equals_string (Some document) due
 
 -- a review was read, if it is one
 pub record ReadsReview (old new : Heap) (r : Option PlacedRequest) (read : Option json.Data) : Type 0 where

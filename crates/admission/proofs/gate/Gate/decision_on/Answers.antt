@@ -1,7 +1,7 @@
 use Rattle.admission.proofs.Prelude.{Exit, Decision, exactly}
 use Rattle.admission.proofs.Decided.{refused_so, said_so}
 use Rattle.admission.proofs.Results.{is_err}
-use Rattle.admission.proofs.gate.Gate.say_on.Goals as goal
+use Rattle.admission.proofs.gate.Gate.decision_on.Goals as goal
 
 pub returns-in_err-machine : goal.returns-in_err-machine
 returns-in_err-machine c =
