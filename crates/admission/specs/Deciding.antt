@@ -4,6 +4,7 @@ use Rattle.value_store.specs.Placing.{Contents, charge_limit, first_values}
 use Rattle.value_store.specs.Roots.{sizes}
 use Rattle.value_store.specs.Value.{Value, value}
 use Rattle.cel_macros.specs.Environment.{Roots}
+use Rattle.expression_code.specs.Limits.{charge_per_unit, steps_per_visit}
 use Rattle.policy_glue.specs.Budget.{IsDeepPolicy, policy_spent, policy_work}
 use Rattle.policy_glue.specs.Compiled.{IsCompiled}
 use Rattle.policy_glue.specs.Evaluation.{decision_of}
@@ -116,7 +117,7 @@ work case = policy_work case.policy.parsed.failure_policy case.policy.trees case
 -- the bound on its charge is above the limit, or a value is too deep
 abbrev pub IsBeyond : {d : Documents} → Case d → Type 0
 IsBeyond case =
-    (charge_limit < (started case.roots).charge + 16 * policy_spent case.policy.parsed.failure_policy case.policy.trees case.roots)
+    (charge_limit < (started case.roots).charge + charge_per_unit * policy_spent case.policy.parsed.failure_policy case.policy.trees case.roots)
     ⊎ IsDeepPolicy case.policy.parsed.failure_policy case.policy.trees case.roots
 
 -- the answer is that to the policy's verdict
@@ -127,7 +128,7 @@ pub record IsAnswered (d : Documents) (answer : Reply) : Type 0 where
 -- n steps are fewer than the work may take
 pub record IsUnended (d : Documents) (n : ℕ) : Type 0 where
   pub case : Case d
-  pub early : n < 128 * work case
+  pub early : n < steps_per_visit * work case
 
 -- the charge of the work may pass the limit, or a value is too deep
 pub record IsStopped (d : Documents) : Type 0 where

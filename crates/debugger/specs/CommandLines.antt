@@ -2,22 +2,23 @@
 use Rattle.std.specs.Prelude.{◌≡◌, ◌≢◌, ◌↔◌, ℕ, ◌^◌, ◌<◌, ◌≤◌, List, ◌++◌, codes, decimal, length}
 use Rattle.insn_codec.specs.Lines.{hex_digits}
 use Rattle.debugger.specs.Commands.{command_of}
+use Rattle.debugger.specs.Limits.{line_limit, address_digit_limit}
 use Rattle.debugger.specs.declared.command.Command.{Command, TheVariants.Quit, TheVariants.Unknown}
 use Rattle.debugger.specs.declared.command.Command.TheVariants.{SetBreakpoint, ClearBreakpoint, Forward, Back, Go, Continue}
 use Rattle.debugger.specs.declared.command.Command.TheVariants.{ReverseContinue, Registers, ValueAt, MemoryAt, Frames, Listing, Verdict}
 
--- a word and a number in decimals; a number has at most 64 digits: with more it would be longer than a line may be
+-- a word and a number in decimals; a number has at most `line_limit` digits: with more it would be longer than a line may be
 pub record IsNumbered (word : List ℕ) (n : ℕ) (line : List ℕ) : Type 0 where
-  pub fits : n < 10 ^ 64
+  pub fits : n < 10 ^ line_limit
   pub is : line ≡ word ++ decimal n
 
 -- `m`, an address in 1 to 16 hex digits, and a number in decimals
 pub record IsMemoryLine (address n : ℕ) (line : List ℕ) : Type 0 where
   pub digits : ℕ
   pub some : 0 < digits
-  pub most : digits ≤ 16
+  pub most : digits ≤ address_digit_limit
   pub fits : address < 16 ^ digits
-  pub number_fits : n < 10 ^ 64
+  pub number_fits : n < 10 ^ line_limit
   pub is : line ≡ codes "m 0x" ++ (hex_digits digits address ++ (codes " " ++ decimal n))
 
 -- a line is one of a command's: its word, and its numbers
@@ -38,10 +39,10 @@ IsLine Verdict line = line ≡ codes "w"
 IsLine Quit line = line ≡ codes "q"
 IsLine Unknown line = ⊥
 
--- a line asks for the command whose line it is, where it has at most 64 bytes
+-- a line asks for the command whose line it is, where it has at most `line_limit` bytes
 pub record AsksFor (line : List ℕ) (c : Command) : Type 0 where
   pub is_line : IsLine c line
-  pub short : length line ≤ 64
+  pub short : length line ≤ line_limit
 
 -- `command_of` is the command that a line asks for, and `Unknown` where it asks for none
 pub record CommandsHaveLines : Type 0 where

@@ -3,6 +3,7 @@ use Rattle.std.specs.Prelude.{ℕ, suc, ◌+◌, ◌-◌, ◌*◌, ◌^◌, ◌<
 use Rattle.std.specs.Prelude.{Option, Some, None, codes, nat_eq, nat_le, nat_lt, slice_index, if◌then◌else◌}
 use Rattle.std.specs.Str.{bytes_eq}
 use Rattle.bpf_machine.specs.State.{State}
+use Rattle.debugger.specs.Limits.{line_limit, address_digit_limit}
 use Rattle.debugger.specs.declared.command.Command.{Command, TheVariants.Quit, TheVariants.Unknown}
 use Rattle.debugger.specs.declared.command.Command.TheVariants.{SetBreakpoint, ClearBreakpoint, Forward, Back, Go, Continue}
 use Rattle.debugger.specs.declared.command.Command.TheVariants.{ReverseContinue, Registers, ValueAt, MemoryAt, Frames, Listing, Verdict}
@@ -50,7 +51,7 @@ abbrev pub read_address : ℕ → ℕ → List ℕ → Command
 read_address digits address [] = Unknown
 read_address digits address (c ∷ cs) =
     if nat_eq c 32 && nat_lt 0 digits then numbered (MemoryAt address) (number_of cs)
-    else (if is_hex_digit c && nat_lt digits 16 then read_address (suc digits) (address * 16 + hex_value c) cs
+    else (if is_hex_digit c && nat_lt digits address_digit_limit then read_address (suc digits) (address * 16 + hex_value c) cs
     else Unknown)
 
 -- what is shown of a state, by its number or its address
@@ -87,9 +88,9 @@ form_of line =
     else (if bytes_eq line (codes "w") then Verdict
     else numbered_form_of line)))))
 
--- a line's command: a line of more than 64 bytes has no form
+-- a line's command: a line of more than `line_limit` bytes has no form
 unfoldable pub command_of : List ℕ → Command
-command_of line = if nat_le (length line) 64 then form_of line else Unknown
+command_of line = if nat_le (length line) line_limit then form_of line else Unknown
 
 -- the command ends the session
 abbrev pub is_quit : Command → Bool

@@ -5,6 +5,7 @@ use Rattle.std.specs.Fmt.{signed_decimal}
 use Rattle.bpf_machine.specs.State.{State}
 use Rattle.bpf_machine.specs.Text.{hex_digits, word_text}
 use Rattle.bpf_machine.specs.Trace.{state_after}
+use Rattle.debugger.specs.Limits.{shown_bytes_limit, line_bytes, shown_lines_limit}
 use Rattle.bpf_machine.specs.declared.frame.Frame.{Frame}
 use Rattle.guest_memory.specs.Access.{region_of}
 use Rattle.guest_memory.specs.Memory.{Memory, Region, bytes_in, scratch_length, stack_length, verdict_length}
@@ -59,9 +60,9 @@ bytes_from m address n = bytes_at m n (region_of m address n)
 
 -- so many bytes can be shown
 abbrev pub is_count : ℕ → Bool
-is_count n = nat_le 1 n && nat_le n 256
+is_count n = nat_le 1 n && nat_le n shown_bytes_limit
 
--- the bytes that are shown: from 1 to 256 of them
+-- the bytes that are shown: from 1 to `shown_bytes_limit` of them
 abbrev pub shown_bytes : Memory → ℕ → ℕ → Option (List ℕ)
 shown_bytes m address n = if is_count n then bytes_from m address n else None
 
@@ -74,15 +75,15 @@ digits_of_bytes (b ∷ bs) = codes " " ++ (hex_digits 2 b ++ digits_of_bytes bs)
 unfoldable pub memory_line : ℕ → List ℕ → List ℕ
 memory_line address bytes = word_text address ++ (digits_of_bytes bytes ++ 10 ∷ [])
 
--- up to so many lines of up to 16 bytes
+-- up to so many lines of up to `line_bytes` bytes
 unfoldable pub memory_lines : ℕ → ℕ → List ℕ → List ℕ
 memory_lines zero address bytes = []
 memory_lines (suc count) address [] = []
-memory_lines (suc count) address (b ∷ bs) = memory_line address (take 16 (b ∷ bs)) ++ memory_lines count (address + 16) (drop 16 (b ∷ bs))
+memory_lines (suc count) address (b ∷ bs) = memory_line address (take line_bytes (b ∷ bs)) ++ memory_lines count (address + line_bytes) (drop line_bytes (b ∷ bs))
 
--- these bytes in lines of 16, or that they cannot be shown
+-- these bytes in lines of `line_bytes`, or that they cannot be shown
 abbrev pub memory_text : ℕ → Option (List ℕ) → List ℕ
-memory_text address (Some bytes) = memory_lines 16 address bytes
+memory_text address (Some bytes) = memory_lines shown_lines_limit address bytes
 memory_text address None = codes "? range\n"
 
 -- ---- frames

@@ -3,6 +3,9 @@ ghost use Rattle.std.specs.Prelude.{◌≡◌, ◌≤◌, ◌<◌, ◌^◌, ◌-
 ghost use Rattle.std.specs.Str.{bytes_eq};
 ghost use Rattle.debugger.specs.Commands.{begins_with, capped, capped_command, capped_number, command_of, form_of, hex_value, is_digit, is_hex_digit, leads_with_zero, move_form_of, number_of, numbered_form_of, read_address, read_digits, shown_form_of};
 
+/// The most bytes of a line that is a command.
+const LINE_LIMIT: usize = 64;
+
 /// What a line asks for. The greatest number of 64 bits is in no range: it stands for each number
 /// that is greater.
 #[derive(Clone, Copy, Debug, PartialEq, Eq)]
@@ -45,7 +48,7 @@ impl Command {
     pub fn of(line: &[u8]) -> Command
         ensures { result ≡ capped_command (command_of line.now) }
     {
-        if line.len() <= 64 {
+        if line.len() <= LINE_LIMIT {
             form(line)
         } else {
             Command::Unknown

@@ -64,10 +64,13 @@ fn show_bytes<M: Regions>(memory: &M, address: u64, n: u64) -> Reply
     }
 }
 
+/// The most bytes that `m` shows.
+const SHOWN_BYTES_LIMIT: u64 = 256;
+
 fn is_count(n: u64) -> bool
     ensures { result ≡ is_count n }
 {
-    1 <= n && n <= 256
+    1 <= n && n <= SHOWN_BYTES_LIMIT
 }
 
 /// The lines of these bytes, of which the first has this address.

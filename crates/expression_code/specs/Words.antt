@@ -1,19 +1,20 @@
 -- The words of stack frames and of the scratch region.
 use Rattle.std.specs.Prelude.{◌≡◌, ℕ, ◌+◌, ◌-◌, ◌*◌, ◌≤◌, ℤ, negsuc, List, length}
-use Rattle.bpf_machine.specs.Limits.{record_limit}
-use Rattle.guest_memory.specs.Memory.{Memory, Scratch, Verdict, IsMemory, base_of}
+use Rattle.bpf_machine.specs.Limits.{record_limit, frame_length}
+use Rattle.guest_memory.specs.Memory.{Memory, Stack, Scratch, Verdict, IsMemory, base_of}
 use Rattle.guest_memory.specs.RegionWords.{word_in, put_word}
 use Rattle.insn_codec.specs.declared.register.Register.TheVariants.{R10}
 use Rattle.bpf_machine.specs.declared.frame.Frame.{Frame}
 use Rattle.expression_code.specs.CpuState.{CpuState}
+use Rattle.expression_code.specs.Limits.{frame_words}
 
 -- the frame pointer where so many local calls are open
 abbrev pub pointer_of : ℕ → ℕ
-pointer_of depth = 0x1_0000_0200 + 512 * depth
+pointer_of depth = base_of Stack + frame_length + frame_length * depth
 
--- word k of a frame, of 64, begins 8 * (k + 1) bytes below the frame pointer: its number among the words of the stack
+-- word k of a frame begins 8 * (k + 1) bytes below the frame pointer: its number among the words of the stack
 abbrev pub stack_index : ℕ → ℕ → ℕ
-stack_index depth k = 64 * depth + 63 - k
+stack_index depth k = frame_words * depth + (frame_words - 1) - k
 
 -- where it begins, counted from the frame pointer
 abbrev pub word_offset : ℕ → ℤ

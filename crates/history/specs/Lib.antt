@@ -1,3 +1,4 @@
+pub mod Limits
 pub mod Past
 pub mod Search
 pub mod Unchanged

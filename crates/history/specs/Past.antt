@@ -4,6 +4,7 @@ use Rattle.circular_buffer.specs.Buffer.{keep_last}
 use Rattle.bpf_machine.specs.State.{State}
 use Rattle.bpf_machine.specs.Step.{is_running}
 use Rattle.bpf_machine.specs.Trace.{state_after}
+use Rattle.history.specs.Limits.{checkpoint_limit, checkpoint_interval}
 use Rattle.history.specs.declared.checkpoint.Checkpoint.{Checkpoint}
 
 -- the state at place 0, the places of the checkpoints, the oldest first, and whether one was given up for want of
@@ -26,22 +27,22 @@ pub record Past : Type 0 where
 abbrev pub IsCheckpoint : {E : Type 0} → (E → State) → State → Checkpoint E → Type 0
 IsCheckpoint state s c = state c.machine ≡ state_after c.place s
 
--- a checkpoint is due at a multiple of 1,024 that is not the start and not among these places
+-- a checkpoint is due at a multiple of `checkpoint_interval` that is not the start and not among these places
 abbrev pub IsDue : List ℕ → ℕ → Type 0
-IsDue places k = (k % 1024 ≡ 0) × (Contains (0 ∷ places) k → ⊥)
+IsDue places k = (k % checkpoint_interval ≡ 0) × (Contains (0 ∷ places) k → ⊥)
 
--- these places and one more, of which the newest 64 are kept
+-- these places and one more, of which the newest `checkpoint_limit` are kept
 abbrev pub with_place : List ℕ → ℕ → List ℕ
-with_place places k = keep_last 64 (places ++ k ∷ [])
+with_place places k = keep_last checkpoint_limit (places ++ k ∷ [])
 
--- behind the old places stand those that were added, multiples of 1,024, and of all of them none is gone but the
--- oldest: at most one for each that was added, those beyond the newest 64; and where some were given up, those
+-- behind the old places stand those that were added, multiples of `checkpoint_interval`, and of all of them none is gone but the
+-- oldest: at most one for each that was added, those beyond the newest `checkpoint_limit`; and where some were given up, those
 pub record KeepsPlaces (dropped_checkpoint : Bool) (old added new : List ℕ) : Type 0 where
-  pub rounds : All (λ k. k % 1024 ≡ 0) added
+  pub rounds : All (λ k. k % checkpoint_interval ≡ 0) added
   pub gone : ℕ
   pub rest : new ≡ drop gone (old ++ added)
   pub within : gone ≤ length (old ++ added)
-  pub room : dropped_checkpoint ≡ false → (gone ≤ length added) × (gone ≤ length (old ++ added) - 64)
+  pub room : dropped_checkpoint ≡ false → (gone ≤ length added) × (gone ≤ length (old ++ added) - checkpoint_limit)
 
 -- one run, to which places were added since
 pub record IsKept (old new : Checkpoints) : Type 0 where

@@ -10,10 +10,10 @@ use std::alloc::{AllocError, Global};
 use std::marker::Model;
 
 /// The most checkpoints that are kept. One more takes the place of the oldest.
-const ROOM: usize = 64;
+const CHECKPOINT_LIMIT: usize = 64;
 
 /// The steps from one place for a checkpoint to the next.
-pub(crate) const STRETCH: u64 = 1024;
+pub(crate) const CHECKPOINT_INTERVAL: u64 = 1024;
 
 /// The start of a run, and checkpoints of it in the order in which they were kept.
 #[derive(Drop)]
@@ -46,7 +46,7 @@ impl<E: Emulator> Checkpoints<E> {
         ensures places { IfOk result (λ c. c.places ≡ []) }
         ensures dropped_checkpoint { IfOk result (λ c. c.dropped_checkpoint ≡ false) }
     {
-        let ring = HeapCircularBuffer::with_capacity(alloc, ROOM)?;
+        let ring = HeapCircularBuffer::with_capacity(alloc, CHECKPOINT_LIMIT)?;
         let start = Checkpoint { place: 0, machine };
         Ok(Checkpoints {
             start,
@@ -152,7 +152,7 @@ impl<E: Emulator> Checkpoints<E> {
         ensures memory { OnErr result (self.new.places ≡ []) }
     {
         let place = machine.place;
-        if place % STRETCH != 0 || self.nearest(place).place == place {
+        if place % CHECKPOINT_INTERVAL != 0 || self.nearest(place).place == place {
             return Ok(());
         }
         let checkpoint = self.aside(machine, place)?;

@@ -3,7 +3,7 @@ ghost use Rattle.std.specs.Prelude.{◌≡◌, ◌≤◌, [], IfOk, OnErr};
 ghost use Rattle.history.specs.Past.{IsCheckpoint, IsKept, Reaches};
 
 use crate::checkpoint::Checkpoint;
-use crate::checkpoints::{Checkpoints, STRETCH};
+use crate::checkpoints::{CHECKPOINT_INTERVAL, Checkpoints};
 use crate::emulator::Emulator;
 use std::alloc::AllocError;
 
@@ -25,7 +25,7 @@ pub(crate) fn replay<E: Emulator>(
     let mut at = from;
     while !at.reaches(to) {
         let place = at.place;
-        let steps = (STRETCH - place % STRETCH).min(to - place);
+        let steps = (CHECKPOINT_INTERVAL - place % CHECKPOINT_INTERVAL).min(to - place);
         at.run(steps)?;
         // A checkpoint that memory refuses is left out.
         let _left_out = checkpoints.keep(&at);

@@ -1,6 +1,9 @@
 -- How large a policy may be, and which policies are compiled.
 use Rattle.std.specs.Prelude.{◌≡◌, ℕ, ◌+◌, ◌*◌, List, [], ◌∷◌, ◌++◌, length, nat_lt, Option, Some, None, Result, Ok, Err, if◌then◌else◌}
 use Rattle.std.specs.List.{sum_by}
+use Rattle.loader.specs.Limits.{constants_limit}
+use Rattle.insn_codec.specs.Limits.{slot_limit}
+use Rattle.expression_code.specs.Limits.{slots_per_node}
 use Rattle.cel_reader.specs.Tree.{Tree}
 use Rattle.cel_macros.specs.CoreTree.{expanded}
 use Rattle.cel_measures.specs.Measures.{nodes}
@@ -68,11 +71,11 @@ policy_texts p =
 
 -- ---- the limits, and the whole
 
--- an image has room for 65,536 slots, 128 for each node, and for 1,048,576 bytes of texts
+-- an image has room for `slot_limit` slots, `slots_per_node` for each node, and for `constants_limit` bytes of texts
 abbrev pub excess : PolicyTree → Option CompileError
 excess p =
-    if nat_lt 65536 (128 * policy_nodes p) then Some TooManyNodes
-    else (if nat_lt 1048576 (length (joined (policy_texts p))) then Some TooManyTextBytes
+    if nat_lt slot_limit (slots_per_node * policy_nodes p) then Some TooManyNodes
+    else (if nat_lt constants_limit (length (joined (policy_texts p))) then Some TooManyTextBytes
     else None)
 
 -- the trees of a policy that is compiled, or why it is not

@@ -57,7 +57,7 @@ pub record HasProgram (p : PolicyTree) : Type 0 where
   pub variables : AreVariables [] p.variables
   pub conditions : AreConditions p.conditions
   pub validations : AreValidations (scope_after p.variables) p.validations
-  pub few_variables : length p.variables ≤ 64
+  pub few_variables : length p.variables ≤ part_limit
   pub few_validations : length p.validations ≤ part_limit
   pub short : slots_per_node * policy_nodes p ≤ slot_limit
   pub few_texts : length (joined (policy_texts p)) ≤ constants_limit

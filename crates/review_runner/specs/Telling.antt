@@ -6,6 +6,7 @@ use Rattle.value_store.specs.Value.{ValueOrError}
 use Rattle.bpf_machine.specs.State.{State, start_state}
 use Rattle.bpf_machine.specs.Step.{is_running}
 use Rattle.bpf_machine.specs.declared.status.Status.TheVariants.{Exited, Fault}
+use Rattle.expression_code.specs.Limits.{steps_per_visit}
 use Rattle.policy_glue.specs.Layout.{IsMessageWord, outcome_word, truth_word}
 use Rattle.policy_glue.specs.Verdict.{Finding, Verdict, is_denial}
 use Rattle.policy_glue.specs.declared.failure_policy.FailurePolicy.{FailurePolicy}
@@ -57,10 +58,10 @@ module _ {d : Documents} (run : PolicyRun d) where
   abbrev pub shown_after : List Line → State
   shown_after lines = stands run (session_state_after lines).place
 
-  -- it goes on, and shows a state that is stopped, or one behind 128 steps for each unit of the policy's work
+  -- it goes on, and shows a state that is stopped, or one after `steps_per_visit` steps for each unit of the policy's work
   pub record IsDecided (lines : List Line) : Type 0 where
     pub goes_on : (session_state_after lines).ended ≡ false
-    pub is_there : (is_running (shown_after lines).status ≡ false) ⊎ (128 * work run.case ≤ (session_state_after lines).place)
+    pub is_there : (is_running (shown_after lines).status ≡ false) ⊎ (steps_per_visit * work run.case ≤ (session_state_after lines).place)
 
   -- one more line `w` writes this text
   abbrev pub Writes : List Line → List ℕ → Type 0

@@ -12,9 +12,13 @@ use Rattle.value_table.specs.declared.cell.Cell.{Cell}
 use Rattle.value_table.specs.declared.backings.Backings.{Backings}
 use Rattle.value_table.specs.declared.index.Index.{Index}
 
--- what a value is looked up by: its JSON text, where that has at most 512 bytes
+-- the most bytes of a JSON text that the index keeps
+abbrev pub index_text_limit : ℕ
+index_text_limit = 512
+
+-- what a value is looked up by: its JSON text, if that has at most `index_text_limit` bytes
 unfoldable pub looked_up_by : Value → List ℕ
-looked_up_by v = if nat_le (json_length v) 512 then json_text v else []
+looked_up_by v = if nat_le (json_length v) index_text_limit then json_text v else []
 
 abbrev pub texts_at : List Value → List ℕ → List (List ℕ)
 texts_at vs rs = map (λ r. looked_up_by (value_in vs r)) rs

@@ -17,7 +17,7 @@ use crate::writing::json_at;
 use std::alloc::AllocError;
 
 /// How many bytes the JSON text may have by which a value is looked up.
-const LONGEST: u64 = 512;
+const INDEX_TEXT_LIMIT: u64 = 512;
 
 // What a value is looked up by: its JSON text. A long one is not written.
 #[tactic(auto, using(crate::proofs::Indexed::by_none, crate::proofs::Indexed::by_text))]
@@ -28,7 +28,7 @@ fn text_of(cells: &Sequence<Cell>, backings: &Backings, place: u64) -> Result<St
 {
     let alloc = backings.keys.alloc();
     let cell = cells.at(place as usize);
-    if cell.json > LONGEST {
+    if cell.json > INDEX_TEXT_LIMIT {
         return Ok(String::new(alloc));
     }
     json_at(alloc, cells, backings, place)
