@@ -5,6 +5,7 @@ ghost use Rattle.bpf_machine.specs.Starts.{StartsAreTables};
 ghost use Rattle.bpf_machine.specs.States.{StatesAreKept};
 ghost use Rattle.bpf_machine.specs.Trace.{state_after};
 ghost use Rattle.value_store.specs.Laws.{StartIsCanonical};
+ghost use Rattle.value_table.specs.Held.{held_contents};
 ghost use Rattle.policy_glue.specs.OneImage.{OneImage};
 ghost use Rattle.admission.specs.Deciding.{answer_of, answer_view, is_allowed, AreGiven, CompilesDocument, Documents, IsPolicyOf, Reviews};
 ghost use Rattle.admission.specs.Exiting.{exit_view, Exits, HasExited, OfVerdict};
@@ -98,8 +99,8 @@ impl Gate {
     ///
     /// `OutOfSteps`, `OverLimit` and `Memory`, as `decide` has them.
     pub fn decide_on(&self, table: Table, uid: &str, n: u64) -> Result<Reply, RunError>
-        ensures reviews { (d : Documents) → IsPolicyOf d.policy self.now → AreGiven d (record { values = ⟦<Table as ValueStore>⟧.values table; charge = ⟦<Table as ValueStore>⟧.charge table }) uid.now → Reviews d n (answer_view result) }
-        ensures runs { (d : Documents) → IsPolicyOf d.policy self.now → AreGiven d (record { values = ⟦<Table as ValueStore>⟧.values table; charge = ⟦<Table as ValueStore>⟧.charge table }) uid.now → RunAgrees (exactly self.now.image) d n (answer_view result) }
+        ensures reviews { (d : Documents) → IsPolicyOf d.policy self.now → AreGiven d (held_contents table) uid.now → Reviews d n (answer_view result) }
+        ensures runs { (d : Documents) → IsPolicyOf d.policy self.now → AreGiven d (held_contents table) uid.now → RunAgrees (exactly self.now.image) d n (answer_view result) }
     {
         let machine = self.run(table, n)?;
         Ok(reply(self.alloc, &self.policy, &machine, uid)?)
@@ -111,8 +112,8 @@ impl Gate {
     ///
     /// The first refusal, as `decide_on` has them.
     pub fn decision_on(&self, table: Table, uid: &str, n: u64) -> Result<Decision, RunError>
-        ensures says { (d : Documents) → IsPolicyOf d.policy self.now → AreGiven d (record { values = ⟦<Table as ValueStore>⟧.values table; charge = ⟦<Table as ValueStore>⟧.charge table }) uid.now → DecidesReview d n (decision_view result) }
-        ensures runs { (d : Documents) → IsPolicyOf d.policy self.now → AreGiven d (record { values = ⟦<Table as ValueStore>⟧.values table; charge = ⟦<Table as ValueStore>⟧.charge table }) uid.now → RunAgrees (exactly self.now.image) d n (decision_view result) }
+        ensures says { (d : Documents) → IsPolicyOf d.policy self.now → AreGiven d (held_contents table) uid.now → DecidesReview d n (decision_view result) }
+        ensures runs { (d : Documents) → IsPolicyOf d.policy self.now → AreGiven d (held_contents table) uid.now → RunAgrees (exactly self.now.image) d n (decision_view result) }
     {
         let machine = self.run(table, n)?;
         Ok(decision_of_verdict(self.alloc, &self.policy, &machine, uid)?)
@@ -120,8 +121,8 @@ impl Gate {
 
     /// The machine in which the policy's program has exited on the roots in the table.
     fn run(&self, table: Table, n: u64) -> Result<Machine<Table, Guest>, RunError>
-        ensures exits { (d : Documents) (uid : List ℕ) → IsPolicyOf d.policy self.now → AreGiven d (record { values = ⟦<Table as ValueStore>⟧.values table; charge = ⟦<Table as ValueStore>⟧.charge table }) uid → Exits self.now.policy d n (exit_view uid result) }
-        ensures runs { (d : Documents) (uid : List ℕ) → IsPolicyOf d.policy self.now → AreGiven d (record { values = ⟦<Table as ValueStore>⟧.values table; charge = ⟦<Table as ValueStore>⟧.charge table }) uid → RunAgrees (exactly self.now.image) d n (exit_view uid result) }
+        ensures exits { (d : Documents) (uid : List ℕ) → IsPolicyOf d.policy self.now → AreGiven d (held_contents table) uid → Exits self.now.policy d n (exit_view uid result) }
+        ensures runs { (d : Documents) (uid : List ℕ) → IsPolicyOf d.policy self.now → AreGiven d (held_contents table) uid → RunAgrees (exactly self.now.image) d n (exit_view uid result) }
     {
         starts_stand();
         let machine = ran(self.alloc, &self.program, table, n)?;
@@ -148,7 +149,7 @@ fn ran(
     table: Table,
     n: u64,
 ) -> Result<Machine<Table, Guest>, AllocError>
-    ensures { IfOk result (λ m. m ≡ state_after n (start_state program.now (record { values = ⟦<Table as ValueStore>⟧.values table; charge = ⟦<Table as ValueStore>⟧.charge table }))) }
+    ensures { IfOk result (λ m. m ≡ state_after n (start_state program.now (held_contents table))) }
 {
     let mut machine = Machine::<Table, Guest>::of_program(alloc, program.copy()?, table)?;
     machine.run(n)?;

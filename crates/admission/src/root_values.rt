@@ -1,5 +1,6 @@
 //! The values of the roots of a review.
 ghost use Rattle.std.specs.Prelude.{◌≡◌, option_map};
+ghost use Rattle.value_table.specs.Held.{held_contents};
 ghost use Rattle.admission.specs.Reviews.{contents_given, ReturnsDue};
 
 use crate::run_error::RunError;
@@ -24,7 +25,7 @@ pub fn roots(
     params: Option<&[u8]>,
 ) -> Result<Table, RunError>
     ensures { let given = contents_given (option_map (λ b. b.now) review.entry) (option_map (λ b. b.now) namespace.entry) (option_map (λ b. b.now) params.entry) in
-        ReturnsDue (λ t. record { values = ⟦<Table as ValueStore>⟧.values t; charge = ⟦<Table as ValueStore>⟧.charge t }) given result }
+        ReturnsDue held_contents given result }
 {
     match review {
         Some(review) => {

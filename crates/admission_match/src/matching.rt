@@ -43,7 +43,8 @@ fn beside_namespace<L: Labels>(
     request: &Attributes<'_, L>,
     namespace: NamespaceAnswer,
 ) -> Answer
-    ensures { result ≡ beside_namespace (λ rs. rules_answer resources.now.match_policy rs (attributes_view L.map request.now)) (match_view resources.now) (attributes_view L.map request.now) namespace }
+    ensures { result ≡ beside_namespace (λ rs. rules_answer resources.now.match_policy rs (attributes_view L.map request.now))
+        (match_view resources.now) (attributes_view L.map request.now) namespace }
 {
     if !object_passes(&resources.object_selector, request) {
         return Answer::No;

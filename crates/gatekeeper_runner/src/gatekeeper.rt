@@ -1,5 +1,6 @@
 //! What decides the lines.
 ghost use Rattle.std.specs.Prelude.{ℕ, List};
+ghost use Rattle.value_table.specs.Held.{held_contents};
 ghost use Rattle.policy_glue.specs.OneImage.{OneImage};
 ghost use Rattle.admission.specs.Deciding.{AreGiven};
 ghost use Rattle.admission.specs.Decisions.{decision_view};
@@ -44,7 +45,9 @@ impl Gatekeeper {
     /// What one policy says of the review whose roots are in the table. The program runs on a copy,
     /// which shares the table's values.
     fn decision_by(&self, gate: &Gate, table: &Table, uid: &str) -> Result<Decision, RunError>
-        ensures { (policies : List (List ℕ)) (policy review : List ℕ) → IsGateOf policy gate.now → AreGiven (under (gatekeeper_of policies self.now) policy review) (record { values = ⟦<Table as ValueStore>⟧.values table.now; charge = ⟦<Table as ValueStore>⟧.charge table.now }) uid.now → DecidesAlone OneImage (gatekeeper_of policies self.now) policy review (decision_view result) }
+        ensures { (policies : List (List ℕ)) (policy review : List ℕ) → IsGateOf policy gate.now
+            → AreGiven (under (gatekeeper_of policies self.now) policy review) (held_contents table.now) uid.now
+            → DecidesAlone OneImage (gatekeeper_of policies self.now) policy review (decision_view result) }
     {
         gate.decision_on(table.copy()?, uid, self.steps)
     }

@@ -90,7 +90,8 @@ fn perform<V: ValueStore>(table: &mut V, effect: HelperEffect<'_>) -> Result<Hel
         CallReturns
         (charged (answer_among old.values (outcome_by old.values effect.entry.placement effect.entry.added)) old.charge)
         result old (record { values = V.values table.new; charge = V.charge table.new }) }
-    ensures memory { takes_memory (outcome_by (V.values table.old) effect.entry.placement effect.entry.added) (record { values = V.values table.old; charge = V.charge table.old }) ≡ false → IsOk result }
+    ensures memory { takes_memory (outcome_by (V.values table.old) effect.entry.placement effect.entry.added)
+        (record { values = V.values table.old; charge = V.charge table.old }) ≡ false → IsOk result }
 {
     if effect.added >= CHARGE_LIMIT - table.charge() {
         return Ok(HelperEnd::Stop(Fault::F8));

@@ -4,18 +4,18 @@ use Rattle.cel_reader.specs.Written.{str, yes, no}
 use Rattle.cel_measures.specs.Rows.{conjoined}
 use Rattle.expression_code.specs.Limits.{charge_per_unit}
 use Rattle.policy_glue.specs.Budget.{policy_spent, policy_work}
-use Rattle.policy_glue.specs.DecisionRows.{at_most_three, bare, five, with_validations, wrong}
+use Rattle.policy_glue.specs.DecisionRows.{at_most_three, bare, five, policy_of_validations, wrong}
 use Rattle.policy_glue.specs.Limits.{excess, policy_nodes, policy_texts}
 use Rattle.policy_glue.specs.Trees.{PolicyTree}
 use Rattle.policy_glue.specs.declared.compile_error.CompileError.TheVariants.{TooManyNodes}
 use Rattle.policy_glue.specs.declared.failure_policy.FailurePolicy.TheVariants.{Fail}
 
 abbrev pub few_replicas : PolicyTree
-few_replicas = with_validations (bare at_most_three ∷ [])
+few_replicas = policy_of_validations (bare at_most_three ∷ [])
 
 -- a validation that is true, and one that is false, each with a message expression of one node
 abbrev pub with_messages : PolicyTree
-with_messages = with_validations (record { expression = yes; message = Some (str "a") } ∷ record { expression = no; message = Some (str "b") } ∷ [])
+with_messages = policy_of_validations (record { expression = yes; message = Some (str "a") } ∷ record { expression = no; message = Some (str "b") } ∷ [])
 
 pub record BudgetRowsStand : Type 0 where
   -- the policy, the validation, an operator, two selections, a name and a literal
@@ -30,9 +30,9 @@ pub record BudgetRowsStand : Type 0 where
   pub no_messages : policy_work Fail (record with_messages { conditions = no ∷ [] }) five ≡ 7
   pub variable : policy_work Fail (record few_replicas { variables = record { name = []; expression = wrong } ∷ [] }) five ≡ 11
   pub nodes : policy_nodes with_messages ≡ 9
-  pub texts : policy_texts (with_validations (bare at_most_three ∷ bare at_most_three ∷ [])) ≡ codes "spec" ∷ codes "replicas" ∷ []
+  pub texts : policy_texts (policy_of_validations (bare at_most_three ∷ bare at_most_three ∷ [])) ≡ codes "spec" ∷ codes "replicas" ∷ []
   -- true && true && .. of 255 literals, and of 256
-  pub largest_nodes : policy_nodes (with_validations (bare (conjoined 254) ∷ [])) ≡ 511
-  pub largest : excess (with_validations (bare (conjoined 254) ∷ [])) ≡ None
-  pub too_many_nodes : policy_nodes (with_validations (bare (conjoined 255) ∷ [])) ≡ 513
-  pub too_large : excess (with_validations (bare (conjoined 255) ∷ [])) ≡ Some TooManyNodes
+  pub largest_nodes : policy_nodes (policy_of_validations (bare (conjoined 254) ∷ [])) ≡ 511
+  pub largest : excess (policy_of_validations (bare (conjoined 254) ∷ [])) ≡ None
+  pub too_many_nodes : policy_nodes (policy_of_validations (bare (conjoined 255) ∷ [])) ≡ 513
+  pub too_large : excess (policy_of_validations (bare (conjoined 255) ∷ [])) ≡ Some TooManyNodes

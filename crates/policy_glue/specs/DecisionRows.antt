@@ -44,11 +44,11 @@ abbrev pub bare : Tree → ValidationTree
 bare a = record { expression = a; message = None }
 
 -- validations alone
-abbrev pub with_validations : List ValidationTree → PolicyTree
-with_validations rules = record { variables = []; conditions = []; validations = rules }
+abbrev pub policy_of_validations : List ValidationTree → PolicyTree
+policy_of_validations validations = record { variables = []; conditions = []; validations = validations }
 
 abbrev pub decided : FailurePolicy → List ValidationTree → Verdict
-decided f rules = decision_of f (with_validations rules) five
+decided f rules = decision_of f (policy_of_validations rules) five
 
 abbrev pub under : FailurePolicy → List Tree → Verdict
 under f conditions = decision_of f (record { variables = []; conditions = conditions; validations = bare no ∷ [] }) five

@@ -7,7 +7,7 @@ use Rattle.cel_macros.specs.Written.{variable}
 use Rattle.bpf_machine.specs.State.{State, null_values, start_state}
 use Rattle.bpf_machine.specs.Trace.{state_after}
 use Rattle.bpf_machine.specs.declared.status.Status.TheVariants.{Exited}
-use Rattle.policy_glue.specs.DecisionRows.{bare, with_validations}
+use Rattle.policy_glue.specs.DecisionRows.{bare, policy_of_validations}
 use Rattle.policy_glue.specs.OneImage.{program_image}
 use Rattle.policy_glue.specs.Trees.{PolicyTree}
 use Rattle.policy_glue.specs.declared.failure_policy.FailurePolicy.{FailurePolicy, TheVariants.Fail, TheVariants.Ignore}
@@ -25,7 +25,7 @@ abbrev pub other : Tree
 other = literal null
 
 abbrev pub false_with_message : PolicyTree
-false_with_message = with_validations (record { expression = no; message = Some (str "a") } ∷ [])
+false_with_message = policy_of_validations (record { expression = no; message = Some (str "a") } ∷ [])
 
 abbrev pub under_conditions : List Tree → PolicyTree
 under_conditions conditions = record { variables = []; conditions = conditions; validations = bare no ∷ [] }
@@ -38,9 +38,9 @@ pub record RunRowsStand : Type 0 where
   -- its outcome, one denial, that it is false, and the reference of its text
   pub denied : (run Fail false_with_message 24).status ≡ Exited 3
   pub denied_words : words (0 ∷ 1 ∷ 2 ∷ 66 ∷ []) (run Fail false_with_message 24) ≡ 3 ∷ 1 ∷ 1 ∷ 9 ∷ []
-  pub admitted : (run Fail (with_validations (bare yes ∷ [])) 8).status ≡ Exited 4
-  pub error_denies : (run Fail (with_validations (bare other ∷ [])) 16).status ≡ Exited 3
-  pub error_ignored : words (0 ∷ 1 ∷ 2 ∷ []) (run Ignore (with_validations (bare other ∷ [])) 12) ≡ 4 ∷ 0 ∷ 2 ∷ []
+  pub admitted : (run Fail (policy_of_validations (bare yes ∷ [])) 8).status ≡ Exited 4
+  pub error_denies : (run Fail (policy_of_validations (bare other ∷ [])) 16).status ≡ Exited 3
+  pub error_ignored : words (0 ∷ 1 ∷ 2 ∷ []) (run Ignore (policy_of_validations (bare other ∷ [])) 12) ≡ 4 ∷ 0 ∷ 2 ∷ []
   -- a false condition decides behind an error
   pub skipped : (run Fail (under_conditions (other ∷ no ∷ [])) 14).status ≡ Exited 1
   pub rejected : (run Fail (under_conditions (other ∷ yes ∷ [])) 12).status ≡ Exited 2

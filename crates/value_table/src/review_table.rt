@@ -8,6 +8,7 @@ ghost use Rattle.value_table.specs.Growing.{IsValueAt};
 ghost use Rattle.value_table.specs.Heap.{heap_values, IsHeap};
 ghost use Rattle.value_store.specs.Documents.{document_given, document_of};
 ghost use Rattle.value_store.specs.Reviews.{null_parts, parts_in, uid_in};
+ghost use Rattle.value_table.specs.Held.{held_contents};
 ghost use Rattle.value_table.specs.OtherRoots.{ArePlaced, ArePlacedOthers};
 ghost use Rattle.value_table.specs.ReviewTable.{DocumentReturns, OthersReturn, ReviewReturns, ReviewTableReturns};
 
@@ -39,7 +40,7 @@ impl Table {
         ensures table { let parts = option_and_then parts_in (document_of review.now) in
             let namespace_given = document_given (option_map (λ b. b.now) namespace.entry) in
             let params_given = document_given (option_map (λ b. b.now) params.entry) in
-            ReviewTableReturns (λ r. record { values = r.0.values; charge = r.0.charge }) result parts namespace_given params_given }
+            ReviewTableReturns (λ r. held_contents r.0) result parts namespace_given params_given }
         ensures uid { IfOk result (λ r. string_bytes r.1 ≡ uid_in review.now) }
     {
         let others = read_others(alloc, namespace, params)?;
@@ -54,7 +55,7 @@ impl Table {
     ) -> Result<Table, ReviewError>
         ensures { let namespace_given = document_given (option_map (λ b. b.now) namespace.entry) in
             let params_given = document_given (option_map (λ b. b.now) params.entry) in
-            ReviewTableReturns (λ t. record { values = t.values; charge = t.charge }) result (Some null_parts) namespace_given params_given }
+            ReviewTableReturns held_contents result (Some null_parts) namespace_given params_given }
     {
         let others = read_others(alloc, namespace, params)?;
         let PlacedOthers { mut heap, places } = others;
@@ -70,7 +71,8 @@ impl Table {
 /// The table of a review and of these values, and the uid of the review's request.
 pub(crate) fn opened(others: PlacedOthers, review: &[u8]) -> Result<(Table, String), ReviewError>
     requires { ArePlaced others }
-    ensures table { (namespace params : Option Data) → ArePlacedOthers others namespace params → ReviewTableReturns (λ r. record { values = r.0.values; charge = r.0.charge }) result (option_and_then parts_in (document_of review.now)) namespace params }
+    ensures table { (namespace params : Option Data) → ArePlacedOthers others namespace params
+        → ReviewTableReturns (λ r. held_contents r.0) result (option_and_then parts_in (document_of review.now)) namespace params }
     ensures uid { IfOk result (λ r. string_bytes r.1 ≡ uid_in review.now) }
 {
     let PlacedOthers { mut heap, places } = others;

@@ -3,6 +3,7 @@
 ghost use Rattle.std.specs.Prelude.{◌≡◌, option_map, option_and_then, string_bytes, IfOk};
 ghost use Rattle.value_store.specs.Documents.{document_given, document_of};
 ghost use Rattle.value_store.specs.Reviews.{parts_in, uid_in};
+ghost use Rattle.value_table.specs.Held.{held_contents};
 ghost use Rattle.value_table.specs.ReviewTable.{ReviewTableReturns};
 
 use crate::other_roots::PlacedOthers;
@@ -55,7 +56,7 @@ impl SharedDocuments {
     /// The table of the roots of a review (AdmissionReview, `admission.k8s.io/v1`) with these
     /// documents, and the uid of the review's request. It returns what `Table::of_review` does.
     pub fn table_of(&self, review: &[u8]) -> Result<(Table, String), ReviewError>
-        ensures table { ReviewTableReturns (λ r. record { values = r.0.values; charge = r.0.charge }) result (option_and_then parts_in (document_of review.now)) (document_given self.now.namespace) (document_given self.now.params) }
+        ensures table { ReviewTableReturns (λ r. held_contents r.0) result (option_and_then parts_in (document_of review.now)) (document_given self.now.namespace) (document_given self.now.params) }
         ensures uid { IfOk result (λ r. string_bytes r.1 ≡ uid_in review.now) }
     {
         match &self.values {

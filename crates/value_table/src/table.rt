@@ -7,6 +7,7 @@ ghost use Rattle.value_store.specs.Placing.{charge_limit, first_values};
 ghost use Rattle.value_store.specs.Plain.{plain_value};
 ghost use Rattle.value_store.specs.Roots.{start_contents, StoreStarts};
 ghost use Rattle.value_store.specs.Value.{value};
+ghost use Rattle.value_table.specs.Held.{held_contents};
 ghost use Rattle.value_table.specs.Meaning.{reference_of};
 ghost use Rattle.serde_json.specs.Data.{Data};
 ghost use Rattle.value_table.specs.Heap.{heap_values, IsHeap};
@@ -65,7 +66,7 @@ impl Table {
     /// is taken.
     #[tactic(auto, using(crate::proofs::Starting::refused_as, crate::proofs::Starting::no_memory_for, crate::proofs::Starting::judged))]
     pub fn of_roots(alloc: Global, roots: &[Value; 5]) -> Result<Table, TableError>
-        ensures { StoreStarts (λ t. record { values = ⟦<Table as ValueStore>⟧.values t; charge = ⟦<Table as ValueStore>⟧.charge t }) (start_contents (map view roots.now)) result }
+        ensures { StoreStarts held_contents (start_contents (map view roots.now)) result }
     {
         let charge = start_charge(roots)?;
         let table = Table::charged(alloc, copies(roots)?, charge)?;
@@ -76,7 +77,7 @@ impl Table {
     /// are made, so that no document is held twice.
     #[tactic(auto, using(crate::proofs::Starting::refused_as, crate::proofs::Starting::no_memory_for, crate::proofs::Starting::judged))]
     pub fn of_documents(alloc: Global, roots: [Value; 5]) -> Result<Table, TableError>
-        ensures { StoreStarts (λ t. record { values = ⟦<Table as ValueStore>⟧.values t; charge = ⟦<Table as ValueStore>⟧.charge t }) (start_contents (map view roots)) result }
+        ensures { StoreStarts held_contents (start_contents (map view roots)) result }
     {
         let charge = start_charge(&roots)?;
         let table = Table::charged(alloc, roots, charge)?;
@@ -88,7 +89,7 @@ impl Table {
     pub(crate) fn placed(heap: Heap, roots: &[Option<Placed>; 5]) -> Result<Table, ReviewError>
         requires heap { IsHeap heap }
         requires sound { AreSoundPlaces (heap_values heap) roots.now }
-        ensures { (ds : List Data) → ArePlacedValues (heap_values heap) roots.now ds → TableReturns (λ t. record { values = t.values; charge = t.charge }) result (start_contents ds) }
+        ensures { (ds : List Data) → ArePlacedValues (heap_values heap) roots.now ds → TableReturns held_contents result (start_contents ds) }
     {
         let mut heap = heap;
         let mut places = first_places(&mut heap)?;

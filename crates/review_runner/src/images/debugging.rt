@@ -1,5 +1,6 @@
 //! Sessions with the image in a file.
 ghost use Rattle.std.specs.Prelude.{◌≡◌, Ok};
+ghost use Rattle.value_table.specs.Held.{held_contents};
 ghost use Rattle.bpf_machine.specs.State.{start_state};
 ghost use Rattle.review_runner.specs.Debugging.{held_of, held_view, DebugsByResult, HoldsFiles, SessionStarts};
 ghost use Rattle.review_runner.specs.Order.{files_view};
@@ -68,7 +69,7 @@ fn read_documents<F: Files>(
 
 /// The image in its file, and the roots of the documents in theirs.
 fn start(alloc: Global, held: &HeldFiles) -> Result<(Image, Table), Refusal>
-    ensures { SessionStarts (λ p. start_state p.0 (record { values = ⟦<Table as ValueStore>⟧.values p.1; charge = ⟦<Table as ValueStore>⟧.charge p.1 })) (Ok (held_view held.now)) result }
+    ensures { SessionStarts (λ p. start_state p.0 (held_contents p.1)) (Ok (held_view held.now)) result }
 {
     let image = Image::read(alloc, &held.subject)?;
     let table = roots(

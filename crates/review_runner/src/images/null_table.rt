@@ -1,5 +1,6 @@
 //! The values that an image runs on where no review is given.
 ghost use Rattle.std.specs.Prelude.{◌≡◌, IfOk};
+ghost use Rattle.value_table.specs.Held.{held_contents};
 ghost use Rattle.bpf_machine.specs.State.{null_values};
 
 use serde_json::Value;
@@ -10,7 +11,7 @@ use value_table::Table;
 /// The table of five null roots.
 #[tactic(auto, unfolding(bpf_machine::specs::State::null_values))]
 pub fn null_table(alloc: Global) -> Result<Table, AllocError>
-    ensures { IfOk result (λ t. record { values = ⟦<Table as ValueStore>⟧.values t; charge = ⟦<Table as ValueStore>⟧.charge t } ≡ null_values) }
+    ensures { IfOk result (λ t. held_contents t ≡ null_values) }
 {
     let roots = [
         Value::Null,
