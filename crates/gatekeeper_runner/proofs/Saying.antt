@@ -51,8 +51,8 @@ first_refuses t review (p ∷ ps) (g ∷ gs) same are some contents e none_there
       after = ps;
       are = same;
       so_far = no_decision;
-      say = none;
-      refuses = (alone.0, of_one d t.steps g.policy g.image (Err (table_refusal e)) are.0.0.0 are.0.1 (refused_so Exit Decision (exactly g.image) d t.steps (table_refusal e) alone.1));
+      decide = none;
+      refuses = (alone.0, of_one {A = Decision} d t.steps g.policy g.image (Err (table_refusal e)) are.0.0.0 are.0.1 (refused_so Exit Decision (exactly g.image) d t.steps (table_refusal e) alone.1));
     }
 first_refuses t review [] [] same are some contents e none_there = absurd (omega (arith, some))
 first_refuses t review policies gates same are some contents e none_there = absurd are

@@ -1,4 +1,5 @@
 use Rattle.value_store.specs.Placing.{Contents}
+use Rattle.value_table.specs.Held.{held_contents}
 use Rattle.value_table.specs.declared.table.Table.{Table}
 use Rattle.gatekeeper_runner.proofs.Prelude.{Global, String, refl, ◌∙◌, arith, none, gatekeeper_of, is_err}
 use Rattle.gatekeeper_runner.proofs.Saying.{all_said, are_given, first_refuses, none_said, refused_at, said_more}
@@ -13,7 +14,7 @@ returns-then-is_empty c policies are = rw c.no_decision-said.ensures (none_said 
 pub returns-in_err-table : goal.returns-in_err-table
 returns-in_err-table c policies are =
     rw (is_err c.from_residual.ensures.1)
-    (first_refuses (gatekeeper_of policies c.args.self.now) c.args.review.now policies c.args.self.now.gates.items refl are (grind arith) {S = Table × String Global} (λ r. record { values = r.0.values; charge = r.0.charge }) _ c.in_err-table.ensures.table)
+    (first_refuses (gatekeeper_of policies c.args.self.now) c.args.review.now policies c.args.self.now.gates.items refl are (grind arith) {S = Table × String Global} (λ r. held_contents r.0) _ c.in_err-table.ensures.table)
 
 pub loop-gate-preserved : goal.loop-gate-preserved
 loop-gate-preserved c policies are =
