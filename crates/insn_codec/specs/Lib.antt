@@ -10,4 +10,5 @@ pub mod Lines
 pub mod Statements
 pub mod Laws
 pub mod OpcodeRows
+pub mod RefusedRows
 pub mod Rows

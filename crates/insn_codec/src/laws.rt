@@ -1,6 +1,7 @@
 //! Laws of instructions and statements, each the clause of a function that does nothing.
 ghost use Rattle.insn_codec.specs.Laws.{NoLineFeed, OneSpelling, SlotsAreFilled, StatementIsSpelled};
 ghost use Rattle.insn_codec.specs.OpcodeRows.{ArithmeticCodesHold, JumpCodesHold, MemoryCodesHold};
+ghost use Rattle.insn_codec.specs.RefusedRows.{FieldsAreChecked, NoSuchAccess, NoSuchArithmetic, NoSuchJump};
 ghost use Rattle.insn_codec.specs.Rows.{SpellingRowsHold};
 ghost use Rattle.insn_codec.specs.Spelled.{SpelledIsSpelling};
 
@@ -27,6 +28,16 @@ pub fn opcodes_stand()
     ensures arithmetic { ArithmeticCodesHold }
     ensures jumps { JumpCodesHold }
     ensures memory { MemoryCodesHold }
+{}
+
+/// Slots that spell no instruction: what each breaks of the standard is the only thing wrong with
+/// it.
+#[tactic(auto, unfolding(crate::specs::Spelled::spelled, crate::specs::Candidate::candidate_at, crate::specs::Candidate::arithmetic_at, crate::specs::Candidate::jump_at, crate::specs::Candidate::branch_at, crate::specs::Candidate::memory_at, crate::specs::Candidate::atomic_at, crate::specs::Candidate::wide_at))]
+pub fn refusals_stand()
+    ensures fields { FieldsAreChecked }
+    ensures arithmetic { NoSuchArithmetic }
+    ensures jumps { NoSuchJump }
+    ensures access { NoSuchAccess }
 {}
 
 /// The bytes of an instruction, and of a statement, are eight for each of its slots, of which it
