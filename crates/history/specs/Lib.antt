@@ -2,3 +2,4 @@ pub mod Limits
 pub mod Past
 pub mod Search
 pub mod Unchanged
+pub mod Rows

@@ -1,6 +1,6 @@
 //! The laws of the format, each proved as the contract of an empty function.
 
-ghost use Rattle.loader.specs.Laws.{HoldsItsFile, ReadsBack, KeepsTheLimits, ImageFileRowsHold};
+ghost use Rattle.loader.specs.Laws.{CodeRowsStand, HoldsItsFile, ReadsBack, KeepsTheLimits, ImageFileRowsHold};
 
 /// What is read from a file and written again is that file, and what is written as a file and
 /// read again is that image. Code and constants make an image exactly within the limits.
@@ -11,8 +11,10 @@ pub fn read_is_the_format()
     ensures keeps_the_limits { KeepsTheLimits }
 {}
 
-/// Files that were read by hand: a program of three slots, and one for each way to be none.
-#[tactic(auto, unfolding(crate::specs::Format::magic, crate::specs::Format::slots_in, crate::specs::Format::constants_in, crate::specs::Format::file_of, crate::specs::Format::image_in))]
+/// Files that were read by hand: a program of three slots, and one for each way to be none; and the
+/// code of each cause.
+#[tactic(auto, unfolding(crate::specs::Format::magic, crate::specs::Format::slots_in, crate::specs::Format::constants_in, crate::specs::Format::file_of, crate::specs::Format::image_in, crate::specs::Format::image_from))]
 pub fn rows_stand()
-    ensures { ImageFileRowsHold }
+    ensures files { ImageFileRowsHold }
+    ensures codes { CodeRowsStand }
 {}

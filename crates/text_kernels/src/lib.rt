@@ -8,5 +8,5 @@ mod skipping;
 
 pub use comparing::first_difference;
 pub use counting::code_points;
-pub use laws::characters;
+pub use laws::{characters, rows_stand};
 pub use skipping::skip_plain;
