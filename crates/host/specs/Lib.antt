@@ -1,2 +1,3 @@
 pub mod FileSystem
 pub mod ErrorCodes
+pub mod Rows

@@ -7,6 +7,7 @@ mod disk_tests;
 mod file_error;
 mod files;
 mod order_error;
+pub mod rows;
 pub mod words;
 
 pub use disk::Disk;

@@ -5,3 +5,4 @@ pub mod ErrorCodes
 pub mod Writing
 pub mod Buffers
 pub mod Hearing
+pub mod Rows

@@ -8,6 +8,7 @@ mod hearing;
 mod line_source;
 mod listener;
 mod read_buffer;
+pub mod rows;
 mod session_error;
 mod sink;
 mod source;
