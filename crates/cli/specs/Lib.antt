@@ -5,3 +5,4 @@ pub mod Arguments
 pub mod GivenFiles
 pub mod Ending
 pub mod Parsing
+pub mod Rows

@@ -9,6 +9,7 @@ mod limits;
 mod lines;
 mod parsing;
 mod refusal;
+pub mod rows;
 mod values;
 
 pub use arguments::{option_argument, required_option_argument, steps_argument, with_documents};

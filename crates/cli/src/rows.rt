@@ -1,0 +1,15 @@
+//! Refusals, their causes and numbers written out, with what the definitions say of them.
+ghost use Rattle.cli.specs.Rows.{CauseRowsStand, ExpressionRowsStand, NumberRowsStand, RefusalRowsStand};
+
+/// The line and the status of each refusal, and what the parts of the program refuse for.
+pub fn refusal_rows_stand()
+    ensures lines { RefusalRowsStand }
+    ensures expressions { ExpressionRowsStand }
+    ensures causes { CauseRowsStand }
+{}
+
+/// Texts with the numbers that they stand for.
+#[tactic(auto, unfolding(crate::specs::Number::number_of))]
+pub fn number_rows_stand()
+    ensures { NumberRowsStand }
+{}
