@@ -47,7 +47,7 @@ module _ (types : List CelType) (scope : List Declaration) (text : List ℕ) whe
   pub one_of_once : (a b : Tree) → IsOneOf types scope text a → IsOneOf types scope text b → a ≡ b
   one_of_once a b one other = reads_once text a b one.taken.reads other.taken.reads
 
-  not_other : (a : Tree) → IsOneOf types scope text a → HasOtherType types scope text → ⊥
+  pub not_other : (a : Tree) → IsOneOf types scope text a → HasOtherType types scope text → ⊥
   not_other a one other = true≢false (sym one.kind ∙ ap (allowed types) (type_once (expression_judged scope) text a other.tree one.cel_type other.cel_type one.taken other.taken) ∙ other.kind)
 
   module _ (other : CompileError) (part : PartKind) (place : ℕ) where

@@ -3,7 +3,7 @@
 ghost use Rattle.policy_glue.specs.BudgetRows.{BudgetRowsStand};
 ghost use Rattle.policy_glue.specs.DecisionRows.{CheckingRowsStand, DecisionRowsStand};
 ghost use Rattle.policy_glue.specs.LimitRows.{LimitRowsStand};
-ghost use Rattle.policy_glue.specs.OneAnswer.{CompileHasOneResult, HasOneImage};
+ghost use Rattle.policy_glue.specs.OneAnswer.{CompileHasOneResult, HasNoOtherType, HasOneImage};
 ghost use Rattle.policy_glue.specs.ProgramLaws.{PolicyDecides};
 ghost use Rattle.policy_glue.specs.ProgramTrees.{ProgramDecides, ProgramIsCode, ProgramIsShort, ProgramStops};
 ghost use Rattle.policy_glue.specs.RunRows.{RunRowsStand};
@@ -88,9 +88,11 @@ pub fn program_decides()
     decodes_spelling();
 }
 
-/// A policy has one answer at most, its trees or its first refusal, and one image.
+/// A policy has one answer at most, its trees or its first refusal, and one image; and none is
+/// refused for the type of an expression that has the type it is to have.
 #[tactic(auto, using(crate::proofs::OneAnswer::compiled_once, crate::proofs::OneAnswer::one_image))]
 pub fn compiles_once()
     ensures answer { CompileHasOneResult }
     ensures image { HasOneImage }
+    ensures of_type { HasNoOtherType }
 {}
