@@ -1,49 +1,48 @@
-"""Changes definitions one at a time, and lists the changes that no row and no law of their crate notices.
+"""Changes definitions one at a time, and lists the changes that no row and no law notices.
 
-usage: tools/mutate-definitions [--seed N] [--count N] [--crate NAME].. [--known FILE] [--list] [FILE NAME]
+usage: tools/mutate-definitions [--seed N].. [--count N] [--crate NAME].. [--above N] [--list | --unpinned] [FILE NAME]
 
-It draws changes from a seed out of the definitions that the programs' contracts rest on, those of FILE and NAME alone
-if they are given, as tools/belief lists them. A change moves a number by one, takes `<` for `<=`, true for false, one
-variant or argument for another, exchanges or merges results of cases, or leaves a case out. For each the prover checks
-the rows and laws of the definition's crate, which follow no code, on a copy of the crates; what is proved of them
-already is kept. It goes on until --count changes had a meaning. Each gets a line: killed, and by which rows and laws, or
-survived. --known is a file of changes that mean the same as what they replace, a line each as --list prints it, with
-the reason after ` -- `: these are told as equivalent and not tried. --list prints changes and tries none. It ends with
-status 1 where one survived.
+From each seed it draws --count changes out of the definitions that tools/belief lists, those of FILE and NAME alone if
+they are given. A change moves a number by one, takes `<` for `<=`, true for false, one variant or argument for another,
+exchanges or merges results of cases, exchanges tests, or leaves out a case, a premise, a field or a part of a
+statement. For each the prover checks the rows and laws of the definition's crate that rest on it, which follow no code,
+on a copy of the crates, and then the rows of the --above (1) nearest crates above that rest on it. Changes without a
+meaning are not counted. Each gets a line, with the time that it took: killed, by rows or by laws; survived; equivalent,
+where the file `equivalent` of tools/data/mutate-definitions says why it means the same as what it replaces, and then it
+is not tried; or undecided, where laws alone are not proved any more and the file `false-laws` does not say how the
+change makes one false: that may be its proof alone. --list prints changes and tries none; --unpinned prints the
+definitions on which no literal row rests. It ends with status 1 where a change survived.
 """
 
 import argparse
 from collections import Counter
 from itertools import islice
 from pathlib import Path
-from typing import Optional
+from tempfile import TemporaryDirectory
+from typing import Iterator
 
+from ..definitions import Module
 from ..entry import Stop, usage_of
-from ..home import DATA
-from ..mutating.drawing import Drawn, drawn
-from ..mutating.trying import Outcome, Workshop, workshop
-
-KNOWN = DATA / "mutate-definitions" / "equivalent"
+from ..mutating import known
+from ..mutating.drawing import Drawn, believed, drawn, read_all
+from ..mutating.pins import Pin, all_pins
+from ..mutating.trying import Sources, workshop
+from ..mutating.verdicts import MEANT, VERDICTS, Outcome, decided
 
 
 def words() -> argparse.Namespace:
     parser = argparse.ArgumentParser(usage=usage_of(__doc__))
-    parser.add_argument("--seed", type=int, default=1)
+    parser.add_argument("--seed", type=int, action="append")
     parser.add_argument("--count", type=int, default=20)
     parser.add_argument("--crate", action="append", default=[])
-    parser.add_argument("--known", type=Path, default=KNOWN)
+    parser.add_argument("--above", type=int, default=1)
     parser.add_argument("--list", action="store_true")
+    parser.add_argument("--unpinned", action="store_true")
     parser.add_argument("definition", nargs="*", metavar="FILE NAME")
     given = parser.parse_args()
     if len(given.definition) not in (0, 2):
         parser.error("FILE and NAME go together")
     return given
-
-
-def known(path: Path) -> dict[str, str]:
-    """The changes that are known to mean the same, each with the reason."""
-    lines = path.read_text(encoding="utf-8").splitlines() if path.exists() else []
-    return dict(line.rsplit(" -- ", 1) for line in lines if " -- " in line)
 
 
 def by_crate(changes: list[Drawn]) -> dict[str, list[Drawn]]:
@@ -54,41 +53,78 @@ def by_crate(changes: list[Drawn]) -> dict[str, list[Drawn]]:
     return found
 
 
-def outcome_of(place: Workshop, one: Drawn, same: dict[str, str]) -> Outcome:
-    """What comes of a change, which is not tried if it is known to mean the same."""
-    return Outcome("equivalent") if one.told in same else place.tried(one)
+class Run:
+    """A run: what is known of changes, what notices them, and what came of them so far."""
+
+    def __init__(self, pins: list[Pin], sources: Sources, most_above: int):
+        self.pins, self.sources, self.most_above = pins, sources, most_above
+        self.same, self.false_laws = known.read(known.EQUIVALENT), known.read(known.FALSE_LAWS)
+        self.counts, self.seconds = Counter(), []
+
+    def tell(self, one: Drawn, outcome: Outcome) -> None:
+        """Counts an outcome, and prints its line."""
+        self.counts[outcome.verdict] += 1
+        self.counts["by rows"] += bool(outcome.rows)
+        if outcome.verdict in MEANT and outcome.verdict != "equivalent":
+            self.seconds.append(outcome.seconds)
+        print(f"{outcome.told}: {one.told}", flush=True)
+
+    def outcomes(self, changes: list[Drawn]) -> Iterator[tuple[Drawn, Outcome]]:
+        """What comes of changes; those that are known to mean the same are not tried."""
+        for one in changes:
+            if one.told in self.same:
+                yield one, Outcome("equivalent")
+        for crate, of_crate in by_crate([one for one in changes if one.told not in self.same]).items():
+            with workshop(crate, self.pins, self.sources, self.most_above) as place:
+                if not place.stands(of_crate[0].definition[0]):
+                    raise Stop(f"{crate}: its rows and laws are not proved as they stand", 1)
+                for one in of_crate:
+                    yield one, decided(place.tried(one), self.false_laws.get(one.told, ""))
+
+    def try_until(self, changes: Iterator[Drawn], count: int) -> None:
+        """Tries changes until so many had a meaning, or there are no more."""
+        left = count
+        while left and (some := list(islice(changes, left))):
+            for one, outcome in self.outcomes(some):
+                self.tell(one, outcome)
+                left -= outcome.verdict in MEANT
+
+    @property
+    def told(self) -> str:
+        """The counts of all verdicts, and the time of a change."""
+        meant = sum(self.counts[verdict] for verdict in MEANT)
+        told = ", ".join(f"{self.counts[verdict]} {verdict}" for verdict in VERDICTS)
+        mean = sum(self.seconds) / len(self.seconds) if self.seconds else 0
+        return f"{meant} changes: {told}; {self.counts['by rows']} by rows; {mean:.0f} s each, {max(self.seconds, default=0):.0f} s at most"
 
 
-def tried(changes: list[Drawn], same: dict[str, str], counts: Counter) -> None:
-    """Tries changes, prints a line for each, and counts the verdicts."""
-    for crate, of_crate in by_crate(changes).items():
-        with workshop(crate) as place:
-            if place.check().verdict != "survived":
-                raise Stop(f"{crate}: its rows and laws are not proved as they stand", 1)
-            for one in of_crate:
-                outcome = outcome_of(place, one, same)
-                counts[outcome.verdict] += 1
-                counts["by rows"] += bool(outcome.rows)
-                print(f"{outcome.told}: {one.told}", flush=True)
-
-
-def meaningful(counts: Counter) -> int:
-    return counts["killed"] + counts["survived"] + counts["equivalent"]
+def print_unpinned(read: dict[str, Module], pins: list[Pin], crates: list[str]) -> None:
+    """The definitions of the list that no row rests on, with the laws that do."""
+    rows = set().union(*(pin.rests_on for pin in pins if pin.is_rows))
+    laws = set().union(*(pin.rests_on for pin in pins if not pin.is_rows))
+    of = [Drawn(file, name, None) for file, _, _, name in believed(read) if not crates or file.split("/")[0] in crates]
+    without = [one for one in of if one.definition not in rows]
+    for one in without:
+        print(f"{'laws ' if one.definition in laws else 'code '}{one.file} {one.name}")
+    told = sum(one.definition in laws for one in without)
+    print(f"{len(of)} definitions, {len(without)} without a row: {told} with laws, {len(without) - told} with the contracts of code alone")
 
 
 def main() -> int:
     given = words()
-    only: Optional[tuple[str, str]] = tuple(given.definition) or None
-    changes = drawn(given.seed, given.crate, only)
+    read = read_all()
+    only = tuple(given.definition) or None
+    draws = [drawn(read, seed, given.crate, only) for seed in given.seed or [1]]
     if given.list:
-        print(*(one.told for one in islice(changes, given.count)), sep="\n")
+        print(*(one.told for draw in draws for one in islice(draw, given.count)), sep="\n")
         return 0
-    counts: Counter = Counter()
-    while meaningful(counts) < given.count:
-        some = list(islice(changes, given.count - meaningful(counts)))
-        if not some:
-            break
-        tried(some, known(given.known), counts)
-    told = ", ".join(f"{counts[verdict]} {verdict}" for verdict in ("killed", "survived", "equivalent", "ill-typed", "no answer"))
-    print(f"{meaningful(counts)} changes: {told}; {counts['by rows']} by rows")
-    return 1 if counts["survived"] else 0
+    pins = all_pins(read)
+    if given.unpinned:
+        print_unpinned(read, pins, given.crate)
+        return 0
+    with TemporaryDirectory() as folder:
+        run = Run(pins, Sources(Path(folder), pins), given.above)
+        for draw in draws:
+            run.try_until(draw, given.count)
+    print(run.told)
+    return 1 if run.counts["survived"] else 0

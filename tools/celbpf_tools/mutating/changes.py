@@ -1,13 +1,15 @@
 """The changes of one definition: each leaves its type and turns its meaning in one place."""
 
 import re
-from dataclasses import dataclass
 from typing import Iterator, Optional
+
+from .change import Change
+from .types import of_type
 
 NUMBER = re.compile(r"(?<![\w.\"'◌])(0x[0-9a-fA-F_]+|[0-9][0-9_]*)(?![\w.\"'])")
 # words of which one can stand for the other, by the kind of the change
 WORDS = [
-    ("order", "nat_lt", "nat_le"), ("order", "int_lt", "int_le"), ("part", "take", "drop"), ("part", "min", "max"),
+    ("order", "nat_lt", "nat_le"), ("order", "int_lt", "int_le"), ("end", "take", "drop"), ("end", "min", "max"),
     ("truth", "true", "false"), ("bits", "bit_and", "bit_or"), ("quantifier", "list_any", "list_all"),
 ]
 # operators, which have a blank on both sides
@@ -17,29 +19,16 @@ SIGNS = [
 ]
 NAME = r"[a-z_]\w*"
 ATOM = rf"(?:\([^()]*\)|[\w◌'.]+)"
+OPERAND = rf"(?!(?:if|then|else|in|let)\b){ATOM}"
 NEIGHBOURS = re.compile(rf"(?<=[\w)] )({NAME}) ({NAME})(?= |$|\)|;|,)")
 OPERANDS = re.compile(rf"({ATOM}) (-|-ℤ|\+\+|/|%|<|≤) ({ATOM})")
 BRANCHES = re.compile(rf"then ({ATOM}) else ({ATOM})(?=$|[ )])")
 VARIANTS = re.compile(r"use \S+?(?:TheVariants)?(?: as (\w+)|\.\{(.*)\})$")
+# a test of a chain with its result
+TEST = re.compile(r"(.*?(?:^| |\()if )([^\n]+ then (?:(?! else ).)+)$")
+# one of many values of a word, of which no two are the same
+VALUE = re.compile(rf"({NAME}) == \S+ then ")
 KEYWORDS = ("if", "then", "else", "in", "let", "where", "record")
-
-
-@dataclass(frozen=True)
-class Change:
-    """Lines of a file that stand for others: `place` is the number of the first, from 1."""
-
-    kind: str
-    place: int
-    old: tuple[str, ...]
-    new: tuple[str, ...]
-
-    def applied(self, text: str) -> str:
-        """The text with the change; it has to have the old lines at the place."""
-        lines = text.split("\n")
-        begin, end = self.place - 1, self.place - 1 + len(self.old)
-        if tuple(lines[begin:end]) != self.old:
-            raise ValueError(f"line {self.place} is another")
-        return "\n".join([*lines[:begin], *self.new, *lines[end:]])
 
 
 def groups(text: str) -> list[list[str]]:
@@ -100,6 +89,15 @@ def of_places(text: str) -> Iterator[tuple[str, str]]:
         yield "branches", replaced(text, match, f"then {match[2]} else {match[1]}")
 
 
+def of_conjunctions(text: str) -> Iterator[tuple[str, str]]:
+    """One side of each sign that joins truths or statements, without the other."""
+    for sign in ("&&", "×"):
+        for match in re.finditer(rf"(?<![\w◌'.)])({OPERAND}(?: {OPERAND})*?) {sign} ", text):
+            yield "part", text[: match.start()] + text[match.end() :]
+        for match in re.finditer(rf" {sign} ({OPERAND}(?: {OPERAND})*)(?=$|[);]| then )", text):
+            yield "part", text[: match.start()] + text[match.end() :]
+
+
 def of_variants(text: str, of_file: list[list[str]]) -> Iterator[tuple[str, str]]:
     """Each variant for the next of its group."""
     for group in of_file:
@@ -110,7 +108,7 @@ def of_variants(text: str, of_file: list[list[str]]) -> Iterator[tuple[str, str]
 
 def of_result(text: str, of_file: list[list[str]]) -> Iterator[tuple[str, str]]:
     """The changes of a result, or of a part of one."""
-    for found in (of_numbers(text), of_words(text), of_places(text), of_variants(text, of_file)):
+    for found in (of_numbers(text), of_words(text), of_places(text), of_conjunctions(text), of_variants(text, of_file)):
         yield from found
 
 
@@ -166,11 +164,25 @@ def of_clauses(lines: list[str], place: int, name: str) -> Iterator[Change]:
             yield Change("case", place + begin, tuple(lines[begin:end]), ())
 
 
+def are_apart(one: str, other: str) -> bool:
+    """Whether no value passes both tests, so that their order says nothing."""
+    values = VALUE.match(one), VALUE.match(other)
+    return bool(values[0] and values[1] and values[0][1] == values[1][1])
+
+
+def of_tests(lines: list[str], place: int) -> Iterator[Change]:
+    """Neighbouring tests of a chain, each on a line of its own with its result, in the other order."""
+    for at, pair in enumerate(zip(lines, lines[1:])):
+        one, other = (TEST.match(line) for line in pair)
+        if one and other and one[2] != other[2] and not are_apart(one[2], other[2]):
+            yield Change("tests", place + at, pair, (one[1] + other[2], other[1] + one[2]))
+
+
 def of_definition(text: str, place: int, size: int, name: str) -> list[Change]:
     """The changes of a definition of a file: its first line's number, how many lines it has, and its name."""
     lines = text.split("\n")[place - 1 : place - 1 + size]
     if re.match(r" *(?:\w+ )*(?:data|record) ", lines[0]):
-        return []
+        return list(of_type(lines, place))
     word, of_file, found = name.split("◌")[0] or name, groups(text), []
     for at, line in enumerate(lines):
         code, dash, comment = line.partition("  -- ")
@@ -179,5 +191,5 @@ def of_definition(text: str, place: int, size: int, name: str) -> list[Change]:
             continue
         for kind, new in of_result(code[begin:], of_file):
             found.append(Change(kind, place + at, (line,), (code[:begin] + new + dash + comment,)))
-    found += of_clauses(lines, place, word)
+    found += [*of_clauses(lines, place, word), *of_tests(lines, place)]
     return [change for change in dict.fromkeys(found) if change.old != change.new]

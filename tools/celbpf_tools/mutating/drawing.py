@@ -4,11 +4,10 @@ import random
 from dataclasses import dataclass
 from typing import Iterator, Optional
 
-from ..commands.belief import rests_on
-from ..definitions import CRATES, modules
-from .changes import Change, of_definition
-
-TOPS = [("review_runner/specs/Program.antt", "ProgramResult"), ("gatekeeper_runner/specs/Program.antt", "GatekeeperResult")]
+from ..commands.belief import CONTRACTS, rests_on
+from ..definitions import CRATES, Module, modules
+from .change import Change
+from .changes import of_definition
 
 
 @dataclass(frozen=True)
@@ -24,28 +23,37 @@ class Drawn:
         return self.file.split("/")[0]
 
     @property
+    def definition(self) -> tuple[str, str]:
+        """The module and the name of the definition."""
+        return "Rattle." + self.file.removesuffix(".antt").replace("/", "."), self.name
+
+    @property
     def told(self) -> str:
-        """The change on a line."""
-        shown = " / ".join(line.strip() for line in self.change.new) or "(left out)"
-        return f"{self.file} {self.name} line {self.change.place} {self.change.kind}: {shown}"
+        """The change on a line, without the number of its place, which moves."""
+        old, new = (" / ".join(line.strip() for line in lines) for lines in (self.change.old, self.change.new))
+        return f"{self.file} {self.name} {self.change.kind}: {old} => {new or '(left out)'}"
 
 
-def believed() -> list[tuple[str, int, int, str]]:
+def read_all() -> dict[str, Module]:
+    """The files of definitions by the names of their modules."""
+    return {module.name: module for module in modules()}
+
+
+def believed(read: dict[str, Module]) -> list[tuple[str, int, int, str]]:
     """The definitions of the list: file, line, how many lines, name."""
-    read = {module.name: module for module in modules()}
-    found = set().union(*(rests_on(read, *top) for top in TOPS))
+    found = set().union(*(rests_on(read, *contract) for contract in CONTRACTS))
     of = [(read[at].file, read[at].definitions[name], name) for at, name in found]
     return sorted((file, it.place, len(it.lines), name) for file, it, name in of)
 
 
-def drawn(seed: int, crates: list[str], only: Optional[tuple[str, str]] = None) -> Iterator[Drawn]:
+def drawn(read: dict[str, Module], seed: int, crates: list[str], only: Optional[tuple[str, str]] = None) -> Iterator[Drawn]:
     """Changes without end from a seed: a definition is drawn first, then the kind of the change, then the change.
 
     None comes twice, and none at all where a definition has no changes left.
     """
     numbers = random.Random(seed)
     left: dict = {}
-    for file, place, size, name in believed():
+    for file, place, size, name in believed(read):
         if (not crates or file.split("/")[0] in crates) and only in (None, (file, name)):
             text = (CRATES / file).read_text(encoding="utf-8")
             left[file, name] = of_definition(text, place, size, name)
