@@ -1,0 +1,4 @@
+pub mod Prelude
+pub mod Lists
+pub mod Parts
+pub mod OnLiterals

@@ -1,0 +1,10 @@
+-- What a reader returns.
+use Rattle.std.specs.Prelude.{◌≡◌, Option, Some, None, Result, Ok, Err}
+use Rattle.admission_documents.specs.declared.field_error.FieldError.{FieldError}
+use Rattle.admission_documents.specs.declared.field_error.FieldError.TheVariants.{InvalidField, Memory}
+
+-- the part, seen by `see`, or InvalidField if it has not its form; or an allocation failed
+abbrev pub Reads : {A B : Type 0} → (B → A) → Option A → Result B FieldError → Type 0
+Reads see part (Ok b) = part ≡ Some (see b)
+Reads see part (Err InvalidField) = part ≡ None
+Reads see part (Err Memory) = Unit {0}

@@ -1,0 +1,85 @@
+//! The labels of an object.
+ghost use Rattle.std.specs.Prelude.{◌≡◌, option_map};
+ghost use Rattle.serde_json.specs.View.{members_view, view};
+ghost use Rattle.admission_documents.specs.Documents.{field};
+ghost use Rattle.admission_documents.specs.Selectors.{are_texts, if_text_map, is_text_map, labels_field, labels_in, labels_view, text_at};
+
+use crate::documents::{field, text};
+use label_selectors::Labels;
+use serde_json::{Map, Value};
+
+/// The labels of an object of a document, which lends them.
+#[derive(Clone, Copy, Debug, Drop)]
+pub struct ObjectLabels<'a> {
+    /// A map of texts, if the object has labels.
+    labels: Option<&'a Value>,
+}
+
+impl<'a> ObjectLabels<'a> {
+    /// The labels in the object's `metadata`. An object whose labels are not a map of texts has
+    /// none.
+    #[tactic(auto, unfolding(crate::specs::Selectors::labels_in))]
+    pub fn of(object: &'a Value) -> ObjectLabels<'a>
+        ensures { labels_view result ≡ labels_in (view object.now) }
+    {
+        ObjectLabels {
+            labels: if_text_map(labels_field(object)),
+        }
+    }
+}
+
+impl Labels for ObjectLabels<'_> {
+    ghost map = { labels_view };
+
+    fn value(&self, key: &str) -> Option<&str> {
+        text_at(self.labels, key)
+    }
+}
+
+/// The text at a key of an object.
+fn text_at<'a>(value: Option<&'a Value>, key: &str) -> Option<&'a str>
+    ensures { option_map (λ s. s.now) result ≡ text_at (option_map (λ v. view v.now) value.entry) key.now }
+{
+    match value {
+        Some(members) => text(members.get(key)),
+        None => None,
+    }
+}
+
+/// The labels in the object's `metadata`, whatever they are.
+pub fn labels_field(object: &Value) -> Option<&Value>
+    ensures { option_map (λ v. view v.now) result ≡ labels_field (view object.now) }
+{
+    match field(object, "metadata") {
+        Some(metadata) => field(metadata, "labels"),
+        None => None,
+    }
+}
+
+/// The value, if it is a map of texts.
+fn if_text_map<'a>(value: Option<&'a Value>) -> Option<&'a Value>
+    ensures { option_map (λ v. view v.now) result ≡ if_text_map (option_map (λ v. view v.now) value.entry) }
+{
+    if is_text_map(value) { value } else { None }
+}
+
+/// Whether the value is a map of texts.
+pub fn is_text_map(value: Option<&Value>) -> bool
+    ensures { result ≡ is_text_map (option_map (λ v. view v.now) value.entry) }
+{
+    match value {
+        Some(Value::Object(members)) => are_texts(members),
+        _ => false,
+    }
+}
+
+fn are_texts(members: &Map<String, Value>) -> bool
+    ensures { result ≡ are_texts (members_view members.now.entries) }
+{
+    for (_key, value) in members.iter() {
+        if !value.is_string() {
+            return false;
+        }
+    }
+    true
+}

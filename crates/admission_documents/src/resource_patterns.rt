@@ -1,0 +1,12 @@
+//! The resources of a rule.
+
+use admission_match::Scope;
+
+/// The resources that a rule is for (Rule).
+#[derive(Debug, Drop)]
+pub(crate) struct ResourcePatterns {
+    pub scope: Scope,
+    pub api_groups: Vec<String>,
+    pub api_versions: Vec<String>,
+    pub resources: Vec<String>,
+}
