@@ -133,7 +133,7 @@ match_all = record {
 }
 
 -- the match resources of a binding: all requests where they are absent
-abbrev pub match_resources_of : Option json.Data → Option MatchResources
+unfoldable pub match_resources_of : Option json.Data → Option MatchResources
 match_resources_of None = Some match_all
 match_resources_of (Some d) = match_in d
 
@@ -147,7 +147,7 @@ if_has_rules (Some m) = if has_rules m then Some m else None
 if_has_rules None = None
 
 -- the match constraints of a policy, which have to be there and to have a rule
-abbrev pub match_constraints_of : Option json.Data → Option MatchResources
+unfoldable pub match_constraints_of : Option json.Data → Option MatchResources
 match_constraints_of None = None
 match_constraints_of (Some d) = if_has_rules (match_in d)
 

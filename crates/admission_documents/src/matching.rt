@@ -19,6 +19,7 @@ use std::alloc::Global;
 /// # Errors
 ///
 /// A key is not known, a value has another type, or the API server does not store it.
+#[tactic(auto, unfolding(crate::specs::Matching::match_resources_of))]
 pub fn match_resources(alloc: Global, value: Option<&Value>) -> Result<MatchResources, FieldError>
     ensures { Reads match_view (match_resources_of (option_map (λ v. view v.now) value.entry)) result }
 {
@@ -33,6 +34,7 @@ pub fn match_resources(alloc: Global, value: Option<&Value>) -> Result<MatchReso
 /// # Errors
 ///
 /// As `match_resources`, or they are absent or have no rule.
+#[tactic(auto, unfolding(crate::specs::Matching::match_constraints_of))]
 pub fn match_constraints(alloc: Global, value: Option<&Value>) -> Result<MatchResources, FieldError>
     ensures { Reads match_view (match_constraints_of (option_map (λ v. view v.now) value.entry)) result }
 {
