@@ -2,14 +2,14 @@
 
 usage: tools/pointers
 
-It compares the rows of docs/ARCHITECTURE.md's table of definitions, and each name before a file in docs/PROOFS.md,
-docs/MACHINE.md and docs/POLICIES.md, with the words of these files; the variants of errors in docs/GLOSSARY.md, and the
-names in a crate's README, with the words of the crate's sources; and each path in a page with the files that there are.
+It compares each name before a file in docs/CHANGING.md, docs/MACHINE.md, docs/POLICIES.md, docs/PROOFS.md and
+docs/READING.md with the words of that file; the variants of errors in docs/GLOSSARY.md, and the names in a crate's
+README, with the words of the crate's sources; and each path in a page with the files that there are.
 """
 
 import re
 from pathlib import Path
-from typing import Iterator
+from typing import Iterator, Optional
 
 from ..definitions import CRATES
 from ..home import ROOT
@@ -19,43 +19,23 @@ WORD = re.compile(r"[A-Za-z_][\w']*")
 PATH = re.compile(r"(\w+)/(specs|src|proofs|tests)/([\w/]*)(\.antt|\.rt)?")
 VARIANTS = re.compile(r"`(\w+)::(\w+)`: ((?:`\w+`(?:, )?)+)")
 # pages that name definitions before their file
-NAMED_PAGES = ("PROOFS.md", "MACHINE.md", "POLICIES.md")
-NAMED = re.compile(r"((?:`\w+`(?:, | and )?)+) \(`([^`]+\.antt)`")
+NAMED_PAGES = ("CHANGING.md", "MACHINE.md", "POLICIES.md", "PROOFS.md", "READING.md")
+NAMED = re.compile(r"((?:`\w+`(?:, | and )?)+) \(`([^`]+\.(?:antt|rt))`")
 # names that a README gives to what the crate's own sources have; printed numbers, as K3, are none of them
 NAME = re.compile(r"(?=\w*(?:[A-Z]|_))(?![A-Z]\d$)[A-Za-z_]\w*(?:::\w+)*")
 
 
 def words_of(path: Path) -> set:
-    """The words of a file, or of the definitions in a folder."""
-    files = path.rglob("*.antt") if path.is_dir() else [path]
-    return set().union(*(WORD.findall(file.read_text()) for file in files))
+    return set(WORD.findall(path.read_text()))
 
 
-def file_of(span: str, crates: Path, crate: str) -> tuple:
-    """The crate of a path and its file or folder, `None` where it is no path of a crate; a lone file is the crate's."""
+def file_of(span: str, crates: Path) -> Optional[Path]:
+    """The file or folder of a path, `None` if it is no path of a crate."""
     found = PATH.fullmatch(span)
-    if found and (crates / found[1]).is_dir():
-        path = crates / found[1] / found[2] / (found[3] + (found[4] or ""))
-        return found[1], path if found[4] or path.is_dir() else path.with_suffix(".antt")
-    if crate and re.fullmatch(r"[A-Z]\w*(\.antt)?", span):
-        return crate, (crates / crate / "specs" / span).with_suffix(".antt")
-    return crate, None
-
-
-def of_table(lines: list, crates: Path) -> Iterator[str]:
-    """Rows `| what | words | files |` below the head of the table of definitions: words that no file of theirs has."""
-    rows = lines[next((at for at, line in enumerate(lines) if line.startswith("| Definition |")), len(lines)) + 2 :]
-    for line in rows[: next((at for at, line in enumerate(rows) if not line.startswith("|")), len(rows))]:
-        _, words, files = (cell.strip() for cell in line.strip("|").split(" | "))
-        crate, found = "", set()
-        for span in SPAN.findall(files):
-            crate, path = file_of(span, crates, crate)
-            if path and path.exists():
-                found |= words_of(path)
-            elif path and span.endswith(".antt"):
-                yield f"there is no {path.relative_to(crates)}"
-        asked = (word for span in SPAN.findall(words) for word in WORD.findall(span) if not word.startswith("_"))
-        yield from (f"{word} is not in {files}" for word in asked if word not in found)
+    if not found or not (crates / found[1]).is_dir():
+        return None
+    path = crates / found[1] / found[2] / (found[3] + (found[4] or ""))
+    return path if found[4] or path.is_dir() else path.with_suffix(".antt")
 
 
 def of_names(lines: list, crates: Path) -> Iterator[str]:
@@ -87,7 +67,7 @@ def of_readme(lines: list, crate: Path) -> Iterator[str]:
 def of_paths(lines: list, crates: Path) -> Iterator[str]:
     """Paths of a page at which there is nothing."""
     for span in (span for line in lines for span in SPAN.findall(line)):
-        _, path = file_of(span, crates, "")
+        path = file_of(span, crates)
         if path and not path.exists() and not path.with_suffix(".rt").exists() and not path.with_suffix("").is_dir():
             yield f"there is no {span}"
 
@@ -99,8 +79,6 @@ def faults(root: Path, crates: Path) -> Iterator[str]:
         checks = [of_paths(lines, crates)]
         if page.name == "GLOSSARY.md":
             checks.append(of_variants(lines, crates))
-        if page.name == "ARCHITECTURE.md":
-            checks.append(of_table(lines, crates))
         if page.name in NAMED_PAGES:
             checks.append(of_names(lines, crates))
         if page.parent.parent == crates:

@@ -1,4 +1,4 @@
-"""Definitions of specs: which names two files define, and that the contracts that are counted are there."""
+"""Definitions of specs: head lines, names that two files define, and that the contracts that are counted are there."""
 
 import tempfile
 import unittest
@@ -6,6 +6,7 @@ from pathlib import Path
 
 from ..commands.belief import CONTRACTS
 from ..commands.defined_twice import places
+from ..commands.definitions import files_of, head_of
 from ..definitions import CRATES, Module, modules
 
 ONE = """-- a head
@@ -38,6 +39,24 @@ pub data Kind : Type 0 where
 pub small : ℕ
 small = 1
 """
+
+
+class Heads(unittest.TestCase):
+    """What a file says first of itself."""
+
+    def test_first_sentence(self) -> None:
+        self.assertEqual(head_of("-- Words (RFC 9669, section 3), a\n-- line. And more.\nuse A\n"), "Words (RFC 9669, section 3), a line")
+
+    def test_a_comment_below_the_names_is_no_head(self) -> None:
+        self.assertEqual(head_of("use A\n\n-- a definition\n"), "")
+
+    def test_files_without_the_root(self) -> None:
+        with tempfile.TemporaryDirectory() as folder:
+            for name, text in ("Lib.antt", "pub mod One\n"), ("One.antt", ONE), ("Deep/Two.antt", TWO):
+                path = Path(folder) / name
+                path.parent.mkdir(exist_ok=True)
+                path.write_text(text)
+            self.assertEqual(list(files_of(Path(folder))), [("Deep/Two", ""), ("One", "a head")])
 
 
 class DefinedTwice(unittest.TestCase):

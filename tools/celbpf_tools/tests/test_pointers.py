@@ -1,4 +1,4 @@
-"""Names of pages that are in no file: of tables, of names before a file, of READMEs, and paths."""
+"""Names of pages that are in no file: of names before a file, of READMEs, and paths."""
 
 import tempfile
 import unittest
@@ -6,23 +6,13 @@ from pathlib import Path
 
 from ..commands.pointers import faults
 
-ARCHITECTURE = """# Architecture
-
-| Crate | Does |
-|---|---|
-| `nothing` | `Nowhere` |
-
-| Definition | Words | File |
-|---|---|---|
-| one | `Holds`, `small`, .. | `one/specs/Held.antt`, `More` |
-| two | `Holds`; a `.._row` | `one/specs/Deep/` |
-
-After `one/specs/Held.antt` and `one/src/held.rt`.
-"""
+ARCHITECTURE = "After `one/specs/Held.antt` and `one/src/held.rt`.\n"
+CHANGING = "1. `Holds` (`one/specs/Held.antt`), `take` (`one/src/held.rt`).\n"
 PROOFS = "| a clause | `Holds` and `small` (`one/specs/Held.antt`), `Deeper` (`Low.antt`) |\n"
 README = "# one\n\n- `held_value` and `Held::take` (`Holds`), K3 as `K3`, `exit 5`, `two`.\n"
 FILES = {
     "docs/ARCHITECTURE.md": ARCHITECTURE,
+    "docs/CHANGING.md": CHANGING,
     "docs/PROOFS.md": PROOFS,
     "crates/one/README.md": README,
     "crates/one/specs/Held.antt": "pub Holds : ℕ\n",
@@ -56,13 +46,10 @@ class Pointers(unittest.TestCase):
         self.assertEqual(self.found(), ["docs/PROOFS.md: small is not in one/specs/Held.antt"])
 
     def test_a_name_that_is_gone(self) -> None:
-        found = self.found(**{"docs/PROOFS.md": "", "crates/one/specs/More.antt": "", "crates/one/src/held.rt": "fn held_value() {}\n"})
+        found = self.found(**{"docs/PROOFS.md": "", "crates/one/src/held.rt": "fn held_value() {}\n"})
         self.assertEqual(
             found,
-            [
-                "docs/ARCHITECTURE.md: small is not in `one/specs/Held.antt`, `More`",
-                "crates/one/README.md: take is in no source",
-            ],
+            ["docs/CHANGING.md: take is not in one/src/held.rt", "crates/one/README.md: take is in no source"],
         )
 
     def test_a_variant_that_is_gone(self) -> None:
