@@ -3,17 +3,20 @@
 usage: tools/definitions [CRATE|NAME].. | --check
 
 Without words it prints a Markdown table of the files of each crate, the lower crates first. With the name of a crate it
-prints the table of that crate, with another name each place that defines it, or a case of a type with that name.
---check looks for files without a head line.
+prints the table of that crate, with another name each place that declares it: a definition, a field or a case. --check
+looks for files without a head line.
 """
 
+import re
 import sys
 from pathlib import Path
 from typing import Iterator
 
-from ..definitions import CRATES, modules
-from ..entry import usage_of
+from ..definitions import CRATES
+from ..entry import Stop, usage_of
 from ..home import ROOT
+
+DECLARED = r"\s*(?:(?:abbrev|unfoldable|opaque|pub|data|record) )*{}(?= |$)[^=]* :(?: |$)"
 
 
 def head_of(text: str) -> str:
@@ -45,15 +48,14 @@ def table(crate: str) -> str:
     return "\n".join([f"## {crate}", "", "| File | What it defines |", "|---|---|", *rows])
 
 
-def places(files: list, name: str) -> list:
-    """Where a name, or a case of a type, is defined, with the head of the file."""
-    found = []
-    for module in files:
-        owner = name if name in module.definitions else module.owners.get(name)
-        if owner in module.definitions:
-            head = head_of((CRATES / module.file).read_text())
-            found.append(f"{module.file}:{module.definitions[owner].place}: {head}")
-    return found
+def places(crates: Path, name: str) -> Iterator[str]:
+    """Where a name is declared, as a definition, a field or a case, with the head of the file."""
+    declared = re.compile(DECLARED.format(re.escape(name)))
+    for path in sorted(crates.glob("*/specs/**/*.antt")):
+        text = path.read_text()
+        for place, line in enumerate(text.splitlines(), 1):
+            if declared.match(line):
+                yield f"{path.relative_to(crates)}:{place}: {head_of(text)}"
 
 
 def without_head(crates: list) -> list:
@@ -76,10 +78,10 @@ def main() -> int:
         return check(crates)
     if any(word.startswith("-") for word in words):
         sys.exit(f"usage: {usage_of(__doc__)}")
-    files = modules() if any(word not in crates for word in words) else []
-    parts = [table(word) if word in crates else "\n".join(places(files, word)) for word in words or crates]
-    print("\n\n".join(filter(None, parts)))
+    parts = [table(word) if word in crates else "\n".join(places(CRATES, word)) for word in words or crates]
+    if any(parts):
+        print("\n\n".join(filter(None, parts)))
     unknown = [word for word, part in zip(words, parts) if not part]
     if unknown:
-        sys.exit(f"definitions: nothing defines {', '.join(unknown)}")
+        raise Stop(f"nothing declares {', '.join(unknown)}", 1)
     return 0

@@ -7,6 +7,7 @@ from pathlib import Path
 from ..commands.belief import CONTRACTS
 from ..commands.defined_twice import places
 from ..commands.definitions import files_of, head_of
+from ..commands.definitions import places as declared
 from ..definitions import CRATES, Module, modules
 
 ONE = """-- a head
@@ -57,6 +58,14 @@ class Heads(unittest.TestCase):
                 path.parent.mkdir(exist_ok=True)
                 path.write_text(text)
             self.assertEqual(list(files_of(Path(folder))), [("Deep/Two", ""), ("One", "a head")])
+
+    def test_declared_as_a_definition_a_field_and_a_case(self) -> None:
+        with tempfile.TemporaryDirectory() as folder:
+            path = Path(folder) / "a" / "specs" / "One.antt"
+            path.parent.mkdir(parents=True)
+            path.write_text(ONE)
+            for name, place in ("Holds", 9), ("Left", 7), ("Yes", 14):
+                self.assertEqual(list(declared(Path(folder), name)), [f"a/specs/One.antt:{place}: a head"])
 
 
 class DefinedTwice(unittest.TestCase):
