@@ -7,7 +7,7 @@ from typing import Any, Callable, Iterator, Optional
 from .home import ROOT
 
 CRATES = ROOT / "crates"
-USE = re.compile(r"use (Rattle\.[\w.+\-]+?)(?:\.\{(.*)\})?(?: as ([\w◌]+))?$")
+USE = re.compile(r"(?:(?:abbrev|unfoldable|opaque|pub) )*use (Rattle\.[\w.+\-]+?)(?:\.\{(.*)\})?(?: as ([\w◌]+))?$")
 MUTUAL = re.compile(r"(?:abbrev |unfoldable )?mutual")
 HEAD = re.compile(r"( {2})?(?! )(?:(?:abbrev|unfoldable|opaque|pub) )*(data |record )?([^\s:(){}]+).*? :")
 CASE = re.compile(r"\s+(?:pub )?([\w◌\-'?]+)(?: \(.*\))? :")

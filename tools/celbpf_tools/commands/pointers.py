@@ -40,11 +40,10 @@ def file_of(span: str, crates: Path) -> Optional[Path]:
 
 def of_names(lines: list, crates: Path) -> Iterator[str]:
     """Names before a file, as `A`, `B` (`File.antt`): those that the file has not, which is of any crate."""
-    for line in lines:
-        for names, file in NAMED.findall(line):
-            paths = [crates / file] if "/" in file else list(crates.glob(f"*/specs/**/{file}"))
-            found = set().union(*(words_of(path) for path in paths if path.exists()))
-            yield from (f"{name} is not in {file}" for name in SPAN.findall(names) if name not in found)
+    for names, file in NAMED.findall(" ".join(line.strip() for line in lines)):
+        paths = [crates / file] if "/" in file else list(crates.glob(f"*/specs/**/{file}"))
+        found = set().union(*(words_of(path) for path in paths if path.exists()))
+        yield from (f"{name} is not in {file}" for name in SPAN.findall(names) if name not in found)
 
 
 def of_variants(lines: list, crates: Path) -> Iterator[str]:

@@ -4,7 +4,7 @@ import tempfile
 import unittest
 from pathlib import Path
 
-from ..commands.belief import CONTRACTS
+from ..commands.belief import CONTRACTS, rests_on
 from ..commands.defined_twice import places
 from ..commands.definitions import files_of, head_of
 from ..commands.definitions import places as declared
@@ -66,6 +66,25 @@ class Heads(unittest.TestCase):
             path.write_text(ONE)
             for name, place in ("Holds", 9), ("Left", 7), ("Yes", 14):
                 self.assertEqual(list(declared(Path(folder), name)), [f"a/specs/One.antt:{place}: a head"])
+
+
+class Passed(unittest.TestCase):
+    """A name that a file takes from another and passes on."""
+
+    def test_what_a_name_rests_on(self) -> None:
+        texts = {
+            "One": "use Rattle.a.specs.Two.{low}\n\npub top : ℕ\ntop = low\n",
+            "Two": "unfoldable pub use Rattle.a.specs.Three.{low}\n",
+            "Three": "pub low : ℕ\nlow = 1\n",
+        }
+        with tempfile.TemporaryDirectory() as folder:
+            for name, text in texts.items():
+                path = Path(folder) / "a" / "specs" / f"{name}.antt"
+                path.parent.mkdir(parents=True, exist_ok=True)
+                path.write_text(text)
+            files = {module.name: module for module in modules(Path(folder))}
+            found = rests_on(files, "a/specs/One.antt", "top")
+        self.assertEqual(found, {("Rattle.a.specs.One", "top"), ("Rattle.a.specs.Three", "low")})
 
 
 class DefinedTwice(unittest.TestCase):

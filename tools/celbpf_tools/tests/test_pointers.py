@@ -7,7 +7,7 @@ from pathlib import Path
 from ..commands.pointers import faults
 
 ARCHITECTURE = "After `one/specs/Held.antt` and `one/src/held.rt`.\n"
-CHANGING = "1. `Holds` (`one/specs/Held.antt`), `take` (`one/src/held.rt`).\n"
+CHANGING = "1. `Holds` (`one/specs/Held.antt`), `take`\n   (`one/src/held.rt`).\n"
 PROOFS = "| a clause | `Holds` and `small` (`one/specs/Held.antt`), `Deeper` (`Low.antt`) |\n"
 README = "# one\n\n- `held_value` and `Held::take` (`Holds`), K3 as `K3`, `exit 5`, `two`.\n"
 FILES = {
