@@ -1,11 +1,12 @@
-"""The sizes in docs/READING.md: the totals of its table, and behind each file of its walk the lines that count."""
+"""The sizes in docs/READING.md: the totals of its table, and in the head of each step the lines of its files."""
 
 import re
 from typing import Callable
 
 ROW = re.compile(r"^(\| `(\w+)` \|.*?\|) [\d,]+ \| [\d,]+ \| [\d,]+ \|$", re.M)
-STEP = re.compile(r"^###? .*$", re.M)
-CRATE_OR_FILE = re.compile(r"`(\w+)`:(?=\s`)|`([\w/]+)`(\s)(\d+)\b")
+STEP = re.compile(r"^(### .*), (\d+) lines$", re.M)
+FILES = re.compile(r"`(\w+)`:((?:\s+`[A-Z][\w/]*`,?)+)")
+FILE = re.compile(r"`([\w/]+)`")
 
 
 def with_totals(text: str, totals: dict) -> str:
@@ -19,22 +20,18 @@ def with_totals(text: str, totals: dict) -> str:
     return ROW.sub(row, text)
 
 
+def files_of(step: str) -> list:
+    """The files of a step, each with its crate: names after a crate and a colon."""
+    return [(crate, file) for crate, names in FILES.findall(step) for file in FILE.findall(names)]
+
+
 def with_lines(text: str, lines_of: Callable) -> str:
-    """The page with the numbers of its walk, by the words of a step's head, a crate and a file."""
+    """The page with the lines in the heads of its steps, by the words of the head, a crate and a file."""
     heads = list(STEP.finditer(text))
     ends = [head.start() for head in heads[1:]] + [len(text)]
     parts = [text[: heads[0].start()]] if heads else [text]
     for head, end in zip(heads, ends):
-        parts.append(with_step_lines(text[head.start() : end], head[0], lines_of))
+        below = text[head.end() : end].split("\n## ")[0]
+        lines = sum(lines_of(head[1], crate, file) for crate, file in files_of(below))
+        parts.append(f"{head[1]}, {lines} lines{text[head.end() : end]}")
     return "".join(parts)
-
-
-def with_step_lines(text: str, head: str, lines_of: Callable) -> str:
-    crate = ""
-
-    def number(found: re.Match) -> str:
-        nonlocal crate
-        crate = found[1] or crate
-        return found[0] if found[1] or not crate else f"`{found[2]}`{found[3]}{lines_of(head, crate, found[2])}"
-
-    return CRATE_OR_FILE.sub(number, text)

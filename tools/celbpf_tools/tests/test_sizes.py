@@ -9,17 +9,21 @@ PAGE = """| `Ends` | the program, `a::b` | 1,219 | 4,759 | 136 |
 
 ## The walk
 
-`Beside` 5 is no file of a crate.
+`one`: `Beside` is of no step.
 
-### 1. Words
+### 1. Words, 5 lines
 
-`one`: `First` 8, `Second`
-10. `two`:
-`Third` 4, from 20 on, `law` (4).
+`one`: `First`, `Second`,
+`Deep/Third` (`law`). `two`:
+`Fourth`, from `one` on, `Other`.
+
+### 2. More, 7 lines
+
+Nothing but `First`.
 
 ## After it
 
-`First` 8
+`one`: `First`
 """
 
 
@@ -35,11 +39,9 @@ class Sizes(unittest.TestCase):
 
         def lines_of(head: str, crate: str, file: str) -> int:
             asked.append((head, crate, file))
-            return 100 + len(asked)
+            return 100
 
         found = with_lines(PAGE, lines_of)
-        self.assertEqual(asked, [("### 1. Words", "one", "First"), ("### 1. Words", "one", "Second"), ("### 1. Words", "two", "Third")])
-        self.assertEqual(
-            found,
-            PAGE.replace("`First` 8, `Second`\n10", "`First` 101, `Second`\n102").replace("`Third` 4", "`Third` 103"),
-        )
+        files = [("one", "First"), ("one", "Second"), ("one", "Deep/Third"), ("two", "Fourth")]
+        self.assertEqual(asked, [("### 1. Words", *file) for file in files])
+        self.assertEqual(found, PAGE.replace("Words, 5 lines", "Words, 400 lines").replace("More, 7 lines", "More, 0 lines"))
