@@ -9,6 +9,7 @@ pub mod Mnemonics
 pub mod Lines
 pub mod Statements
 pub mod Laws
+pub mod LineRows
 pub mod OpcodeRows
 pub mod RefusedRows
 pub mod Rows

@@ -1,5 +1,6 @@
 //! Laws of instructions and statements, each the clause of a function that does nothing.
 ghost use Rattle.insn_codec.specs.Laws.{NoLineFeed, OneSpelling, SlotsAreFilled, StatementIsSpelled};
+ghost use Rattle.insn_codec.specs.LineRows.{ArithmeticLinesHold, JumpLinesHold, MemoryLinesHold, StatementLinesHold};
 ghost use Rattle.insn_codec.specs.OpcodeRows.{ArithmeticCodesHold, JumpCodesHold, MemoryCodesHold};
 ghost use Rattle.insn_codec.specs.RefusedRows.{FieldsAreChecked, NoSuchAccess, NoSuchArithmetic, NoSuchJump};
 ghost use Rattle.insn_codec.specs.Rows.{SpellingRowsHold};
@@ -38,6 +39,15 @@ pub fn refusals_stand()
     ensures arithmetic { NoSuchArithmetic }
     ensures jumps { NoSuchJump }
     ensures access { NoSuchAccess }
+{}
+
+/// The line of each instruction, and of a slot.
+#[tactic(auto, unfolding(crate::specs::Lines::decimal, crate::specs::Lines::hex_digits))]
+pub fn lines_stand()
+    ensures arithmetic { ArithmeticLinesHold }
+    ensures jumps { JumpLinesHold }
+    ensures memory { MemoryLinesHold }
+    ensures statements { StatementLinesHold }
 {}
 
 /// The bytes of an instruction, and of a statement, are eight for each of its slots, of which it

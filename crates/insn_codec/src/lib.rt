@@ -30,8 +30,8 @@ pub use comparison::Comparison;
 pub use extension::Extension;
 pub use insn::Insn;
 pub use laws::{
-    no_line_feed, one_reading, opcodes_stand, refusals_stand, rows_stand, slots_are_filled,
-    spelled_is_spelling, statement_is_spelled,
+    lines_stand, no_line_feed, one_reading, opcodes_stand, refusals_stand, rows_stand,
+    slots_are_filled, spelled_is_spelling, statement_is_spelled,
 };
 pub use limits::SLOT_LIMIT;
 pub use mnemonic::Mnemonic;
