@@ -1,6 +1,6 @@
 """Changes definitions one at a time, and lists the changes that no row and no law notices.
 
-usage: tools/mutate-definitions [--seed N].. [--count N] [--crate NAME].. [--above N] [--list | --unpinned] [FILE NAME]
+usage: tools/mutate-definitions [--seed N].. [--count N] [--crate NAME].. [--above N] [--again FILE] [--list | --unpinned] [FILE NAME]
 
 From each seed it draws --count changes out of the definitions that tools/belief lists, those of FILE and NAME alone if
 they are given. A change moves a number by one, takes `<` for `<=`, true for false, one variant or argument for another,
@@ -10,7 +10,8 @@ on a copy of the crates, and then the rows of the --above (1) nearest crates abo
 meaning are not counted. Each gets a line, with the time that it took: killed, by rows or by laws; survived; equivalent,
 where the file `equivalent` of tools/data/mutate-definitions says why it means the same as what it replaces, and then it
 is not tried; or undecided, where laws alone are not proved any more and the file `false-laws` does not say how the
-change makes one false: that may be its proof alone. --list prints changes and tries none; --unpinned prints the
+change makes one false: that may be its proof alone. --again tries the changes that survived or were undecided by the
+lines of FILE, what an earlier run printed. --list prints changes and tries none; --unpinned prints the
 definitions on which no literal row rests. It ends with status 1 where a change survived.
 """
 
@@ -24,7 +25,7 @@ from typing import Iterator
 from ..definitions import Module
 from ..entry import Stop, usage_of
 from ..mutating import known
-from ..mutating.drawing import Drawn, believed, drawn, read_all
+from ..mutating.drawing import Drawn, again, believed, changes, drawn, read_all
 from ..mutating.pins import Pin, all_pins
 from ..mutating.trying import Sources, workshop
 from ..mutating.verdicts import MEANT, VERDICTS, Outcome, decided
@@ -36,6 +37,7 @@ def words() -> argparse.Namespace:
     parser.add_argument("--count", type=int, default=20)
     parser.add_argument("--crate", action="append", default=[])
     parser.add_argument("--above", type=int, default=1)
+    parser.add_argument("--again", type=Path)
     parser.add_argument("--list", action="store_true")
     parser.add_argument("--unpinned", action="store_true")
     parser.add_argument("definition", nargs="*", metavar="FILE NAME")
@@ -110,11 +112,18 @@ def print_unpinned(read: dict[str, Module], pins: list[Pin], crates: list[str]) 
     print(f"{len(of)} definitions, {len(without)} without a row: {told} with laws, {len(without) - told} with the contracts of code alone")
 
 
+def drawings(given: argparse.Namespace, read: dict[str, Module]) -> list[Iterator[Drawn]]:
+    """What is tried: the changes from each seed, or those of an earlier run."""
+    if given.again:
+        return [iter(again(read, given.again.read_text(encoding="utf-8")))]
+    of = changes(read, given.crate, tuple(given.definition) or None)
+    return [drawn(of, seed) for seed in given.seed or [1]]
+
+
 def main() -> int:
     given = words()
     read = read_all()
-    only = tuple(given.definition) or None
-    draws = [drawn(read, seed, given.crate, only) for seed in given.seed or [1]]
+    draws = drawings(given, read)
     if given.list:
         print(*(one.told for draw in draws for one in islice(draw, given.count)), sep="\n")
         return 0

@@ -27,7 +27,7 @@ VARIANTS = re.compile(r"use \S+?(?:TheVariants)?(?: as (\w+)|\.\{(.*)\})$")
 # a test of a chain with its result
 TEST = re.compile(r"(.*?(?:^| |\()if )([^\n]+ then (?:(?! else ).)+)$")
 # one of many values of a word, of which no two are the same
-VALUE = re.compile(rf"({NAME}) == \S+ then ")
+VALUE = re.compile(r"([^()]+) == \S+ then ")
 KEYWORDS = ("if", "then", "else", "in", "let", "where", "record")
 
 

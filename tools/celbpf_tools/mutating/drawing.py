@@ -46,17 +46,30 @@ def believed(read: dict[str, Module]) -> list[tuple[str, int, int, str]]:
     return sorted((file, it.place, len(it.lines), name) for file, it, name in of)
 
 
-def drawn(read: dict[str, Module], seed: int, crates: list[str], only: Optional[tuple[str, str]] = None) -> Iterator[Drawn]:
+def changes(read: dict[str, Module], crates: list[str], only: Optional[tuple[str, str]] = None) -> dict[tuple[str, str], list[Change]]:
+    """The changes of each definition of the list in these crates, or in all; of one alone, if one is given."""
+    found = {}
+    for file, place, size, name in believed(read):
+        if (not crates or file.split("/")[0] in crates) and only in (None, (file, name)):
+            found[file, name] = of_definition((CRATES / file).read_text(encoding="utf-8"), place, size, name)
+    return found
+
+
+def again(read: dict[str, Module], told: str) -> list[Drawn]:
+    """The changes that survived or were undecided by the lines of an earlier run, of those that there still are."""
+    lines = [line.partition(": ") for line in told.splitlines() if line.startswith(("survived ", "undecided "))]
+    wanted = {change for _, _, change in lines}
+    every = (Drawn(*definition, change) for definition, of in changes(read, []).items() for change in of)
+    return [one for one in every if one.told in wanted]
+
+
+def drawn(left: dict[tuple[str, str], list[Change]], seed: int) -> Iterator[Drawn]:
     """Changes without end from a seed: a definition is drawn first, then the kind of the change, then the change.
 
     None comes twice, and none at all where a definition has no changes left.
     """
     numbers = random.Random(seed)
-    left: dict = {}
-    for file, place, size, name in believed(read):
-        if (not crates or file.split("/")[0] in crates) and only in (None, (file, name)):
-            text = (CRATES / file).read_text(encoding="utf-8")
-            left[file, name] = of_definition(text, place, size, name)
+    left = {definition: list(of) for definition, of in left.items()}
     while any(left.values()):
         file, name = numbers.choice([key for key in left if left[key]])
         kind = numbers.choice(sorted({change.kind for change in left[file, name]}))

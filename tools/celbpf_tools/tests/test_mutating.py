@@ -9,7 +9,7 @@ from ..mutating import known
 from ..mutating.above import below, check, dependencies
 from ..mutating.change import Change
 from ..mutating.changes import groups, of_definition
-from ..mutating.drawing import Drawn
+from ..mutating.drawing import Drawn, drawn
 from ..mutating.pins import is_rows, paths, pins
 from ..mutating.trying import lines_of, with_imports
 from ..mutating.types import parts
@@ -157,6 +157,14 @@ class Changes(unittest.TestCase):
         told = [Drawn("a/specs/B.antt", "b", Change("number", place, ("  b = 1",), ("  b = 2",))).told for place in (2, 9)]
         self.assertEqual(told, ["a/specs/B.antt b number: b = 1 => b = 2"] * 2)
         self.assertTrue(Drawn("a/specs/B.antt", "b", Change("case", 2, ("  b = 1",), ())).told.endswith("b = 1 => (left out)"))
+
+    def test_the_same_changes_come_from_a_seed_and_none_twice(self) -> None:
+        left = {("a/specs/B.antt", name): of_definition(TEXT, 6, 4, "chosen") for name in ("one", "other")}
+        first, second = (list(drawn(left, seed)) for seed in (3, 3))
+        self.assertEqual(first, second)
+        self.assertEqual(len(set(first)), len(first))
+        self.assertEqual(len(first), 2 * len(left["a/specs/B.antt", "one"]))
+        self.assertNotEqual(first, list(drawn(left, 4)))
 
     def test_applied(self) -> None:
         change = Change("number", 2, ("b = 1",), ("b = 2",))
