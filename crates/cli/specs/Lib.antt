@@ -6,3 +6,4 @@ pub mod GivenFiles
 pub mod Ending
 pub mod Parsing
 pub mod Rows
+pub mod EndingRows

@@ -1,4 +1,5 @@
 //! Refusals, their causes and numbers written out, with what the definitions say of them.
+ghost use Rattle.cli.specs.EndingRows.{AskingRowsStand, EndingRowsStand, GivenRowsStand};
 ghost use Rattle.cli.specs.Rows.{CauseRowsStand, ExpressionRowsStand, NumberRowsStand, RefusalRowsStand};
 
 /// The line and the status of each refusal, and what the parts of the program refuse for.
@@ -12,4 +13,15 @@ pub fn refusal_rows_stand()
 #[tactic(auto, unfolding(crate::specs::Number::number_of))]
 pub fn number_rows_stand()
     ensures { NumberRowsStand }
+{}
+
+/// Files that may be left out, and what words of a command line ask for.
+pub fn given_rows_stand()
+    ensures files { GivenRowsStand }
+    ensures words { AskingRowsStand }
+{}
+
+/// How a program ends.
+pub fn ending_rows_stand()
+    ensures { EndingRowsStand }
 {}

@@ -28,3 +28,4 @@ pub mod Rows
 pub mod RunRows
 pub mod Trees
 pub mod Verdict
+pub mod RejectionRows

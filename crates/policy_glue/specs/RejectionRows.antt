@@ -1,5 +1,5 @@
 -- What is said against requests, the responses by it, and words of verdict regions, worked by hand.
-use Rattle.std.specs.Prelude.{◌≡◌, [], ◌∷◌, List, Option, Some, None, Ok, Err, codes}
+use Rattle.std.specs.Prelude.{◌≡◌, ℕ, [], ◌∷◌, List, Option, Some, None, Ok, Err, codes}
 use Rattle.value_store.specs.Value.{value, text}
 use Rattle.policy_glue.specs.Layout.{IsMessageWord, finding_word, first_message, first_result, message_in, ok_or_zero, outcome_of, outcome_word, text_named}
 use Rattle.policy_glue.specs.Policy.{Policy}
@@ -53,16 +53,16 @@ pub record LayoutRowsStand : Type 0 where
   pub four : outcome_of 4 ≡ Admitted
   pub zero_rejects : outcome_of 0 ≡ Rejected
   pub five_rejects : outcome_of 5 ≡ Rejected
-  pub holds_word : finding_word (Some (record { truth = Holds; message = None })) ≡ 1
-  pub fails_word : finding_word (Some (record { truth = Fails; message = None })) ≡ 2
-  pub errs_word : finding_word (Some (record { truth = Errs; message = None })) ≡ 3
+  pub holds_word : finding_word (Some (record { truth = Holds; message = None })) ≡ 0
+  pub fails_word : finding_word (Some (record { truth = Fails; message = None })) ≡ 1
+  pub errs_word : finding_word (Some (record { truth = Errs; message = None })) ≡ 2
   pub no_finding_word : finding_word None ≡ 0
   pub message : message_in (Some (record { truth = Fails; message = Some (codes "a") })) ≡ Some (codes "a")
   pub no_message : message_in (Some (record { truth = Fails; message = None })) ≡ None
   pub no_finding : message_in None ≡ None
   pub no_text : IsMessageWord [] 0 None
   pub word_for_no_text : IsMessageWord [] 1 None → ⊥
-  pub text : IsMessageWord (value (text []) ∷ value (text (codes "a")) ∷ []) 1 (Some (codes "a"))
+  pub word_of_a_text : IsMessageWord (value (text []) ∷ value (text (codes "a")) ∷ []) 1 (Some (codes "a"))
   pub word_of_another : IsMessageWord (value (text (codes "a")) ∷ value (text []) ∷ []) 1 (Some (codes "a")) → ⊥
   pub word_zero : IsMessageWord (value (text (codes "a")) ∷ []) 0 (Some (codes "a")) → ⊥
   pub no_reference : text_named (value (text (codes "a")) ∷ []) 0 ≡ None

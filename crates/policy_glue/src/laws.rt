@@ -6,6 +6,7 @@ ghost use Rattle.policy_glue.specs.LimitRows.{LimitRowsStand};
 ghost use Rattle.policy_glue.specs.OneAnswer.{CompileHasOneResult, HasNoOtherType, HasOneImage};
 ghost use Rattle.policy_glue.specs.ProgramLaws.{PolicyDecides};
 ghost use Rattle.policy_glue.specs.ProgramTrees.{ProgramDecides, ProgramIsCode, ProgramIsShort, ProgramStops};
+ghost use Rattle.policy_glue.specs.RejectionRows.{LayoutRowsStand, RejectionRowsStand};
 ghost use Rattle.policy_glue.specs.RunRows.{RunRowsStand};
 ghost use Rattle.policy_glue.specs.Rows.{PolicyRowsStand, VerdictRowsStand, ResponseRowsStand};
 
@@ -33,6 +34,13 @@ pub fn verdict_rows_stand()
 #[tactic(auto, unfolding(crate::proofs::OnLiterals::documents_on_literals))]
 pub fn response_rows_stand()
     ensures { ResponseRowsStand }
+{}
+
+/// What is said against requests, and words of verdict regions.
+#[tactic(auto, unfolding(crate::proofs::OnLiterals::documents_on_literals))]
+pub fn rejection_rows_stand()
+    ensures rejections { RejectionRowsStand }
+    ensures layout { LayoutRowsStand }
 {}
 
 /// Decisions of policies on the documents of a request.
