@@ -17,3 +17,4 @@ pub mod Escapes
 pub mod Gaps
 pub mod SignedInts
 pub mod AsWritten
+pub mod Rows

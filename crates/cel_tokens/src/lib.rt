@@ -13,6 +13,7 @@ mod limits;
 mod literal;
 mod mark;
 mod read_error;
+pub mod rows;
 mod token;
 
 pub use bytes::is_name;
