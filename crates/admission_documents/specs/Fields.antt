@@ -4,7 +4,7 @@ use Rattle.admission_documents.specs.declared.field_error.FieldError.{FieldError
 use Rattle.admission_documents.specs.declared.field_error.FieldError.TheVariants.{InvalidField, Memory}
 
 -- the part, seen by `see`, or InvalidField if it has not its form; or an allocation failed
-abbrev pub Reads : {A B : Type 0} → (B → A) → Option A → Result B FieldError → Type 0
-Reads see part (Ok b) = part ≡ Some (see b)
-Reads see part (Err InvalidField) = part ≡ None
-Reads see part (Err Memory) = Unit {0}
+abbrev pub ReadsField : {A B : Type 0} → (B → A) → Option A → Result B FieldError → Type 0
+ReadsField see part (Ok b) = part ≡ Some (see b)
+ReadsField see part (Err InvalidField) = part ≡ None
+ReadsField see part (Err Memory) = Unit {0}

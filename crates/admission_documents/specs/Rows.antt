@@ -26,7 +26,7 @@ expression key operator values = Some (record {
   match_expressions = record { key = key; operator = operator; values = values } ∷ [];
 })
 
-pub record SelectorRowsHold : Type 0 where
+pub record SelectorDocumentRowsHold : Type 0 where
   pub labels : selector (codes "{\"matchLabels\":{\"env\":\"prod\"}}")
       ≡ Some (record { match_labels = record { key = codes "env"; value = codes "prod" } ∷ []; match_expressions = [] })
   pub values : selector (codes "{\"matchExpressions\":[{\"key\":\"env\",\"operator\":\"In\",\"values\":[\"prod\"]}]}")
@@ -78,7 +78,7 @@ pod_rule = record {
 abbrev pub empty_rule : Rule
 empty_rule = record { scope = All; operations = []; api_groups = []; api_versions = []; resources = []; resource_names = [] }
 
-pub record MatchRowsHold : Type 0 where
+pub record MatchDocumentRowsHold : Type 0 where
   pub rule : constraints (codes "{\"resourceRules\":[{\"apiGroups\":[\"\"],\"apiVersions\":[\"v1\"],\"operations\":[\"CREATE\"],\"resourceNames\":[\"web\"],\"resources\":[\"pods\"],\"scope\":\"Namespaced\"}]}")
       ≡ with_rule pod_rule
   pub defaults : constraints (codes "{\"resourceRules\":[{}]}") ≡ with_rule empty_rule

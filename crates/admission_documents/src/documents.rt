@@ -4,7 +4,7 @@ ghost use Rattle.std.specs.List.{list_any};
 ghost use Rattle.std.specs.Str.{bytes_eq};
 ghost use Rattle.serde_json.specs.View.{items_view, members_view, view};
 ghost use Rattle.admission_documents.specs.Documents.{each, field, has_only, keys_within, text_in, text_of, text_or_empty_of, texts_of};
-ghost use Rattle.admission_documents.specs.Fields.{Reads};
+ghost use Rattle.admission_documents.specs.Fields.{ReadsField};
 
 use crate::field_error::FieldError;
 use serde_json::{Map, Value};
@@ -75,7 +75,7 @@ pub fn text_or_empty<'a>(value: Option<&'a Value>) -> Option<&'a str>
 /// A list of texts, empty where it is absent.
 #[tactic(auto, unfolding(crate::specs::Documents::texts_of))]
 pub fn texts(alloc: Global, value: Option<&Value>) -> Result<Vec<String>, FieldError>
-    ensures { Reads (λ v. map string_bytes v.items) (texts_of (option_map (λ v. view v.now) value.entry)) result }
+    ensures { ReadsField (λ v. map string_bytes v.items) (texts_of (option_map (λ v. view v.now) value.entry)) result }
 {
     match value {
         None => Ok(Vec::new(alloc)),
@@ -85,7 +85,7 @@ pub fn texts(alloc: Global, value: Option<&Value>) -> Result<Vec<String>, FieldE
 }
 
 fn texts_in(alloc: Global, items: &Vec<Value>) -> Result<Vec<String>, FieldError>
-    ensures { Reads (λ v. map string_bytes v.items) (each text_in (items_view items.now.items)) result }
+    ensures { ReadsField (λ v. map string_bytes v.items) (each text_in (items_view items.now.items)) result }
 {
     let mut texts = Vec::new(alloc);
     for item in items {
@@ -95,7 +95,7 @@ fn texts_in(alloc: Global, items: &Vec<Value>) -> Result<Vec<String>, FieldError
 }
 
 fn text_in(alloc: Global, value: &Value) -> Result<String, FieldError>
-    ensures { Reads string_bytes (text_in (view value.now)) result }
+    ensures { ReadsField string_bytes (text_in (view value.now)) result }
 {
     match value {
         Value::String(found) => Ok(String::from_str(alloc, found.as_str())?),

@@ -3,7 +3,7 @@ ghost use Rattle.std.specs.Prelude.{◌≡◌, option_map};
 ghost use Rattle.serde_json.specs.View.{view};
 ghost use Rattle.admission_match.specs.Matching.{match_view};
 ghost use Rattle.admission_documents.specs.Documents.{has_only};
-ghost use Rattle.admission_documents.specs.Fields.{Reads};
+ghost use Rattle.admission_documents.specs.Fields.{ReadsField};
 ghost use Rattle.admission_documents.specs.Matching.{if_has_rules, match_all, match_constraints_of, match_in, match_keys, match_parts, match_policy_of, match_resources_of};
 
 use crate::documents::{field, has_only_keys};
@@ -21,7 +21,7 @@ use std::alloc::Global;
 /// A key is not known, a value has another type, or the API server does not store it.
 #[tactic(auto, unfolding(crate::specs::Matching::match_resources_of))]
 pub fn match_resources(alloc: Global, value: Option<&Value>) -> Result<MatchResources, FieldError>
-    ensures { Reads match_view (match_resources_of (option_map (λ v. view v.now) value.entry)) result }
+    ensures { ReadsField match_view (match_resources_of (option_map (λ v. view v.now) value.entry)) result }
 {
     match value {
         None => Ok(match_all(alloc)),
@@ -36,7 +36,7 @@ pub fn match_resources(alloc: Global, value: Option<&Value>) -> Result<MatchReso
 /// As `match_resources`, or they are absent or have no rule.
 #[tactic(auto, unfolding(crate::specs::Matching::match_constraints_of))]
 pub fn match_constraints(alloc: Global, value: Option<&Value>) -> Result<MatchResources, FieldError>
-    ensures { Reads match_view (match_constraints_of (option_map (λ v. view v.now) value.entry)) result }
+    ensures { ReadsField match_view (match_constraints_of (option_map (λ v. view v.now) value.entry)) result }
 {
     match value {
         None => Err(FieldError::InvalidField),
@@ -45,7 +45,7 @@ pub fn match_constraints(alloc: Global, value: Option<&Value>) -> Result<MatchRe
 }
 
 fn constraints_in(alloc: Global, value: &Value) -> Result<MatchResources, FieldError>
-    ensures { Reads match_view (if_has_rules (match_in (view value.now))) result }
+    ensures { ReadsField match_view (if_has_rules (match_in (view value.now))) result }
 {
     let resources = match_in(alloc, value)?;
     if resources.resource_rules.is_empty() {
@@ -67,7 +67,7 @@ fn match_all(alloc: Global) -> MatchResources
 }
 
 fn match_in(alloc: Global, value: &Value) -> Result<MatchResources, FieldError>
-    ensures { Reads match_view (match_in (view value.now)) result }
+    ensures { ReadsField match_view (match_in (view value.now)) result }
 {
     if !has_match_keys(value) {
         return Err(FieldError::InvalidField);
@@ -91,7 +91,7 @@ fn has_match_keys(value: &Value) -> bool
 
 #[tactic(auto, unfolding(crate::specs::Matching::match_parts))]
 fn match_parts(alloc: Global, value: &Value) -> Result<MatchResources, FieldError>
-    ensures { Reads match_view (match_parts (view value.now)) result }
+    ensures { ReadsField match_view (match_parts (view value.now)) result }
 {
     let Some(match_policy) = match_policy(field(value, "matchPolicy")) else {
         return Err(FieldError::InvalidField);

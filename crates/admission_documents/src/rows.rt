@@ -1,9 +1,9 @@
 //! Documents written out, and what the definitions read in them.
-ghost use Rattle.admission_documents.specs.Rows.{LabelRowsHold, MatchRowsHold, RequestRowsHold, SelectorRowsHold, UpdateRowHolds};
+ghost use Rattle.admission_documents.specs.Rows.{LabelRowsHold, MatchDocumentRowsHold, RequestRowsHold, SelectorDocumentRowsHold, UpdateRowHolds};
 
 /// Selectors, and values that are none.
 pub fn selector_rows_hold()
-    ensures { SelectorRowsHold }
+    ensures { SelectorDocumentRowsHold }
 {}
 
 /// The labels of objects.
@@ -13,7 +13,7 @@ pub fn label_rows_hold()
 
 /// Match resources, and values that are none.
 pub fn match_rows_hold()
-    ensures { MatchRowsHold }
+    ensures { MatchDocumentRowsHold }
 {}
 
 /// The parts of a request.

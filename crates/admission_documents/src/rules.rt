@@ -3,7 +3,7 @@ ghost use Rattle.std.specs.Prelude.{◌≡◌, map, option_map};
 ghost use Rattle.serde_json.specs.View.{items_view, view};
 ghost use Rattle.admission_match.specs.Rules.{rule_view};
 ghost use Rattle.admission_documents.specs.Documents.{each, has_only};
-ghost use Rattle.admission_documents.specs.Fields.{Reads};
+ghost use Rattle.admission_documents.specs.Fields.{ReadsField};
 ghost use Rattle.admission_documents.specs.Matching.{patterns_in, patterns_view, rule_in, rule_keys, rule_parts, rules_of, scope_of};
 
 use crate::documents::{field, has_only_keys, texts};
@@ -16,7 +16,7 @@ use std::alloc::Global;
 /// A list of rules, empty where it is absent.
 #[tactic(auto, unfolding(crate::specs::Matching::rules_of))]
 pub fn rules(alloc: Global, value: Option<&Value>) -> Result<Vec<Rule>, FieldError>
-    ensures { Reads (λ v. map rule_view v.items) (rules_of (option_map (λ v. view v.now) value.entry)) result }
+    ensures { ReadsField (λ v. map rule_view v.items) (rules_of (option_map (λ v. view v.now) value.entry)) result }
 {
     match value {
         None => Ok(Vec::new(alloc)),
@@ -26,7 +26,7 @@ pub fn rules(alloc: Global, value: Option<&Value>) -> Result<Vec<Rule>, FieldErr
 }
 
 fn rules_in(alloc: Global, items: &Vec<Value>) -> Result<Vec<Rule>, FieldError>
-    ensures { Reads (λ v. map rule_view v.items) (each rule_in (items_view items.now.items)) result }
+    ensures { ReadsField (λ v. map rule_view v.items) (each rule_in (items_view items.now.items)) result }
 {
     let mut rules = Vec::new(alloc);
     for item in items {
@@ -36,7 +36,7 @@ fn rules_in(alloc: Global, items: &Vec<Value>) -> Result<Vec<Rule>, FieldError>
 }
 
 fn rule(alloc: Global, value: &Value) -> Result<Rule, FieldError>
-    ensures { Reads rule_view (rule_in (view value.now)) result }
+    ensures { ReadsField rule_view (rule_in (view value.now)) result }
 {
     if !has_rule_keys(value) {
         return Err(FieldError::InvalidField);
@@ -61,7 +61,7 @@ fn has_rule_keys(value: &Value) -> bool
 
 #[tactic(auto, unfolding(crate::specs::Matching::rule_parts))]
 fn rule_parts(alloc: Global, value: &Value) -> Result<Rule, FieldError>
-    ensures { Reads rule_view (rule_parts (view value.now)) result }
+    ensures { ReadsField rule_view (rule_parts (view value.now)) result }
 {
     let patterns = patterns(alloc, value)?;
     let operations = texts(alloc, field(value, "operations"))?;
@@ -78,7 +78,7 @@ fn rule_parts(alloc: Global, value: &Value) -> Result<Rule, FieldError>
 
 #[tactic(auto, unfolding(crate::specs::Matching::patterns_in))]
 fn patterns(alloc: Global, value: &Value) -> Result<ResourcePatterns, FieldError>
-    ensures { Reads patterns_view (patterns_in (view value.now)) result }
+    ensures { ReadsField patterns_view (patterns_in (view value.now)) result }
 {
     let Some(scope) = scope(field(value, "scope")) else {
         return Err(FieldError::InvalidField);

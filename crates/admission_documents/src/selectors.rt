@@ -3,7 +3,7 @@ ghost use Rattle.std.specs.Prelude.{◌≡◌, map, option_map, string_bytes};
 ghost use Rattle.serde_json.specs.View.{items_view, members_view, view};
 ghost use Rattle.label_selectors.specs.Selectors.{label_view, requirement_view, selector_view};
 ghost use Rattle.admission_documents.specs.Documents.{each};
-ghost use Rattle.admission_documents.specs.Fields.{Reads};
+ghost use Rattle.admission_documents.specs.Fields.{ReadsField};
 ghost use Rattle.label_selectors.specs.Storing.{checked_label, checked_requirement};
 ghost use Rattle.admission_documents.specs.Selectors.{each_label, label_in, match_expressions_of, match_labels_of, no_requirements, requirement_in, requirement_parts, selector_in, selector_of, selector_parts, stored_label, stored_requirement};
 
@@ -20,7 +20,7 @@ use std::alloc::Global;
 /// A key is not known, a value has another type, or the API server does not store the selector.
 #[tactic(auto, unfolding(crate::specs::Selectors::selector_of))]
 pub fn selector(alloc: Global, value: Option<&Value>) -> Result<LabelSelector, FieldError>
-    ensures { Reads selector_view (selector_of (option_map (λ v. view v.now) value.entry)) result }
+    ensures { ReadsField selector_view (selector_of (option_map (λ v. view v.now) value.entry)) result }
 {
     match value {
         None => Ok(empty_selector(alloc)),
@@ -40,7 +40,7 @@ pub(crate) fn empty_selector(alloc: Global) -> LabelSelector
 
 #[tactic(auto, unfolding(crate::specs::Selectors::selector_keys))]
 fn selector_in(alloc: Global, value: &Value) -> Result<LabelSelector, FieldError>
-    ensures { Reads selector_view (selector_in (view value.now)) result }
+    ensures { ReadsField selector_view (selector_in (view value.now)) result }
 {
     if !has_only_keys(value, ["matchExpressions", "matchLabels"].as_slice()) {
         return Err(FieldError::InvalidField);
@@ -50,7 +50,7 @@ fn selector_in(alloc: Global, value: &Value) -> Result<LabelSelector, FieldError
 
 #[tactic(auto, unfolding(crate::specs::Selectors::selector_parts))]
 fn selector_parts(alloc: Global, value: &Value) -> Result<LabelSelector, FieldError>
-    ensures { Reads selector_view (selector_parts (view value.now)) result }
+    ensures { ReadsField selector_view (selector_parts (view value.now)) result }
 {
     let match_labels = match_labels(alloc, field(value, "matchLabels"))?;
     let match_expressions = match_expressions(alloc, field(value, "matchExpressions"))?;
@@ -62,7 +62,7 @@ fn selector_parts(alloc: Global, value: &Value) -> Result<LabelSelector, FieldEr
 
 #[tactic(auto, unfolding(crate::specs::Selectors::match_labels_of))]
 fn match_labels(alloc: Global, value: Option<&Value>) -> Result<Vec<Label>, FieldError>
-    ensures { Reads (λ v. map label_view v.items) (match_labels_of (option_map (λ v. view v.now) value.entry)) result }
+    ensures { ReadsField (λ v. map label_view v.items) (match_labels_of (option_map (λ v. view v.now) value.entry)) result }
 {
     match value {
         None => Ok(Vec::new(alloc)),
@@ -72,7 +72,7 @@ fn match_labels(alloc: Global, value: Option<&Value>) -> Result<Vec<Label>, Fiel
 }
 
 fn labels_in(alloc: Global, members: &Map<String, Value>) -> Result<Vec<Label>, FieldError>
-    ensures { Reads (λ v. map label_view v.items) (each_label (members_view members.now.entries)) result }
+    ensures { ReadsField (λ v. map label_view v.items) (each_label (members_view members.now.entries)) result }
 {
     let mut labels = Vec::new(alloc);
     for (key, value) in members.iter() {
@@ -83,7 +83,7 @@ fn labels_in(alloc: Global, members: &Map<String, Value>) -> Result<Vec<Label>, 
 
 #[tactic(auto, unfolding(crate::specs::Selectors::label_in))]
 fn label(alloc: Global, key: &String, value: &Value) -> Result<Label, FieldError>
-    ensures { Reads label_view (label_in (string_bytes key.now) (view value.now)) result }
+    ensures { ReadsField label_view (label_in (string_bytes key.now) (view value.now)) result }
 {
     match value {
         Value::String(text) => stored_label(alloc, key.as_str(), text.as_str()),
@@ -92,7 +92,7 @@ fn label(alloc: Global, key: &String, value: &Value) -> Result<Label, FieldError
 }
 
 fn stored_label(alloc: Global, key: &str, value: &str) -> Result<Label, FieldError>
-    ensures { Reads label_view (stored_label key.now value.now (checked_label key.now value.now)) result }
+    ensures { ReadsField label_view (stored_label key.now value.now (checked_label key.now value.now)) result }
 {
     match check_label(key, value) {
         Ok(()) => Ok(Label {
@@ -105,7 +105,7 @@ fn stored_label(alloc: Global, key: &str, value: &str) -> Result<Label, FieldErr
 
 #[tactic(auto, unfolding(crate::specs::Selectors::match_expressions_of))]
 fn match_expressions(alloc: Global, value: Option<&Value>) -> Result<Vec<Requirement>, FieldError>
-    ensures { Reads (λ v. map requirement_view v.items) (match_expressions_of (option_map (λ v. view v.now) value.entry)) result }
+    ensures { ReadsField (λ v. map requirement_view v.items) (match_expressions_of (option_map (λ v. view v.now) value.entry)) result }
 {
     match value {
         None => Ok(Vec::new(alloc)),
@@ -115,7 +115,7 @@ fn match_expressions(alloc: Global, value: Option<&Value>) -> Result<Vec<Require
 }
 
 fn requirements_in(alloc: Global, items: &Vec<Value>) -> Result<Vec<Requirement>, FieldError>
-    ensures { Reads (λ v. map requirement_view v.items) (each requirement_in (items_view items.now.items)) result }
+    ensures { ReadsField (λ v. map requirement_view v.items) (each requirement_in (items_view items.now.items)) result }
 {
     let mut requirements = Vec::new(alloc);
     for item in items {
@@ -126,7 +126,7 @@ fn requirements_in(alloc: Global, items: &Vec<Value>) -> Result<Vec<Requirement>
 
 #[tactic(auto, unfolding(crate::specs::Selectors::requirement_keys))]
 fn requirement(alloc: Global, value: &Value) -> Result<Requirement, FieldError>
-    ensures { Reads requirement_view (requirement_in (view value.now)) result }
+    ensures { ReadsField requirement_view (requirement_in (view value.now)) result }
 {
     if !has_only_keys(value, ["key", "operator", "values"].as_slice()) {
         return Err(FieldError::InvalidField);
@@ -136,7 +136,7 @@ fn requirement(alloc: Global, value: &Value) -> Result<Requirement, FieldError>
 
 #[tactic(auto, unfolding(crate::specs::Selectors::requirement_parts))]
 fn requirement_parts(alloc: Global, value: &Value) -> Result<Requirement, FieldError>
-    ensures { Reads requirement_view (requirement_parts (view value.now)) result }
+    ensures { ReadsField requirement_view (requirement_parts (view value.now)) result }
 {
     let Some(key) = text(field(value, "key")) else {
         return Err(FieldError::InvalidField);
@@ -154,7 +154,7 @@ fn stored_requirement(
     operator: &str,
     values: Vec<String>,
 ) -> Result<Requirement, FieldError>
-    ensures { Reads requirement_view (stored_requirement key.now (map string_bytes values.items) (checked_requirement key.now operator.now (map string_bytes values.items))) result }
+    ensures { ReadsField requirement_view (stored_requirement key.now (map string_bytes values.items) (checked_requirement key.now operator.now (map string_bytes values.items))) result }
 {
     match check_requirement(key, operator, &values) {
         Ok(operator) => Ok(Requirement {

@@ -209,7 +209,7 @@ pub record SignRowsStand : Type 0 where
   pub behind_question : sign_may_follow (mark marks.Question) ≡ true
 
 -- the code and the place of each refusal, and the limits
-pub record LimitRowsStand : Type 0 where
+pub record TokenLimitRowsStand : Type 0 where
   pub code_1 : read_error_code (error.UnknownCharacter 7) ≡ codes "P1"
   pub place_1 : read_error_place (error.UnknownCharacter 7) ≡ Some 7
   pub code_2 : read_error_code (error.InvalidTextLiteral 7) ≡ codes "P2"

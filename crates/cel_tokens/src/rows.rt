@@ -1,10 +1,10 @@
 //! Bytes, escapes, marks and the fronts of texts, with what the definitions say of them.
-ghost use Rattle.cel_tokens.specs.Rows.{ByteRowsStand, EscapeRowsStand, FrontRowsStand, LimitRowsStand, MarkRowsStand, SignRowsStand};
+ghost use Rattle.cel_tokens.specs.Rows.{ByteRowsStand, EscapeRowsStand, FrontRowsStand, TokenLimitRowsStand, MarkRowsStand, SignRowsStand};
 
 /// The classes of bytes at their borders, and the limits with the code of each refusal.
 pub fn byte_rows_stand()
     ensures bytes { ByteRowsStand }
-    ensures limits { LimitRowsStand }
+    ensures limits { TokenLimitRowsStand }
 {}
 
 /// What stands behind a backslash.

@@ -39,8 +39,8 @@ pub record AskingRowsStand : Type 0 where
   pub memory_for_words : AsksNothing faultless (Err order_error.InvalidArguments) Memory → ⊥
 
 -- the program is done with this status
-abbrev pub IsDone : ℕ → Ending → Type 0
-IsDone status ending = ending ≡ Ok status
+abbrev pub IsEndingDone : ℕ → Ending → Type 0
+IsEndingDone status ending = ending ≡ Ok status
 
 -- the program is refused for its words
 abbrev pub IsRefused : Ending → Type 0
@@ -48,8 +48,8 @@ IsRefused ending = ending ≡ Err Words
 
 pub record EndingRowsStand : Type 0 where
   pub nothing_said : WritesError (stream (Some []) 0) (stream (Some []) 0) (Ok 0)
-  pub done : ProgramEnds (IsDone 1) (stream (Some []) 0) (stream (Some []) 0) 1
-  pub done_otherwise : ProgramEnds (IsDone 1) (stream (Some []) 0) (stream (Some []) 0) 0 → ⊥
+  pub done : ProgramEnds (IsEndingDone 1) (stream (Some []) 0) (stream (Some []) 0) 1
+  pub done_otherwise : ProgramEnds (IsEndingDone 1) (stream (Some []) 0) (stream (Some []) 0) 0 → ⊥
   pub refused : ProgramEnds IsRefused (stream (Some []) 0) (stream (Some (codes "celbpf: U1\n")) 0) 2
   pub refused_and_cut : ProgramEnds IsRefused (stream (Some []) 0) (stream (Some (codes "cel")) 1) 2
   pub refused_with_another_status : ProgramEnds IsRefused (stream (Some []) 0) (stream (Some (codes "celbpf: U1\n")) 0) 3 → ⊥

@@ -32,7 +32,7 @@ abbrev pub Says : Refusal → String → ℕ → Type 0
 Says r line status = ◌≡◌ {A = List ℕ × ℕ} (refusal_line r, refusal_status r) (codes line, status)
 
 -- each refusal of words, files, images, programs, documents and reviews
-pub record RefusalRowsStand : Type 0 where
+pub record RefusalLineRowsStand : Type 0 where
   pub words : Says Words "celbpf: U1\n" 2
   pub file : Says File "celbpf: file\n" 3
   pub text : Says Text "celbpf: text\n" 3

@@ -1,10 +1,10 @@
 //! Refusals, their causes and numbers written out, with what the definitions say of them.
 ghost use Rattle.cli.specs.EndingRows.{AskingRowsStand, EndingRowsStand, GivenRowsStand};
-ghost use Rattle.cli.specs.Rows.{CauseRowsStand, ExpressionRowsStand, NumberRowsStand, RefusalRowsStand};
+ghost use Rattle.cli.specs.Rows.{CauseRowsStand, ExpressionRowsStand, NumberRowsStand, RefusalLineRowsStand};
 
 /// The line and the status of each refusal, and what the parts of the program refuse for.
 pub fn refusal_rows_stand()
-    ensures lines { RefusalRowsStand }
+    ensures lines { RefusalLineRowsStand }
     ensures expressions { ExpressionRowsStand }
     ensures causes { CauseRowsStand }
 {}

@@ -1,3 +1,4 @@
+-- What `listing` and `line_at` return.
 use Rattle.std.specs.Prelude.{◌≡◌, ℕ, ◌*◌, ◌/◌, ◌%◌, List, length, drop, Option, Some, None, Result, Ok, Err, String, string_bytes}
 use Rattle.std.specs.Prelude.{if◌then◌else◌, ◌==◌, nat_lt, not}
 use Rattle.std.specs.Global.{Global}

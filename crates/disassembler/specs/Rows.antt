@@ -1,3 +1,4 @@
+-- Code byte by byte, and its listing.
 use Rattle.std.specs.Prelude.{◌≡◌, [], ◌∷◌, ◌++◌, codes, drop}
 use Rattle.insn_codec.specs.Statements.{Listing, statement_of, statement_text}
 

@@ -53,7 +53,7 @@ pub record FileRowsStand : Type 0 where
   pub words : order_error_code order_error.InvalidArguments ≡ codes "U1"
   pub words_memory : order_error_code order_error.Memory ≡ codes "memory"
 
-pub record WriteRowsStand : Type 0 where
+pub record FileWriteRowsStand : Type 0 where
   pub write : AnswersWrite files written second (9 ∷ []) (Ok tt)
   pub write_is_lost : AnswersWrite files files second (9 ∷ []) (Ok tt) → ⊥
   pub write_to_another : AnswersWrite files written first (9 ∷ []) (Ok tt) → ⊥

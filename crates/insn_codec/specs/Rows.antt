@@ -1,3 +1,4 @@
+-- Slots byte by byte, and the instruction that each spells.
 use Rattle.std.specs.Prelude.{◌≡◌, [], ◌∷◌, pos, negsuc, Some, None}
 use Rattle.insn_codec.specs.Spelled.{spelled}
 use Rattle.insn_codec.specs.declared.alu_op.AluOp.TheVariants.{Add, Sdiv, Mov}

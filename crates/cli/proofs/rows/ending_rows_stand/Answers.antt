@@ -2,11 +2,11 @@ use Rattle.std.proofs.Common.{◌≡◌, ℕ, List, [], ◌∷◌, Some, None, O
 use Rattle.std.specs.Prelude.{codes}
 use Rattle.streams.specs.Streams.{stream}
 use Rattle.cli.specs.Ending.{Ending, ProgramEnds, ending_status}
-use Rattle.cli.specs.EndingRows.{IsDone, IsRefused}
+use Rattle.cli.specs.EndingRows.{IsEndingDone, IsRefused}
 use Rattle.cli.specs.declared.refusal.Refusal.TheVariants.{Words}
 use Rattle.cli.proofs.rows.ending_rows_stand.Goals as goal
 
-not_otherwise : ProgramEnds (IsDone 1) (stream (Some []) 0) (stream (Some []) 0) 0 → ⊥
+not_otherwise : ProgramEnds (IsEndingDone 1) (stream (Some []) 0) (stream (Some []) 0) 0 → ⊥
 not_otherwise e = let is : 0 ≡ 1 = e.status_is ∙ ap ending_status e.does in cc
 
 not_another : ProgramEnds IsRefused (stream (Some []) 0) (stream (Some (codes "celbpf: U1\n")) 0) 3 → ⊥
