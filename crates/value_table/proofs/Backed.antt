@@ -32,7 +32,7 @@ items_behind old new b n xs at long e = grind (arith, get_or, get_or-append_seam
 pub length_one : (xs : List ℕ) (n place x : ℕ) → place ≤ n → n ≤ length xs → length (with_one place x (take n xs)) ≡ n + 1
 length_one xs n place x low long = grind (arith, take, length-take, length-drop, length-append, drop)
 
-whole_behind : (bs ws : List ℕ) (a b : ℕ) → a ≡ length bs → b ≡ length (bs ++ ws) → slice_range (bs ++ ws) a b ≡ ws
+pub whole_behind : (bs ws : List ℕ) (a b : ℕ) → a ≡ length bs → b ≡ length (bs ++ ws) → slice_range (bs ++ ws) a b ≡ ws
 whole_behind bs ws a b p q = rw (p, drop-append_seam bs ws) (take_all (b - length bs) ws (omega (arith, length-append bs ws)))
 
 -- the part of the bytes behind a number of them

@@ -1,5 +1,5 @@
 -- Lists and maps of parts that stand.
-use Rattle.value_table.proofs.Prelude.{◌≡◌, ℕ, ◌+◌, List, [], ◌∷◌, ◌++◌, length, refl, sym, ap, ap₂, ◌∙◌, arith, max, Some, Value, saturated, quoted, IsOrdered, part_of, items_at, entries_at, AreTexts, AreBelow, CellFound, HoldsItems, commas, IsMeasure, with_one, HoldsKeys, Part, Cell, Measure, Backings, push_depth}
+use Rattle.value_table.proofs.Prelude.{◌≡◌, ℕ, ◌+◌, List, [], ◌∷◌, ◌++◌, length, refl, sym, ap, ap₂, ◌∙◌, arith, max, Some, Value, saturated, quoted, IsOrdered, part_of, items_at, entries_at, AreTexts, AreBelow, CellFound, IsCell, HoldsItems, commas, IsMeasure, with_one, HoldsKeys, Part, Cell, Measure, Backings, push_depth}
 use Rattle.value_store.specs.Value as kind
 use Rattle.value_table.specs.declared.content.Content.TheVariants as cell
 use Rattle.value_table.proofs.Listed.{Made, items_length, items_more}
@@ -45,6 +45,10 @@ pub list_gathered : (cs : Backings) (vs : List Value) (xs rs : List ℕ) (b : �
     → AreBelow (length vs) rs → IsMeasure (length vs) (kind.list (items_at vs rs)) m → IsOrdered (kind.list (items_at vs rs))
     → Made cs vs (record { content = cell.List b (length rs); depth = m.depth; json = m.json }) (Some (kind.list (items_at vs rs)))
 list_gathered cs vs xs rs b m all held below measure ordered = grind arith
+
+pub list_new : (cs : Backings) (vs : List Value) (b n : ℕ) (rs : List ℕ) → HoldsItems cs.lists b n rs
+    → IsCell cs vs (record { content = cell.List b 0; depth = 1; json = 2 })
+list_new cs vs b n rs h = record { content = record { inside = h.inside; long = omega arith; below = tt }; depth = refl; shallow = omega arith; json = refl; ordered = tt }
 
 -- keys and values of which a map may be made
 pub record MakeMap (bytes : List ℕ) (vs : List Value) (ks : List Part) (rs : List ℕ) (m : Measure) : Type 0 where

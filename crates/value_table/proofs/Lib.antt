@@ -23,6 +23,7 @@ pub mod Printing
 pub mod Prelude
 pub mod Conversion
 pub mod PlacedValues
+mod Pooled
 pub mod PlacedMembers
 pub mod ReadLoops
 pub mod CheckLoops

@@ -1,3 +1,4 @@
+pub mod Pool
 pub mod Meaning
 pub mod Measures
 pub mod Lengths

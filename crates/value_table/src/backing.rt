@@ -1,6 +1,6 @@
 //! A vector that copies share.
 
-ghost use Rattle.std.specs.Prelude.{◌≡◌, ◌≤◌, ◌<◌, ◌+◌, ◌^◌, [], ◌∷◌, ◌++◌, length, vec_len, vec_capacity, IfOk, OnOk, OnErr, take};
+ghost use Rattle.std.specs.Prelude.{◌≡◌, ◌≤◌, ◌<◌, ◌+◌, ◌^◌, [], ◌∷◌, ◌++◌, length, vec_len, vec_capacity, IfOk, OnOk, OnErr};
 ghost use Rattle.std.specs.Borrow.{sem};
 ghost use Rattle.value_table.specs.Entries.{with_one};
 ghost use Rattle.value_table.specs.Lending.{LendsItems, LendsOwned};
@@ -73,17 +73,6 @@ impl<T: Copy> Backing<T> {
     {
         self.own(more)?;
         owned(&mut self.items, more)
-    }
-
-    /// A vector of its own with the first `count` items, and room for `more`.
-    pub(crate) fn first(&self, count: usize, more: usize) -> Result<Backing<T>, AllocError>
-        requires { count ≤ length self.now }
-        ensures { IfOk result (λ b. b ≡ take count self.now) }
-    {
-        let alloc = self.alloc();
-        let copy = copied(alloc, &self.items[..count], more)?;
-        let items = Rc::new(alloc, copy).ok().ok_or(AllocError)?;
-        Ok(Backing { items })
     }
 
     /// A vector of its own with the items of a slice.

@@ -84,8 +84,19 @@ impl Backings {
         ensures items { IfOk result (λ b. HoldsItems self.new.lists b (length items) items) }
         ensures kept { OnErr result (self.new ≡ self.old) }
     {
-        let place = self.lists.backings().len() as u64;
+        let place = self.lists.len() as u64;
         self.lists.push(items)?;
+        Ok(place)
+    }
+
+    /// A new backing with these items, in the pool.
+    pub(crate) fn pool_items(&mut self, items: &[u64]) -> Result<u64, AllocError>
+        ensures grown { ExtendsBackings self.old self.new }
+        ensures items { IfOk result (λ b. HoldsItems self.new.lists b (length items.now) items.now) }
+        ensures kept { OnErr result (self.new ≡ self.old) }
+    {
+        let place = self.lists.len() as u64;
+        self.lists.add(items)?;
         Ok(place)
     }
 
@@ -105,13 +116,12 @@ impl Backings {
         ensures shared { count ≡ length (slice_index_or self.old.lists backing []) → IfOk result (λ b. (b ≡ backing) × (length self.new.lists ≡ length self.old.lists)) }
         ensures kept { OnErr result (self.new ≡ self.old) }
     {
-        let items = &self.lists.backings()[backing as usize];
-        if items.len() == count as usize {
+        let held = self.lists.items(backing);
+        if held.len() == count as usize {
             self.lists.push_item(backing as usize, item)?;
             return Ok(backing);
         }
-        let mut copy = items.first(count as usize, 1)?;
-        copy.push(item)?;
+        let copy = Backing::joined(self.keys.alloc(), &held[..count as usize], &[item])?;
         self.add_items(copy)
     }
 
@@ -133,9 +143,9 @@ impl Backings {
     {
         let (backing, count) = first;
         let (other, more) = second;
-        let others = self.lists.backings()[other as usize].clone()?;
+        let others = self.lists.shared(other)?;
         let others = &others.items()[..more as usize];
-        let items = self.lists.backings()[backing as usize].items();
+        let items = self.lists.items(backing);
         if items.len() == count as usize {
             self.lists.push_items(backing as usize, others)?;
             return Ok(backing);

@@ -7,10 +7,13 @@ ghost use Rattle.value_table.specs.Heap.{heap_values, IsHeap};
 ghost use Rattle.value_table.specs.Reading.{AddsPlaced, IsPendingList, pending_value, AreSoundEntries, placed_entries};
 
 use crate::heap::Heap;
+use crate::part::Part;
 use crate::pending_list::PendingList;
+use crate::pending_map::PendingMap;
 use crate::placed::Placed;
 use std::alloc::AllocError;
 use std::collections::BTreeMap;
+use std::mem::replace;
 
 /// Adds the list of these items, if each has a value.
 pub(crate) fn add_pending(
@@ -38,8 +41,26 @@ pub(crate) fn add_members(
     requires sound { AreSoundEntries (heap_values heap.old) found.now.entries }
     ensures { IfOk result (λ p. AddsPlaced heap.old heap.new p (option_map kind.map (placed_entries (heap_values heap.old) found.now.entries))) }
 {
-    let mut keys = Vec::with_capacity(heap.cells.alloc(), found.len())?;
-    let mut places = Vec::with_capacity(heap.cells.alloc(), found.len())?;
+    let empty = PendingMap::new(heap.cells.alloc());
+    let mut pending = replace(&mut heap.pending, empty);
+    let placed = collect(heap, found, &mut pending.keys, &mut pending.places)?;
+    heap.pending = pending;
+    Ok(placed)
+}
+
+// The same, by vectors that are lent: what they hold is dropped first.
+fn collect(
+    heap: &mut Heap,
+    found: &BTreeMap<&str, Option<Placed>>,
+    keys: &mut Vec<Part>,
+    places: &mut Vec<u64>,
+) -> Result<Option<Placed>, AllocError>
+    requires heap { IsHeap heap.old }
+    requires sound { AreSoundEntries (heap_values heap.old) found.now.entries }
+    ensures { IfOk result (λ p. AddsPlaced heap.old heap.new p (option_map kind.map (placed_entries (heap_values heap.old) found.now.entries))) }
+{
+    keys.clear();
+    places.clear();
     let mut size = 1u64;
     for (key, member) in found.iter() {
         let Some(member) = *member else {
@@ -49,7 +70,7 @@ pub(crate) fn add_members(
         keys.push(heap.add_key(key)?)?;
         places.push(member.place)?;
     }
-    let place = heap.add_map(&keys, &places)?;
+    let place = heap.add_map(&keys[..], &places[..])?;
     Ok(Some(Placed { place, size }))
 }
 

@@ -74,22 +74,22 @@ impl Heap {
 }
 
 impl Backings {
-    /// A new row of these keys, and a new backing with these values.
+    /// A new row of these keys, and a new backing with these values, in the pool.
     pub(crate) fn add_entries(
         &mut self,
         keys: &[Part],
-        values: Backing<u64>,
+        values: &[u64],
     ) -> Result<(u64, u64), AllocError>
         ensures grown { ExtendsBackings self.old self.new }
         ensures bytes { self.new.bytes ≡ self.old.bytes }
         ensures keys { IfOk result (λ r. HoldsKeys self.new.keys r.0 (length keys.now) keys.now) }
-        ensures values { IfOk result (λ r. HoldsItems self.new.lists r.1 (length values) values) }
+        ensures values { IfOk result (λ r. HoldsItems self.new.lists r.1 (length values.now) values.now) }
         ensures kept { OnErr result (self.new ≡ self.old) }
     {
         let row = self.keys.len() as u64;
         let room = self.keys.room(keys.len())?;
-        let backing = self.lists.backings().len() as u64;
-        self.lists.push(values)?;
+        let backing = self.lists.len() as u64;
+        self.lists.add(values)?;
         fill(room, keys);
         Ok((row, backing))
     }

@@ -8,7 +8,6 @@ ghost use Rattle.value_table.specs.Heap.{heap_values, IsHeap, Gains};
 ghost use Rattle.value_table.specs.Heaps.{AreBelow, AreTexts};
 ghost use Rattle.value_table.specs.Measures.{IsMeasure};
 
-use crate::backing::Backing;
 use crate::cell::Cell;
 use crate::content::Content;
 use crate::heap::{Heap, room_for_cell};
@@ -27,9 +26,8 @@ impl Heap {
         ensures { Gains self.old (Some (list (items_at (heap_values self.old) places.now))) result self.new }
     {
         let measure = self.list_measure(places);
-        let items = Backing::of(self.cells.alloc(), places)?;
         let cells = room_for_cell(&mut self.cells, &mut self.same)?;
-        let backing = self.backings.add_items(items)?;
+        let backing = self.backings.pool_items(places)?;
         Ok(cells.append(Cell {
             content: Content::List(backing, places.len() as u64),
             depth: measure.depth,
@@ -47,9 +45,8 @@ impl Heap {
         ensures { Gains self.old (Some (map (entries_at self.old.backings.bytes (heap_values self.old) keys.now places.now))) result self.new }
     {
         let measure = self.map_measure(keys, places);
-        let items = Backing::of(self.cells.alloc(), places)?;
         let cells = room_for_cell(&mut self.cells, &mut self.same)?;
-        let (row, backing) = self.backings.add_entries(keys, items)?;
+        let (row, backing) = self.backings.add_entries(keys, places)?;
         Ok(cells.append(Cell {
             content: Content::Map(row, backing, places.len() as u64),
             depth: measure.depth,

@@ -14,6 +14,7 @@ use crate::content::Content;
 use crate::hints::Hints;
 use crate::indexes::Indexes;
 use crate::lengths::int_length;
+use crate::pending_map::PendingMap;
 use crate::sequence::Sequence;
 use std::alloc::{AllocError, Global};
 
@@ -29,6 +30,8 @@ pub(crate) struct Heap {
     pub(crate) indexes: Indexes,
     /// Where values differ, as was found. A copy has to find it anew.
     pub(crate) hints: Hints,
+    /// The vectors in which the entries of a map are gathered.
+    pub(crate) pending: PendingMap,
 }
 
 impl Heap {
@@ -44,6 +47,7 @@ impl Heap {
             same: Vec::new(alloc),
             indexes: Indexes::new(alloc),
             hints: Hints::new(alloc),
+            pending: PendingMap::new(alloc),
         })
     }
 
@@ -59,6 +63,7 @@ impl Heap {
             same: Vec::with_capacity(self.cells.alloc(), self.cells.len())?,
             indexes: Indexes::new(self.cells.alloc()),
             hints: Hints::new(self.cells.alloc()),
+            pending: PendingMap::new(self.cells.alloc()),
         })
     }
 

@@ -1,8 +1,8 @@
 //! Lengths of JSON texts, each at most the greatest number of 64 bits.
 
-ghost use Rattle.std.specs.Prelude.{◌≡◌, ◌≤◌, ◌+◌, ◌-◌, length, nat_lt, decimal};
+ghost use Rattle.std.specs.Prelude.{◌≡◌, ◌≤◌, ◌+◌, ◌-◌, length, decimal};
 ghost use Rattle.std.specs.Fmt.{signed_decimal};
-ghost use Rattle.json.specs.Print.{quoted, escape_letter, escape_byte};
+ghost use Rattle.json.specs.Print.{quoted, escape_byte};
 ghost use Rattle.value_store.specs.Plain.{saturated};
 ghost use Rattle.value_table.specs.Lengths.{commas};
 
@@ -74,25 +74,21 @@ pub(crate) fn quoted_length(text: &[u8]) -> u64
     length
 }
 
-#[tactic(auto, unfolding(json::specs::Print::escape_byte))]
+// How many bytes each byte has in a JSON text. A branch at each byte would cost more than the table.
+static ESCAPED: [u8; 256] = [
+    6, 6, 6, 6, 6, 6, 6, 6, 2, 2, 2, 6, 2, 2, 6, 6, 6, 6, 6, 6, 6, 6, 6, 6, 6, 6, 6, 6, 6, 6, 6, 6,
+    1, 1, 2, 1, 1, 1, 1, 1, 1, 1, 1, 1, 1, 1, 1, 1, 1, 1, 1, 1, 1, 1, 1, 1, 1, 1, 1, 1, 1, 1, 1, 1,
+    1, 1, 1, 1, 1, 1, 1, 1, 1, 1, 1, 1, 1, 1, 1, 1, 1, 1, 1, 1, 1, 1, 1, 1, 1, 1, 1, 1, 2, 1, 1, 1,
+    1, 1, 1, 1, 1, 1, 1, 1, 1, 1, 1, 1, 1, 1, 1, 1, 1, 1, 1, 1, 1, 1, 1, 1, 1, 1, 1, 1, 1, 1, 1, 1,
+    1, 1, 1, 1, 1, 1, 1, 1, 1, 1, 1, 1, 1, 1, 1, 1, 1, 1, 1, 1, 1, 1, 1, 1, 1, 1, 1, 1, 1, 1, 1, 1,
+    1, 1, 1, 1, 1, 1, 1, 1, 1, 1, 1, 1, 1, 1, 1, 1, 1, 1, 1, 1, 1, 1, 1, 1, 1, 1, 1, 1, 1, 1, 1, 1,
+    1, 1, 1, 1, 1, 1, 1, 1, 1, 1, 1, 1, 1, 1, 1, 1, 1, 1, 1, 1, 1, 1, 1, 1, 1, 1, 1, 1, 1, 1, 1, 1,
+    1, 1, 1, 1, 1, 1, 1, 1, 1, 1, 1, 1, 1, 1, 1, 1, 1, 1, 1, 1, 1, 1, 1, 1, 1, 1, 1, 1, 1, 1, 1, 1,
+];
+
+#[inline(always)]
 fn escaped_length(byte: u8) -> u64
     ensures { result ≡ length (escape_byte byte) }
 {
-    if has_letter(byte) {
-        2
-    } else if byte < 32 {
-        6
-    } else {
-        1
-    }
-}
-
-// Whether a backslash and a letter stand in a string for the byte.
-fn has_letter(byte: u8) -> bool
-    ensures { result ≡ nat_lt 0 (escape_letter byte) }
-{
-    match byte {
-        b'"' | b'\\' | 8 | 9 | 10 | 12 | 13 => true,
-        _ => false,
-    }
+    ESCAPED[byte as usize] as u64
 }

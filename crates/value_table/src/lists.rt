@@ -1,124 +1,218 @@
-//! Backings of lists.
+//! The items of lists.
 
-ghost use Rattle.std.specs.Prelude.{◌≡◌, ◌<◌, ◌≤◌, ◌+◌, [], ◌∷◌, ◌++◌, length, IfOk, OnOk, OnErr, slice_index_or, slice_set};
+ghost use Rattle.std.specs.Prelude.{◌≡◌, ◌<◌, ◌≤◌, ◌+◌, ◌^◌, [], ◌∷◌, ◌++◌, length, IfOk, OnOk, OnErr, slice_index_or, slice_set};
+ghost use Rattle.value_table.specs.Pool.{row_items, rows_items, AreRows};
 ghost use Rattle.value_table.specs.Meaning.{refs_at};
 ghost use Rattle.value_table.specs.Heaps.{ExtendsBackings, HoldsItems};
 ghost use Rattle.value_table.specs.Entries.{with_one};
 ghost use Rattle.value_table.specs.declared.backings.Backings.{Backings};
 
 use crate::backing::Backing;
+use crate::room::fill;
+use crate::row::{Row, extend, items, shared};
 use std::alloc::{AllocError, Global};
 use std::marker::Model;
 use std::rc::Rc;
 
-/// A vector that copies share until one of them grows.
+/// The items of lists, in rows. Copies share the rows and the pool until one of them grows.
 #[derive(Drop)]
 pub(crate) struct Lists {
-    backings: Rc<Vec<Backing<u64>>>,
+    rows: Rc<Vec<Row>>,
+    /// The items of the rows that have no vector: those that documents gave.
+    pool: Backing<u64>,
 }
 
 impl Model for Lists {
     ghost use Rattle.std.specs.Prelude.{List, ℕ};
+    ghost use Rattle.value_table.specs.Pool.{rows_items, AreRows};
 
     ghost Value = { List (List ℕ) };
 
-    ghost view = { λ l. l.backings.value.items };
+    ghost view = { λ l. rows_items l.pool l.rows.value.items };
+
+    ghost invariant = { λ l. AreRows l.pool l.rows.value.items };
 }
 
 impl Lists {
     pub(crate) fn new(alloc: Global) -> Result<Lists, AllocError>
         ensures { IfOk result (λ b. b ≡ []) }
     {
-        let backings = Rc::new(alloc, Vec::new(alloc)).ok().ok_or(AllocError)?;
-        Ok(Lists { backings })
+        let rows = Rc::new(alloc, Vec::new(alloc)).ok().ok_or(AllocError)?;
+        let pool = Backing::new(alloc)?;
+        Ok(Lists { rows, pool })
     }
 
-    pub(crate) fn backings(&self) -> &[Backing<u64>]
-        ensures { result.now ≡ self.now }
+    pub(crate) fn alloc(&self) -> Global {
+        *self.rows.allocator()
+    }
+
+    /// How many rows there are.
+    pub(crate) fn len(&self) -> usize
+        ensures { result ≡ length self.now }
     {
-        &self.backings[..]
+        self.rows.len()
     }
 
+    /// The items of a row, if there is one.
+    #[inline(always)]
+    pub(crate) fn items(&self, row: u64) -> &[u64]
+        ensures value { result.now ≡ slice_index_or self.now row [] }
+        ensures short { length result.now < 2 ^ 63 }
+    {
+        items_at(self.pool.items(), &self.rows[..], row as usize)
+    }
+
+    /// The items of a row as a vector.
+    pub(crate) fn shared(&self, row: u64) -> Result<Backing<u64>, AllocError>
+        requires { row < length self.now }
+        ensures { IfOk result (λ b. b ≡ slice_index_or self.now row []) }
+    {
+        let place = row as usize;
+        shared_at(self.alloc(), self.pool.items(), &self.rows[..], place)
+    }
+
+    /// One more row, with a vector.
     pub(crate) fn push(&mut self, backing: Backing<u64>) -> Result<(), AllocError>
         ensures ok { OnOk result (self.new ≡ self.old ++ backing ∷ []) }
         ensures err { OnErr result (self.new ≡ self.old) }
     {
-        let backings = Rc::make_mut(&mut self.backings)?;
-        backings.push(backing)?;
-        Ok(())
+        add_row(&mut self.rows, Row::Own(backing))
     }
 
-    /// One more item behind the backing's last.
-    pub(crate) fn push_item(&mut self, backing: usize, item: u64) -> Result<(), AllocError>
-        requires { backing < length self.old }
-        ensures ok { OnOk result (self.new ≡ slice_set self.old backing (slice_index_or self.old backing [] ++ item ∷ [])) }
+    /// One more row, whose items come behind the last of the pool.
+    pub(crate) fn add(&mut self, items: &[u64]) -> Result<(), AllocError>
+        ensures ok { OnOk result (self.new ≡ self.old ++ items.now ∷ []) }
         ensures err { OnErr result (self.new ≡ self.old) }
     {
-        let backings = Rc::make_mut(&mut self.backings)?;
-        push_to(backings, backing, item)?;
-        Ok(())
+        put(&mut self.pool, &mut self.rows, items)
     }
 
-    /// More items behind the backing's last.
-    pub(crate) fn push_items(&mut self, backing: usize, items: &[u64]) -> Result<(), AllocError>
-        requires { backing < length self.old }
-        ensures ok { OnOk result (self.new ≡ slice_set self.old backing (slice_index_or self.old backing [] ++ items.now)) }
+    /// One more item behind a row's last.
+    pub(crate) fn push_item(&mut self, row: usize, item: u64) -> Result<(), AllocError>
+        requires { row < length self.old }
+        ensures ok { OnOk result (self.new ≡ slice_set self.old row (slice_index_or self.old row [] ++ item ∷ [])) }
         ensures err { OnErr result (self.new ≡ self.old) }
     {
-        let backings = Rc::make_mut(&mut self.backings)?;
-        extend_at(backings, backing, items)?;
-        Ok(())
+        self.push_items(row, &[item])
     }
 
-    /// A backing that has the first items of another, and one more at a place: the same one where
+    /// More items behind a row's last.
+    pub(crate) fn push_items(&mut self, row: usize, items: &[u64]) -> Result<(), AllocError>
+        requires { row < length self.old }
+        ensures ok { OnOk result (self.new ≡ slice_set self.old row (slice_index_or self.old row [] ++ items.now)) }
+        ensures err { OnErr result (self.new ≡ self.old) }
+    {
+        let alloc = self.alloc();
+        extend_at(alloc, self.pool.items(), &mut self.rows, row, items)
+    }
+
+    /// A row that has the first items of another, and one more at a place: the same one where
     /// it ends there, and else a new one.
     pub(crate) fn put_item(
         &mut self,
-        backing: u64,
+        row: u64,
         count: u64,
         place: usize,
         item: u64,
     ) -> Result<u64, AllocError>
-        requires inside { backing < length self.old }
-        requires long { count ≤ length (slice_index_or self.old backing []) }
+        requires inside { row < length self.old }
+        requires long { count ≤ length (slice_index_or self.old row []) }
         requires place { place ≤ count }
         ensures grown { (bs : Backings) → bs.lists ≡ self.old → ExtendsBackings bs (record bs { lists = self.new }) }
-        ensures items { IfOk result (λ b. HoldsItems self.new b (count + 1) (with_one place item (refs_at self.old backing count))) }
+        ensures items { IfOk result (λ b. HoldsItems self.new b (count + 1) (with_one place item (refs_at self.old row count))) }
         ensures kept { OnErr result (self.new ≡ self.old) }
     {
-        let items = self.backings()[backing as usize].items();
+        let items = self.items(row);
         if place == count as usize && items.len() == place {
-            self.push_item(backing as usize, item)?;
-            return Ok(backing);
+            self.push_item(row as usize, item)?;
+            return Ok(row);
         }
         let items = &items[..count as usize];
-        let more = Backing::with_item(*self.backings.allocator(), items, place, item)?;
-        let new = self.backings().len() as u64;
+        let more = Backing::with_item(self.alloc(), items, place, item)?;
+        let new = self.len() as u64;
         self.push(more)?;
         Ok(new)
     }
 }
 
-fn extend_at(
-    backings: &mut Vec<Backing<u64>>,
-    place: usize,
-    items: &[u64],
-) -> Result<(), AllocError>
-    requires { place < length backings.old.items }
-    ensures ok { OnOk result (backings.new.items ≡ slice_set backings.old.items place (slice_index_or backings.old.items place [] ++ items.now)) }
-    ensures err { OnErr result (backings.new.items ≡ backings.old.items) }
+#[inline(always)]
+fn items_at<'a>(pool: &'a [u64], rows: &'a [Row], place: usize) -> &'a [u64]
+    requires { AreRows pool.now rows.now }
+    ensures { result.now ≡ slice_index_or (rows_items pool.now rows.now) place [] }
 {
-    backings[place].extend(items)?;
+    match rows.get(place) {
+        Some(row) => items(pool, row),
+        None => &[],
+    }
+}
+
+fn shared_at(
+    alloc: Global,
+    pool: &[u64],
+    rows: &[Row],
+    place: usize,
+) -> Result<Backing<u64>, AllocError>
+    requires rows { AreRows pool.now rows.now }
+    requires inside { place < length rows.now }
+    ensures { IfOk result (λ b. b ≡ slice_index_or (rows_items pool.now rows.now) place []) }
+{
+    shared(alloc, pool, &rows[place])
+}
+
+// Puts items behind the last of the pool, and a row that has them behind the last row.
+fn put(pool: &mut Backing<u64>, rows: &mut Rc<Vec<Row>>, items: &[u64]) -> Result<(), AllocError>
+    requires { AreRows pool.old rows.old.value.items }
+    ensures rows { AreRows pool.new rows.new.value.items }
+    ensures ok { OnOk result (rows_items pool.new rows.new.value.items ≡ rows_items pool.old rows.old.value.items ++ items.now ∷ []) }
+    ensures err { OnErr result (rows_items pool.new rows.new.value.items ≡ rows_items pool.old rows.old.value.items) }
+{
+    let from = pool.len() as u64;
+    let room = pool.room(items.len())?;
+    add_row(rows, Row::Pooled(from, items.len() as u64))?;
+    fill(room, items);
     Ok(())
 }
 
-fn push_to(backings: &mut Vec<Backing<u64>>, place: usize, item: u64) -> Result<(), AllocError>
-    requires { place < length backings.old.items }
-    ensures ok { OnOk result (backings.new.items ≡ slice_set backings.old.items place (slice_index_or backings.old.items place [] ++ item ∷ [])) }
-    ensures err { OnErr result (backings.new.items ≡ backings.old.items) }
+fn add_row(rows: &mut Rc<Vec<Row>>, row: Row) -> Result<(), AllocError>
+    ensures ok { OnOk result (rows.new.value.items ≡ rows.old.value.items ++ row ∷ []) }
+    ensures err { OnErr result (rows.new.value.items ≡ rows.old.value.items) }
 {
-    backings[place].push(item)?;
+    let rows = Rc::make_mut(rows)?;
+    rows.push(row)?;
     Ok(())
+}
+
+fn extend_at(
+    alloc: Global,
+    pool: &[u64],
+    rows: &mut Rc<Vec<Row>>,
+    place: usize,
+    items: &[u64],
+) -> Result<(), AllocError>
+    requires rows { AreRows pool.now rows.old.value.items }
+    requires inside { place < length rows.old.value.items }
+    ensures rows { AreRows pool.now rows.new.value.items }
+    ensures ok { OnOk result (rows_items pool.now rows.new.value.items ≡ slice_set (rows_items pool.now rows.old.value.items) place (slice_index_or (rows_items pool.now rows.old.value.items) place [] ++ items.now)) }
+    ensures err { OnErr result (rows_items pool.now rows.new.value.items ≡ rows_items pool.now rows.old.value.items) }
+{
+    let rows = Rc::make_mut(rows)?;
+    extend_in(alloc, pool, rows, place, items)
+}
+
+fn extend_in(
+    alloc: Global,
+    pool: &[u64],
+    rows: &mut Vec<Row>,
+    place: usize,
+    items: &[u64],
+) -> Result<(), AllocError>
+    requires rows { AreRows pool.now rows.old.items }
+    requires inside { place < length rows.old.items }
+    ensures rows { AreRows pool.now rows.new.items }
+    ensures ok { OnOk result (rows_items pool.now rows.new.items ≡ slice_set (rows_items pool.now rows.old.items) place (slice_index_or (rows_items pool.now rows.old.items) place [] ++ items.now)) }
+    ensures err { OnErr result (rows.new.items ≡ rows.old.items) }
+{
+    extend(alloc, pool, &mut rows[place], items)
 }
 
 impl Clone for Lists {
@@ -126,7 +220,8 @@ impl Clone for Lists {
 
     fn clone(&self) -> Result<Lists, AllocError> {
         Ok(Lists {
-            backings: self.backings.clone()?,
+            rows: self.rows.clone()?,
+            pool: self.pool.clone()?,
         })
     }
 }

@@ -64,7 +64,7 @@ impl Heap {
         ensures count { result ≡ count }
         ensures short { result < 2 ^ 63 }
     {
-        let items = self.backings.lists.backings()[backing as usize].items();
+        let items = self.backings.lists.items(backing);
         items[..count as usize].len() as u64
     }
 

@@ -72,10 +72,7 @@ pub(crate) fn parts_of(backings: &Backings, content: Content) -> &[u64]
 pub(crate) fn first(backings: &Backings, backing: u64, count: u64) -> &[u64]
     ensures { result.now ≡ refs_at backings.now.lists backing count }
 {
-    match backings.lists.backings().get(backing as usize) {
-        Some(items) => front(items.items(), count as usize),
-        None => &[],
-    }
+    front(backings.lists.items(backing), count as usize)
 }
 
 fn front(items: &[u64], count: usize) -> &[u64]

@@ -1,6 +1,6 @@
 use Rattle.value_table.proofs.Prelude.{◌≡◌, heap_values, IsHeap}
 use Rattle.value_table.proofs.PlacedMembers.{Collects}
-use Rattle.value_table.proofs.collecting.add_members.Given as goal
+use Rattle.value_table.proofs.collecting.collect.Given as goal
 
 abbrev pub invariant-loop-key : goal.invariant-loop-key
 invariant-loop-key l = record {

@@ -4,7 +4,7 @@ use Rattle.std.specs.Map.{keys_of}
 use Rattle.value_table.proofs.PlacedMembers.{str_cmp, Collects, collect_step, collect_ends, collected_map, put_collected}
 use Rattle.value_store.specs.Value as kind
 use Rattle.value_table.specs.Reading.{AddsPlaced, placed_entries}
-use Rattle.value_table.proofs.collecting.add_members.Goals as goal
+use Rattle.value_table.proofs.collecting.collect.Goals as goal
 
 pub loop-key-preserved : goal.loop-key-preserved
 loop-key-preserved c =

@@ -1,0 +1,72 @@
+//! Where the items of a list are.
+
+ghost use Rattle.std.specs.Prelude.{◌≡◌, ◌++◌, IfOk, OnOk, OnErr};
+ghost use Rattle.value_table.specs.Pool.{row_items, IsPoolRow};
+
+use crate::backing::Backing;
+use std::alloc::{AllocError, Global};
+
+/// The items of a list, or the values of a map's entries.
+#[derive(Drop)]
+pub(crate) enum Row {
+    /// They have a vector, which can grow.
+    Own(Backing<u64>),
+    /// They are a part of the pool: from a place on, and how many.
+    Pooled(u64, u64),
+}
+
+/// The items of a row.
+#[inline(always)]
+pub(crate) fn items<'a>(pool: &'a [u64], row: &'a Row) -> &'a [u64]
+    requires { IsPoolRow pool.now row.now }
+    ensures { result.now ≡ row_items pool.now row.now }
+{
+    match row {
+        Row::Own(items) => items.items(),
+        Row::Pooled(from, count) => &pool[*from as usize..(*from + *count) as usize],
+    }
+}
+
+/// The items of a row as a vector: its own one, shared, or a copy of its part of the pool.
+pub(crate) fn shared(alloc: Global, pool: &[u64], row: &Row) -> Result<Backing<u64>, AllocError>
+    requires { IsPoolRow pool.now row.now }
+    ensures { IfOk result (λ b. b ≡ row_items pool.now row.now) }
+{
+    match row {
+        Row::Own(items) => items.clone(),
+        Row::Pooled(_, _) => Backing::of(alloc, items(pool, row)),
+    }
+}
+
+/// Puts more items behind a row's last. A row of the pool gets a vector first, with room for them.
+pub(crate) fn extend(
+    alloc: Global,
+    pool: &[u64],
+    row: &mut Row,
+    more: &[u64],
+) -> Result<(), AllocError>
+    requires { IsPoolRow pool.now row.old }
+    ensures row { IsPoolRow pool.now row.new }
+    ensures ok { OnOk result (row_items pool.now row.new ≡ row_items pool.now row.old ++ more.now) }
+    ensures err { OnErr result (row.new ≡ row.old) }
+{
+    match row {
+        Row::Own(items) => items.extend(more),
+        Row::Pooled(from, count) => {
+            let items = &pool[*from as usize..(*from + *count) as usize];
+            *row = Row::Own(Backing::joined(alloc, items, more)?);
+            Ok(())
+        }
+    }
+}
+
+impl Clone for Row {
+    ghost is_clone = { λ row copy. copy ≡ row };
+
+    fn clone(&self) -> Result<Row, AllocError> {
+        match self {
+            Row::Own(items) => Ok(Row::Own(items.clone()?)),
+            Row::Pooled(from, count) => Ok(Row::Pooled(*from, *count)),
+        }
+    }
+}
