@@ -168,6 +168,8 @@ pub record FrontRowsStand : Type 0 where
   pub past_greatest_int : front true (codes "9223372036854775808") ≡ wide_int 0
   pub hex_past_greatest : front true (codes "0x8000000000000000") ≡ wide_int 0
   pub signed_int : front true (codes "-5") ≡ word 2 (int (negsuc 4))
+  pub signed_nine : front true (codes "-9") ≡ word 2 (int (negsuc 8))
+  pub minus_at_the_end : front true (codes "-") ≡ word 1 (mark marks.Minus)
   pub signed_behind_blank : front true (codes "- 5") ≡ word 3 (int (negsuc 4))
   pub minus_zero : front true (codes "-0") ≡ word 2 (int (pos 0))
   pub minus_of_a_name : front true (codes "-a") ≡ word 1 (mark marks.Minus)
