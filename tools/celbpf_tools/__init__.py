@@ -11,6 +11,7 @@
     viewing      the page of a decision
     browsing     a headless browser, for tests of that page
     seeded       policies and reviews from a seed
+    json_texts   documents from a seed as bytes, and what Python's json reads of them
     copies       copies of the crates, on which scripts work
     measures     runs that are timed
     pages        what the pages show, as runs
