@@ -8,7 +8,6 @@ use Rattle.label_selectors.specs.declared.operator.Operator.TheVariants.{In, Not
 use Rattle.admission_match.specs.Matching.{MatchResources}
 use Rattle.admission_match.specs.Rules.{Rule}
 use Rattle.admission_match.specs.declared.match_policy.MatchPolicy.TheVariants.{Exact, Equivalent}
-use Rattle.admission_match.specs.declared.operation.Operation.{Operation}
 use Rattle.admission_match.specs.declared.operation.Operation.TheVariants.{Create, Update, Delete, Connect}
 use Rattle.admission_match.specs.declared.scope.Scope.TheVariants.{All, Cluster, Namespaced}
 use Rattle.admission_documents.specs.Documents.{present}
