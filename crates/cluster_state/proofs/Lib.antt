@@ -1,0 +1,11 @@
+pub mod Prelude
+pub mod Read
+pub mod Listed
+pub mod Placed
+pub mod Adding
+pub mod Held
+pub mod Parts
+pub mod Whole
+pub mod OnLiterals
+pub mod Orders
+pub mod Reordered

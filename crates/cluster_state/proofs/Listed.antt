@@ -1,0 +1,21 @@
+-- Lists that are read one after another, with their places.
+use Rattle.cluster_state.proofs.Prelude.{◌≡◌, ◌∙◌, ◌++◌, ◌∷◌, ◌+◌, ℕ, List, [], Option, Some, None, Result, Ok, Err, ap, append_assoc, refl, Item, Refusal, documents_in, before, items_in, item_before, item_in, items_list}
+use Rattle.serde_json.specs.Data as json
+use Rattle.serde_json.specs.View.{items_of}
+
+pub listed : (ds : List json.Data) → items_list (items_of ds) ≡ ds
+listed [] = refl
+listed (d ∷ ds) = ap (λ es. d ∷ es) (listed ds)
+
+-- what is read after `done`
+abbrev pub after_done : {A : Type 0} → List A → Result (List A) Refusal → Result (List A) Refusal
+after_done done (Ok rest) = Ok (done ++ rest)
+after_done done (Err e) = Err e
+
+-- the documents of the lists before `rest` are `done`
+pub record DocumentsGo (all rest : List json.Data) (place : ℕ) (done : List json.Data) : Type 0 where
+  pub left : documents_in 0 all ≡ after_done done (documents_in place rest)
+
+-- the items of the documents before `rest` are `done`
+pub record ItemsGo (all rest : List json.Data) (place : ℕ) (done : List Item) : Type 0 where
+  pub left : items_in 0 all ≡ after_done done (items_in place rest)

@@ -1,0 +1,84 @@
+-- The code's maps, seen as objects.
+use Rattle.cluster_state.proofs.Prelude.{◌≡◌, ◌∙◌, ◌∷◌, ◌&&◌, ℕ, Bool, true, false, List, [], Option, Some, None, ap, cond, map, refl, sym, BTreeMap, Bor, Equal, Greater, Less, Ordering, Value, Collection, Named, bytes_eq, collection_cmp, get_by, insert_entry, is_at, is_collection, is_eq, is_eq-slice_cmp, is_some, lookup, match_ordering, named_in, named_view, nat_cmp, not, option_copied, option_map, option_map_or, ordering_then, slice_cmp, view, if◌then◌else◌}
+use Rattle.serde_json.specs.Data as json
+
+shown : Bor (List ℕ) × Bor Value → List ℕ × json.Data
+shown e = (e.0.now, view e.1.now)
+
+map_of_ordering : {A B : Type 0} (f : A → B) (o : Ordering) (x y z : List A)
+    → map f (match_ordering o x y z) ≡ match_ordering o (map f x) (map f y) (map f z)
+map_of_ordering f Less x y z = refl
+map_of_ordering f Equal x y z = refl
+map_of_ordering f Greater x y z = refl
+
+-- an entry goes to the same place in the names
+pub inserted : (es : List (Bor (List ℕ) × Bor Value)) (k : Bor (List ℕ)) (v : Bor Value)
+    → named_view (insert_entry (λ x y. slice_cmp nat_cmp x.now y.now) es k v) ≡ insert_entry (slice_cmp nat_cmp) (named_view es) k.now (view v.now)
+inserted [] k v = refl
+inserted (e ∷ es) k v =
+    map_of_ordering (λ e. (e.0.now, view e.1.now)) (slice_cmp nat_cmp k.now e.0.now) ((k, v) ∷ e ∷ es) ((e.0, v) ∷ es) (e ∷ insert_entry (λ x y. slice_cmp nat_cmp x.now y.now) es k v)
+    ∙ ap (λ rest. match_ordering (slice_cmp nat_cmp k.now e.0.now) ((k.now, view v.now) ∷ named_view (e ∷ es)) ((e.0.now, view v.now) ∷ named_view es) ((e.0.now, view e.1.now) ∷ rest)) (inserted es k v)
+
+some_either : {A B : Type 0} (b : Bool) (x : A) (y : B) (o : Option A) (p : Option B) → is_some o ≡ is_some p → is_some (cond b (Some x) o) ≡ is_some (cond b (Some y) p)
+some_either true x y o p e = refl
+some_either false x y o p e = e
+
+-- a name is found in both
+pub found_in_both : (name : List ℕ) (es : List (Bor (List ℕ) × Bor Value))
+    → is_some (lookup (is_at (λ k. slice_cmp nat_cmp name k.now)) es) ≡ is_some (lookup (bytes_eq name) (named_view es))
+found_in_both name [] = refl
+found_in_both name (e ∷ es) =
+    ap (λ b. is_some (cond b (Some e.1) (lookup (is_at (λ k. slice_cmp nat_cmp name k.now)) es))) (is_eq-slice_cmp name e.0.now)
+    ∙ some_either (bytes_eq name e.0.now) e.1 (view e.1.now) (lookup (is_at (λ k. slice_cmp nat_cmp name k.now)) es) (lookup (bytes_eq name) (named_view es)) (found_in_both name es)
+
+two_then : (a b : Ordering) → is_eq (ordering_then a b) ≡ (is_eq a && is_eq b)
+two_then Less b = refl
+two_then Equal b = refl
+two_then Greater b = refl
+
+three_then : (a b c : Ordering) → is_eq (ordering_then (ordering_then a b) c) ≡ (is_eq a && is_eq b && is_eq c)
+three_then Less b c = refl
+three_then Equal b c = two_then b c
+three_then Greater b c = refl
+
+-- the order of places finds a collection
+pub is_place : (c d : Collection)
+    → is_eq (ordering_then (ordering_then (slice_cmp nat_cmp c.api_version d.api_version) (slice_cmp nat_cmp c.kind d.kind)) (slice_cmp nat_cmp c.namespace d.namespace)) ≡ is_collection c d
+is_place c d =
+    three_then (slice_cmp nat_cmp c.api_version d.api_version) (slice_cmp nat_cmp c.kind d.kind) (slice_cmp nat_cmp c.namespace d.namespace)
+    ∙ rw (is_eq-slice_cmp c.api_version d.api_version, is_eq-slice_cmp c.kind d.kind, is_eq-slice_cmp c.namespace d.namespace) refl
+
+-- what is found after a place was emptied and filled
+pub refilled : {M : Type 0} (f : M → Named) (b : Bool) (w : M) (o p q : Option M) → q ≡ cond b (Some w) p → p ≡ cond b None o
+    → option_map_or f q [] ≡ (if b then f w else option_map_or f o [])
+refilled f true w o p q e h = ap (λ x. option_map_or f x []) e
+refilled f false w o p q e h = ap (λ x. option_map_or f x []) (e ∙ h)
+
+-- what is lent
+pub copied_or : {M : Type 0} (f : M → Named) (r : Option (Bor M)) → option_map_or (λ m. f m.now) r [] ≡ option_map_or f (option_copied r) []
+copied_or f None = refl
+copied_or f (Some m) = refl
+
+-- a collection as a key of the code's map
+abbrev pub lent : Collection → Bor (List ℕ) × Bor (List ℕ) × Bor (List ℕ)
+lent c =
+    (record { ref_ptr = (0, 0); now = c.api_version }, record { ref_ptr = (0, 0); now = c.kind }, record { ref_ptr = (0, 0); now = c.namespace })
+
+pub not_back : (a b : Bool) → a ≡ not b → b ≡ not a
+not_back true true e = e
+not_back true false e = refl
+not_back false true e = refl
+not_back false false e = e
+
+map_either : {A B : Type 0} (f : A → B) (b : Bool) (x : A) (o : Option A) → option_map f (cond b (Some x) o) ≡ cond b (Some (f x)) (option_map f o)
+map_either f true x o = refl
+map_either f false x o = refl
+
+-- what is found of a name
+pub found_as : (name : List ℕ) (es : List (Bor (List ℕ) × Bor Value))
+    → option_map (λ v. view v.now) (lookup (is_at (λ k. slice_cmp nat_cmp name k.now)) es) ≡ lookup (bytes_eq name) (named_view es)
+found_as name [] = refl
+found_as name (e ∷ es) =
+    ap (λ b. option_map (λ v. view v.now) (cond b (Some e.1) (lookup (is_at (λ k. slice_cmp nat_cmp name k.now)) es))) (is_eq-slice_cmp name e.0.now)
+    ∙ map_either (λ v. view v.now) (bytes_eq name e.0.now) e.1 (lookup (is_at (λ k. slice_cmp nat_cmp name k.now)) es)
+    ∙ ap (cond (bytes_eq name e.0.now) (Some (view e.1.now))) (found_as name es)

@@ -1,0 +1,7 @@
+use Rattle.cluster_state.proofs.Prelude.{◌∙◌, [], ap, named_view, option_map_or}
+use Rattle.cluster_state.proofs.Placed.{copied_or}
+use Rattle.cluster_state.proofs.objects.Objects.named.Goals as goal
+
+pub returns : goal.returns
+returns c =
+    copied_or (λ m. named_view m.entries) c.get.result ∙ ap (λ o. option_map_or (λ m. named_view m.entries) o []) c.get.ensures.value

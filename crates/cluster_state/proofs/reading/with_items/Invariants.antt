@@ -1,0 +1,6 @@
+use Rattle.cluster_state.proofs.Prelude.{drop, map, item_view, objects_view}
+use Rattle.cluster_state.proofs.Adding.{AddGo}
+use Rattle.cluster_state.proofs.reading.with_items.Given as goal
+
+abbrev pub invariant-loop-item : goal.invariant-loop-item
+invariant-loop-item l = AddGo (map item_view l.items) (map item_view (drop l.item-index l.items)) (objects_view l.objects)

@@ -1,0 +1,20 @@
+use Rattle.cluster_state.proofs.Prelude.{refl}
+use Rattle.cluster_state.proofs.OnLiterals.{lists_on_literals}
+use Rattle.cluster_state.proofs.rows.binding_rows_hold.Goals as goal
+
+pub returns : goal.returns
+unfolding lists_on_literals
+returns c = record {
+  params = refl;
+  no_params = refl;
+  selector = refl;
+  no_policy = refl;
+  empty_policy = refl;
+  no_actions = refl;
+  doubled_action = refl;
+  other_action = refl;
+  unknown_key = refl;
+  name_and_selector = refl;
+  neither = refl;
+  no_action_of_absence = refl;
+}

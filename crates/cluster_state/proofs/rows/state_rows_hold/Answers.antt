@@ -1,0 +1,24 @@
+use Rattle.cluster_state.proofs.Prelude.{refl}
+use Rattle.cluster_state.proofs.OnLiterals.{lists_on_literals}
+use Rattle.cluster_state.proofs.rows.state_rows_hold.Goals as goal
+
+pub returns : goal.returns
+unfolding lists_on_literals
+returns c = record {
+  bound = refl;
+  several_lists = refl;
+  unbound_policy_is_not_read = refl;
+  binding_of_no_policy = refl;
+  no_list = refl;
+  no_items = refl;
+  no_name = refl;
+  number_as_label = refl;
+  other_version = refl;
+  twice = refl;
+  lists_before_items = refl;
+  none = refl;
+  namespaces_before_bindings = refl;
+  deny_with_warn = refl;
+  bindings_before_policies = refl;
+  no_rules = refl;
+}

@@ -1,0 +1,14 @@
+use Rattle.cluster_state.proofs.Prelude.{◌∙◌, ap, binding_view, item_view, map, objects_of, objects_view, policies, policies_in, policy_view, refl, sym}
+use Rattle.cluster_state.proofs.Whole.{state_whole}
+use Rattle.cluster_state.proofs.state.State.read.Goals as goal
+
+pub returns : goal.returns
+returns c =
+    let o = c.in_ok-objects.ensures
+    in (
+      record { items = map item_view c.in_ok-items.items.items; objects = o.0; bindings = map binding_view c.in_ok-bindings.bindings.items; policies = map policy_view c.in_ok-policies.policies.items },
+      state_whole _ _ o.0 (objects_view c.in_ok-objects.objects) _ _ c.in_ok-items.ensures
+          (ap (λ x. objects_of (map item_view x)) (sym c.deref.ensures.value) ∙ o.1) o.2 c.in_ok-bindings.ensures
+          (ap (λ x. policies_in (map binding_view x) (objects_view c.in_ok-objects.objects policies)) (sym c.deref-2.ensures.value) ∙ c.in_ok-policies.ensures),
+      record { items = refl; objects = o.2; bindings = refl; policies = refl },
+    )

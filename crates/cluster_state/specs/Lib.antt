@@ -1,0 +1,9 @@
+pub mod Bindings
+pub mod Items
+pub mod Laws
+pub mod Objects
+pub mod Params
+pub mod Policies
+pub mod Refusals
+pub mod Rows
+pub mod State

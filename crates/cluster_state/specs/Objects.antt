@@ -1,0 +1,74 @@
+-- The objects of a cluster, by kind, namespace and name.
+use Rattle.std.specs.Prelude.{ℕ, ◌&&◌, Bool, List, [], ◌∷◌, map, Option, Some, None, Result, Ok, Err, bytes_eq, is_some, if◌then◌else◌}
+use Rattle.std.specs.BTreeMap.{BTreeMap, get_by, insert_entry}
+use Rattle.std.specs.Borrow.{Bor}
+use Rattle.std.specs.Cmp.Lexicographic.{slice_cmp}
+use Rattle.std.specs.Map.{lookup}
+use Rattle.std.specs.Option.{option_map_or}
+use Rattle.std.specs.Ordering.{nat_cmp, ordering_then}
+use Rattle.std.specs.declared.cmp.Ordering.{Ordering}
+use Rattle.serde_json.specs.Data as json
+use Rattle.serde_json.specs.View.{view}
+use Rattle.serde_json.specs.declared.value.Value.{Value}
+use Rattle.cluster_state.specs.Items.{Collection, Item}
+use Rattle.cluster_state.specs.Refusals.{Refusal, duplicate_item}
+use Rattle.cluster_state.specs.declared.objects.Objects.{Objects as CodeObjects}
+
+-- names with their objects, in the order of the names, which is by their bytes in UTF-8
+abbrev pub Named : Type 0
+Named = List (List ℕ × json.Data)
+
+-- the objects of each collection
+abbrev pub Objects : Type 0
+Objects = Collection → Named
+
+abbrev pub no_objects : Objects
+no_objects c = []
+
+-- the same kind and namespace
+abbrev pub is_collection : Collection → Collection → Bool
+is_collection c d = bytes_eq c.api_version d.api_version && bytes_eq c.kind d.kind && bytes_eq c.namespace d.namespace
+
+-- the object of this name
+abbrev pub object_named : List ℕ → Named → Option json.Data
+object_named name objects = lookup (bytes_eq name) objects
+
+-- the objects of the item's collection, with the item at its place
+abbrev pub with_name : Objects → Item → Named
+with_name objects i = insert_entry (slice_cmp nat_cmp) (objects i.collection) i.name i.document
+
+-- objects and an item
+abbrev pub with_item : Objects → Item → Objects
+with_item objects i c = if is_collection i.collection c then with_name objects i else objects c
+
+-- there is an object of the item's collection and name
+abbrev pub is_taken : Objects → Item → Bool
+is_taken objects i = is_some (object_named i.name (objects i.collection))
+
+-- objects and all items, no two of which have one collection and name
+abbrev pub with_items : Objects → List Item → Result Objects Refusal
+with_items objects [] = Ok objects
+with_items objects (i ∷ is) = if is_taken objects i then Err (duplicate_item i.name) else with_items (with_item objects i) is
+
+-- ---- the code's
+
+abbrev pub named_view : List (Bor (List ℕ) × Bor Value) → Named
+named_view es = map (λ e. (e.0.now, view e.1.now)) es
+
+-- how a collection compares with the code's
+abbrev pub collection_cmp : Collection → Bor (List ℕ) × Bor (List ℕ) × Bor (List ℕ) → Ordering
+collection_cmp c k =
+    ordering_then (ordering_then (slice_cmp nat_cmp c.api_version k.0.now) (slice_cmp nat_cmp c.kind k.1.now))
+    (slice_cmp nat_cmp c.namespace k.2.now)
+
+-- the objects of a collection in the code's map
+abbrev pub named_in : BTreeMap (Bor (List ℕ) × Bor (List ℕ) × Bor (List ℕ)) (BTreeMap (Bor (List ℕ)) (Bor Value)) → Objects
+named_in m c = option_map_or (λ o. named_view o.entries) (get_by (collection_cmp c) m) []
+
+-- the code's objects
+abbrev pub objects_view : CodeObjects → Objects
+objects_view o = named_in o.collections
+
+-- a collection as the code writes it
+abbrev pub collection_view : Bor (List ℕ) × Bor (List ℕ) × Bor (List ℕ) → Collection
+collection_view k = record { api_version = k.0.now; kind = k.1.now; namespace = k.2.now }

@@ -1,0 +1,124 @@
+//! Bindings.
+ghost use Rattle.std.specs.Prelude.{◌≡◌, Some, option_map};
+ghost use Rattle.serde_json.specs.View.{view};
+ghost use Rattle.admission_documents.specs.Documents.{has_only};
+ghost use Rattle.admission_documents.specs.Fields.{ReadsField};
+ghost use Rattle.cluster_state.specs.Bindings.{binding_in, binding_keys, binding_parts, binding_spec, binding_view, if_text};
+
+use crate::action::Action;
+use crate::actions::actions;
+use crate::param_ref::{ParamRef, param_ref};
+use admission_documents::{FieldError, field, has_only_keys, match_resources, text};
+use admission_match::MatchResources;
+use serde_json::Value;
+use std::alloc::Global;
+
+/// A binding of a policy (ValidatingAdmissionPolicyBinding).
+#[derive(Debug, Drop)]
+pub struct Binding<'a> {
+    pub name: &'a str,
+    /// The policy that it is of, which need not be there.
+    pub policy_name: &'a str,
+    /// What is done if a validation is false, in the order of the document.
+    pub actions: Vec<Action>,
+    /// The requests that it is for.
+    pub resources: MatchResources,
+    /// Where its params are.
+    pub param_ref: Option<ParamRef<'a>>,
+}
+
+impl<'a> Binding<'a> {
+    /// The binding of this name in its document.
+    ///
+    /// # Errors
+    ///
+    /// The API server does not store it, or a key of its specification is not known.
+    #[tactic(auto, unfolding(crate::specs::Bindings::binding_in))]
+    pub fn read(
+        alloc: Global,
+        name: &'a str,
+        document: &'a Value,
+    ) -> Result<Binding<'a>, FieldError>
+        ensures { ReadsField binding_view (binding_in name.now (view document.now)) result }
+    {
+        binding_spec(alloc, name, field(document, "spec"))
+    }
+}
+
+fn binding_spec<'a>(
+    alloc: Global,
+    name: &'a str,
+    value: Option<&'a Value>,
+) -> Result<Binding<'a>, FieldError>
+    ensures { ReadsField binding_view (binding_spec name.now (option_map (λ v. view v.now) value.entry)) result }
+{
+    match value {
+        None => Err(FieldError::InvalidField),
+        Some(value) => known_spec(alloc, name, value),
+    }
+}
+
+fn known_spec<'a>(alloc: Global, name: &'a str, value: &'a Value) -> Result<Binding<'a>, FieldError>
+    ensures { ReadsField binding_view (binding_spec name.now (Some (view value.now))) result }
+{
+    if !has_binding_keys(value) {
+        return Err(FieldError::InvalidField);
+    }
+    binding_parts(alloc, name, value)
+}
+
+#[tactic(auto, unfolding(crate::specs::Bindings::binding_keys))]
+fn has_binding_keys(value: &Value) -> bool
+    ensures { result ≡ has_only binding_keys (view value.now) }
+{
+    let known = [
+        "matchResources",
+        "paramRef",
+        "policyName",
+        "validationActions",
+    ];
+    has_only_keys(value, known.as_slice())
+}
+
+#[tactic(auto, unfolding(crate::specs::Bindings::binding_parts))]
+fn binding_parts<'a>(
+    alloc: Global,
+    name: &'a str,
+    value: &'a Value,
+) -> Result<Binding<'a>, FieldError>
+    ensures { ReadsField binding_view (binding_parts name.now (view value.now)) result }
+{
+    let Some(policy_name) = if_text(text(field(value, "policyName"))) else {
+        return Err(FieldError::InvalidField);
+    };
+    let actions = actions(alloc, field(value, "validationActions"))?;
+    let resources = match_resources(alloc, field(value, "matchResources"))?;
+    match param_ref(alloc, field(value, "paramRef")) {
+        Ok(param_ref) => Ok(Binding {
+            name,
+            policy_name,
+            actions,
+            resources,
+            param_ref,
+        }),
+        Err(error) => Err(error),
+    }
+}
+
+/// The text, if it is not empty.
+#[tactic(auto, unfolding(crate::specs::Bindings::if_text))]
+pub(crate) fn if_text<'a>(text: Option<&'a str>) -> Option<&'a str>
+    ensures { option_map (λ s. s.now) result ≡ if_text (option_map (λ s. s.now) text.entry) }
+{
+    match text {
+        Some(text) => not_empty(text),
+        None => None,
+    }
+}
+
+#[tactic(auto, unfolding(crate::specs::Bindings::if_text))]
+fn not_empty<'a>(text: &'a str) -> Option<&'a str>
+    ensures { option_map (λ s. s.now) result ≡ if_text (Some text.now) }
+{
+    if text.is_empty() { None } else { Some(text) }
+}

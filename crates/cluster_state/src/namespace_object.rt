@@ -1,0 +1,12 @@
+//! The namespace of a request.
+
+use serde_json::Value;
+
+/// The root `namespaceObject` of a request.
+#[derive(Clone, Copy, Debug, Drop)]
+pub enum NamespaceObject<'a> {
+    Null,
+    Object(&'a Value),
+    /// There is no namespace of the request's name.
+    NotFound,
+}

@@ -1,0 +1,151 @@
+//! The objects of a cluster, by kind, namespace and name.
+ghost use Rattle.std.specs.Prelude.{◌≡◌, ◌==◌, length, IfOk, OnOk, is_some, not, option_map, List, []};
+ghost use Rattle.std.specs.Option.{option_map_or};
+ghost use Rattle.serde_json.specs.View.{view};
+ghost use Rattle.cluster_state.specs.Items.{Collection, item_view};
+ghost use Rattle.cluster_state.specs.State.{bindings, definitions, namespaces, policies};
+ghost use Rattle.cluster_state.specs.Objects.{collection_view, is_collection, is_taken, named_in, named_view, object_named, objects_view, with_item, with_name};
+
+use crate::item::Item;
+use serde_json::Value;
+use std::alloc::{AllocError, Global};
+use std::collections::BTreeMap;
+
+/// The objects of a cluster.
+#[derive(Debug, Drop)]
+pub(crate) struct Objects<'a> {
+    /// By `apiVersion`, kind and namespace, and then by name.
+    collections: BTreeMap<(&'a str, &'a str, &'a str), BTreeMap<&'a str, &'a Value>>,
+}
+
+impl<'a> Objects<'a> {
+    pub(crate) fn new(alloc: Global) -> Objects<'a>
+        ensures { (c : Collection) → objects_view result c ≡ [] }
+    {
+        Objects {
+            collections: BTreeMap::new(alloc),
+        }
+    }
+
+    /// Adds an item. Returns whether its place was free; else it takes the place of another.
+    pub(crate) fn add(&mut self, alloc: Global, item: &Item<'a>) -> Result<bool, AllocError>
+        ensures free { IfOk result (λ free. free ≡ not (is_taken (objects_view self.old) (item_view item.now))) }
+        ensures added { OnOk result ((c : Collection) → objects_view self.new c ≡ with_item (objects_view self.old) (item_view item.now) c) }
+    {
+        add_to(alloc, &mut self.collections, item)
+    }
+
+    /// Whether there is a Namespace.
+    pub(crate) fn has_namespace(&self) -> bool
+        ensures { result ≡ not (length (objects_view self.now namespaces) == 0) }
+    {
+        has_some(self.namespaces())
+    }
+
+    /// The namespaces.
+    pub(crate) fn namespaces(&self) -> Option<&BTreeMap<&'a str, &'a Value>>
+        ensures { option_map_or (λ m. named_view m.now.entries) result [] ≡ objects_view self.now namespaces }
+    {
+        self.named(&("v1", "Namespace", ""))
+    }
+
+    /// The definitions of kinds.
+    pub(crate) fn definitions(&self) -> Option<&BTreeMap<&'a str, &'a Value>>
+        ensures { option_map_or (λ m. named_view m.now.entries) result [] ≡ objects_view self.now definitions }
+    {
+        self.named(&("apiextensions.k8s.io/v1", "CustomResourceDefinition", ""))
+    }
+
+    /// The bindings of policies.
+    pub(crate) fn bindings(&self) -> Option<&BTreeMap<&'a str, &'a Value>>
+        ensures { option_map_or (λ m. named_view m.now.entries) result [] ≡ objects_view self.now bindings }
+    {
+        self.named(&(
+            "admissionregistration.k8s.io/v1",
+            "ValidatingAdmissionPolicyBinding",
+            "",
+        ))
+    }
+
+    /// The policies.
+    pub(crate) fn policies(&self) -> Option<&BTreeMap<&'a str, &'a Value>>
+        ensures { option_map_or (λ m. named_view m.now.entries) result [] ≡ objects_view self.now policies }
+    {
+        self.named(&(
+            "admissionregistration.k8s.io/v1",
+            "ValidatingAdmissionPolicy",
+            "",
+        ))
+    }
+
+    /// The objects of an `apiVersion`, a kind and a namespace.
+    pub(crate) fn named(
+        &self,
+        place: &(&'a str, &'a str, &'a str),
+    ) -> Option<&BTreeMap<&'a str, &'a Value>>
+        ensures { option_map_or (λ m. named_view m.now.entries) result [] ≡ objects_view self.now (collection_view place.now) }
+    {
+        self.collections.get(place)
+    }
+}
+
+fn add_to<'a>(
+    alloc: Global,
+    collections: &mut BTreeMap<(&'a str, &'a str, &'a str), BTreeMap<&'a str, &'a Value>>,
+    item: &Item<'a>,
+) -> Result<bool, AllocError>
+    ensures free { IfOk result (λ free. free ≡ not (is_taken (named_in collections.old) (item_view item.now))) }
+    ensures added { OnOk result ((c : Collection) → named_in collections.new c ≡ with_item (named_in collections.old) (item_view item.now) c) }
+{
+    let place = (item.api_version, item.kind, item.namespace);
+    let mut objects = named_or_new(alloc, collections.remove(&place));
+    let old = objects.insert(item.name, item.document)?;
+    collections.insert(place, objects)?;
+    Ok(old.is_none())
+}
+
+fn named_or_new<'a>(
+    alloc: Global,
+    objects: Option<BTreeMap<&'a str, &'a Value>>,
+) -> BTreeMap<&'a str, &'a Value>
+    ensures { named_view result.entries ≡ option_map_or (λ o. named_view o.entries) objects.entry [] }
+{
+    match objects {
+        Some(objects) => objects,
+        None => BTreeMap::new(alloc),
+    }
+}
+
+fn has_some(named: Option<&BTreeMap<&str, &Value>>) -> bool
+    ensures { result ≡ not (length (option_map_or (λ m. named_view m.now.entries) named.entry []) == 0) }
+{
+    match named {
+        Some(named) => is_some_named(named),
+        None => false,
+    }
+}
+
+fn is_some_named(named: &BTreeMap<&str, &Value>) -> bool
+    ensures { result ≡ not (length (named_view named.now.entries) == 0) }
+{
+    !named.is_empty()
+}
+
+/// The object of this name, if there is one.
+pub(crate) fn object<'a>(
+    named: Option<&BTreeMap<&'a str, &'a Value>>,
+    name: &str,
+) -> Option<&'a Value>
+    ensures { option_map (λ v. view v.now) result ≡ object_named name.now (option_map_or (λ m. named_view m.now.entries) named.entry []) }
+{
+    match named {
+        Some(named) => object_in(named, name),
+        None => None,
+    }
+}
+
+fn object_in<'a>(named: &BTreeMap<&'a str, &'a Value>, name: &str) -> Option<&'a Value>
+    ensures { option_map (λ v. view v.now) result ≡ object_named name.now (named_view named.now.entries) }
+{
+    named.get(name).copied()
+}

@@ -1,0 +1,149 @@
+//! Params of a policy and a binding.
+ghost use Rattle.std.specs.Prelude.{◌≡◌, ◌==◌, ◌&&◌, IfOk, List, [], length, map, option_map, not};
+ghost use Rattle.std.specs.Option.{option_map_or, option_to_list};
+ghost use Rattle.serde_json.specs.View.{view};
+ghost use Rattle.label_selectors.specs.Selectors.{selector_view};
+ghost use Rattle.cluster_state.specs.Bindings.{choice_view, by_labels, param_ref_view};
+ghost use Rattle.cluster_state.specs.Objects.{collection_view, named_view, object_named};
+ghost use Rattle.cluster_state.specs.Params.{ParamsRead, chosen, has_needless_namespace, known_kind_view, lacks_namespace, namespace_or, params_of, params_place};
+ghost use Rattle.cluster_state.specs.Policies.{param_kind_view};
+ghost use Rattle.cluster_state.specs.State.{state_view};
+
+use crate::known_kind::KnownKind;
+use crate::objects::object;
+use crate::param_choice::ParamChoice;
+use crate::param_error::ParamError;
+use crate::param_ref::ParamRef;
+use crate::param_scope::ParamScope;
+use crate::state::State;
+use admission_documents::ObjectLabels;
+use label_selectors::LabelSelector;
+use serde_json::Value;
+use std::alloc::{AllocError, Global};
+use std::collections::BTreeMap;
+
+impl<'a> State<'a> {
+    /// The params of this kind where a binding says, for a request in this namespace, in the order
+    /// of their names.
+    ///
+    /// # Errors
+    ///
+    /// The first cause of `ParamError`.
+    pub fn params(
+        &self,
+        alloc: Global,
+        kind: &KnownKind<'a>,
+        reference: &ParamRef<'a>,
+        namespace: &'a str,
+    ) -> Result<Vec<&'a Value>, ParamError>
+        ensures { ParamsRead (params_of (state_view self.now).objects (known_kind_view kind.now) (param_ref_view reference.now) namespace.now) result }
+    {
+        if lacks_namespace(kind.scope, reference.namespace, namespace) {
+            return Err(ParamError::ClusterScopedRequest);
+        }
+        if has_needless_namespace(kind.scope, reference.namespace) {
+            return Err(ParamError::NeedlessNamespace);
+        }
+        let place = params_place(kind, reference.namespace, namespace);
+        let params = chosen(alloc, &reference.choice, self.objects.named(&place))?;
+        if reference.denies_absence && params.is_empty() {
+            return Err(ParamError::NotFound);
+        }
+        Ok(params)
+    }
+}
+
+fn lacks_namespace(scope: ParamScope, named: &str, own: &str) -> bool
+    ensures { result ≡ lacks_namespace scope named.now own.now }
+{
+    match scope {
+        ParamScope::Namespaced => named.is_empty() && own.is_empty(),
+        ParamScope::Cluster => false,
+    }
+}
+
+fn has_needless_namespace(scope: ParamScope, named: &str) -> bool
+    ensures { result ≡ has_needless_namespace scope named.now }
+{
+    match scope {
+        ParamScope::Namespaced => false,
+        ParamScope::Cluster => !named.is_empty(),
+    }
+}
+
+/// Where the objects of the kind are.
+fn params_place<'a>(
+    kind: &KnownKind<'a>,
+    named: &'a str,
+    own: &'a str,
+) -> (&'a str, &'a str, &'a str)
+    ensures { collection_view result ≡ params_place kind.now.scope (param_kind_view kind.now.kind) named.now own.now }
+{
+    match kind.scope {
+        ParamScope::Namespaced => (
+            kind.kind.api_version,
+            kind.kind.kind,
+            namespace_or(named, own),
+        ),
+        ParamScope::Cluster => (kind.kind.api_version, kind.kind.kind, ""),
+    }
+}
+
+fn namespace_or<'a>(named: &'a str, own: &'a str) -> &'a str
+    ensures { result.now ≡ namespace_or named.now own.now }
+{
+    if named.is_empty() { own } else { named }
+}
+
+/// The objects that the choice takes.
+fn chosen<'a>(
+    alloc: Global,
+    choice: &ParamChoice<'a>,
+    named: Option<&BTreeMap<&'a str, &'a Value>>,
+) -> Result<Vec<&'a Value>, AllocError>
+    ensures { IfOk result (λ v. map (λ d. view d.now) v.items ≡ chosen (choice_view choice.now) (option_map_or (λ m. named_view m.now.entries) named.entry [])) }
+{
+    match choice {
+        ParamChoice::Named(name) => one(alloc, object(named, name)),
+        ParamChoice::Selected(selector) => selected_in(alloc, selector, named),
+    }
+}
+
+fn one<'a>(alloc: Global, object: Option<&'a Value>) -> Result<Vec<&'a Value>, AllocError>
+    ensures { IfOk result (λ v. map (λ d. view d.now) v.items ≡ option_to_list (option_map (λ d. view d.now) object.entry)) }
+{
+    let mut objects = Vec::new(alloc);
+    if let Some(object) = object {
+        objects.push(object)?;
+    }
+    Ok(objects)
+}
+
+fn selected_in<'a>(
+    alloc: Global,
+    selector: &LabelSelector,
+    named: Option<&BTreeMap<&'a str, &'a Value>>,
+) -> Result<Vec<&'a Value>, AllocError>
+    ensures { IfOk result (λ v. map (λ d. view d.now) v.items ≡ chosen (by_labels (selector_view selector.now)) (option_map_or (λ m. named_view m.now.entries) named.entry [])) }
+{
+    match named {
+        Some(named) => selected_of(alloc, selector, named),
+        None => Ok(Vec::new(alloc)),
+    }
+}
+
+fn selected_of<'a>(
+    alloc: Global,
+    selector: &LabelSelector,
+    named: &BTreeMap<&'a str, &'a Value>,
+) -> Result<Vec<&'a Value>, AllocError>
+    ensures { IfOk result (λ v. map (λ d. view d.now) v.items ≡ chosen (by_labels (selector_view selector.now)) (named_view named.now.entries)) }
+{
+    let mut objects = Vec::new(alloc);
+    for (_name, document) in named.iter() {
+        if selector.selects(&ObjectLabels::of(document)) {
+            objects.push(*document)?;
+        }
+    }
+    Ok(objects)
+}

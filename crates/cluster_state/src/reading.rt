@@ -1,0 +1,125 @@
+//! The parts of a state.
+ghost use Rattle.std.specs.Prelude.{◌≡◌, bytes_eq, map};
+ghost use Rattle.std.specs.List.{list_any};
+ghost use Rattle.serde_json.specs.View.{view};
+ghost use Rattle.cluster_state.specs.Bindings.{binding_view, bindings_in};
+ghost use Rattle.cluster_state.specs.Items.{item_view};
+ghost use Rattle.cluster_state.specs.Objects.{no_objects, objects_view, named_view, with_items};
+ghost use Rattle.cluster_state.specs.Policies.{is_bound, policies_in, policy_view};
+ghost use Rattle.cluster_state.specs.Refusals.{ReadsDue};
+ghost use Rattle.cluster_state.specs.State as specs;
+ghost use Rattle.cluster_state.specs.State.{ObjectsRead, objects_of};
+
+use crate::binding::Binding;
+use crate::item::Item;
+use crate::objects::Objects;
+use crate::policy::Policy;
+use crate::state_error::StateError;
+use admission_documents::FieldError;
+use serde_json::Value;
+use std::alloc::Global;
+use std::collections::BTreeMap;
+
+/// The objects of items.
+pub(crate) fn objects<'a>(alloc: Global, items: &[Item<'a>]) -> Result<Objects<'a>, StateError>
+    ensures { ObjectsRead (objects_of (map item_view items.now)) result }
+{
+    let objects = with_items(alloc, items)?;
+    if objects.has_namespace() {
+        return Ok(objects);
+    }
+    Err(StateError::NoNamespace)
+}
+
+fn with_items<'a>(alloc: Global, items: &[Item<'a>]) -> Result<Objects<'a>, StateError>
+    ensures { ObjectsRead (with_items no_objects (map item_view items.now)) result }
+{
+    let mut objects = Objects::new(alloc);
+    for item in items {
+        if !objects.add(alloc, item)? {
+            return Err(StateError::DuplicateItem(String::from_str(alloc, item.name)?));
+        }
+    }
+    Ok(objects)
+}
+
+/// All bindings.
+pub(crate) fn bindings<'a>(
+    alloc: Global,
+    objects: &Objects<'a>,
+) -> Result<Vec<Binding<'a>>, StateError>
+    ensures { ReadsDue (λ v. map binding_view v.items) (bindings_in (objects_view objects.now specs.bindings)) result }
+{
+    match objects.bindings() {
+        Some(named) => bindings_in(alloc, named),
+        None => Ok(Vec::new(alloc)),
+    }
+}
+
+fn bindings_in<'a>(
+    alloc: Global,
+    named: &BTreeMap<&'a str, &'a Value>,
+) -> Result<Vec<Binding<'a>>, StateError>
+    ensures { ReadsDue (λ v. map binding_view v.items) (bindings_in (named_view named.now.entries)) result }
+{
+    let mut bindings = Vec::new(alloc);
+    for (name, document) in named.iter() {
+        match Binding::read(alloc, name, document) {
+            Ok(binding) => bindings.push(binding)?,
+            Err(FieldError::Memory) => return Err(StateError::Memory),
+            Err(FieldError::InvalidField) => {
+                return Err(StateError::InvalidBinding(String::from_str(alloc, name)?));
+            }
+        }
+    }
+    Ok(bindings)
+}
+
+/// The policies that have a binding.
+pub(crate) fn policies<'a>(
+    alloc: Global,
+    objects: &Objects<'a>,
+    bindings: &[Binding<'a>],
+) -> Result<Vec<Policy<'a>>, StateError>
+    ensures { ReadsDue (λ v. map policy_view v.items) (policies_in (map binding_view bindings.now) (objects_view objects.now specs.policies)) result }
+{
+    match objects.policies() {
+        Some(named) => policies_in(alloc, named, bindings),
+        None => Ok(Vec::new(alloc)),
+    }
+}
+
+fn policies_in<'a>(
+    alloc: Global,
+    named: &BTreeMap<&'a str, &'a Value>,
+    bindings: &[Binding<'a>],
+) -> Result<Vec<Policy<'a>>, StateError>
+    ensures { ReadsDue (λ v. map policy_view v.items) (policies_in (map binding_view bindings.now) (named_view named.now.entries)) result }
+{
+    let mut policies = Vec::new(alloc);
+    for (name, document) in named.iter() {
+        if is_bound(bindings, name) {
+            match Policy::read(alloc, name, document) {
+                Ok(policy) => policies.push(policy)?,
+                Err(FieldError::Memory) => return Err(StateError::Memory),
+                Err(FieldError::InvalidField) => {
+                    return Err(StateError::InvalidPolicy(String::from_str(alloc, name)?));
+                }
+            }
+        }
+    }
+    Ok(policies)
+}
+
+/// Whether some binding is of the policy of this name.
+fn is_bound(bindings: &[Binding<'_>], name: &str) -> bool
+    ensures { result ≡ is_bound (map binding_view bindings.now) name.now }
+{
+    some_is_of(bindings, name)
+}
+
+fn some_is_of(bindings: &[Binding<'_>], name: &str) -> bool
+    ensures { result ≡ list_any (λ b. bytes_eq b.policy_name.now name.now) bindings.now }
+{
+    bindings.iter().any(|binding| binding.policy_name == name)
+}

@@ -1,0 +1,61 @@
+//! The state of a cluster.
+ghost use Rattle.std.specs.Prelude.{◌≡◌, map};
+ghost use Rattle.serde_json.specs.View.{view};
+ghost use Rattle.cluster_state.specs.State.{StateReads, state_of, state_view};
+ghost use Rattle.cluster_state.specs.Bindings.{binding_view};
+ghost use Rattle.cluster_state.specs.Policies.{policy_view};
+
+use crate::binding::Binding;
+use crate::item::Item;
+use crate::lists::items;
+use crate::objects::Objects;
+use crate::policy::Policy;
+use crate::reading::{bindings, objects, policies};
+use crate::state_error::StateError;
+use serde_json::Value;
+use std::alloc::Global;
+
+/// What a cluster holds. It borrows from the lists.
+#[derive(Debug, Drop)]
+pub struct State<'a> {
+    pub(crate) items: Vec<Item<'a>>,
+    pub(crate) objects: Objects<'a>,
+    pub(crate) bindings: Vec<Binding<'a>>,
+    pub(crate) policies: Vec<Policy<'a>>,
+}
+
+impl<'a> State<'a> {
+    /// The state in lists as `kubectl get -o json` prints them.
+    ///
+    /// # Errors
+    ///
+    /// The first cause of `StateError`.
+    pub fn read(alloc: Global, lists: &'a [Value]) -> Result<State<'a>, StateError>
+        ensures { StateReads (state_of (map view lists.now)) result }
+    {
+        let items = items(alloc, lists)?;
+        let objects = objects(alloc, &items)?;
+        let bindings = bindings(alloc, &objects)?;
+        let policies = policies(alloc, &objects, &bindings)?;
+        Ok(State {
+            items,
+            objects,
+            bindings,
+            policies,
+        })
+    }
+
+    /// All bindings, in the order of their names.
+    pub fn bindings(&self) -> &[Binding<'a>]
+        ensures { map binding_view result.now ≡ (state_view self.now).bindings }
+    {
+        &self.bindings
+    }
+
+    /// The policies that have a binding, in the order of their names.
+    pub fn policies(&self) -> &[Policy<'a>]
+        ensures { map policy_view result.now ≡ (state_view self.now).policies }
+    {
+        &self.policies
+    }
+}

@@ -1,0 +1,52 @@
+//! Why lists are not the state of a cluster.
+ghost use Rattle.std.specs.Prelude.{◌≡◌};
+ghost use Rattle.cluster_state.specs.declared.state_error.StateError.TheVariants.{Memory};
+
+use std::alloc::{AllocError, AllocFailed};
+use thiserror::Error;
+
+/// Why lists are not the state of a cluster. If several causes hold, the first of this list is
+/// reported, of several lists or items the first one, and of several bindings or policies the one
+/// whose name is first.
+#[derive(Debug, Drop, Error)]
+pub enum StateError {
+    /// The list at this place is not a List.
+    #[error("the document {0} is not a List")]
+    NotAList(usize),
+    /// The item at this place has no `apiVersion`, `kind` or name, has a namespace or labels of
+    /// another type, or is a policy or a binding of another version.
+    #[error("the item {0} has not the form of an object")]
+    InvalidItem(usize),
+    /// Two items have this name, and the same kind and namespace.
+    #[error("two items are {0}")]
+    DuplicateItem(String),
+    /// There is no Namespace, which each cluster has.
+    #[error("no Namespace is listed")]
+    NoNamespace,
+    /// The API server does not store the binding of this name, or a key of it is not known.
+    #[error("the binding {0} has not its form")]
+    InvalidBinding(String),
+    /// The API server does not store the match constraints or the kind of params of the policy of
+    /// this name, or a key of them is not known.
+    #[error("the policy {0} has not its form")]
+    InvalidPolicy(String),
+    /// An allocation failed.
+    #[error("out of memory")]
+    Memory,
+}
+
+impl From<AllocError> for StateError {
+    ghost from_gives = { λ _ e. e ≡ Memory };
+
+    fn from(_error: AllocError) -> StateError {
+        StateError::Memory
+    }
+}
+
+impl<T: Drop> From<AllocFailed<T>> for StateError {
+    ghost from_gives = { λ _ e. e ≡ Memory };
+
+    fn from(_error: AllocFailed<T>) -> StateError {
+        StateError::Memory
+    }
+}
