@@ -1,0 +1,80 @@
+-- What the calls do.
+use Rattle.std.specs.Prelude.{◌≡◌, ℕ, List, [], Option, Some, None, Result, Ok, Err, Vec, Box, length, if◌then◌else◌, ◌==◌}
+use Rattle.std.specs.declared.alloc.Global.{Global}
+use Rattle.loader.specs.Format.{file_of}
+use Rattle.policy_glue.specs.OneImage.{OneImage}
+use Rattle.admission.specs.Deciding.{CompilesDocument, Documents, IsPolicyOf, Reply, Reviews}
+use Rattle.admission.specs.declared.policy_and_image.PolicyAndImage.{PolicyAndImage}
+use Rattle.admission.specs.declared.policy_refusal.PolicyRefusal.{PolicyRefusal}
+use Rattle.admission.specs.declared.run_error.RunError.{RunError}
+use Rattle.cli.specs.Refusals.{policy_refusal_of, refusal_line}
+use Rattle.celbpf_c.specs.Statuses.{policy_status}
+use Rattle.celbpf_c.specs.Output.{fits, Writes, WritesDecision}
+
+-- the version of the interface
+abbrev pub interface_version : ℕ
+interface_version = 1
+
+-- ---- documents
+
+-- a document that may be left out: no bytes mean none
+abbrev pub given : List ℕ → Option (List ℕ)
+given document = if length document == 0 then None else Some document
+
+-- the documents of a policy and of a review under it
+abbrev pub documents_of : List ℕ → List ℕ → List ℕ → List ℕ → Documents
+documents_of policy review namespace params =
+    record { policy = policy; review = review; namespace = given namespace; params = given params }
+
+-- ---- gates
+
+-- a place holds a gate of the policy in a document
+abbrev pub Holds : List ℕ → Option PolicyAndImage → Type 0
+Holds document None = ⊥
+Holds document (Some gate) = IsPolicyOf document gate
+
+-- the gate in a box
+abbrev pub gate_view : Result (Box PolicyAndImage Global) PolicyRefusal → Result PolicyAndImage PolicyRefusal
+gate_view (Ok b) = Ok b.value
+gate_view (Err e) = Err e
+
+-- the place, the status and the text after a gate was made, or the policy was refused
+abbrev pub LeavesGate : Result PolicyAndImage PolicyRefusal → Option PolicyAndImage → Option PolicyAndImage → ℕ → List ℕ → List ℕ → ℕ → Type 0
+LeavesGate (Ok gate) old new status before after n =
+    OneImage gate.policy gate.image × (new ≡ Some gate) × (status ≡ 0) × Writes [] before after n
+LeavesGate (Err e) old new status before after n =
+    (new ≡ old) × (status ≡ policy_status e) × Writes (refusal_line (policy_refusal_of e)) before after n
+
+-- a place gets the gate of the policy in a document, or the document is refused and the place is unchanged
+abbrev pub MakesGate : List ℕ → Option PolicyAndImage → Option PolicyAndImage → ℕ → List ℕ → List ℕ → ℕ → Type 0
+MakesGate document old new status before after n =
+    (made : Result PolicyAndImage PolicyRefusal) × CompilesDocument document made × LeavesGate made old new status before after n
+
+-- ---- answers
+
+-- an answer to the review is written
+abbrev pub Answers : Documents → ℕ → ℕ → List ℕ → List ℕ → ℕ → Type 0
+Answers d steps status before after n =
+    (answer : Result Reply RunError) × Reviews d steps answer × WritesDecision answer status before after n
+
+-- ---- files of images
+
+-- the bytes of a file
+abbrev pub file_view : Result (Vec ℕ Global) PolicyRefusal → Result (List ℕ) PolicyRefusal
+file_view (Ok file) = Ok file.items
+file_view (Err e) = Err e
+
+-- the file of the image of the policy in a document, or why there is none
+abbrev pub IsFileOf : List ℕ → Result (List ℕ) PolicyRefusal → Type 0
+IsFileOf document (Ok file) = (c : PolicyAndImage) × IsPolicyOf document c × OneImage c.policy c.image × (file ≡ file_of c.image)
+IsFileOf document (Err e) = CompilesDocument document (Err e)
+
+-- the file or the refusal is written
+abbrev pub WritesImageFile : Result (List ℕ) PolicyRefusal → ℕ → List ℕ → List ℕ → ℕ → Type 0
+WritesImageFile (Ok file) status before after n = (status ≡ (if fits file before then 0 else 8)) × Writes file before after n
+WritesImageFile (Err e) status before after n = (status ≡ policy_status e) × Writes (refusal_line (policy_refusal_of e)) before after n
+
+-- the file of the image of the policy in a document is written
+abbrev pub CompilesToRoom : List ℕ → ℕ → List ℕ → List ℕ → ℕ → Type 0
+CompilesToRoom document status before after n =
+    (file : Result (List ℕ) PolicyRefusal) × IsFileOf document file × WritesImageFile file status before after n

@@ -1,0 +1,4 @@
+pub mod Places
+pub mod Statuses
+pub mod Output
+pub mod Calls

@@ -1,0 +1,106 @@
+//! The calls on a gate that the caller holds in a place of its own.
+ghost use Rattle.std.specs.Prelude.{◌≡◌, ℕ, List, [], None, IfOk};
+ghost use Rattle.policy_glue.specs.OneImage.{OneImage};
+ghost use Rattle.admission.specs.Deciding.{answer_view, CompilesDocument, IsPolicyOf, Reviews};
+ghost use Rattle.celbpf_c.specs.Calls.{documents_of, gate_view, Answers, Holds, MakesGate};
+ghost use Rattle.celbpf_c.specs.Output.{Writes};
+
+use crate::gate_place::GatePlace;
+use crate::output::{write_answer, write_refusal};
+use crate::statuses::policy_status;
+use crate::without_gate::given;
+use admission::{Gate, PolicyRefusal, Reply, RunError};
+use cli::Refusal;
+use std::alloc::{AllocError, Global};
+
+/// Compiles a policy and puts its gate into the place. A gate that was there is freed. If the
+/// policy is refused, the place is unchanged, and the text is the refusal's line.
+#[unsafe(no_mangle)]
+pub extern "C" fn celbpf_gate_new(
+    alloc: Global,
+    place: &mut GatePlace,
+    policy: &[u8],
+    room: &mut [u8],
+    len: &mut usize,
+) -> u32
+    ensures { MakesGate policy.now place.old.gate place.new.gate result room.old room.new len.new }
+{
+    match boxed_gate(alloc, policy) {
+        Ok(gate) => {
+            place.put(gate);
+            *len = 0;
+            0
+        }
+        Err(refusal) => {
+            write_refusal(alloc, Refusal::from(refusal), room, len);
+            policy_status(refusal)
+        }
+    }
+}
+
+/// Decides a review by the gate in the place. The text is the response, or the refusal's line. No
+/// bytes for the namespace or the params mean that there is no such document. The place keeps its
+/// gate.
+#[unsafe(no_mangle)]
+pub extern "C" fn celbpf_gate_decide(
+    alloc: Global,
+    place: &mut GatePlace,
+    review: &[u8],
+    namespace: &[u8],
+    params: &[u8],
+    steps: u64,
+    room: &mut [u8],
+    len: &mut usize,
+) -> u32
+    ensures kept { place.new.gate ≡ place.old.gate }
+    ensures empty { place.old.gate ≡ None → (result ≡ 10) × Writes [] room.old room.new len.new }
+    ensures answers { (policy : List ℕ) → Holds policy place.old.gate → Answers (documents_of policy review.now namespace.now params.now) steps result room.old room.new len.new }
+{
+    *len = 0;
+    let Some(held) = place.take(alloc) else {
+        return 10;
+    };
+    let answer = decided(&held, review, namespace, params, steps);
+    place.put(held);
+    write_answer(alloc, answer, room, len)
+}
+
+/// Frees the gate in the place. An empty place stays empty.
+#[unsafe(no_mangle)]
+pub extern "C" fn celbpf_gate_free(alloc: Global, place: &mut GatePlace)
+    ensures { place.new.gate ≡ None }
+{
+    drop(place.take(alloc));
+}
+
+/// The gate of a policy, on the heap.
+fn boxed_gate(alloc: Global, policy: &[u8]) -> Result<Box<Gate>, PolicyRefusal>
+    ensures compiles { CompilesDocument policy.now (gate_view result) }
+    ensures one { IfOk (gate_view result) (λ g. OneImage g.policy g.image) }
+{
+    let gate = Gate::new(alloc, policy)?;
+    Ok(boxed(alloc, gate)?)
+}
+
+/// A value on the heap. It is `Send`, since the caller may use or free it on another thread.
+fn boxed<T: Send + Drop>(alloc: Global, value: T) -> Result<Box<T>, AllocError>
+    ensures { IfOk result (λ b. b.value ≡ value) }
+{
+    match Box::new(alloc, value) {
+        Ok(boxed) => Ok(boxed),
+        Err(_) => Err(AllocError),
+    }
+}
+
+/// What the gate decides.
+fn decided(
+    gate: &Gate,
+    review: &[u8],
+    namespace: &[u8],
+    params: &[u8],
+    steps: u64,
+) -> Result<Reply, RunError>
+    ensures { (policy : List ℕ) → IsPolicyOf policy gate.now → Reviews (documents_of policy review.now namespace.now params.now) steps (answer_view result) }
+{
+    gate.decide(review, given(namespace), given(params), steps)
+}

@@ -1,0 +1,64 @@
+//! What a call returns: a status, and a text in the caller's room.
+ghost use Rattle.std.specs.Prelude.{◌≡◌, length, nat_le};
+ghost use Rattle.cli.specs.Refusals.{refusal_line};
+ghost use Rattle.admission.specs.Deciding.{answer_view};
+ghost use Rattle.celbpf_c.specs.Output.{Writes, WritesDecision, WritesReply};
+
+use crate::statuses::run_status;
+use admission::{Reply, RunError};
+use cli::{Refusal, refusal_line};
+use std::alloc::Global;
+
+/// Writes the answer to a review, its response or the line of its refusal, and returns the status.
+pub fn write_answer(
+    alloc: Global,
+    answer: Result<Reply, RunError>,
+    room: &mut [u8],
+    len: &mut usize,
+) -> u32
+    ensures { WritesDecision (answer_view answer) result room.old room.new len.new }
+{
+    match answer {
+        Ok(reply) => write_reply(&reply.response, reply.allowed, room, len),
+        Err(error) => {
+            write_refusal(alloc, Refusal::from(error), room, len);
+            run_status(error)
+        }
+    }
+}
+
+/// Writes a response and returns the status.
+fn write_reply(response: &[u8], allowed: bool, room: &mut [u8], len: &mut usize) -> u32
+    ensures { WritesReply response.now allowed result room.old room.new len.new }
+{
+    if !write_text(response, room, len) {
+        8
+    } else if allowed {
+        0
+    } else {
+        1
+    }
+}
+
+/// Writes the line of a refusal, as the program `celbpf` prints it.
+pub fn write_refusal(alloc: Global, refusal: Refusal, room: &mut [u8], len: &mut usize)
+    ensures { Writes (refusal_line refusal) room.old room.new len.new }
+{
+    let line = refusal_line(alloc, refusal);
+    write_text(line.as_slice(), room, len);
+}
+
+/// Writes the text to the front of the room and returns whether the room suffices. If it does not,
+/// the room is unchanged. The length is the text's either way.
+pub fn write_text(text: &[u8], room: &mut [u8], len: &mut usize) -> bool
+    ensures writes { Writes text.now room.old room.new len.new }
+    ensures fits { result ≡ nat_le (length text.now) (length room.old) }
+{
+    *len = text.len();
+    if room.len() < text.len() {
+        return false;
+    }
+    let (front, _) = room.split_at_mut(text.len());
+    front.copy_from_slice(text);
+    true
+}
