@@ -1,0 +1,301 @@
+/*
+ * tests FOLDER: the policies below FOLDER, each with its reviews, through every call; then small rooms, null pointers,
+ * refusals, threads and small stacks. Prints what is not as it is to be, and a last line; the status is 1 if anything is.
+ */
+#define _GNU_SOURCE
+#include "files.h"
+#include <celbpf.h>
+#include <glob.h>
+#include <pthread.h>
+
+static int checks, wrong;
+static const char *examples;
+
+static void check(int is_right, const char *what, const char *where) {
+    checks++;
+    if (!is_right) {
+        wrong++;
+        printf("%s: %s\n", where, what);
+    }
+}
+
+static int is_text(const char *room, size_t len, const char *wanted) {
+    return len == strlen(wanted) && !memcmp(room, wanted, len);
+}
+
+/* ---- examples */
+
+struct example {
+    struct text policy, namespace, params, review;
+    char response[1 << 16];
+    size_t len;
+    int is_allowed;
+};
+
+static char room[1 << 20];
+
+/* What is to be in a room whose other bytes were 'x'. */
+static int is_response(const struct example *of, size_t len) {
+    return len == of->len && !memcmp(room, of->response, len) && room[len] == 'x';
+}
+
+static void check_decision(celbpf_gate *gate, const struct example *of, const char *name) {
+    size_t len;
+    uint32_t wanted = of->is_allowed ? CELBPF_ALLOWED : CELBPF_DENIED;
+    memset(room, 'x', sizeof of->response);
+    check(celbpf_gate_decide_checked(gate, of->review.at, of->review.len, of->namespace.at, of->namespace.len, of->params.at,
+                                     of->params.len, CELBPF_STEPS, room, sizeof room, &len) == wanted,
+          "status of decide", name);
+    check(is_response(of, len), "response of decide", name);
+    memset(room, 'x', sizeof of->response);
+    check(celbpf_review_checked(of->policy.at, of->policy.len, of->review.at, of->review.len, of->namespace.at,
+                                of->namespace.len, of->params.at, of->params.len, CELBPF_STEPS, room, sizeof room,
+                                &len) == wanted,
+          "status of review", name);
+    check(is_response(of, len), "response of review", name);
+}
+
+static void read_response(struct example *of, const char *folder, const char *stem) {
+    char name[512];
+    snprintf(name, sizeof name, "%.255s.response.json", stem);
+    struct text text = text_in(folder, name);
+    /* without the line feed of the file */
+    of->len = text.len - 1;
+    memcpy(of->response, text.at, of->len);
+    of->is_allowed = strstr(text.at, "\"allowed\":true") != NULL;
+    free(text.at);
+}
+
+/* The document of this kind for a review, or else for all reviews of the folder. */
+static struct text document(const char *folder, const char *stem, const char *kind) {
+    char name[512];
+    snprintf(name, sizeof name, "%.255s.%.99s.json", stem, kind);
+    struct text own = text_in(folder, name);
+    snprintf(name, sizeof name, "%.99s.json", kind);
+    return own.at ? own : text_in(folder, name);
+}
+
+static void check_review(celbpf_gate *gate, struct example *of, const char *folder, const char *name) {
+    char stem[256];
+    snprintf(stem, sizeof stem, "%.255s", strrchr(name, '/') + 1);
+    *strstr(stem, ".review.json") = 0;
+    of->review = text_of(name);
+    of->namespace = document(folder, stem, "namespace");
+    of->params = document(folder, stem, "params");
+    read_response(of, folder, stem);
+    check_decision(gate, of, name);
+    free(of->review.at);
+    free(of->namespace.at);
+    free(of->params.at);
+}
+
+static size_t check_folder(celbpf_gate *gate, const char *folder) {
+    static struct example of;
+    char pattern[4096];
+    size_t len;
+    glob_t found;
+    of.policy = text_in(folder, "policy.json");
+    check(celbpf_gate_new_checked(gate, of.policy.at, of.policy.len, NULL, 0, &len) == CELBPF_DONE && len == 0, "new", folder);
+    check(celbpf_compile_checked(of.policy.at, of.policy.len, room, sizeof room, &len) == CELBPF_DONE &&
+              !memcmp(room, "CELBPF02", 8),
+          "compile", folder);
+    snprintf(pattern, sizeof pattern, "%s/*.review.json", folder);
+    if (glob(pattern, 0, NULL, &found))
+        return 0;
+    for (size_t n = 0; n < found.gl_pathc; n++)
+        check_review(gate, &of, folder, found.gl_pathv[n]);
+    size_t count = found.gl_pathc;
+    globfree(&found);
+    free(of.policy.at);
+    return count;
+}
+
+/* All folders through one place, so that each new gate takes the stead of the one before. */
+static size_t check_examples(void) {
+    celbpf_gate gate = {0};
+    char pattern[4096];
+    size_t count = 0;
+    glob_t found;
+    snprintf(pattern, sizeof pattern, "%s/*/policy.json", examples);
+    if (glob(pattern, 0, NULL, &found))
+        return 0;
+    for (size_t n = 0; n < found.gl_pathc; n++) {
+        *strrchr(found.gl_pathv[n], '/') = 0;
+        count += check_folder(&gate, found.gl_pathv[n]);
+    }
+    globfree(&found);
+    celbpf_gate_free(&gate);
+    return count;
+}
+
+/* ---- the edges */
+
+static struct text policy, review;
+
+static uint32_t decide(celbpf_gate *gate, size_t room_len, size_t *len) {
+    return celbpf_gate_decide_checked(gate, review.at, review.len, NULL, 0, NULL, 0, CELBPF_STEPS, room, room_len, len);
+}
+
+static void check_rooms(void) {
+    celbpf_gate gate = {0};
+    size_t needed, len;
+    check(decide(&gate, sizeof room, &len) == CELBPF_EMPTY && len == 0, "an empty place", "decide");
+    check(celbpf_gate_new_checked(&gate, policy.at, policy.len, NULL, 0, NULL) == CELBPF_DONE, "no room and no length", "new");
+    memset(room, 'x', sizeof room);
+    check(decide(&gate, 0, &needed) == CELBPF_ROOM && needed > 0, "no room", "decide");
+    check(decide(&gate, needed - 1, &len) == CELBPF_ROOM && len == needed && room[0] == 'x', "a byte too few", "decide");
+    check(decide(&gate, needed, &len) == CELBPF_DENIED && len == needed && room[needed] == 'x', "just enough", "decide");
+    check(celbpf_compile_checked(policy.at, policy.len, NULL, 0, &len) == CELBPF_ROOM && len > 24, "no room", "compile");
+    check(celbpf_compile_checked(policy.at, policy.len, room, len, &len) == CELBPF_DONE, "just enough", "compile");
+    celbpf_gate_free_checked(&gate);
+    check(gate.held == NULL, "the place is empty", "free");
+    celbpf_gate_free_checked(&gate);
+    celbpf_gate_free_checked(NULL);
+    check(decide(&gate, sizeof room, &len) == CELBPF_EMPTY && len == 0, "after free", "decide");
+    check(celbpf_gate_new_checked(NULL, policy.at, policy.len, NULL, 0, NULL) == CELBPF_EMPTY, "no place", "new");
+    check(celbpf_version() == CELBPF_VERSION, "the header's", "version");
+}
+
+static void check_refusals(void) {
+    celbpf_gate gate = {0};
+    size_t len;
+    check(celbpf_gate_new_checked(&gate, NULL, 0, room, sizeof room, &len) == CELBPF_POLICY_UNREAD &&
+              is_text(room, len, "celbpf: K1\n"),
+          "no policy", "new");
+    celbpf_gate_new_checked(&gate, policy.at, policy.len, NULL, 0, NULL);
+    void *held = gate.held;
+    check(celbpf_gate_new_checked(&gate, "{}", 2, room, 3, &len) == CELBPF_POLICY_UNREAD && len == 11, "a short room", "new");
+    check(held && gate.held == held, "a refused policy keeps the gate", "new");
+    check(celbpf_gate_decide_checked(&gate, "{", 1, NULL, 0, NULL, 0, CELBPF_STEPS, room, sizeof room, &len) ==
+                  CELBPF_REVIEW_REFUSED &&
+              is_text(room, len, "celbpf: N2\n"),
+          "no review", "decide");
+    check(celbpf_gate_decide_checked(&gate, review.at, review.len, "{", 1, NULL, 0, CELBPF_STEPS, room, sizeof room, &len) ==
+                  CELBPF_DOCUMENT_REFUSED &&
+              is_text(room, len, "celbpf: N3\n"),
+          "no namespace", "decide");
+    check(celbpf_gate_decide_checked(&gate, review.at, review.len, NULL, 0, NULL, 0, 1, room, sizeof room, &len) ==
+                  CELBPF_OUT_OF_STEPS &&
+              is_text(room, len, "celbpf: N4\n"),
+          "one step", "decide");
+    check(celbpf_review_checked("[]", 2, review.at, review.len, NULL, 0, NULL, 0, CELBPF_STEPS, room, sizeof room, &len) ==
+                  CELBPF_POLICY_UNREAD &&
+              is_text(room, len, "celbpf: N1 K2\n"),
+          "no policy", "review");
+    check(decide(&gate, sizeof room, &len) == CELBPF_DENIED, "after refusals", "decide");
+    celbpf_gate_free(&gate);
+}
+
+/* ---- threads */
+
+/* A gate that moves through threads, one at a time. */
+static void *decide_once(void *gate) {
+    static char own[1 << 12];
+    size_t len;
+    return (void *)(uintptr_t)(celbpf_gate_decide_checked(gate, review.at, review.len, NULL, 0, NULL, 0, CELBPF_STEPS, own,
+                                                          sizeof own, &len) == CELBPF_DENIED);
+}
+
+static void *work(void *unused) {
+    celbpf_gate gate = {0};
+    char own[1 << 12];
+    size_t len, done = 0;
+    (void)unused;
+    for (int n = 0; n < 20; n++) {
+        celbpf_gate_new_checked(&gate, policy.at, policy.len, NULL, 0, NULL);
+        for (int k = 0; k < 20; k++)
+            done += celbpf_gate_decide_checked(&gate, review.at, review.len, NULL, 0, NULL, 0, CELBPF_STEPS, own, sizeof own,
+                                               &len) == CELBPF_DENIED;
+    }
+    celbpf_gate_free(&gate);
+    return (void *)done;
+}
+
+/* What `run` returns on a thread with this much stack. */
+static void *on_thread(size_t stack, void *(*run)(void *), void *given) {
+    pthread_attr_t attributes;
+    pthread_t thread;
+    void *result = NULL;
+    pthread_attr_init(&attributes);
+    pthread_attr_setstacksize(&attributes, stack);
+    check(!pthread_create(&thread, &attributes, run, given), "a thread starts", "pthread_create");
+    pthread_join(thread, &result);
+    pthread_attr_destroy(&attributes);
+    return result;
+}
+
+static void check_threads(void) {
+    celbpf_gate gate = {0};
+    pthread_t threads[8];
+    celbpf_gate_new_checked(&gate, policy.at, policy.len, NULL, 0, NULL);
+    for (int n = 0; n < 8; n++)
+        check(on_thread(CELBPF_DECIDE_STACK, decide_once, &gate) != NULL, "one gate, a thread after another", "decide");
+    celbpf_gate_free(&gate);
+    for (int n = 0; n < 8; n++)
+        pthread_create(&threads[n], NULL, work, NULL);
+    for (int n = 0; n < 8; n++) {
+        void *done;
+        pthread_join(threads[n], &done);
+        check((size_t)done == 400, "a gate each on 8 threads", "decide");
+    }
+}
+
+/* ---- stacks */
+
+/* A policy whose expression is 4,095 negations, which takes most stack to read. It has too many nodes, so it is refused. */
+static struct text hostile_policy(void) {
+    static const char head[] = "{\"apiVersion\":\"admissionregistration.k8s.io/v1\",\"kind\":\"ValidatingAdmissionPolicy\","
+                               "\"metadata\":{\"name\":\"hostile\"},\"spec\":{\"validations\":[{\"expression\":\"";
+    static const char tail[] = "true\"}]}}";
+    size_t head_len = sizeof head - 1, count = 4095;
+    struct text made = {malloc(sizeof head + count + sizeof tail), head_len + count + sizeof tail - 1};
+    memcpy(made.at, head, head_len);
+    memset(made.at + head_len, '!', count);
+    memcpy(made.at + head_len + count, tail, sizeof tail);
+    return made;
+}
+
+/* The status of the policy, of which `is_checked` tells how it is compiled. */
+static void *make(const struct text *made, int is_checked) {
+    celbpf_gate gate = {0};
+    uint8_t line[CELBPF_LINE];
+    size_t len;
+    uint32_t status = is_checked ? celbpf_gate_new_checked(&gate, made->at, made->len, line, sizeof line, &len)
+                                 : celbpf_gate_new(&gate, (const uint8_t *)made->at, made->len, line, sizeof line, &len);
+    celbpf_gate_free(&gate);
+    return (void *)(uintptr_t)(is_text((char *)line, len, "celbpf: G3\n") ? status : CELBPF_STACK);
+}
+
+static void *make_checked(void *given) { return make(given, 1); }
+
+static void *make_plain(void *given) { return make(given, 0); }
+
+static void check_stacks(void) {
+    struct text made = hostile_policy();
+    size_t small = (size_t)1 << 20, enough = CELBPF_NEW_STACK + small;
+    check((uintptr_t)on_thread(small, make_checked, &made) == CELBPF_POLICY_UNCOMPILED, "1 MB of stack", "a hostile policy");
+    check((uintptr_t)on_thread(enough, make_plain, &made) == CELBPF_POLICY_UNCOMPILED, "7 MB of stack", "a hostile policy");
+    size_t left = celbpf_stack_left();
+    check(left >= CELBPF_DECIDE_STACK, "this thread's", "celbpf_stack_left");
+    free(made.at);
+}
+
+int main(int argc, char **argv) {
+    char folder[4096];
+    if (argc != 2)
+        return 2;
+    examples = argv[1];
+    snprintf(folder, sizeof folder, "%s/replicas", examples);
+    policy = text_in(folder, "policy.json");
+    review = text_in(folder, "five.review.json");
+    size_t count = check_examples();
+    check(count > 0, "there are reviews", examples);
+    check_rooms();
+    check_refusals();
+    check_threads();
+    check_stacks();
+    free(policy.at);
+    free(review.at);
+    printf("%zu reviews; %d of %d checks are not as they are to be\n", count, wrong, checks);
+    return wrong > 0;
+}

@@ -1,0 +1,3 @@
+module celbpf.example/celbpf
+
+go 1.19

@@ -1,0 +1,15 @@
+"""Decides Kubernetes admission in process, under ValidatingAdmissionPolicies.
+
+    with Gate(policy) as gate:
+        response = gate.decide(review)
+        if not response.allowed:
+            print(response.json)
+
+Documents are bytes of JSON. A `Refused` is raised if there is no decision. The decisions are those of the program
+celbpf, byte for byte: both are the same proved code. This package is a thin layer over it, and is not proved.
+"""
+
+from .gate import DEFAULT_STEPS, Gate, Response, compile_policy, review
+from .refusal import Refused, Status
+
+__all__ = ["DEFAULT_STEPS", "Gate", "Refused", "Response", "Status", "compile_policy", "review"]

@@ -1,0 +1,23 @@
+//! Decides Kubernetes admission in process, under ValidatingAdmissionPolicies.
+//!
+//! ```no_run
+//! # fn main() -> Result<(), Box<dyn std::error::Error>> {
+//! # let (policy, review) = (b"", b"");
+//! let mut gate = celbpf::Gate::new(policy)?;
+//! let response = gate.decide(&celbpf::Request::of(review))?;
+//! println!("{} {}", response.allowed, String::from_utf8_lossy(&response.json));
+//! # Ok(())
+//! # }
+//! ```
+//!
+//! A [`Gate`] is a policy that is compiled once. It is `Send` and takes `&mut self`, so give each thread one. The
+//! decisions are those of the program celbpf, byte for byte: both are the same proved code. This crate is a thin layer
+//! over it, and is not proved.
+#![deny(missing_docs)]
+
+mod ffi;
+mod gate;
+mod refusal;
+
+pub use gate::{compile, review, Gate, Request, Response, DEFAULT_STEPS};
+pub use refusal::{Refusal, Status};
