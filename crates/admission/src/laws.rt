@@ -1,7 +1,9 @@
 //! What is proved of reviews beside their answers, each the clause of a function that does nothing.
+ghost use Rattle.std.specs.Prelude.{◌≡◌};
 ghost use Rattle.admission.specs.OneAnswer.{ReviewHasOneResult};
 ghost use Rattle.admission.specs.RootValues.{DocumentsHaveValues, GivenHaveValues};
 
+use crate::gate::Gate;
 use bpf_machine::laws::starts_are_tables;
 use policy_glue::laws::compiles_once;
 use value_store::laws::values_are_as_said;
@@ -23,4 +25,18 @@ pub fn roots_have_values()
 {
     starts_are_tables();
     values_are_as_said();
+}
+
+/// A gate may go to another thread: it is `Send`.
+pub fn gates_may_be_sent(gate: Gate) -> Gate
+    ensures { result ≡ gate }
+{
+    sent(gate)
+}
+
+/// The same value, of a type that may go to another thread.
+fn sent<T: Send>(value: T) -> T
+    ensures { result ≡ value }
+{
+    value
 }
