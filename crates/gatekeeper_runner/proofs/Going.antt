@@ -1,15 +1,16 @@
 -- How the answers go on.
-use Rattle.gatekeeper_runner.proofs.Prelude.{◌≡◌, ℕ, ◌<◌, ◌≤◌, Bool, true, false, List, [], ◌∷◌, ◌++◌, length, length-drop, take, drop, Option, Some, refl, sym, ap, subst, ◌∙◌, inl, inr, arith, append_assoc, append-nil, Result, Ok, Err, ◌⊎◌, take-append-drop, AddsBytes, cut, input_lines, readable, with_rest, SessionError, ReadFailed, WriteFailed, Pieces, cut-none, cut-line, cut-part, input_lines-ended, readable-all, HasNoFeed, HeardByResult, OfBytes, OneImage, AnswersReviewLine, decided, no_memory, passed_over, too_long, Gatekeeper, KeepsLine, Answered, AnsweredPart, AnswersEach, AnswersByResult, AnswersSoFar, AnswersToEnd, AnswersCut, AnswersEnd, AnswersBreak, AnsweredPartOfLines, AreGates, gatekeeper_of, UnderPolicies, UnderSame}
+use Rattle.gatekeeper_runner.proofs.Prelude.{◌≡◌, ℕ, ◌<◌, ◌≤◌, Bool, true, false, List, [], ◌∷◌, ◌++◌, length, length-drop, take, drop, Option, Some, refl, sym, ap, subst, ◌∙◌, inl, inr, arith, append_assoc, append-nil, Result, Ok, Err, ◌⊎◌, take-append-drop, AddsBytes, cut, input_lines, readable, with_rest, SessionError, ReadFailed, WriteFailed, Pieces, cut-none, cut-line, cut-part, input_lines-ended, readable-all, HasNoFeed, HeardByResult, OfBytes, OneImage, AnswersReviewLine, PolicyFile, no_memory, passed_over, too_long, Gatekeeper, KeepsLine, Answered, AnsweredPart, AnswersEach, AnswersByResult, AnswersSoFar, AnswersToEnd, AnswersCut, AnswersEnd, AnswersBreak, AnsweredPartOfLines, AreGates, gatekeeper_of, UnderPolicies, UnderSame}
 use Rattle.streams.specs.declared.session_error.SessionError.TheVariants.{Memory as SessionMemory}
 use Rattle.gatekeeper_runner.specs.declared.gatekeeper.Gatekeeper.{Gatekeeper as CodeGatekeeper}
 use Rattle.gatekeeper_runner.specs.declared.line.Line.{Line}
+use Rattle.gatekeeper_runner.specs.Lines.{decided}
 use Rattle.gatekeeper_runner.specs.AnsweredLines as told
 
 -- nothing is answered to an empty line
 pub no_answer : (t : Gatekeeper) (line text : List ℕ) → line ≡ [] → AnswersReviewLine OneImage t line text → text ≡ []
 no_answer t line text none (passed_over is) = refl
 no_answer t line text none (too_long long) = absurd (let zero = ap length none in omega (arith, long, zero))
-no_answer t line text none (decided some short why says) = absurd (let zero = ap length none in omega (arith, some, zero))
+no_answer t line text none (decided some short decides) = absurd (let zero = ap length none in omega (arith, some, zero))
 no_answer t line text none (no_memory some) = absurd (let zero = ap length none in omega (arith, some, zero))
 
 -- the answers to ended lines and to the rest behind them
@@ -136,7 +137,7 @@ module _ (t : Gatekeeper) (input before : List ℕ) (left written : Option (List
   answers_told goes ended broke (Err SessionMemory) on over broken none = absurd none
 
 -- the same of what the answers have heard
-pub heard_told : (keeper start : CodeGatekeeper) (line : Line) (policies : List (List ℕ)) → AreGates policies start.gates.items → (input before : List ℕ)
+pub heard_told : (keeper start : CodeGatekeeper) (line : Line) (policies : List PolicyFile) → AreGates policies start.gates.items → (input before : List ℕ)
     (left written : Option (List ℕ)) (result : Result (Unit {0}) SessionError)
     → HeardByResult (λ heard new. UnderSame keeper start (λ t. AnswersSoFar OneImage t before heard new × KeepsLine line (cut heard).1))
     (λ last heard new. UnderSame keeper start (λ t. AnswersEnd last OneImage t before heard new))

@@ -1,6 +1,8 @@
 mod OneLine
 mod Going
-mod Saying
+mod Gates
+mod Tallies
+mod RefusalTexts
 mod Opened
 mod Programs
 mod Shape

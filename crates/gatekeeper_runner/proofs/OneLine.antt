@@ -3,19 +3,16 @@ use Rattle.std.proofs.Common.{◌-◌}
 use Rattle.std.proofs.Math.Seq.{take-add}
 use Rattle.std.proofs.lemmas.List.{drop_at, take_at}
 use Rattle.streams.proofs.Cut.{take-join}
-use Rattle.gatekeeper_runner.proofs.Prelude.{◌≡◌, ◌++◌, ◌+◌, ◌∙◌, refl, ℕ, suc, arith, length-take, ◌<◌, ◌≤◌, Bool, true, false, List, length, take, Option, None, sym, ap, subst, Result, Ok, Err, true≢false, IfOk, IsErr, nat_lt, ltb-true, AddsBytes, response_text, OneImage, document_of, Decision, RunError, ReviewRefused, Memory, AnswersReviewLine, IsKeptOfLine, decided, line_of, longest_line, refusal_text, too_long, uid_shown, DecideTogether, Gatekeeper, AnsweredPart}
+use Rattle.gatekeeper_runner.proofs.Prelude.{◌≡◌, ◌++◌, ◌+◌, ◌∙◌, refl, ℕ, suc, arith, length-take, ◌<◌, ◌≤◌, Bool, true, false, List, length, take, Option, sym, ap, subst, Result, nat_lt, ltb-true, AddsBytes, OneImage, Decision, AnswersReviewLine, IsKeptOfLine, answer_text, line_of, longest_line, too_long, too_long_text, DecideTogether, Gatekeeper, Refused, AnsweredPart}
+use Rattle.gatekeeper_runner.specs.Lines.{decided}
 
 module _ (t : Gatekeeper) where
-  pub all_said : (line text : List ℕ) (said : Decision) → 0 < length line → length line ≤ longest_line → DecideTogether OneImage t line (Ok said)
-      → text ≡ response_text said.rejection said.uid → AnswersReviewLine OneImage t line (line_of text)
-  all_said line text said some short says is = subst (λ (x : List ℕ). AnswersReviewLine OneImage t line (line_of x)) (sym is) (decided {result = Ok said} some short (λ e. cc) says)
-
-  pub one_refused : (line text : List ℕ) (e : RunError) → 0 < length line → length line ≤ longest_line → DecideTogether OneImage t line (Err e)
-      → (e ≡ Memory → ⊥) → text ≡ refusal_text e (uid_shown (document_of line)) → AnswersReviewLine OneImage t line (line_of text)
-  one_refused line text e some short says why is = subst (λ (x : List ℕ). AnswersReviewLine OneImage t line (line_of x)) (sym is) (decided {result = Err e} some short (λ same. why (cc)) says)
+  pub answered : (line text : List ℕ) (r : Result Decision Refused) → 0 < length line → length line ≤ longest_line → DecideTogether OneImage t line r
+      → text ≡ answer_text line r → AnswersReviewLine OneImage t line (line_of text)
+  answered line text r some short decides is = subst (λ (x : List ℕ). AnswersReviewLine OneImage t line (line_of x)) (sym is) (decided {result = r} some short decides)
 
   pub was_long : (lacks : Bool) (kept line text : List ℕ) → lacks ≡ false → IsKeptOfLine lacks kept line → true ≡ nat_lt longest_line (length kept)
-      → text ≡ line_of (refusal_text ReviewRefused None) → AnswersReviewLine OneImage t line text
+      → text ≡ line_of too_long_text → AnswersReviewLine OneImage t line text
   was_long true kept line text held keeps long is = absurd (cc)
   was_long false kept line text held keeps long is =
       let many = ap length keeps in
@@ -26,11 +23,6 @@ module _ (t : Gatekeeper) where
 pub written_part : (t : Gatekeeper) (line text : List ℕ) (old new : Option (List ℕ)) → AnswersReviewLine OneImage t line text
     → (n : ℕ) × (n < length text) × AddsBytes old new (take n text) → AnsweredPart OneImage t line old new
 written_part t line text old new answers part = record { text = text; answers = answers; many = part.0; is_cut = part.1; written = part.2 }
-
--- where there is a text, memory was not wanted
-pub refuses : {X E : Type 0} (r : Result X E) (P Q : X → Type 0) (e : RunError) → (e ≡ Memory → IsErr r) → ((x : X) → (e ≡ Memory → ⊥) → P x → Q x) → IfOk r P → IfOk r Q
-refuses (Ok x) P Q e memory so is = so x (λ same. true≢false (sym (memory same))) is
-refuses (Err q) P Q e memory so is = tt
 
 -- the first bytes of one text behind another
 front_more : (n : ℕ) (xs ys : List ℕ) → length xs ≤ n → take n (xs ++ ys) ≡ xs ++ take (n - length xs) ys

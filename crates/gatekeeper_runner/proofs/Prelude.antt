@@ -20,7 +20,7 @@ pub use Rattle.streams.specs.Streams.{AddsBytes}
 pub use Rattle.streams.specs.declared.session_error.SessionError.{SessionError}
 pub use Rattle.streams.specs.declared.session_error.SessionError.TheVariants.{ReadFailed, WriteFailed}
 unfoldable pub use Rattle.streams.specs.Lines.{cut, readable}
-pub use Rattle.policy_glue.specs.Rejections.{rejection_view}
+pub use Rattle.policy_glue.specs.Rejections.{Rejection, rejection_view}
 pub use Rattle.policy_glue.specs.OneImage.{OneImage}
 unfoldable pub use Rattle.policy_glue.specs.Documents.{document_of}
 unfoldable pub use Rattle.policy_glue.specs.Evaluation.{decision_of}
@@ -45,20 +45,27 @@ pub use Rattle.admission.specs.declared.run_error.RunError.TheVariants.{Memory, 
 pub use Rattle.admission.specs.declared.policy_and_image.PolicyAndImage.{PolicyAndImage}
 unfoldable pub use Rattle.cli.specs.Arguments.{option_rule, required_option_rule, steps_rule, with_documents}
 unfoldable pub use Rattle.admission.specs.Reviews.{uid_in}
-pub use Rattle.gatekeeper_runner.specs.Lines.{AnswersReviewLine, IsKeptOfLine, KeepsLine, answer_text, decided}
-pub use Rattle.gatekeeper_runner.specs.Lines.{line_of, no_memory, no_memory_text, passed_over, too_long, uid_shown}
+pub use Rattle.gatekeeper_runner.specs.Lines.{AnswersReviewLine, IsKeptOfLine, KeepsLine, answer_text}
+pub use Rattle.gatekeeper_runner.specs.Lines.{line_of, no_memory, no_memory_text, passed_over, too_long, too_long_text}
+pub use Rattle.gatekeeper_runner.specs.Lines.{uid_shown}
 pub use Rattle.gatekeeper_runner.specs.Orders.{GatekeeperOrderReturns, order_view}
 pub use Rattle.gatekeeper_runner.specs.Program.{AsksGatekeeper, answers, not_started}
 pub use Rattle.gatekeeper_runner.specs.Program.{nothing}
 pub use Rattle.gatekeeper_runner.specs.SameAnswers.{LinesHaveOneAnswer}
 pub use Rattle.gatekeeper_runner.specs.Starting.{GatesFrom, IsUnopened, OneUnopened, Opens, OpensGate, no_namespace}
 pub use Rattle.gatekeeper_runner.specs.Starting.{no_params, no_policy, ready, refused, unread}
-pub use Rattle.gatekeeper_runner.specs.Together.{AllDecide, AreGates, IsGateOf, OneRefuses, DecideTogether, DecidesAlone}
-pub use Rattle.gatekeeper_runner.specs.Together.{Gatekeeper, next, none, gatekeeper_of, under, no_decision, with_next}
+pub use Rattle.gatekeeper_runner.specs.Together.{AreGates, AreResults, AreValuesOf, DecideTogether, DecidesAlone}
+pub use Rattle.gatekeeper_runner.specs.Together.{Gatekeeper, IsGateOf, IsResult, Label, PolicyFile, PolicyResult, Refused}
+pub use Rattle.gatekeeper_runner.specs.Together.{and_also, decided, first_refused, gatekeeper_of, joined, label_of}
+pub use Rattle.gatekeeper_runner.specs.Together.{label_view, refused_or, refused_view, rejection_in, rejections}
+pub use Rattle.gatekeeper_runner.specs.Together.{together_view, under, values_under}
+pub use Rattle.gatekeeper_runner.specs.Tally.{AddsResult, AreTallied, IsTallyOf, ending_of}
 pub use Rattle.gatekeeper_runner.specs.AnsweredLines.{Answered, AnsweredPart, AnswersBreak, AnswersByResult, AnswersCut}
 pub use Rattle.gatekeeper_runner.specs.AnsweredLines.{AnswersEach, AnswersEnd, AnswersSoFar, AnswersToEnd, UnderPolicies}
 pub use Rattle.gatekeeper_runner.specs.AnsweredLines.{UnderSame}
 pub use Rattle.gatekeeper_runner.specs.AnsweredLines.{AnsweredPartOfLines}
+pub use Rattle.gatekeeper_runner.specs.declared.named_gate.NamedGate.{NamedGate}
 pub use Rattle.gatekeeper_runner.specs.declared.order.Order.{Order}
+pub use Rattle.gatekeeper_runner.specs.declared.tally.Tally.{Tally}
 unfoldable pub use Rattle.gatekeeper_runner.specs.Lines.{longest_line, refusal_text}
 unfoldable pub use Rattle.gatekeeper_runner.specs.Orders.{entered, faults, gatekeeper_app, policies_rule}

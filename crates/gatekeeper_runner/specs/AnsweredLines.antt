@@ -6,7 +6,7 @@ use Rattle.streams.specs.Failures.{FailsByResult}
 use Rattle.streams.specs.declared.session_error.SessionError.{SessionError, TheVariants.ReadFailed, TheVariants.WriteFailed, TheVariants.Memory}
 use Rattle.admission.specs.Standing.{Images}
 use Rattle.gatekeeper_runner.specs.Lines.{AnswersReviewLine, KeepsLine}
-use Rattle.gatekeeper_runner.specs.Together.{gatekeeper_of, AreGates, Gatekeeper}
+use Rattle.gatekeeper_runner.specs.Together.{gatekeeper_of, AreGates, Gatekeeper, PolicyFile}
 use Rattle.gatekeeper_runner.specs.declared.gatekeeper.Gatekeeper.{Gatekeeper as CodeGatekeeper}
 use Rattle.gatekeeper_runner.specs.declared.line.Line.{Line}
 
@@ -70,7 +70,7 @@ pub record AnswersLines (chosen : Images) (t : Gatekeeper) (r r_after w w_after 
 
 -- so it is with the policies by which the gates decide
 abbrev pub UnderPolicies : CodeGatekeeper → (Gatekeeper → Type 0) → Type 0
-UnderPolicies keeper Q = (policies : List (List ℕ)) → AreGates policies keeper.gates.items → Q (gatekeeper_of policies keeper)
+UnderPolicies keeper Q = (policies : List PolicyFile) → AreGates policies keeper.gates.items → Q (gatekeeper_of policies keeper)
 
 -- and with the line that is kept
 abbrev pub OfLine : CodeGatekeeper → Line → (Gatekeeper → List ℕ → Type 0) → Type 0

@@ -1,5 +1,8 @@
+pub mod Texts
 pub mod Together
+pub mod Tally
 pub mod Lines
+pub mod RefusalTokens
 pub mod AnsweredLines
 pub mod Orders
 pub mod Starting

@@ -1,38 +1,48 @@
 -- What is answered to a line.
 use Rattle.std.specs.Prelude.{◌≡◌, ℕ, ◌<◌, ◌≤◌, Bool, true, false, List, [], ◌∷◌, ◌++◌, codes, length, suc, take}
-use Rattle.std.specs.Prelude.{Option, Some, None, option_and_then, Result, Ok, Err}
+use Rattle.std.specs.Prelude.{Option, Some, None, Result, Ok, Err}
 use Rattle.serde_json.specs.Data as json
-use Rattle.serde_json.specs.Find.{get}
 use Rattle.serde_json.specs.Written.{compact_text}
 use Rattle.policy_glue.specs.Rejections.{response_text}
 use Rattle.policy_glue.specs.Documents.{document_of}
 use Rattle.admission.specs.ErrorCodes.{run_error_code}
 use Rattle.admission.specs.Decisions.{Decision}
 use Rattle.admission.specs.Standing.{Images}
-use Rattle.admission.specs.declared.run_error.RunError.{RunError, TheVariants.ReviewRefused, TheVariants.Memory}
-use Rattle.gatekeeper_runner.specs.Together.{DecideTogether, Gatekeeper}
+use Rattle.admission.specs.declared.run_error.RunError.{TheVariants.ReviewRefused}
+use Rattle.gatekeeper_runner.specs.Texts.{text_at}
+use Rattle.gatekeeper_runner.specs.Together.{DecideTogether, Gatekeeper, Label, Refused}
 use Rattle.gatekeeper_runner.specs.declared.line.Line.{Line}
 
 -- ---- refusals
 
--- the text that a JSON value is, where it is one
-abbrev pub text_in : json.Data → Option (List ℕ)
-text_in (json.string s) = Some s
-text_in _ = None
-
 -- the uid of what a document has as its request, if that is a text, whether or not the document is a review
 abbrev pub uid_shown : Option json.Data → Option (List ℕ)
-uid_shown document = option_and_then text_in (option_and_then (get (codes "uid")) (option_and_then (get (codes "request")) document))
+uid_shown document = text_at (codes "request") (codes "uid") document
 
--- an object with the name of the refusal, and with the uid where there is one
-abbrev pub refusal_tree : List ℕ → Option (List ℕ) → json.Data
-refusal_tree name None = json.object (json.member (codes "refused") (json.string name) json.no_members)
-refusal_tree name (Some uid) =
-    json.object (json.member (codes "refused") (json.string name) (json.member (codes "uid") (json.string uid) json.no_members))
+-- the policy that refuses and what its failure policy is, if a policy refuses
+abbrev pub label_members : Option Label → json.Members
+label_members None = json.no_members
+label_members (Some label) =
+    json.member (codes "policy") (json.string label.name)
+    (json.member (codes "failurePolicy") (json.string label.failure_policy) json.no_members)
+
+-- the uid, if the document shows one, and then these members
+abbrev pub uid_and : Option (List ℕ) → json.Members → json.Members
+uid_and None members = members
+uid_and (Some uid) members = json.member (codes "uid") (json.string uid) members
+
+-- an object with the name of the refusal, the uid and the policy
+abbrev pub refusal_tree : List ℕ → Option (List ℕ) → Option Label → json.Data
+refusal_tree name uid label =
+    json.object (json.member (codes "refused") (json.string name) (uid_and uid (label_members label)))
 
 -- the same as compact JSON
-unfoldable pub refusal_text : RunError → Option (List ℕ) → List ℕ
-refusal_text e uid = compact_text (refusal_tree (run_error_code e) uid)
+unfoldable pub refusal_text : Refused → Option (List ℕ) → List ℕ
+refusal_text refused uid = compact_text (refusal_tree (run_error_code refused.error) uid refused.policy)
+
+-- a line that is too long is refused as no review is, and is not read
+abbrev pub too_long_text : List ℕ
+too_long_text = refusal_text (record { error = ReviewRefused; policy = None }) None
 
 -- ---- a line
 
@@ -48,16 +58,16 @@ line_of text = text ++ 10 ∷ []
 abbrev pub no_memory_text : List ℕ
 no_memory_text = codes "{\"refused\":\"memory\"}\n"
 
--- the text by what the policies say of the review in a line
-abbrev pub answer_text : List ℕ → Result Decision RunError → List ℕ
-answer_text line (Ok said) = response_text said.rejection said.uid
-answer_text line (Err e) = refusal_text e (uid_shown (document_of line))
+-- the text by what the policies decide of the review in a line
+abbrev pub answer_text : List ℕ → Result Decision Refused → List ℕ
+answer_text line (Ok decision) = response_text decision.rejection decision.uid
+answer_text line (Err refused) = refusal_text refused (uid_shown (document_of line))
 
--- a line, and what is written for it, which hangs on no other line
+-- a line, and what is written for it, which depends on no other line
 pub data AnswersReviewLine (chosen : Images) (t : Gatekeeper) (line : List ℕ) : List ℕ → Type 0 where
   passed_over : line ≡ [] → AnswersReviewLine chosen t line []
-  too_long : longest_line < length line → AnswersReviewLine chosen t line (line_of (refusal_text ReviewRefused None))
-  decided : {result : Result Decision RunError} → 0 < length line → length line ≤ longest_line → (result ≡ Err Memory → ⊥)
+  too_long : longest_line < length line → AnswersReviewLine chosen t line (line_of too_long_text)
+  decided : {result : Result Decision Refused} → 0 < length line → length line ≤ longest_line
       → DecideTogether chosen t line result → AnswersReviewLine chosen t line (line_of (answer_text line result))
   -- the host has no memory for it, which says nothing of the line
   no_memory : 0 < length line → AnswersReviewLine chosen t line no_memory_text

@@ -1,24 +1,74 @@
--- What several policies say of a review together.
-use Rattle.std.specs.Prelude.{◌≡◌, ℕ, List, [], ◌∷◌, ◌++◌, codes, Option, Some, None, Result, Ok, Err}
-use Rattle.policy_glue.specs.Rejections.{Rejection}
+-- What several policies decide of a review together.
+use Rattle.std.specs.Prelude.{◌≡◌, ◌≢◌, ℕ, List, [], ◌∷◌, ◌++◌, codes, fold, map, Option, Some, None, Result, Ok, Err}
+use Rattle.std.specs.Prelude.{option_map, string_bytes, unwrap_or, Vec, String}
+use Rattle.value_store.specs.Placing.{Contents}
+use Rattle.policy_glue.specs.Documents.{document_of}
 use Rattle.policy_glue.specs.OneImage.{OneImage}
+use Rattle.policy_glue.specs.Rejections.{Rejection, rejection_view}
 use Rattle.admission.specs.Deciding.{Documents, IsPolicyOf}
-use Rattle.admission.specs.Decisions.{Decision, DecidesReview}
+use Rattle.admission.specs.Decisions.{Decision, DecidesReview, decision_value}
+use Rattle.admission.specs.Reviews.{contents_given, uid_in}
 use Rattle.admission.specs.Standing.{Images, RunAgrees}
-use Rattle.admission.specs.declared.policy_and_image.PolicyAndImage.{PolicyAndImage}
-use Rattle.admission.specs.declared.run_error.RunError.{RunError}
+use Rattle.admission.specs.declared.decision.Decision.{Decision as CodeDecision}
+use Rattle.admission.specs.declared.run_error.RunError.{RunError, TheVariants.Memory}
+use Rattle.gatekeeper_runner.specs.Texts.{text_at}
 use Rattle.gatekeeper_runner.specs.declared.gatekeeper.Gatekeeper.{Gatekeeper as CodeGatekeeper}
+use Rattle.gatekeeper_runner.specs.declared.named_gate.NamedGate.{NamedGate}
+use Rattle.gatekeeper_runner.specs.declared.policy_label.PolicyLabel.{PolicyLabel}
+use Rattle.gatekeeper_runner.specs.declared.refused.Refused.{Refused as CodeRefused}
 
--- what every line is answered under: the documents of the policies in their order, the other documents, the steps
+-- ---- policies
+
+-- the name of a policy's file, and its document
+pub record PolicyFile : Type 0 where
+  pub file : List ℕ
+  pub document : List ℕ
+
+-- what every line is answered under: the policies in their order, the other documents, the steps
 pub record Gatekeeper : Type 0 where
-  pub policies : List (List ℕ)
+  pub policies : List PolicyFile
   pub namespace : Option (List ℕ)
   pub params : Option (List ℕ)
   pub steps : ℕ
 
+-- what a refusal tells of a policy
+pub record Label : Type 0 where
+  pub name : List ℕ
+  pub failure_policy : List ℕ
+
+-- the text at `metadata.name`, or else the name of the file; and the one at `spec.failurePolicy`, or else `Fail`
+abbrev pub label_of : PolicyFile → Label
+label_of p = record {
+  name = unwrap_or (text_at (codes "metadata") (codes "name") (document_of p.document)) p.file;
+  failure_policy = unwrap_or (text_at (codes "spec") (codes "failurePolicy") (document_of p.document)) (codes "Fail");
+}
+
+-- ---- one policy
+
 -- the documents of a review under one of the policies
 abbrev pub under : Gatekeeper → List ℕ → List ℕ → Documents
 under t policy review = record { policy = policy; review = review; namespace = t.namespace; params = t.params }
+
+-- what one policy decides of a review, or why it does not, and that the run of its program stands as that tells
+abbrev pub DecidesAlone : Images → Gatekeeper → List ℕ → List ℕ → Result Decision RunError → Type 0
+DecidesAlone chosen t policy review result =
+    DecidesReview (under t policy review) t.steps result × RunAgrees chosen (under t policy review) t.steps result
+
+-- a policy, and what it decides or why it does not
+pub record PolicyResult : Type 0 where
+  pub policy : PolicyFile
+  pub result : Result Decision RunError
+
+-- the policy decides this, or refuses for this; memory did not run out
+pub record IsResult (chosen : Images) (t : Gatekeeper) (review : List ℕ) (r : PolicyResult) : Type 0 where
+  pub decides : DecidesAlone chosen t r.policy.document review r.result
+  pub no_memory : r.result ≢ Err Memory
+
+abbrev pub AreResults : Images → Gatekeeper → List ℕ → List PolicyResult → Type 0
+AreResults chosen t review [] = Unit {0}
+AreResults chosen t review (r ∷ rs) = IsResult chosen t review r × AreResults chosen t review rs
+
+-- ---- all policies
 
 -- a further policy's rejection: the messages with `; ` between them, the reason of the first
 abbrev pub and_also : Option Rejection → Option Rejection → Option Rejection
@@ -26,57 +76,83 @@ and_also None next = next
 and_also (Some first) None = Some first
 and_also (Some first) (Some next) = Some (record { message = first.message ++ (codes "; " ++ next.message); reason = first.reason })
 
--- what is said before the first policy speaks: nothing against the request
-abbrev pub no_decision : Decision
-no_decision = record { rejection = None; uid = [] }
+-- what a policy has against the request, if it decides
+abbrev pub rejection_in : Result Decision RunError → Option Rejection
+rejection_in (Ok decision) = decision.rejection
+rejection_in (Err e) = None
 
--- what is said so far and by a further policy, which has the review's uid
-abbrev pub with_next : Decision → Decision → Decision
-with_next so_far next = record { rejection = and_also so_far.rejection next.rejection; uid = next.uid }
+-- the rejections of the policies that decide, joined
+abbrev pub rejections : List PolicyResult → Option Rejection
+rejections results = fold and_also None (map (λ r. rejection_in r.result) results)
 
--- what one policy says of a review, and that the run of its program stands as that tells
-abbrev pub DecidesAlone : Images → Gatekeeper → List ℕ → List ℕ → Result Decision RunError → Type 0
-DecidesAlone chosen t policy review result =
-    DecidesReview (under t policy review) t.steps result × RunAgrees chosen (under t policy review) t.steps result
+-- why a review is refused, and by which policy; by none if it is refused before any policy is asked
+pub record Refused : Type 0 where
+  pub error : RunError
+  pub policy : Option Label
 
--- what policies say of a review, of which none refuses it
-pub data AllDecide (chosen : Images) (t : Gatekeeper) (review : List ℕ) : List (List ℕ) → Decision → Type 0 where
-  none : AllDecide chosen t review [] no_decision
-  next : {policies : List (List ℕ)} {policy : List ℕ} {so_far said : Decision} → AllDecide chosen t review policies so_far
-      → DecidesAlone chosen t policy review (Ok said) → AllDecide chosen t review (policies ++ policy ∷ []) (with_next so_far said)
+abbrev pub refused_or : PolicyFile → Result Decision RunError → Option Refused → Option Refused
+refused_or policy (Ok decision) next = next
+refused_or policy (Err e) next = Some (record { error = e; policy = Some (label_of policy) })
 
--- a policy refuses a review, and none before it does
-pub record OneRefuses (chosen : Images) (t : Gatekeeper) (review : List ℕ) (e : RunError) : Type 0 where
-  pub before : List (List ℕ)
-  pub policy : List ℕ
-  pub after : List (List ℕ)
-  pub are : t.policies ≡ before ++ policy ∷ after
-  pub so_far : Decision
-  pub decide : AllDecide chosen t review before so_far
-  pub refuses : DecidesAlone chosen t policy review (Err e)
+-- the first refusal of a policy that does not decide
+abbrev pub first_refused : List PolicyResult → Option Refused
+first_refused [] = None
+first_refused (r ∷ rs) = refused_or r.policy r.result (first_refused rs)
 
--- what the policies say together, or the first refusal
-abbrev pub DecideTogether : Images → Gatekeeper → List ℕ → Result Decision RunError → Type 0
-DecideTogether chosen t review (Ok said) = AllDecide chosen t review t.policies said
-DecideTogether chosen t review (Err e) = OneRefuses chosen t review e
+-- one rejection is a decision, whichever policy refuses; else the first refusal is the answer; else the request is allowed
+abbrev pub joined : Option Rejection → Option Refused → List ℕ → Result Decision Refused
+joined (Some rejection) refused uid = Ok (record { rejection = Some rejection; uid = uid })
+joined None (Some refused) uid = Err refused
+joined None None uid = Ok (record { rejection = None; uid = uid })
 
--- ---- what keeps them
+-- the values of the roots on which all policies decide, or why there are none
+abbrev pub values_under : Gatekeeper → List ℕ → Result Contents RunError
+values_under t review = contents_given (Some review) t.namespace t.params
 
--- the gate of this document
-abbrev pub IsGateOf : List ℕ → PolicyAndImage → Type 0
-IsGateOf policy gate = IsPolicyOf policy gate × OneImage gate.policy gate.image
+-- what all policies decide together, or why the review is refused
+pub data DecideTogether (chosen : Images) (t : Gatekeeper) (review : List ℕ) : Result Decision Refused → Type 0 where
+  -- before any policy is asked
+  no_values : {e : RunError} → values_under t review ≡ Err e
+      → DecideTogether chosen t review (Err (record { error = e; policy = None }))
+  decided : {values : Contents} (results : List PolicyResult) → values_under t review ≡ Ok values
+      → map (λ r. r.policy) results ≡ t.policies → AreResults chosen t review results
+      → DecideTogether chosen t review (joined (rejections results) (first_refused results) (uid_in review))
 
--- the gates of these documents
-abbrev pub AreGates : List (List ℕ) → List PolicyAndImage → Type 0
+-- ---- what the code keeps of them
+
+abbrev pub label_view : PolicyLabel → Label
+label_view l = record { name = string_bytes l.name; failure_policy = string_bytes l.failure_policy }
+
+abbrev pub refused_view : CodeRefused → Refused
+refused_view r = record { error = r.error; policy = option_map label_view r.policy }
+
+-- the decision or the refusal that the code returns
+abbrev pub together_view : Result CodeDecision CodeRefused → Result Decision Refused
+together_view (Ok decision) = Ok (decision_value decision)
+together_view (Err refused) = Err (refused_view refused)
+
+-- the gate of this policy
+pub record IsGateOf (p : PolicyFile) (g : NamedGate) : Type 0 where
+  pub policy : IsPolicyOf p.document g.gate
+  pub image : OneImage g.gate.policy g.gate.image
+  pub label : label_view g.label ≡ label_of p
+
+-- the gates of these policies
+abbrev pub AreGates : List PolicyFile → List NamedGate → Type 0
 AreGates [] [] = Unit {0}
 AreGates [] (gate ∷ gates) = ⊥
 AreGates (policy ∷ policies) [] = ⊥
 AreGates (policy ∷ policies) (gate ∷ gates) = IsGateOf policy gate × AreGates policies gates
 
-abbrev pub gatekeeper_of : List (List ℕ) → CodeGatekeeper → Gatekeeper
+abbrev pub gatekeeper_of : List PolicyFile → CodeGatekeeper → Gatekeeper
 gatekeeper_of policies k = record {
   policies = policies;
   namespace = k.documents.namespace;
   params = k.documents.params;
   steps = k.steps;
 }
+
+-- the values and the uid of a review under the gatekeeper's documents
+pub record AreValuesOf (t : Gatekeeper) (review : List ℕ) (values : Contents) (uid : List ℕ) : Type 0 where
+  pub values_are : values_under t review ≡ Ok values
+  pub uid_is : uid ≡ uid_in review

@@ -2,15 +2,17 @@
 ghost use Rattle.std.specs.Prelude.{◌≡◌, ◌<◌, ◌≤◌, length, IfOk, OnErr, OnOk};
 ghost use Rattle.streams.specs.Streams.{one_more, stream};
 ghost use Rattle.policy_glue.specs.OneImage.{OneImage};
-ghost use Rattle.gatekeeper_runner.specs.Lines.{line_of, longest_line, AnswersReviewLine};
+ghost use Rattle.gatekeeper_runner.specs.Lines.{answer_text, line_of, longest_line, too_long_text, AnswersReviewLine};
+ghost use Rattle.gatekeeper_runner.specs.Together.{together_view};
 ghost use Rattle.gatekeeper_runner.specs.AnsweredLines.{Answered, AnsweredPart, AnswersLines, OfLine, UnderPolicies};
 
 use crate::gatekeeper::Gatekeeper;
 use crate::line::Line;
-use crate::refusing::{refusal_text, refused};
-use admission::RunError;
+use crate::refused::Refused;
+use crate::refusing::{line_refusal_text, refusal_text};
+use admission::{Decision, RunError};
 use policy_glue::response_text;
-use std::alloc::AllocError;
+use std::alloc::{AllocError, Global};
 use streams::{Failed, LineSource, Listener, SessionError, Sink, write_all};
 
 /// What is written where there is no memory for a line's answer.
@@ -103,7 +105,7 @@ fn answer_of(keeper: &Gatekeeper, line: &Line) -> Result<Vec<u8>, AllocError>
         return Err(AllocError);
     }
     if line.is_too_long() {
-        return with_line_feed(refusal_text(keeper.alloc, RunError::ReviewRefused, None)?);
+        return with_line_feed(too_long_text(keeper.alloc)?);
     }
     with_line_feed(decision_text(keeper, line.bytes.as_slice())?)
 }
@@ -117,12 +119,35 @@ fn with_line_feed(text: Vec<u8>) -> Result<Vec<u8>, AllocError>
     Ok(line)
 }
 
-/// The text by what the policies say of the review in a line.
+/// The text of the refusal of a line that is too long.
+fn too_long_text(alloc: Global) -> Result<Vec<u8>, AllocError>
+    ensures { IfOk result (λ text. text.items ≡ too_long_text) }
+{
+    let refused = Refused {
+        error: RunError::ReviewRefused,
+        policy: None,
+    };
+    refusal_text(alloc, &refused, None)
+}
+
+/// The text by what the policies decide of the review in a line.
 fn decision_text(keeper: &Gatekeeper, line: &[u8]) -> Result<Vec<u8>, AllocError>
     ensures { IfOk result (λ text. UnderPolicies keeper.now (λ t. 0 < length line.now → length line.now ≤ longest_line → AnswersReviewLine OneImage t line.now (line_of text.items))) }
 {
-    match keeper.decision(line) {
-        Ok(said) => response_text(keeper.alloc, &said.rejection, said.uid.as_str()),
-        Err(error) => refused(keeper.alloc, error, line),
+    let outcome = keeper.decision(line)?;
+    outcome_text(keeper.alloc, outcome, line)
+}
+
+/// The text of a decision or a refusal of the review in a line.
+fn outcome_text(
+    alloc: Global,
+    outcome: Result<Decision, Refused>,
+    line: &[u8],
+) -> Result<Vec<u8>, AllocError>
+    ensures { IfOk result (λ text. text.items ≡ answer_text line.now (together_view outcome)) }
+{
+    match outcome {
+        Ok(decision) => response_text(alloc, &decision.rejection, decision.uid.as_str()),
+        Err(refused) => line_refusal_text(alloc, &refused, line),
     }
 }

@@ -1,14 +1,17 @@
 //! What decides the lines.
-ghost use Rattle.std.specs.Prelude.{ℕ, List};
+ghost use Rattle.std.specs.Prelude.{◌≡◌, ◌≢◌, ℕ, List, None, Err, IfOk, string_bytes};
 ghost use Rattle.value_table.specs.Held.{held_contents};
 ghost use Rattle.policy_glue.specs.OneImage.{OneImage};
-ghost use Rattle.admission.specs.Deciding.{AreGiven};
 ghost use Rattle.admission.specs.Decisions.{decision_view};
-ghost use Rattle.gatekeeper_runner.specs.Together.{gatekeeper_of, under, AreGates, IsGateOf, DecideTogether, DecidesAlone};
+ghost use Rattle.admission.specs.declared.run_error.RunError.TheVariants.{Memory};
+ghost use Rattle.gatekeeper_runner.specs.Together.{gatekeeper_of, together_view, AreGates, AreValuesOf, DecidesAlone, DecideTogether, IsGateOf, PolicyFile};
 
-use crate::together::{no_decision, with_next};
-use admission::{Decision, Gate, RunError};
-use std::alloc::Global;
+use crate::errors::is_memory;
+use crate::named_gate::NamedGate;
+use crate::refused::Refused;
+use crate::tally::Tally;
+use admission::{Decision, RunError};
+use std::alloc::{AllocError, Global};
 use value_store::ValueStore;
 use value_table::{SharedDocuments, Table};
 
@@ -17,7 +20,7 @@ use value_table::{SharedDocuments, Table};
 pub struct Gatekeeper {
     pub alloc: Global,
     /// The policies, in their order.
-    pub gates: Vec<Gate>,
+    pub gates: Vec<NamedGate>,
     /// The namespace and the params, each null if it is not given. They are read once.
     pub documents: SharedDocuments,
     /// The most steps that a policy's program may take.
@@ -25,30 +28,57 @@ pub struct Gatekeeper {
 }
 
 impl Gatekeeper {
-    /// What the policies say of a review together, or the first refusal.
-    pub fn decision(&self, review: &[u8]) -> Result<Decision, RunError>
-        ensures { (policies : List (List ℕ)) → AreGates policies self.now.gates.items → DecideTogether OneImage (gatekeeper_of policies self.now) review.now (decision_view result) }
+    /// What the policies decide of a review together, or why it is refused.
+    ///
+    /// # Errors
+    ///
+    /// An allocation failed, which says nothing of the review.
+    pub fn decision(&self, review: &[u8]) -> Result<Result<Decision, Refused>, AllocError>
+        ensures { IfOk result (λ r. (policies : List PolicyFile) → AreGates policies self.now.gates.items → DecideTogether OneImage (gatekeeper_of policies self.now) review.now (together_view r)) }
     {
-        let mut said = no_decision(self.alloc);
-        let gates = self.gates.as_slice();
-        if gates.is_empty() {
-            return Ok(said);
+        match self.documents.table_of(review) {
+            Ok((table, uid)) => self.decision_on(&table, uid),
+            Err(error) => refused_first(RunError::from(error)),
         }
-        let (table, uid) = self.documents.table_of(review)?;
-        for gate in gates {
-            let next = self.decision_by(gate, &table, uid.as_str())?;
-            said = with_next(said, next)?;
-        }
-        Ok(said)
     }
 
-    /// What one policy says of the review whose roots are in the table. The program runs on a copy,
-    /// which shares the table's values.
-    fn decision_by(&self, gate: &Gate, table: &Table, uid: &str) -> Result<Decision, RunError>
-        ensures { (policies : List (List ℕ)) (policy review : List ℕ) → IsGateOf policy gate.now
-            → AreGiven (under (gatekeeper_of policies self.now) policy review) (held_contents table.now) uid.now
-            → DecidesAlone OneImage (gatekeeper_of policies self.now) policy review (decision_view result) }
+    /// What the policies decide of the review with this uid whose roots are in the table.
+    fn decision_on(
+        &self,
+        table: &Table,
+        uid: String,
+    ) -> Result<Result<Decision, Refused>, AllocError>
+        ensures { IfOk result (λ r. (policies : List PolicyFile) (review : List ℕ) → AreGates policies self.now.gates.items
+            → AreValuesOf (gatekeeper_of policies self.now) review (held_contents table.now) (string_bytes uid)
+            → DecideTogether OneImage (gatekeeper_of policies self.now) review (together_view r)) }
     {
-        gate.decision_on(table.copy()?, uid, self.steps)
+        let mut tally = Tally::new();
+        let gates = self.gates.as_slice();
+        for gate in gates {
+            let decision = self.decision_by(gate, table, uid.as_str());
+            tally = tally.with(self.alloc, &gate.label, decision)?;
+        }
+        Ok(tally.ending(uid))
     }
+
+    /// What one policy decides of this review. Its program runs on a copy of the table, which
+    /// shares the table's values.
+    fn decision_by(&self, gate: &NamedGate, table: &Table, uid: &str) -> Result<Decision, RunError>
+        ensures { (policies : List PolicyFile) (policy : PolicyFile) (review : List ℕ) → IsGateOf policy gate.now
+            → AreValuesOf (gatekeeper_of policies self.now) review (held_contents table.now) uid.now
+            → DecidesAlone OneImage (gatekeeper_of policies self.now) policy.document review (decision_view result) }
+    {
+        gate.gate.decision_on(table.copy()?, uid, self.steps)
+    }
+}
+
+/// The refusal of a review for which no policy is asked. The error is that memory ran out.
+fn refused_first(error: RunError) -> Result<Result<Decision, Refused>, AllocError>
+    ensures { IfOk result (λ r. (error ≢ Memory) × (together_view r ≡ Err (record { error = error; policy = None }))) }
+{
+    if is_memory(error) {
+        return Err(AllocError);
+    }
+    let policy = None;
+    Ok(Err(Refused { error, policy }))
 }

@@ -1,61 +1,86 @@
 //! The texts of refusals.
-ghost use Rattle.std.specs.Prelude.{◌≡◌, option_map, IfOk, IsErr, Some};
-ghost use Rattle.serde_json.specs.View.{view};
+ghost use Rattle.std.specs.Prelude.{◌≡◌, option_map, IfOk, OnOk, Some};
 ghost use Rattle.policy_glue.specs.Documents.{document_of};
-ghost use Rattle.admission.specs.declared.run_error.RunError.TheVariants.{Memory};
-ghost use Rattle.gatekeeper_runner.specs.Lines.{refusal_text, refusal_tree, uid_shown};
+ghost use Rattle.admission.specs.ErrorCodes.{run_error_code};
+ghost use Rattle.gatekeeper_runner.specs.Lines.{refusal_text, uid_shown};
+ghost use Rattle.gatekeeper_runner.specs.RefusalTokens.{label_tokens, refusal_tokens, text_tokens, uid_tokens, AddsTokens};
+ghost use Rattle.gatekeeper_runner.specs.Together.{label_view, refused_view};
 
-use admission::RunError;
+use crate::policy_label::PolicyLabel;
+use crate::refused::Refused;
+use crate::texts::text_at;
+use json::Writer;
 use policy_glue::parse_document;
-use serde_json::{Value, json};
 use std::alloc::{AllocError, Global};
 
 /// The text of a refusal of the review in a line, with the uid of its request where it shows one.
-/// Want of memory is no answer to a line.
-pub fn refused(alloc: Global, error: RunError, line: &[u8]) -> Result<Vec<u8>, AllocError>
-    ensures text { IfOk result (λ text. text.items ≡ refusal_text error (uid_shown (document_of line.now))) }
-    ensures memory { error ≡ Memory → IsErr result }
+pub fn line_refusal_text(
+    alloc: Global,
+    refused: &Refused,
+    line: &[u8],
+) -> Result<Vec<u8>, AllocError>
+    ensures { IfOk result (λ text. text.items ≡ refusal_text (refused_view refused.now) (uid_shown (document_of line.now))) }
 {
-    if matches!(error, RunError::Memory) {
-        return Err(AllocError);
-    }
-    match parse_document(alloc, line)? {
-        Some(value) => refusal_text(alloc, error, uid_shown(&value)),
-        None => refusal_text(alloc, error, None),
-    }
+    let document = parse_document(alloc, line)?;
+    refusal_text(alloc, refused, text_at(&document, "request", "uid"))
 }
 
 /// The text of a refusal.
-#[tactic(auto, unfolding(crate::specs::Lines::refusal_text))]
 pub fn refusal_text(
     alloc: Global,
-    error: RunError,
+    refused: &Refused,
     uid: Option<&str>,
 ) -> Result<Vec<u8>, AllocError>
-    ensures { IfOk result (λ text. text.items ≡ refusal_text error (option_map (λ s. s.now) uid.entry)) }
+    ensures { IfOk result (λ text. text.items ≡ refusal_text (refused_view refused.now) (option_map (λ s. s.now) uid.entry)) }
 {
-    let tree = refusal_tree(alloc, error.code(), uid)?;
-    tree.to_vec(alloc)
+    let mut writer = Writer::new(Vec::new(alloc));
+    write_refusal(&mut writer, refused, uid)?;
+    Ok(writer.into_inner())
 }
 
-fn refusal_tree(alloc: Global, name: &str, uid: Option<&str>) -> Result<Value, AllocError>
-    ensures { IfOk result (λ v. view v ≡ refusal_tree name.now (option_map (λ s. s.now) uid.entry)) }
+fn write_refusal(
+    writer: &mut Writer,
+    refused: &Refused,
+    uid: Option<&str>,
+) -> Result<(), AllocError>
+    ensures { OnOk result (AddsTokens writer.old writer.new (refusal_tokens (run_error_code refused.now.error) (option_map (λ s. s.now) uid.entry) (option_map label_view refused.now.policy))) }
+{
+    writer.begin_object()?;
+    write_text(writer, "refused", refused.error.code())?;
+    write_uid(writer, uid)?;
+    write_label(writer, &refused.policy)?;
+    writer.end_object()
+}
+
+fn write_uid(writer: &mut Writer, uid: Option<&str>) -> Result<(), AllocError>
+    ensures { OnOk result (AddsTokens writer.old writer.new (uid_tokens (option_map (λ s. s.now) uid.entry))) }
 {
     match uid {
-        Some(uid) => json!(in alloc; {"refused": name, "uid": uid}),
-        None => json!(in alloc; {"refused": name}),
+        Some(uid) => write_text(writer, "uid", uid),
+        None => Ok(()),
     }
 }
 
-/// The uid of the request of a document.
-fn uid_shown(document: &Value) -> Option<&str>
-    ensures { option_map (λ s. s.now) result ≡ uid_shown (Some (view document.now)) }
+fn write_label(writer: &mut Writer, label: &Option<PolicyLabel>) -> Result<(), AllocError>
+    ensures { OnOk result (AddsTokens writer.old writer.new (label_tokens (option_map label_view label.now))) }
 {
-    match document.get("request") {
-        Some(request) => match request.get("uid") {
-            Some(Value::String(uid)) => Some(uid.as_str()),
-            _ => None,
-        },
-        None => None,
+    match label {
+        Some(label) => write_policy(writer, label),
+        None => Ok(()),
     }
+}
+
+fn write_policy(writer: &mut Writer, label: &PolicyLabel) -> Result<(), AllocError>
+    ensures { OnOk result (AddsTokens writer.old writer.new (label_tokens (Some (label_view label.now)))) }
+{
+    write_text(writer, "policy", label.name.as_str())?;
+    write_text(writer, "failurePolicy", label.failure_policy.as_str())
+}
+
+/// Writes a member whose value is a text.
+fn write_text(writer: &mut Writer, name: &str, text: &str) -> Result<(), AllocError>
+    ensures { OnOk result (AddsTokens writer.old writer.new (text_tokens name.now text.now)) }
+{
+    writer.key(name)?;
+    writer.string(text)
 }

@@ -4,6 +4,8 @@ ghost use Rattle.gatekeeper_runner.specs.Orders.{order_view};
 ghost use Rattle.gatekeeper_runner.specs.Starting.{GatesFrom, KeepsFrom, OpensGate};
 
 use crate::gatekeeper::Gatekeeper;
+use crate::labeling::label_of;
+use crate::named_gate::NamedGate;
 use crate::order::Order;
 use admission::Gate;
 use cli::{Refusal, read_given};
@@ -35,7 +37,11 @@ pub fn start<F: Files>(alloc: Global, order: &Order, files: &mut F) -> Result<Ga
 }
 
 /// The gates of the policies in the files of these names.
-fn open_each<F: Files>(alloc: Global, names: &[String], files: &mut F) -> Result<Vec<Gate>, Refusal>
+fn open_each<F: Files>(
+    alloc: Global,
+    names: &[String],
+    files: &mut F,
+) -> Result<Vec<NamedGate>, Refusal>
     ensures gates { GatesFrom (F.known files.old) (map string_bytes names.now) result }
     ensures known { F.known files.new ≡ F.known files.old }
 {
@@ -51,11 +57,12 @@ fn open_each<F: Files>(alloc: Global, names: &[String], files: &mut F) -> Result
 }
 
 /// The gate of the policy in the file of this name.
-fn open<F: Files>(alloc: Global, name: &str, files: &mut F) -> Result<Gate, Refusal>
+fn open<F: Files>(alloc: Global, name: &str, files: &mut F) -> Result<NamedGate, Refusal>
     ensures gate { OpensGate (F.known files.old) name.now result }
     ensures known { F.known files.new ≡ F.known files.old }
 {
     let document = files.read(alloc, name)?;
     let gate = Gate::new(alloc, document.as_slice())?;
-    Ok(gate)
+    let label = label_of(alloc, name, document.as_slice())?;
+    Ok(NamedGate { gate, label })
 }

@@ -32,6 +32,13 @@ const TWO_ANSWERS: &str =
 {"apiVersion":"admission.k8s.io/v1","kind":"AdmissionReview","response":{"allowed":false,"status":{"code":422,"message":"failed expression: object.spec.replicas <= 3","reason":"Invalid"},"uid":"u2"}}
 "#;
 
+/// The answers under `few` and `slow`, in either order: what the first does not deny the second does
+/// not decide, and what the first denies is denied.
+const ONE_REFUSED: &str =
+    r#"{"refused":"N4","uid":"u1","policy":"slow-one","failurePolicy":"Ignore"}
+{"apiVersion":"admission.k8s.io/v1","kind":"AdmissionReview","response":{"allowed":false,"status":{"code":422,"message":"failed expression: object.spec.replicas <= 3","reason":"Invalid"},"uid":"u2"}}
+"#;
+
 /// A review of 1.5 replicas, an empty line, a document that is no review, one that is no JSON, and
 /// a review of 2 replicas whose line has no end.
 const REST: &str =
@@ -43,7 +50,7 @@ no
 
 /// The words, the input, the status, standard output and the refusal.
 #[rattlefmt::skip]
-const ROWS: [(&str, &str, u8, &str, &str); 10] = [
+const ROWS: [(&str, &str, u8, &str, &str); 12] = [
     (FEW, TWO, 0, TWO_ANSWERS, ""),
     (
         FEW,
@@ -74,7 +81,17 @@ const ROWS: [(&str, &str, u8, &str, &str); 10] = [
 "#,
         "",
     ),
-    ("gatekeeper --policy few --policy even --steps 1", TWO, 0, "{\"refused\":\"N4\",\"uid\":\"u1\"}\n{\"refused\":\"N4\",\"uid\":\"u2\"}\n", ""),
+    (
+        "gatekeeper --policy few --policy even --steps 1",
+        TWO,
+        0,
+        r#"{"refused":"N4","uid":"u1","policy":"few","failurePolicy":"Fail"}
+{"refused":"N4","uid":"u2","policy":"few","failurePolicy":"Fail"}
+"#,
+        "",
+    ),
+    ("gatekeeper --policy slow --policy few --steps 1000", TWO, 0, ONE_REFUSED, ""),
+    ("gatekeeper --policy few --policy slow --steps 1000", TWO, 0, ONE_REFUSED, ""),
     ("gatekeeper --params none --policy few", TWO, 0, "{\"refused\":\"N3\",\"uid\":\"u1\"}\n{\"refused\":\"N3\",\"uid\":\"u2\"}\n", ""),
     ("gatekeeper --policy few --policy none", TWO, 3, "", "K1"),
     (NO_POLICY, TWO, 3, "", "file"),

@@ -1,4 +1,5 @@
 use Rattle.gatekeeper_runner.proofs.Prelude.{unread, is_err}
+use Rattle.gatekeeper_runner.specs.Starting.{no_memory}
 use Rattle.gatekeeper_runner.proofs.Opened.{unopened_by}
 use Rattle.gatekeeper_runner.proofs.starting.open.Goals as goal
 
@@ -8,3 +9,17 @@ returns-in_err-document-clause-gate g c = rw (is_err c.from_residual.ensures.1) 
 pub returns-in_err-gate-clause-gate : goal.returns-in_err-gate-clause-gate
 returns-in_err-gate-clause-gate g c =
     rw (is_err c.from_residual-in_err-gate.ensures.1) (unopened_by _ _ _ _ (rw (← c.as_slice.ensures.value) at c.in_ok-document.ensures.read) c.in_err-gate.ensures.compiles)
+
+pub returns-in_err-label-clause-gate : goal.returns-in_err-label-clause-gate
+returns-in_err-label-clause-gate g c = rw (is_err c.from_residual-in_err-label.ensures.1) no_memory
+
+pub returns-clause-gate : goal.returns-clause-gate
+returns-clause-gate g c = (
+  _,
+  c.in_ok-document.ensures.read,
+  record {
+    policy = rw c.as_slice.ensures.value at c.in_ok-gate.ensures.compiles;
+    image = c.in_ok-gate.ensures.one;
+    label = rw c.as_slice-2.ensures.value at c.in_ok-label.ensures;
+  },
+)

@@ -9,7 +9,12 @@ const FEW: &str =
 const EVEN: &str =
     r#"{"apiVersion":"admissionregistration.k8s.io/v1","kind":"ValidatingAdmissionPolicy","spec":{"validations":[{"expression":"object.spec.replicas % 2 == 0","message":"odd","reason":"Forbidden"}]}}"#;
 
-/// `few` allows at most 3 replicas, `even` an even number of them, and `none` is no policy.
+/// 4,096 turns of a loop, each of which takes a step at least.
+const SLOW: &str =
+    r#"{"apiVersion":"admissionregistration.k8s.io/v1","kind":"ValidatingAdmissionPolicy","metadata":{"name":"slow-one"},"spec":{"failurePolicy":"Ignore","validations":[{"expression":"[1,2,3,4,5,6,7,8,9,10,11,12,13,14,15,16].all(x, [1,2,3,4,5,6,7,8,9,10,11,12,13,14,15,16].all(y, [1,2,3,4,5,6,7,8,9,10,11,12,13,14,15,16].all(z, x + y + z > 0)))"}]}}"#;
+
+/// `few` allows at most 3 replicas, `even` an even number of them, `slow` all after many steps, and
+/// `none` is no policy.
 #[derive(Drop)]
 pub struct Policies;
 
@@ -22,6 +27,7 @@ impl Files for Policies {
         let text = match name {
             "few" => FEW,
             "even" => EVEN,
+            "slow" => SLOW,
             "none" => "no",
             _ => return Err(FileError::Failed),
         };

@@ -1,0 +1,5 @@
+use Rattle.gatekeeper_runner.proofs.RefusalTexts.{adds_none}
+use Rattle.gatekeeper_runner.proofs.refusing.write_uid.Goals as goal
+
+pub returns-in-None : goal.returns-in-None
+returns-in-None c = rw c.in-None.is (adds_none _)

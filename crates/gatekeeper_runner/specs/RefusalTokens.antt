@@ -1,0 +1,26 @@
+-- The tokens of the text of a refusal.
+use Rattle.std.specs.Prelude.{◌≡◌, ℕ, List, [], ◌∷◌, ◌++◌, codes, Option, Some, None}
+use Rattle.json.specs.Token.{Token, begin_object, end_object, key, string}
+use Rattle.json.specs.Written.{Written}
+use Rattle.gatekeeper_runner.specs.Together.{Label}
+
+-- a member whose value is a text
+abbrev pub text_tokens : List ℕ → List ℕ → List Token
+text_tokens name text = key name ∷ string text ∷ []
+
+abbrev pub uid_tokens : Option (List ℕ) → List Token
+uid_tokens None = []
+uid_tokens (Some uid) = text_tokens (codes "uid") uid
+
+abbrev pub label_tokens : Option Label → List Token
+label_tokens None = []
+label_tokens (Some label) = text_tokens (codes "policy") label.name ++ text_tokens (codes "failurePolicy") label.failure_policy
+
+abbrev pub refusal_tokens : List ℕ → Option (List ℕ) → Option Label → List Token
+refusal_tokens name uid label =
+    begin_object ∷ ((text_tokens (codes "refused") name ++ (uid_tokens uid ++ label_tokens label)) ++ end_object ∷ [])
+
+-- these tokens are written after those that were
+pub record AddsTokens (old new : Written) (tokens : List Token) : Type 0 where
+  pub before : new.before ≡ old.before
+  pub added : new.tokens ≡ old.tokens ++ tokens

@@ -1,0 +1,21 @@
+//! What refusals tell of the policies in documents.
+ghost use Rattle.std.specs.Prelude.{◌≡◌, IfOk};
+ghost use Rattle.gatekeeper_runner.specs.Together.{label_of, label_view};
+
+use crate::policy_label::PolicyLabel;
+use crate::texts::text_at;
+use policy_glue::parse_document;
+use std::alloc::{AllocError, Global};
+
+/// The label of the policy in a document, which the file of this name holds.
+pub fn label_of(alloc: Global, file: &str, document: &[u8]) -> Result<PolicyLabel, AllocError>
+    ensures { IfOk result (λ l. label_view l ≡ label_of (record { file = file.now; document = document.now })) }
+{
+    let parsed = parse_document(alloc, document)?;
+    let name = text_at(&parsed, "metadata", "name").unwrap_or(file);
+    let failure_policy = text_at(&parsed, "spec", "failurePolicy").unwrap_or("Fail");
+    Ok(PolicyLabel {
+        name: String::from_str(alloc, name)?,
+        failure_policy: String::from_str(alloc, failure_policy)?,
+    })
+}

@@ -1,0 +1,119 @@
+//! What policies decide of a review, one after the other.
+ghost use Rattle.std.specs.Prelude.{◌≡◌, option_map, IfOk, Err, Ok, Some, []};
+ghost use Rattle.std.specs.Option.{option_or};
+ghost use Rattle.admission.specs.Decisions.{decision_value, decision_view};
+ghost use Rattle.gatekeeper_runner.specs.Tally.{AddsResult, IsTallyOf, ending_of};
+ghost use Rattle.gatekeeper_runner.specs.Together.{label_view, refused_view, together_view};
+
+use crate::errors::is_memory;
+use crate::joining::and_also;
+use crate::policy_label::PolicyLabel;
+use crate::refused::Refused;
+use admission::{Decision, RunError};
+use policy_glue::Rejection;
+use std::alloc::{AllocError, Global};
+
+/// What the policies that were asked so far have against a request.
+#[derive(Drop)]
+pub struct Tally {
+    /// The rejections of those that decide, joined.
+    pub rejection: Option<Rejection>,
+    /// The first refusal of one that does not.
+    pub refused: Option<Refused>,
+}
+
+impl Tally {
+    /// No policy was asked so far.
+    pub fn new() -> Tally
+        ensures { IsTallyOf [] result }
+    {
+        Tally {
+            rejection: None,
+            refused: None,
+        }
+    }
+
+    /// Adds what the policy with this label decides, or why it does not.
+    ///
+    /// # Errors
+    ///
+    /// An allocation failed, here or when the policy's program ran.
+    pub fn with(
+        self,
+        alloc: Global,
+        label: &PolicyLabel,
+        decision: Result<Decision, RunError>,
+    ) -> Result<Tally, AllocError>
+        ensures { IfOk result (AddsResult (label_view label.now) (decision_view decision) self) }
+    {
+        match decision {
+            Ok(decision) => self.with_decision(label, decision),
+            Err(error) => self.with_refusal(alloc, label, error),
+        }
+    }
+
+    fn with_decision(self, _label: &PolicyLabel, decision: Decision) -> Result<Tally, AllocError>
+        ensures { IfOk result (AddsResult (label_view _label.now) (Ok (decision_value decision)) self) }
+    {
+        Ok(Tally {
+            rejection: and_also(self.rejection, decision.rejection)?,
+            refused: self.refused,
+        })
+    }
+
+    fn with_refusal(
+        self,
+        alloc: Global,
+        label: &PolicyLabel,
+        error: RunError,
+    ) -> Result<Tally, AllocError>
+        ensures { IfOk result (AddsResult (label_view label.now) (Err error) self) }
+    {
+        if is_memory(error) {
+            return Err(AllocError);
+        }
+        let refused = first_of(alloc, self.refused, label, error)?;
+        Ok(Tally {
+            rejection: self.rejection,
+            refused: Some(refused),
+        })
+    }
+
+    /// The decision of all policies together on the request with this uid, or the first refusal.
+    pub fn ending(self, uid: String) -> Result<Decision, Refused>
+        ensures { together_view result ≡ ending_of self uid }
+    {
+        let Tally { rejection, refused } = self;
+        match rejection {
+            Some(rejection) => Ok(Decision {
+                rejection: Some(rejection),
+                uid,
+            }),
+            None => match refused {
+                Some(refused) => Err(refused),
+                None => Ok(Decision {
+                    rejection: None,
+                    uid,
+                }),
+            },
+        }
+    }
+}
+
+/// The first refusal, where the next one is that of the policy with this label.
+fn first_of(
+    alloc: Global,
+    first: Option<Refused>,
+    label: &PolicyLabel,
+    error: RunError,
+) -> Result<Refused, AllocError>
+    ensures { IfOk result (λ r. Some (refused_view r) ≡ option_or (option_map refused_view first) (Some (record { error = error; policy = Some (label_view label.now) }))) }
+{
+    match first {
+        Some(first) => Ok(first),
+        None => Ok(Refused {
+            error,
+            policy: Some(label.copy(alloc)?),
+        }),
+    }
+}
