@@ -1,16 +1,16 @@
 -- How the answers go on.
-use Rattle.gatekeeper_runner.proofs.Prelude.{◌≡◌, ℕ, ◌<◌, ◌≤◌, Bool, true, false, List, [], ◌∷◌, ◌++◌, length, length-drop, take, drop, Option, Some, refl, sym, ap, subst, ◌∙◌, inl, inr, arith, append_assoc, append-nil, Result, Ok, Err, ◌⊎◌, take-append-drop, AddsBytes, cut, input_lines, readable, with_rest, SessionError, ReadFailed, WriteFailed, Pieces, cut-none, cut-line, cut-part, input_lines-ended, readable-all, HasNoFeed, HeardByResult, OfBytes, OneImage, AnswersReviewLine, PolicyFile, no_memory, passed_over, too_long, Gatekeeper, KeepsLine, Answered, AnsweredPart, AnswersEach, AnswersByResult, AnswersSoFar, AnswersToEnd, AnswersCut, AnswersEnd, AnswersBreak, AnsweredPartOfLines, AreGates, gatekeeper_of, UnderPolicies, UnderSame}
+use Rattle.gatekeeper_runner.proofs.Prelude.{◌≡◌, ℕ, ◌<◌, ◌≤◌, Bool, true, false, List, [], ◌∷◌, ◌++◌, length, length-drop, take, drop, Option, Some, refl, sym, ap, subst, ◌∙◌, inl, inr, arith, append_assoc, append-nil, true≢false, Result, Ok, Err, ◌⊎◌, take-append-drop, AddsBytes, cut, input_lines, readable, with_rest, SessionError, ReadFailed, WriteFailed, Pieces, cut-none, cut-line, cut-part, input_lines-ended, readable-all, HasNoFeed, HeardByResult, OfBytes, OneImage, AnswersReviewLine, PolicyFile, no_memory, passed_over, too_long, Gatekeeper, KeepsLine, Answered, AnsweredPart, AnswersEach, AnswersByResult, AnswersSoFar, AnswersToEnd, AnswersCut, AnswersEnd, AnswersBreak, AnsweredPartOfLines, AreGates, gatekeeper_of, UnderPolicies, UnderSame}
 use Rattle.streams.specs.declared.session_error.SessionError.TheVariants.{Memory as SessionMemory}
 use Rattle.gatekeeper_runner.specs.declared.gatekeeper.Gatekeeper.{Gatekeeper as CodeGatekeeper}
 use Rattle.gatekeeper_runner.specs.declared.line.Line.{Line}
-use Rattle.gatekeeper_runner.specs.Lines.{decided}
+use Rattle.gatekeeper_runner.specs.Lines.{decided, is_blank}
 use Rattle.gatekeeper_runner.specs.AnsweredLines as told
 
 -- nothing is answered to an empty line
 pub no_answer : (t : Gatekeeper) (line text : List ℕ) → line ≡ [] → AnswersReviewLine OneImage t line text → text ≡ []
-no_answer t line text none (passed_over is) = refl
+no_answer t line text none (passed_over short blank) = refl
 no_answer t line text none (too_long long) = absurd (let zero = ap length none in omega (arith, long, zero))
-no_answer t line text none (decided some short decides) = absurd (let zero = ap length none in omega (arith, some, zero))
+no_answer t line text none (decided short full decides) = absurd (let blank : is_blank line ≡ true = ap is_blank none in true≢false (sym blank ∙ full))
 no_answer t line text none (no_memory some) = absurd (let zero = ap length none in omega (arith, some, zero))
 
 -- the answers to ended lines and to the rest behind them
@@ -84,11 +84,11 @@ module _ (t : Gatekeeper) (before heard : List ℕ) (written : Option (List ℕ)
   end_part new a = part_told (cut heard).1 heard new a (is_line t (cut heard).0 (cut heard).1 a.text a.many a.answers a.is_cut)
 
 -- what is kept once the rest of a line, or its end, is heard
-pub kept_part : (line : Line) (heard part : List ℕ) → HasNoFeed part → KeepsLine line ((cut heard).1 ++ part) → KeepsLine line (cut (heard ++ part)).1
-kept_part line heard part plain keeps = rw (cut-part heard part plain) keeps
+pub kept_part : (most : ℕ) (line : Line) (heard part : List ℕ) → HasNoFeed part → KeepsLine most line ((cut heard).1 ++ part) → KeepsLine most line (cut (heard ++ part)).1
+kept_part most line heard part plain keeps = rw (cut-part heard part plain) keeps
 
-pub kept_none : (line : Line) (heard rest : List ℕ) → HasNoFeed rest → KeepsLine line [] → KeepsLine line (cut (heard ++ (rest ++ 10 ∷ []))).1
-kept_none line heard rest plain keeps = rw (cut-line heard rest plain) keeps
+pub kept_none : (most : ℕ) (line : Line) (heard rest : List ℕ) → HasNoFeed rest → KeepsLine most line [] → KeepsLine most line (cut (heard ++ (rest ++ 10 ∷ []))).1
+kept_none most line heard rest plain keeps = rw (cut-line heard rest plain) keeps
 
 -- what holds under the gatekeeper of the start
 pub under_start : (keeper start : CodeGatekeeper) (Q : Gatekeeper → Type 0) → UnderSame keeper start Q → UnderPolicies start Q
@@ -139,15 +139,15 @@ module _ (t : Gatekeeper) (input before : List ℕ) (left written : Option (List
 -- the same of what the answers have heard
 pub heard_told : (keeper start : CodeGatekeeper) (line : Line) (policies : List PolicyFile) → AreGates policies start.gates.items → (input before : List ℕ)
     (left written : Option (List ℕ)) (result : Result (Unit {0}) SessionError)
-    → HeardByResult (λ heard new. UnderSame keeper start (λ t. AnswersSoFar OneImage t before heard new × KeepsLine line (cut heard).1))
+    → HeardByResult (λ heard new. UnderSame keeper start (λ t. AnswersSoFar OneImage t before heard new × KeepsLine t.max_line line (cut heard).1))
     (λ last heard new. UnderSame keeper start (λ t. AnswersEnd last OneImage t before heard new))
     (λ last heard new. UnderSame keeper start (λ t. AnswersBreak last OneImage t before heard new)) input left written result
     → AnswersByResult OneImage (gatekeeper_of policies start) input before left written result
 heard_told keeper start line policies are input before left written result =
     answers_told (gatekeeper_of policies start) input before left written
-    (λ heard new. UnderSame keeper start (λ t. AnswersSoFar OneImage t before heard new × KeepsLine line (cut heard).1))
+    (λ heard new. UnderSame keeper start (λ t. AnswersSoFar OneImage t before heard new × KeepsLine t.max_line line (cut heard).1))
     (λ last heard new. UnderSame keeper start (λ t. AnswersEnd last OneImage t before heard new))
     (λ last heard new. UnderSame keeper start (λ t. AnswersBreak last OneImage t before heard new)) result
-    (λ heard h. (under_start keeper start (λ t. AnswersSoFar OneImage t before heard written × KeepsLine line (cut heard).1) h policies are).0)
+    (λ heard h. (under_start keeper start (λ t. AnswersSoFar OneImage t before heard written × KeepsLine t.max_line line (cut heard).1) h policies are).0)
     (λ last heard h. under_start keeper start (λ t. AnswersEnd last OneImage t before heard written) h policies are)
     (λ last heard h. under_start keeper start (λ t. AnswersBreak last OneImage t before heard written) h policies are)

@@ -1,10 +1,9 @@
 -- A line has one answer.
-use Rattle.gatekeeper_runner.proofs.Prelude.{◌≡◌, ◌≢◌, ℕ, List, [], ◌∷◌, map, None, Result, Ok, Err, refl, sym, ap, ◌∙◌, subst, arith, OneImage, ReviewHasOneResult, Decision, RunError, AnswersReviewLine, answer_text, line_of, no_memory, no_memory_text, passed_over, too_long, LinesHaveOneAnswer, AreResults, IsResult, DecideTogether, Gatekeeper, PolicyFile, PolicyResult, Refused, first_refused, joined, rejections, uid_in, under}
+use Rattle.gatekeeper_runner.proofs.Prelude.{◌≡◌, ◌≢◌, ℕ, List, [], ◌∷◌, map, None, Result, Ok, Err, refl, sym, ap, ◌∙◌, subst, arith, true≢false, OneImage, ReviewHasOneResult, Decision, RunError, AnswersReviewLine, answer_text, line_of, no_memory, no_memory_text, passed_over, too_long, LinesHaveOneAnswer, AreResults, IsResult, DecideTogether, Gatekeeper, PolicyFile, PolicyResult, Refused, first_refused, joined, rejections, uid_in, under}
 use Rattle.gatekeeper_runner.specs.Lines.{decided}
 use Rattle.gatekeeper_runner.specs.Together as together
 use Rattle.policy_glue.specs.OneAnswer as policy
 use Rattle.gatekeeper_runner.proofs.SaidOnce.{says_once}
-use Rattle.gatekeeper_runner.proofs.Going.{no_answer}
 
 module _ (compiles_once : policy.CompileHasOneResult) (reviews_once : ReviewHasOneResult) (t : Gatekeeper) (line : List ℕ) where
   result_once : (p : PolicyFile) (r s : Result Decision RunError) → IsResult OneImage t line (record { policy = p; result = r }) → IsResult OneImage t line (record { policy = p; result = s }) → r ≡ s
@@ -33,12 +32,15 @@ module _ (compiles_once : policy.CompileHasOneResult) (reviews_once : ReviewHasO
   answers_same : (a b : List ℕ) → a ≢ no_memory_text → b ≢ no_memory_text → AnswersReviewLine OneImage t line a → AnswersReviewLine OneImage t line b → a ≡ b
   answers_same a b some other (no_memory full) last = absurd (some refl)
   answers_same a b some other first (no_memory full) = absurd (other refl)
-  answers_same a b some other (passed_over is) last = sym (no_answer t line b is last)
-  answers_same a b some other first (passed_over is) = no_answer t line a is first
   answers_same a b some other (too_long long) (too_long also) = refl
-  answers_same a b some other (too_long long) (decided full short decides) = absurd (omega (arith, long, short))
-  answers_same a b some other (decided full short decides) (too_long long) = absurd (omega (arith, long, short))
-  answers_same a b some other (decided full short decides) (decided full2 short2 decides2) =
+  answers_same a b some other (too_long long) (passed_over short blank) = absurd (omega (arith, long, short))
+  answers_same a b some other (too_long long) (decided short full decides) = absurd (omega (arith, long, short))
+  answers_same a b some other (passed_over short blank) (too_long long) = absurd (omega (arith, long, short))
+  answers_same a b some other (passed_over short blank) (passed_over short2 blank2) = refl
+  answers_same a b some other (passed_over short blank) (decided short2 full decides) = absurd (true≢false (sym blank ∙ full))
+  answers_same a b some other (decided short full decides) (too_long long) = absurd (omega (arith, long, short))
+  answers_same a b some other (decided short full decides) (passed_over short2 blank) = absurd (true≢false (sym blank ∙ full))
+  answers_same a b some other (decided short full decides) (decided short2 full2 decides2) =
       ap (λ (r : Result Decision Refused). line_of (answer_text line r)) (together_once _ _ decides decides2)
 
 pub lines_once : policy.CompileHasOneResult → ReviewHasOneResult → LinesHaveOneAnswer

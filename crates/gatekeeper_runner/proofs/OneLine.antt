@@ -3,22 +3,43 @@ use Rattle.std.proofs.Common.{◌-◌}
 use Rattle.std.proofs.Math.Seq.{take-add}
 use Rattle.std.proofs.lemmas.List.{drop_at, take_at}
 use Rattle.streams.proofs.Cut.{take-join}
-use Rattle.gatekeeper_runner.proofs.Prelude.{◌≡◌, ◌++◌, ◌+◌, ◌∙◌, refl, ℕ, suc, arith, length-take, ◌<◌, ◌≤◌, Bool, true, false, List, length, take, Option, sym, ap, subst, Result, nat_lt, ltb-true, AddsBytes, OneImage, Decision, AnswersReviewLine, IsKeptOfLine, answer_text, line_of, longest_line, too_long, too_long_text, DecideTogether, Gatekeeper, Refused, AnsweredPart}
-use Rattle.gatekeeper_runner.specs.Lines.{decided}
+use Rattle.gatekeeper_runner.proofs.Prelude.{◌≡◌, ◌++◌, ◌+◌, ◌∙◌, refl, ℕ, suc, arith, length-take, ◌<◌, ◌≤◌, Bool, true, false, List, [], length, take, take_all, Option, sym, ap, subst, Result, nat_lt, ltb-false, ltb-true, AddsBytes, OneImage, Decision, AnswersReviewLine, IsKeptOfLine, KeepsLine, answer_text, line_of, passed_over, too_long, too_long_text, DecideTogether, Gatekeeper, Refused, AnsweredPart}
+use Rattle.gatekeeper_runner.specs.Lines.{decided, is_blank}
+use Rattle.gatekeeper_runner.specs.declared.line.Line.{Line}
+
+-- what is kept of a line that is not too long is the line
+pub kept_whole : (most : ℕ) (kept line : List ℕ) → kept ≡ take (suc most) line → length kept ≤ most → kept ≡ line
+kept_whole most kept line keeps short =
+    let many = ap length keeps in
+    let few : length line ≤ suc most = omega (arith, many, short, length-take (suc most) line) in
+    keeps ∙ take_all (suc most) line few
 
 module _ (t : Gatekeeper) where
-  pub answered : (line text : List ℕ) (r : Result Decision Refused) → 0 < length line → length line ≤ longest_line → DecideTogether OneImage t line r
-      → text ≡ answer_text line r → AnswersReviewLine OneImage t line (line_of text)
-  answered line text r some short decides is = subst (λ (x : List ℕ). AnswersReviewLine OneImage t line (line_of x)) (sym is) (decided {result = r} some short decides)
+  -- an empty line is blank
+  pub is_passed : (line : List ℕ) → line ≡ [] → AnswersReviewLine OneImage t line []
+  is_passed line is = subst (λ (l : List ℕ). AnswersReviewLine OneImage t l []) (sym is) (passed_over (omega arith) refl)
 
-  pub was_long : (lacks : Bool) (kept line text : List ℕ) → lacks ≡ false → IsKeptOfLine lacks kept line → true ≡ nat_lt longest_line (length kept)
-      → text ≡ line_of too_long_text → AnswersReviewLine OneImage t line text
-  was_long true kept line text held keeps long is = absurd (cc)
-  was_long false kept line text held keeps long is =
-      let many = ap length keeps in
-      let most = length-take (suc longest_line) line in
-      let above = ltb-true longest_line (length kept) (sym long) in
-      subst (AnswersReviewLine OneImage t line) (sym is) (too_long (omega (arith, many, above, most)))
+  pub answered : (line text : List ℕ) (r : Result Decision Refused) → length line ≤ t.max_line → is_blank line ≡ false → DecideTogether OneImage t line r
+      → text ≡ answer_text line r → AnswersReviewLine OneImage t line (line_of text)
+  answered line text r short full decides is = subst (λ (x : List ℕ). AnswersReviewLine OneImage t line (line_of x)) (sym is) (decided {result = r} short full decides)
+
+  module _ (l : Line) (line : List ℕ) (held : l.lacks ≡ false) (keeps : KeepsLine t.max_line l line) where
+    kept : l.bytes.items ≡ take (suc t.max_line) line
+    kept = subst (λ (lacks : Bool). IsKeptOfLine lacks t.max_line l.bytes.items line) held keeps.kept
+
+    pub was_long : (text : List ℕ) → true ≡ nat_lt l.most (length l.bytes.items) → text ≡ line_of too_long_text → AnswersReviewLine OneImage t line text
+    was_long text long is =
+        let many = ap length kept in
+        let most = length-take (suc t.max_line) line in
+        let above = ltb-true l.most (length l.bytes.items) (sym long) in
+        subst (AnswersReviewLine OneImage t line) (sym is) (too_long (omega (arith, many, above, most, keeps.most_is)))
+
+    -- what is answered to what is kept is answered to the line
+    pub was_whole : false ≡ nat_lt l.most (length l.bytes.items) → (Q : List ℕ → Type 0) → (length l.bytes.items ≤ t.max_line → Q l.bytes.items) → Q line
+    was_whole whole Q of_kept =
+        let above = ltb-false l.most (length l.bytes.items) (sym whole) in
+        let short : length l.bytes.items ≤ t.max_line = omega (arith, above, keeps.most_is) in
+        subst Q (kept_whole t.max_line l.bytes.items line kept short) (of_kept short)
 
 pub written_part : (t : Gatekeeper) (line text : List ℕ) (old new : Option (List ℕ)) → AnswersReviewLine OneImage t line text
     → (n : ℕ) × (n < length text) × AddsBytes old new (take n text) → AnsweredPart OneImage t line old new
@@ -33,15 +54,13 @@ front_more n xs ys short =
     ∙ (λ i. take_at xs ys (length xs) refl i ++ take (n - length xs) (drop_at xs ys (length xs) refl i))
 
 -- what is kept of a line once its next part is added
-pub keeps_more : (lacks : Bool) (kept new line part added : List ℕ) (len : ℕ) → lacks ≡ false → IsKeptOfLine lacks kept line → len ≡ length kept
-    → added ≡ take (16777217 - len) part → new ≡ kept ++ added → IsKeptOfLine lacks new (line ++ part)
-unfolding longest_line
-keeps_more true kept new line part added len off keeps size is all = absurd (cc)
-keeps_more false kept new line part added len off keeps size is all =
-    let many = ap length keeps in
-    let few : length kept ≤ 16777217 = omega (arith, many, length-take 16777217 line) in
+pub keeps_more : (most : ℕ) (lacks : Bool) (kept new line part added : List ℕ) (len : ℕ) → lacks ≡ false → IsKeptOfLine lacks most kept line → len ≡ length kept → length kept ≤ most
+    → added ≡ take (suc (most - len)) part → new ≡ kept ++ added → IsKeptOfLine lacks most new (line ++ part)
+keeps_more most true kept new line part added len off keeps size short is all = absurd (cc)
+keeps_more most false kept new line part added len off keeps size short is all =
+    let room : suc (most - length kept) ≡ suc most - length kept = omega (arith, short) in
     all
-    ∙ ap (λ (more : List ℕ). kept ++ more) (is ∙ ap (λ (n : ℕ). take (16777217 - n) part) size)
-    ∙ sym (front_more 16777217 kept part few)
-    ∙ ap (λ (front : List ℕ). take 16777217 (front ++ part)) keeps
-    ∙ take-join 16777217 line part
+    ∙ ap (λ (more : List ℕ). kept ++ more) (is ∙ ap (λ (n : ℕ). take (suc (most - n)) part) size ∙ ap (λ (n : ℕ). take n part) room)
+    ∙ sym (front_more (suc most) kept part (omega (arith, short)))
+    ∙ ap (λ (front : List ℕ). take (suc most) (front ++ part)) keeps
+    ∙ take-join (suc most) line part

@@ -67,5 +67,5 @@ pub use Rattle.gatekeeper_runner.specs.AnsweredLines.{AnsweredPartOfLines}
 pub use Rattle.gatekeeper_runner.specs.declared.named_gate.NamedGate.{NamedGate}
 pub use Rattle.gatekeeper_runner.specs.declared.order.Order.{Order}
 pub use Rattle.gatekeeper_runner.specs.declared.tally.Tally.{Tally}
-unfoldable pub use Rattle.gatekeeper_runner.specs.Lines.{longest_line, refusal_text}
-unfoldable pub use Rattle.gatekeeper_runner.specs.Orders.{entered, faults, gatekeeper_app, policies_rule}
+unfoldable pub use Rattle.gatekeeper_runner.specs.Lines.{refusal_text}
+unfoldable pub use Rattle.gatekeeper_runner.specs.Orders.{entered, faults, gatekeeper_app, max_line_rule, policies_rule}

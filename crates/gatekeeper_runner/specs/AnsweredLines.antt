@@ -74,7 +74,7 @@ UnderPolicies keeper Q = (policies : List PolicyFile) → AreGates policies keep
 
 -- and with the line that is kept
 abbrev pub OfLine : CodeGatekeeper → Line → (Gatekeeper → List ℕ → Type 0) → Type 0
-OfLine keeper line Q = UnderPolicies keeper (λ t. (bytes : List ℕ) → KeepsLine line bytes → Q t bytes)
+OfLine keeper line Q = UnderPolicies keeper (λ t. (bytes : List ℕ) → KeepsLine t.max_line line bytes → Q t bytes)
 
 -- the answer to a line was written
 pub record Answered (chosen : Images) (t : Gatekeeper) (line : List ℕ) (old new : Option (List ℕ)) : Type 0 where

@@ -6,5 +6,6 @@ pub mod RefusalTokens
 pub mod AnsweredLines
 pub mod Orders
 pub mod Starting
+pub mod About
 pub mod Program
 pub mod SameAnswers

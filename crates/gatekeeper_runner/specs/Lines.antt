@@ -1,5 +1,6 @@
 -- What is answered to a line.
-use Rattle.std.specs.Prelude.{◌≡◌, ℕ, ◌<◌, ◌≤◌, Bool, true, false, List, [], ◌∷◌, ◌++◌, codes, length, suc, take}
+use Rattle.std.specs.Prelude.{◌≡◌, ℕ, ◌<◌, ◌≤◌, Bool, true, false, List, [], ◌∷◌, ◌++◌, ◌||◌, codes, length, nat_eq, suc, take}
+use Rattle.std.specs.List.{list_all}
 use Rattle.std.specs.Prelude.{Option, Some, None, Result, Ok, Err}
 use Rattle.serde_json.specs.Data as json
 use Rattle.serde_json.specs.Written.{compact_text}
@@ -46,9 +47,13 @@ too_long_text = refusal_text (record { error = ReviewRefused; policy = None }) N
 
 -- ---- a line
 
--- a line of more bytes is refused unread
-unfoldable pub longest_line : ℕ
-longest_line = 16777216
+-- a space, a tab or a carriage return
+abbrev pub is_blank_byte : ℕ → Bool
+is_blank_byte b = nat_eq b 32 || (nat_eq b 9 || nat_eq b 13)
+
+-- no other byte, or none at all
+abbrev pub is_blank : List ℕ → Bool
+is_blank line = list_all is_blank_byte line
 
 -- a text and the line feed that ends it
 abbrev pub line_of : List ℕ → List ℕ
@@ -65,19 +70,26 @@ answer_text line (Err refused) = refusal_text refused (uid_shown (document_of li
 
 -- a line, and what is written for it, which depends on no other line
 pub data AnswersReviewLine (chosen : Images) (t : Gatekeeper) (line : List ℕ) : List ℕ → Type 0 where
-  passed_over : line ≡ [] → AnswersReviewLine chosen t line []
-  too_long : longest_line < length line → AnswersReviewLine chosen t line (line_of too_long_text)
-  decided : {result : Result Decision Refused} → 0 < length line → length line ≤ longest_line
+  -- a line of more bytes is refused unread
+  too_long : t.max_line < length line → AnswersReviewLine chosen t line (line_of too_long_text)
+  passed_over : length line ≤ t.max_line → is_blank line ≡ true → AnswersReviewLine chosen t line []
+  decided : {result : Result Decision Refused} → length line ≤ t.max_line → is_blank line ≡ false
       → DecideTogether chosen t line result → AnswersReviewLine chosen t line (line_of (answer_text line result))
   -- the host has no memory for it, which says nothing of the line
   no_memory : 0 < length line → AnswersReviewLine chosen t line no_memory_text
 
 -- ---- the line that is read
 
--- what is kept of a line: its bytes up to one more than the longest, or that there was no memory for them
-abbrev pub IsKeptOfLine : Bool → List ℕ → List ℕ → Type 0
-IsKeptOfLine true kept line = 0 < length line
-IsKeptOfLine false kept line = kept ≡ take (suc longest_line) line
+-- what is kept of a line: its bytes up to one more than the most, or that there was no memory for them
+abbrev pub IsKeptOfLine : Bool → ℕ → List ℕ → List ℕ → Type 0
+IsKeptOfLine true most kept line = 0 < length line
+IsKeptOfLine false most kept line = kept ≡ take (suc most) line
 
-abbrev pub KeepsLine : Line → List ℕ → Type 0
-KeepsLine l line = IsKeptOfLine l.lacks l.bytes.items line
+-- a line of which at most this many bytes are read
+pub record KeepsLine (most : ℕ) (l : Line) (line : List ℕ) : Type 0 where
+  pub most_is : l.most ≡ most
+  pub kept : IsKeptOfLine l.lacks most l.bytes.items line
+
+-- the most bytes for which there is room between two lines
+abbrev pub kept_room : ℕ
+kept_room = 1048576

@@ -1,8 +1,9 @@
 -- What the words ask for.
-use Rattle.std.specs.Prelude.{◌≡◌, ℕ, List, [], map, Option, Some, option_map, Result, codes, string_bytes, unwrap_or}
-use Rattle.clap.specs.Words.{App, Kinds, Row, Rule, Text, fault_of, first_of, matches_of, new_app, one_of, with_rule}
+use Rattle.std.specs.Prelude.{◌≡◌, ℕ, List, [], ◌∷◌, map, Option, Some, option_map, Result, codes, string_bytes, unwrap_or}
+use Rattle.clap.specs.Words.{App, Kinds, Row, Rule, Text, fault_of, first_of, matches_of, new_app, new_rule, one_of, with_rule}
 use Rattle.clap.specs.Walk.{all_of}
 use Rattle.clap.specs.declared.builder.action.ArgAction.TheVariants as arg_action
+use Rattle.clap.specs.declared.builder.value_parser.ValueParser.TheVariants as parser
 use Rattle.cli.specs.Arguments.{required_option_rule, steps_rule, with_documents}
 use Rattle.cli.specs.Number.{number_of}
 use Rattle.cli.specs.Parsing.{TakesWords}
@@ -14,9 +15,22 @@ use Rattle.gatekeeper_runner.specs.declared.order.Order.{Order as CodeOrder}
 unfoldable pub policies_rule : Rule
 policies_rule = record (required_option_rule (codes "policy")) { action = Some arg_action.Append }
 
--- gatekeeper --policy F [--policy F ..] [--namespace F] [--params F] [--steps N]
+-- the most bytes of a line that may be asked for, and that are if no number is given
+abbrev pub longest_line : ℕ
+longest_line = 16777216
+
+-- --max-line N, from 1 on
+unfoldable pub max_line_rule : Rule
+max_line_rule = record (new_rule (codes "max-line")) {
+  long = Some (codes "max-line");
+  defaults = codes "16777216" ∷ [];
+  parser = Some (parser.Unsigned 1 longest_line);
+}
+
+-- gatekeeper --policy F [--policy F ..] [--namespace F] [--params F] [--steps N] [--max-line N]
 unfoldable pub gatekeeper_app : App
-gatekeeper_app = with_rule (with_documents (with_rule (new_app (codes "gatekeeper")) policies_rule)) steps_rule
+gatekeeper_app =
+    with_rule (with_rule (with_documents (with_rule (new_app (codes "gatekeeper")) policies_rule)) steps_rule) max_line_rule
 
 -- the reasons to refuse the words, of which there are none where they are taken
 unfoldable pub faults : List Text → Kinds
@@ -26,12 +40,13 @@ faults words = fault_of gatekeeper_app words
 unfoldable pub entered : List Text → List Row
 entered words = matches_of gatekeeper_app words
 
--- the names of the files, the policies in the order of the words, and the most steps
+-- the names of the files, the policies in the order of the words, the most steps, and the most bytes of a line
 pub record GatekeeperOrder : Type 0 where
   pub policies : List Text
   pub namespace : Option Text
   pub params : Option Text
   pub steps : ℕ
+  pub max_line : ℕ
 
 -- the same of the code's order
 abbrev pub order_view : CodeOrder → GatekeeperOrder
@@ -40,15 +55,17 @@ order_view o = record {
   namespace = option_map string_bytes o.namespace;
   params = option_map string_bytes o.params;
   steps = o.steps;
+  max_line = o.max_line;
 }
 
--- from the values of the arguments; steps that are not there are the default number
+-- from the values of the arguments; a number that is not there is the default one
 unfoldable pub order_from : List Row → GatekeeperOrder
 order_from rows = record {
   policies = unwrap_or (all_of (codes "policy") rows) [];
   namespace = first_of (codes "namespace") rows;
   params = first_of (codes "params") rows;
   steps = unwrap_or (number_of (one_of (codes "steps") rows)) default_steps;
+  max_line = unwrap_or (number_of (one_of (codes "max-line") rows)) longest_line;
 }
 
 -- an order only where the words are taken, and then theirs

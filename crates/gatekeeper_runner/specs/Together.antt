@@ -24,12 +24,14 @@ pub record PolicyFile : Type 0 where
   pub file : List ℕ
   pub document : List ℕ
 
--- what every line is answered under: the policies in their order, the other documents, the steps
+-- what every line is answered under: the policies in their order, the other documents, the most steps of a policy's
+-- program, the most bytes of a line
 pub record Gatekeeper : Type 0 where
   pub policies : List PolicyFile
   pub namespace : Option (List ℕ)
   pub params : Option (List ℕ)
   pub steps : ℕ
+  pub max_line : ℕ
 
 -- what a refusal tells of a policy
 pub record Label : Type 0 where
@@ -150,6 +152,7 @@ gatekeeper_of policies k = record {
   namespace = k.documents.namespace;
   params = k.documents.params;
   steps = k.steps;
+  max_line = k.max_line;
 }
 
 -- the values and the uid of a review under the gatekeeper's documents

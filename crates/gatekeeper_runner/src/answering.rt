@@ -1,8 +1,8 @@
 //! Line after line.
-ghost use Rattle.std.specs.Prelude.{◌≡◌, ◌<◌, ◌≤◌, length, IfOk, OnErr, OnOk};
+ghost use Rattle.std.specs.Prelude.{◌≡◌, ◌<◌, ◌≤◌, false, length, IfOk, OnErr, OnOk};
 ghost use Rattle.streams.specs.Streams.{one_more, stream};
 ghost use Rattle.policy_glue.specs.OneImage.{OneImage};
-ghost use Rattle.gatekeeper_runner.specs.Lines.{answer_text, line_of, longest_line, too_long_text, AnswersReviewLine};
+ghost use Rattle.gatekeeper_runner.specs.Lines.{answer_text, is_blank, line_of, too_long_text, AnswersReviewLine};
 ghost use Rattle.gatekeeper_runner.specs.Together.{together_view};
 ghost use Rattle.gatekeeper_runner.specs.AnsweredLines.{Answered, AnsweredPart, AnswersLines, OfLine, UnderPolicies};
 
@@ -37,7 +37,7 @@ pub fn answer_lines<R: LineSource, W: Sink>(
 {
     let mut answers = Answers {
         keeper,
-        line: Line::new(keeper.alloc),
+        line: Line::new(keeper.alloc, keeper.max_line),
     };
     r.hear_lines(&mut answers, w)
 }
@@ -55,7 +55,7 @@ impl<'a> Listener for Answers<'a> {
     ghost use Rattle.gatekeeper_runner.specs.Lines.{KeepsLine};
     ghost use Rattle.streams.specs.Lines.{cut};
 
-    ghost goes = { λ a start before heard written. UnderSame a.keeper.now start.keeper.now (λ t. AnswersSoFar OneImage t before heard written × KeepsLine a.line (cut heard).1) };
+    ghost goes = { λ a start before heard written. UnderSame a.keeper.now start.keeper.now (λ t. AnswersSoFar OneImage t before heard written × KeepsLine t.max_line a.line (cut heard).1) };
 
     ghost ended = { λ last a start before heard written. UnderSame a.keeper.now start.keeper.now (λ t. AnswersEnd last OneImage t before heard written) };
 
@@ -81,7 +81,7 @@ impl<'a> Listener for Answers<'a> {
     }
 }
 
-/// Answers a line, and nothing where it is empty.
+/// Answers a line, and writes nothing for one that is empty or blank.
 fn answer_line<W: Sink>(keeper: &Gatekeeper, line: &Line, w: &mut W) -> Result<(), Failed>
     ensures whole { OnOk result (OfLine keeper.now line.now (λ t bytes. Answered OneImage t bytes (W.taken w.old) (W.taken w.new))) }
     ensures part { OnErr result (OfLine keeper.now line.now (λ t bytes. AnsweredPart OneImage t bytes (W.taken w.old) (W.taken w.new))) }
@@ -97,7 +97,7 @@ fn answer_line<W: Sink>(keeper: &Gatekeeper, line: &Line, w: &mut W) -> Result<(
     }
 }
 
-/// The answer to a line that is not empty, with its line feed.
+/// The answer to a line that is not empty, with its line feed; nothing if the line is blank.
 fn answer_of(keeper: &Gatekeeper, line: &Line) -> Result<Vec<u8>, AllocError>
     ensures { IfOk result (λ text. OfLine keeper.now line.now (λ t bytes. 0 < length bytes → AnswersReviewLine OneImage t bytes text.items)) }
 {
@@ -107,7 +107,18 @@ fn answer_of(keeper: &Gatekeeper, line: &Line) -> Result<Vec<u8>, AllocError>
     if line.is_too_long() {
         return with_line_feed(too_long_text(keeper.alloc)?);
     }
+    if is_blank(line.bytes.as_slice()) {
+        return Ok(Vec::new(keeper.alloc));
+    }
     with_line_feed(decision_text(keeper, line.bytes.as_slice())?)
+}
+
+/// Whether no byte is other than a space, a tab or a carriage return.
+fn is_blank(line: &[u8]) -> bool
+    ensures { result ≡ is_blank line.now }
+{
+    line.iter()
+        .all(|byte| *byte == b' ' || *byte == b'\t' || *byte == b'\r')
 }
 
 /// The text with a line feed.
@@ -132,7 +143,7 @@ fn too_long_text(alloc: Global) -> Result<Vec<u8>, AllocError>
 
 /// The text by what the policies decide of the review in a line.
 fn decision_text(keeper: &Gatekeeper, line: &[u8]) -> Result<Vec<u8>, AllocError>
-    ensures { IfOk result (λ text. UnderPolicies keeper.now (λ t. 0 < length line.now → length line.now ≤ longest_line → AnswersReviewLine OneImage t line.now (line_of text.items))) }
+    ensures { IfOk result (λ text. UnderPolicies keeper.now (λ t. length line.now ≤ t.max_line → is_blank line.now ≡ false → AnswersReviewLine OneImage t line.now (line_of text.items))) }
 {
     let outcome = keeper.decision(line)?;
     outcome_text(keeper.alloc, outcome, line)

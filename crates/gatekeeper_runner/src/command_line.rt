@@ -2,9 +2,10 @@
 ghost use Rattle.std.specs.Prelude.{◌≡◌, map, IfOk, false};
 ghost use Rattle.clap.specs.Words.{app_of, found_of, rows_of, rule_of};
 ghost use Rattle.cli.specs.Parsing.{TakesWords};
-ghost use Rattle.gatekeeper_runner.specs.Orders.{entered, faults, gatekeeper_app, policies_rule};
+ghost use Rattle.gatekeeper_runner.specs.Orders.{entered, faults, gatekeeper_app, max_line_rule, policies_rule};
 
-use clap::{Arg, ArgAction, ArgMatches, Command};
+use crate::limits::LONGEST_LINE;
+use clap::{Arg, ArgAction, ArgMatches, Command, value_parser};
 use cli::{parse, steps_argument, with_documents};
 use host::OrderError;
 use std::alloc::{AllocError, Global};
@@ -21,12 +22,25 @@ fn policies_argument<'a>(alloc: Global) -> Arg<'a>
         .action(ArgAction::Append)
 }
 
+// --max-line N, the most bytes of a line
+#[tactic(auto, unfolding(crate::specs::Orders::max_line_rule))]
+fn max_line_argument<'a>(alloc: Global) -> Arg<'a>
+    ensures rule { rule_of result ≡ max_line_rule }
+    ensures local { result.global ≡ false }
+{
+    Arg::new(alloc, "max-line")
+        .long("max-line")
+        .value_parser(value_parser!(u64).range(1..=LONGEST_LINE as i64))
+        .default_value("16777216")
+}
+
 #[tactic(auto, unfolding(crate::specs::Orders::gatekeeper_app))]
 fn gatekeeper_command<'a>(alloc: Global) -> Result<Command<'a>, AllocError>
     ensures { IfOk result (λ c. app_of c ≡ gatekeeper_app) }
 {
     let command = Command::new(alloc, "gatekeeper").arg(policies_argument(alloc))?;
-    with_documents(alloc, command)?.arg(steps_argument(alloc))
+    let command = with_documents(alloc, command)?.arg(steps_argument(alloc))?;
+    command.arg(max_line_argument(alloc))
 }
 
 /// What `clap` makes of the words, the program's name first, or why it does not take them.

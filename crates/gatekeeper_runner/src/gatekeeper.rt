@@ -25,6 +25,8 @@ pub struct Gatekeeper {
     pub documents: SharedDocuments,
     /// The most steps that a policy's program may take.
     pub steps: u64,
+    /// The most bytes of a line that is read.
+    pub max_line: u64,
 }
 
 impl Gatekeeper {

@@ -2,6 +2,7 @@
 //! program whole, and `answer_lines` what it does with its input.
 #![tactic(auto)]
 
+mod about;
 mod answering;
 mod command_line;
 mod errors;
@@ -9,6 +10,7 @@ mod gatekeeper;
 mod joining;
 mod labeling;
 pub mod laws;
+mod limits;
 mod line;
 mod named_gate;
 mod order;

@@ -1,13 +1,15 @@
 //! From the words of a command line to the order that they give.
-ghost use Rattle.std.specs.Prelude.{◌≡◌, map, string_bytes, unwrap_or, IfOk, []};
-ghost use Rattle.clap.specs.Words.{found_of, rows_of};
+ghost use Rattle.std.specs.Prelude.{◌≡◌, codes, map, string_bytes, unwrap_or, IfOk, []};
+ghost use Rattle.clap.specs.Words.{found_of, one_of, rows_of};
 ghost use Rattle.clap.specs.Walk.{all_of};
-ghost use Rattle.gatekeeper_runner.specs.Orders.{order_from, order_view, GatekeeperOrderReturns};
+ghost use Rattle.cli.specs.Number.{number_of};
+ghost use Rattle.gatekeeper_runner.specs.Orders.{longest_line, order_from, order_view, GatekeeperOrderReturns};
 
 use crate::command_line::gatekeeper_matches;
+use crate::limits::LONGEST_LINE;
 use crate::order::Order;
 use clap::ArgMatches;
-use cli::{name_in, steps_in};
+use cli::{name_in, number_in, steps_in};
 use host::OrderError;
 use std::alloc::{AllocError, Global};
 
@@ -32,12 +34,21 @@ fn order_from(alloc: Global, matches: &ArgMatches) -> Result<Order, AllocError>
     let namespace = name_in(alloc, matches, "namespace")?;
     let params = name_in(alloc, matches, "params")?;
     let steps = steps_in(matches);
+    let max_line = max_line_in(matches);
     Ok(Order {
         policies,
         namespace,
         params,
         steps,
+        max_line,
     })
+}
+
+// the most bytes of a line that the words allow
+fn max_line_in(matches: &ArgMatches) -> u64
+    ensures { result ≡ unwrap_or (number_of (one_of (codes "max-line") (rows_of (found_of matches.now)))) longest_line }
+{
+    number_in(matches, "max-line").unwrap_or(LONGEST_LINE)
 }
 
 // the texts of the argument `id`, each as a name of its own

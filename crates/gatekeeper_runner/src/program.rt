@@ -1,12 +1,15 @@
 //! The program: from its words to its exit code.
-ghost use Rattle.std.specs.Prelude.{◌≡◌, map, string_bytes};
+ghost use Rattle.std.specs.Prelude.{◌≡◌, map, string_bytes, IfErr, IfOk};
 ghost use Rattle.std.specs.Process.{exit_status};
 ghost use Rattle.streams.specs.Streams.{stream};
+ghost use Rattle.streams.specs.Writing.{WritesBytes, WritesPart};
 ghost use Rattle.policy_glue.specs.OneImage.{OneImage};
 ghost use Rattle.cli.specs.Ending.{given_of, system};
+ghost use Rattle.cli.specs.declared.refusal.Refusal.TheVariants.{Output};
 ghost use Rattle.gatekeeper_runner.specs.Orders.{GatekeeperOrderReturns};
-ghost use Rattle.gatekeeper_runner.specs.Program.{GatekeeperEffect, GatekeeperResult};
+ghost use Rattle.gatekeeper_runner.specs.Program.{GatekeeperEffect, GatekeeperResult, ServesReviews};
 
+use crate::about::text_asked;
 use crate::answering::answer_lines;
 use crate::order::Order;
 use crate::ordering::order_of;
@@ -15,7 +18,7 @@ use cli::{Refusal, exit_with, texts_of};
 use host::{Files, OrderError};
 use std::alloc::Global;
 use std::process::ExitCode;
-use streams::{LineSource, Sink};
+use streams::{LineSource, Sink, write_all};
 
 /// Answers the lines of the input under the policies that the words name, the program's own name
 /// first, and answers the code that the program ends with. A refusal is one line of standard error;
@@ -39,7 +42,7 @@ pub fn exit_code<F: Files, R: LineSource, W: Sink, E: Sink>(
     exit_with(alloc, ending, refusals)
 }
 
-/// Answers the lines, and answers the status.
+/// Writes the text that the words ask for, or answers the lines. Returns the status.
 fn ending<F: Files, R: LineSource, W: Sink>(
     alloc: Global,
     words: Result<Vec<String>, OrderError>,
@@ -50,6 +53,35 @@ fn ending<F: Files, R: LineSource, W: Sink>(
     ensures { let before = system (F.known files.old) (stream (R.left requests.old) (R.failed requests.old)) (stream (W.taken answers.old) (W.failed answers.old)) in
         let after = system (F.known files.new) (stream (R.left requests.new) (R.failed requests.new)) (stream (W.taken answers.new) (W.failed answers.new)) in
         GatekeeperEffect OneImage (given_of words) before after result }
+{
+    match text_asked(&words) {
+        Some(text) => tell(text, answers),
+        None => serve(alloc, words, files, requests, answers),
+    }
+}
+
+/// Writes a text.
+fn tell<W: Sink>(text: &str, answers: &mut W) -> Result<u8, Refusal>
+    ensures whole { IfOk result (λ status. (status ≡ 0) × WritesBytes (stream (W.taken answers.old) (W.failed answers.old)) (stream (W.taken answers.new) (W.failed answers.new)) text.now) }
+    ensures part { IfErr result (λ r. (r ≡ Output) × WritesPart (stream (W.taken answers.old) (W.failed answers.old)) (stream (W.taken answers.new) (W.failed answers.new)) text.now) }
+{
+    match write_all(answers, text.as_bytes()) {
+        Ok(()) => Ok(0),
+        Err(_) => Err(Refusal::Output),
+    }
+}
+
+/// Answers the lines. Returns the status.
+fn serve<F: Files, R: LineSource, W: Sink>(
+    alloc: Global,
+    words: Result<Vec<String>, OrderError>,
+    files: &mut F,
+    requests: &mut R,
+    answers: &mut W,
+) -> Result<u8, Refusal>
+    ensures { let before = system (F.known files.old) (stream (R.left requests.old) (R.failed requests.old)) (stream (W.taken answers.old) (W.failed answers.old)) in
+        let after = system (F.known files.new) (stream (R.left requests.new) (R.failed requests.new)) (stream (W.taken answers.new) (W.failed answers.new)) in
+        ServesReviews OneImage (given_of words) before after result }
 {
     let words = words?;
     let order = asked_order(alloc, &words)?;

@@ -33,6 +33,7 @@ pub fn start<F: Files>(alloc: Global, order: &Order, files: &mut F) -> Result<Ga
         gates,
         documents,
         steps: order.steps,
+        max_line: order.max_line,
     })
 }
 

@@ -50,7 +50,7 @@ no
 
 /// The words, the input, the status, standard output and the refusal.
 #[rattlefmt::skip]
-const ROWS: [(&str, &str, u8, &str, &str); 12] = [
+const ROWS: [(&str, &str, u8, &str, &str); 19] = [
     (FEW, TWO, 0, TWO_ANSWERS, ""),
     (
         FEW,
@@ -97,6 +97,14 @@ const ROWS: [(&str, &str, u8, &str, &str); 12] = [
     (NO_POLICY, TWO, 3, "", "file"),
     (NO_NAMESPACE, TWO, 3, "", "file"),
     ("gatekeeper", TWO, 2, "", "U1"),
+    (FEW, " \t\r\n\r\n  \n\t", 0, "", ""),
+    // each line of TWO has 117 bytes
+    ("gatekeeper --policy few --max-line 117", TWO, 0, TWO_ANSWERS, ""),
+    ("gatekeeper --policy few --max-line 116", TWO, 0, "{\"refused\":\"N2\"}\n{\"refused\":\"N2\"}\n", ""),
+    ("gatekeeper --policy few --max-line 1", " \n  \nab\n", 0, "{\"refused\":\"N2\"}\n{\"refused\":\"N2\"}\n", ""),
+    ("gatekeeper --policy few --max-line 0", TWO, 2, "", "U1"),
+    ("gatekeeper --policy few --max-line 16777217", TWO, 2, "", "U1"),
+    ("gatekeeper --version --policy missing", TWO, 0, "gatekeeper 0.20261127\n", ""),
 ];
 
 /// Whether the program with these words and this input ends with the status and both outputs, where

@@ -6,7 +6,7 @@ returns-in-Ok-clause-on g c same start before heard h = (
   h.0,
   λ policies are.
       let go = h.1 policies are in
-      (going_line _ _ _ _ go.0 _ c.requires _ (c.in-Ok.ensures.whole policies are _ (c.extend.ensures _ go.1)), kept_none c.clear.new.self _ _ c.requires c.clear.ensures),
+      (going_line _ _ _ _ go.0 _ c.requires _ (c.in-Ok.ensures.whole policies are _ (c.extend.ensures _ _ go.1)), kept_none _ c.clear.new.self _ _ c.requires (c.clear.ensures.kept _ _ (c.extend.ensures _ _ go.1))),
 )
 
 pub returns-in-Err-clause-broken : goal.returns-in-Err-clause-broken
@@ -14,5 +14,5 @@ returns-in-Err-clause-broken g c start before heard h = (
   h.0,
   λ policies are.
       let go = h.1 policies are in
-      told_part _ _ _ _ go.0 _ c.requires _ (c.in-Err.ensures.part policies are _ (c.extend.ensures _ go.1)),
+      told_part _ _ _ _ go.0 _ c.requires _ (c.in-Err.ensures.part policies are _ (c.extend.ensures _ _ go.1)),
 )

@@ -6,5 +6,5 @@ returns c written start before heard h = (
   h.0,
   λ policies are.
       let go = h.1 policies are in
-      (going_part _ _ _ _ go.0 _ c.requires, kept_part c.extend.new.self _ _ c.requires (c.extend.ensures _ go.1)),
+      (going_part _ _ _ _ go.0 _ c.requires, kept_part _ c.extend.new.self _ _ c.requires (c.extend.ensures _ _ go.1)),
 )

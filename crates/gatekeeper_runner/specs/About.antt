@@ -1,0 +1,37 @@
+-- What the program tells of itself.
+use Rattle.std.specs.Prelude.{ℕ, List, ◌∷◌, ◌++◌, codes, Option, Some, None, Result, Ok, if◌then◌else◌}
+use Rattle.std.specs.Str.{bytes_eq}
+use Rattle.clap.specs.Words.{Text}
+use Rattle.cli.specs.Ending.{Given}
+
+-- the text for `--help`
+unfoldable pub help_text : Text
+help_text =
+    codes "usage: gatekeeper --policy F [--policy F ..] [--namespace F] [--params F]\n"
+    ++ (codes "                  [--steps N] [--max-line N]\n"
+    ++ (codes "\n"
+    ++ (codes "Compiles the policies, and answers each review on standard input, a JSON document\n"
+    ++ (codes "a line, with a line on standard output.\n"
+    ++ (codes "\n"
+    ++ (codes "  --policy F     a ValidatingAdmissionPolicy; once or more\n"
+    ++ (codes "  --namespace F  the namespace of the requests\n"
+    ++ (codes "  --params F     the params of the policies\n"
+    ++ (codes "  --steps N      the most steps of a policy's program; 10000000 if not given\n"
+    ++ (codes "  --max-line N   the most bytes of a line; 16777216 if not given\n"
+    ++ (codes "  --help         prints this text\n"
+    ++ (codes "  --version      prints the version\n"))))))))))))
+
+-- the text for `--version`
+unfoldable pub version_text : Text
+version_text = codes "gatekeeper 0.20261127\n"
+
+-- the text that a word asks for
+abbrev pub text_of_word : Text → Option Text
+text_of_word word =
+    if bytes_eq word (codes "--help") then Some help_text
+    else (if bytes_eq word (codes "--version") then Some version_text else None)
+
+-- the text that the first word after the program's name asks for
+abbrev pub text_asked : Given → Option Text
+text_asked (Ok (name ∷ word ∷ words)) = text_of_word word
+text_asked _ = None

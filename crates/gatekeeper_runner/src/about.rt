@@ -1,0 +1,60 @@
+//! What the program tells of itself.
+ghost use Rattle.std.specs.Prelude.{◌≡◌, option_map};
+ghost use Rattle.cli.specs.Ending.{given_of};
+ghost use Rattle.gatekeeper_runner.specs.About.{help_text, text_asked, text_of_word, version_text};
+
+use host::OrderError;
+
+/// The text that the words ask for: that for `--help` or `--version`, if this is the first word
+/// after the program's name.
+pub fn text_asked(words: &Result<Vec<String>, OrderError>) -> Option<&'static str>
+    ensures { option_map (λ s. s.now) result ≡ text_asked (given_of words.now) }
+{
+    match words {
+        Ok(words) => match words.as_slice() {
+            [_, word, ..] => text_of_word(word.as_str()),
+            _ => None,
+        },
+        Err(_) => None,
+    }
+}
+
+/// The text that a word asks for.
+fn text_of_word(word: &str) -> Option<&'static str>
+    ensures { option_map (λ s. s.now) result ≡ text_of_word word.now }
+{
+    if word == "--help" {
+        Some(help_text())
+    } else if word == "--version" {
+        Some(version_text())
+    } else {
+        None
+    }
+}
+
+#[tactic(auto, unfolding(crate::specs::About::help_text))]
+fn help_text() -> &'static str
+    ensures { result.now ≡ help_text }
+{
+    "usage: gatekeeper --policy F [--policy F ..] [--namespace F] [--params F]
+                  [--steps N] [--max-line N]
+
+Compiles the policies, and answers each review on standard input, a JSON document
+a line, with a line on standard output.
+
+  --policy F     a ValidatingAdmissionPolicy; once or more
+  --namespace F  the namespace of the requests
+  --params F     the params of the policies
+  --steps N      the most steps of a policy's program; 10000000 if not given
+  --max-line N   the most bytes of a line; 16777216 if not given
+  --help         prints this text
+  --version      prints the version
+"
+}
+
+#[tactic(auto, unfolding(crate::specs::About::version_text))]
+fn version_text() -> &'static str
+    ensures { result.now ≡ version_text }
+{
+    "gatekeeper 0.20261127\n"
+}
