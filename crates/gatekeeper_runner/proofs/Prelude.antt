@@ -55,7 +55,7 @@ pub use Rattle.gatekeeper_runner.specs.SameAnswers.{LinesHaveOneAnswer}
 pub use Rattle.gatekeeper_runner.specs.Starting.{GatesFrom, IsUnopened, OneUnopened, Opens, OpensGate, no_namespace}
 pub use Rattle.gatekeeper_runner.specs.Starting.{no_params, no_policy, ready, refused, unread}
 pub use Rattle.gatekeeper_runner.specs.Together.{AreGates, AreResults, AreValuesOf, DecideTogether, DecidesAlone}
-pub use Rattle.gatekeeper_runner.specs.Together.{Gatekeeper, IsGateOf, IsResult, Label, PolicyFile, PolicyResult, Refused}
+pub use Rattle.gatekeeper_runner.specs.Together.{Gatekeeper, IsGateOf, IsResult, RefusingPolicy, PolicyFile, PolicyResult, Refused}
 pub use Rattle.gatekeeper_runner.specs.Together.{and_also, decided, first_refused, gatekeeper_of, joined, label_of}
 pub use Rattle.gatekeeper_runner.specs.Together.{label_view, refused_or, refused_view, rejection_in, rejections}
 pub use Rattle.gatekeeper_runner.specs.Together.{together_view, under, values_under}

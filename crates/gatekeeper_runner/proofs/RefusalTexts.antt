@@ -1,5 +1,5 @@
 -- The text of a refusal, from its tokens.
-use Rattle.gatekeeper_runner.proofs.Prelude.{◌≡◌, ℕ, List, [], ◌∷◌, ◌++◌, Option, Some, None, Result, Ok, Err, OnOk, refl, sym, ap, ◌∙◌, append-nil, append_assoc, Label, Refused, refusal_text}
+use Rattle.gatekeeper_runner.proofs.Prelude.{◌≡◌, ℕ, List, [], ◌∷◌, ◌++◌, Option, Some, None, Result, Ok, Err, OnOk, refl, sym, ap, ◌∙◌, append-nil, append_assoc, RefusingPolicy, Refused, refusal_text}
 use Rattle.json.specs.Print.{print}
 use Rattle.json.specs.Token.{Token}
 use Rattle.json.specs.Written.{Writes, Written}
@@ -29,7 +29,7 @@ last {E} {a} {b} {c} {ts} {t} (Ok u) adds writes =
     adds_more adds more
 last (Err e) adds writes = tt
 
-refusal_is : (name : List ℕ) (uid : Option (List ℕ)) (label : Option Label) → print (refusal_tokens name uid label) ≡ compact_text (refusal_tree name uid label)
+refusal_is : (name : List ℕ) (uid : Option (List ℕ)) (label : Option RefusingPolicy) → print (refusal_tokens name uid label) ≡ compact_text (refusal_tree name uid label)
 refusal_is name None None = print-outline (refusal_tree name None None)
 refusal_is name None (Some label) = print-outline (refusal_tree name None (Some label))
 refusal_is name (Some uid) None = print-outline (refusal_tree name (Some uid) None)

@@ -1,5 +1,5 @@
 -- One more result in a tally.
-use Rattle.gatekeeper_runner.proofs.Prelude.{◌≡◌, ℕ, List, [], ◌∷◌, ◌++◌, map, Option, Some, None, option_map, Result, Ok, Err, refl, sym, ap, ◌∙◌, subst, map-append, rejection_view, Rejection, Decision, RunError, Label, PolicyFile, PolicyResult, Refused, Tally, IsTallyOf, and_also, first_refused, label_of, refused_or, refused_view, rejection_in, rejections}
+use Rattle.gatekeeper_runner.proofs.Prelude.{◌≡◌, ℕ, List, [], ◌∷◌, ◌++◌, map, Option, Some, None, option_map, Result, Ok, Err, refl, sym, ap, ◌∙◌, subst, map-append, rejection_view, Rejection, Decision, RunError, RefusingPolicy, PolicyFile, PolicyResult, Refused, Tally, IsTallyOf, and_also, first_refused, label_of, refused_or, refused_view, rejection_in, rejections}
 use Rattle.std.specs.Prelude.{fold}
 use Rattle.std.specs.Option.{option_or}
 use Rattle.std.proofs.lemmas.List.Sums.{fold-append}
@@ -35,7 +35,7 @@ module _ (results : List PolicyResult) (policy : PolicyFile) (before after : Tal
         refused = stays ∙ is.refused ∙ sym (or_nothing (first_refused results)) ∙ sym (refused_more results r);
       }
 
-  pub adds_refusal : (e : RunError) (label : Label) → label ≡ label_of policy → option_map rejection_view after.rejection ≡ option_map rejection_view before.rejection
+  pub adds_refusal : (e : RunError) (label : RefusingPolicy) → label ≡ label_of policy → option_map rejection_view after.rejection ≡ option_map rejection_view before.rejection
       → option_map refused_view after.refused ≡ option_or (option_map refused_view before.refused) (Some (record { error = e; policy = Some label }))
       → IsTallyOf (results ++ record { policy = policy; result = Err e } ∷ []) after
   adds_refusal e label of stays added =

@@ -11,7 +11,7 @@ use Rattle.admission.specs.Decisions.{Decision}
 use Rattle.admission.specs.Standing.{Images}
 use Rattle.admission.specs.declared.run_error.RunError.{TheVariants.ReviewRefused}
 use Rattle.gatekeeper_runner.specs.Texts.{text_at}
-use Rattle.gatekeeper_runner.specs.Together.{DecideTogether, Gatekeeper, Label, Refused}
+use Rattle.gatekeeper_runner.specs.Together.{DecideTogether, Gatekeeper, RefusingPolicy, Refused}
 use Rattle.gatekeeper_runner.specs.declared.line.Line.{Line}
 
 -- ---- refusals
@@ -21,7 +21,7 @@ abbrev pub uid_shown : Option json.Data → Option (List ℕ)
 uid_shown document = text_at (codes "request") (codes "uid") document
 
 -- the policy that refuses and what its failure policy is, if a policy refuses
-abbrev pub label_members : Option Label → json.Members
+abbrev pub label_members : Option RefusingPolicy → json.Members
 label_members None = json.no_members
 label_members (Some label) =
     json.member (codes "policy") (json.string label.name)
@@ -33,7 +33,7 @@ uid_and None members = members
 uid_and (Some uid) members = json.member (codes "uid") (json.string uid) members
 
 -- an object with the name of the refusal, the uid and the policy
-abbrev pub refusal_tree : List ℕ → Option (List ℕ) → Option Label → json.Data
+abbrev pub refusal_tree : List ℕ → Option (List ℕ) → Option RefusingPolicy → json.Data
 refusal_tree name uid label =
     json.object (json.member (codes "refused") (json.string name) (uid_and uid (label_members label)))
 

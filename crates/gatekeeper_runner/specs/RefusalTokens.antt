@@ -2,7 +2,7 @@
 use Rattle.std.specs.Prelude.{◌≡◌, ℕ, List, [], ◌∷◌, ◌++◌, codes, Option, Some, None}
 use Rattle.json.specs.Token.{Token, begin_object, end_object, key, string}
 use Rattle.json.specs.Written.{Written}
-use Rattle.gatekeeper_runner.specs.Together.{Label}
+use Rattle.gatekeeper_runner.specs.Together.{RefusingPolicy}
 
 -- a member whose value is a text
 abbrev pub text_tokens : List ℕ → List ℕ → List Token
@@ -12,11 +12,11 @@ abbrev pub uid_tokens : Option (List ℕ) → List Token
 uid_tokens None = []
 uid_tokens (Some uid) = text_tokens (codes "uid") uid
 
-abbrev pub label_tokens : Option Label → List Token
+abbrev pub label_tokens : Option RefusingPolicy → List Token
 label_tokens None = []
 label_tokens (Some label) = text_tokens (codes "policy") label.name ++ text_tokens (codes "failurePolicy") label.failure_policy
 
-abbrev pub refusal_tokens : List ℕ → Option (List ℕ) → Option Label → List Token
+abbrev pub refusal_tokens : List ℕ → Option (List ℕ) → Option RefusingPolicy → List Token
 refusal_tokens name uid label =
     begin_object ∷ ((text_tokens (codes "refused") name ++ (uid_tokens uid ++ label_tokens label)) ++ end_object ∷ [])
 

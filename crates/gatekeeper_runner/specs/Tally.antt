@@ -5,7 +5,7 @@ use Rattle.policy_glue.specs.Rejections.{rejection_view}
 use Rattle.admission.specs.Decisions.{Decision}
 use Rattle.admission.specs.Standing.{Images}
 use Rattle.admission.specs.declared.run_error.RunError.{RunError, TheVariants.Memory}
-use Rattle.gatekeeper_runner.specs.Together.{AreResults, first_refused, joined, Gatekeeper, label_of, Label, PolicyFile, PolicyResult, Refused, refused_view, rejections}
+use Rattle.gatekeeper_runner.specs.Together.{AreResults, first_refused, joined, Gatekeeper, label_of, RefusingPolicy, PolicyFile, PolicyResult, Refused, refused_view, rejections}
 use Rattle.gatekeeper_runner.specs.declared.tally.Tally.{Tally}
 
 -- the rejections of these results, joined, and the first refusal among them
@@ -14,7 +14,7 @@ pub record IsTallyOf (results : List PolicyResult) (tally : Tally) : Type 0 wher
   pub refused : option_map refused_view tally.refused ≡ first_refused results
 
 -- one more result of a policy with this label, which is not that memory ran out
-pub record AddsResult (label : Label) (result : Result Decision RunError) (before after : Tally) : Type 0 where
+pub record AddsResult (label : RefusingPolicy) (result : Result Decision RunError) (before after : Tally) : Type 0 where
   pub no_memory : result ≢ Err Memory
   pub adds : (results : List PolicyResult) (policy : PolicyFile) → label ≡ label_of policy → IsTallyOf results before
       → IsTallyOf (results ++ record { policy = policy; result = result } ∷ []) after

@@ -34,12 +34,12 @@ pub record Gatekeeper : Type 0 where
   pub max_line : ℕ
 
 -- what a refusal tells of a policy
-pub record Label : Type 0 where
+pub record RefusingPolicy : Type 0 where
   pub name : List ℕ
   pub failure_policy : List ℕ
 
 -- the text at `metadata.name`, or else the name of the file; and the one at `spec.failurePolicy`, or else `Fail`
-abbrev pub label_of : PolicyFile → Label
+abbrev pub label_of : PolicyFile → RefusingPolicy
 label_of p = record {
   name = unwrap_or (text_at (codes "metadata") (codes "name") (document_of p.document)) p.file;
   failure_policy = unwrap_or (text_at (codes "spec") (codes "failurePolicy") (document_of p.document)) (codes "Fail");
@@ -90,7 +90,7 @@ rejections results = fold and_also None (map (λ r. rejection_in r.result) resul
 -- why a review is refused, and by which policy; by none if it is refused before any policy is asked
 pub record Refused : Type 0 where
   pub error : RunError
-  pub policy : Option Label
+  pub policy : Option RefusingPolicy
 
 abbrev pub refused_or : PolicyFile → Result Decision RunError → Option Refused → Option Refused
 refused_or policy (Ok decision) next = next
@@ -122,7 +122,7 @@ pub data DecideTogether (chosen : Images) (t : Gatekeeper) (review : List ℕ) :
 
 -- ---- what the code keeps of them
 
-abbrev pub label_view : PolicyLabel → Label
+abbrev pub label_view : PolicyLabel → RefusingPolicy
 label_view l = record { name = string_bytes l.name; failure_policy = string_bytes l.failure_policy }
 
 abbrev pub refused_view : CodeRefused → Refused
