@@ -4,6 +4,7 @@ use Rattle.std.specs.declared.alloc.Global.{Global}
 use Rattle.loader.specs.Format.{file_of}
 use Rattle.policy_glue.specs.OneImage.{OneImage}
 use Rattle.admission.specs.Deciding.{CompilesDocument, Documents, IsPolicyOf, Reply, Reviews}
+use Rattle.admission.specs.Standing.{exactly, Images, RunAgrees}
 use Rattle.admission.specs.declared.policy_and_image.PolicyAndImage.{PolicyAndImage}
 use Rattle.admission.specs.declared.policy_refusal.PolicyRefusal.{PolicyRefusal}
 use Rattle.admission.specs.declared.run_error.RunError.{RunError}
@@ -52,10 +53,16 @@ MakesGate document old new status before after n =
 
 -- ---- answers
 
--- an answer to the review is written
-abbrev pub Answers : Documents → ℕ → ℕ → List ℕ → List ℕ → ℕ → Type 0
-Answers d steps status before after n =
-    (answer : Result Reply RunError) × Reviews d steps answer × WritesDecision answer status before after n
+-- the image of the gate in a place
+abbrev pub image_held : Option PolicyAndImage → Images
+image_held (Some gate) = exactly gate.image
+image_held None = λ p image. ⊥
+
+-- an answer to the review is written, and after these steps the run of such an image is as the answer says
+abbrev pub Answers : Images → Documents → ℕ → ℕ → List ℕ → List ℕ → ℕ → Type 0
+Answers chosen d steps status before after n =
+    (answer : Result Reply RunError) × Reviews d steps answer × RunAgrees chosen d steps answer
+    × WritesDecision answer status before after n
 
 -- ---- files of images
 

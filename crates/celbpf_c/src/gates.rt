@@ -2,7 +2,8 @@
 ghost use Rattle.std.specs.Prelude.{◌≡◌, ℕ, List, [], None, IfOk};
 ghost use Rattle.policy_glue.specs.OneImage.{OneImage};
 ghost use Rattle.admission.specs.Deciding.{answer_view, CompilesDocument, IsPolicyOf, Reviews};
-ghost use Rattle.celbpf_c.specs.Calls.{documents_of, gate_view, Answers, Holds, MakesGate};
+ghost use Rattle.celbpf_c.specs.Calls.{documents_of, gate_view, image_held, Answers, Holds, MakesGate};
+ghost use Rattle.admission.specs.Standing.{exactly, RunAgrees};
 ghost use Rattle.celbpf_c.specs.Output.{Writes};
 
 use crate::gate_place::GatePlace;
@@ -54,7 +55,8 @@ pub extern "C" fn celbpf_gate_decide(
 ) -> u32
     ensures kept { place.new.gate ≡ place.old.gate }
     ensures empty { place.old.gate ≡ None → (result ≡ 10) × Writes [] room.old room.new len.new }
-    ensures answers { (policy : List ℕ) → Holds policy place.old.gate → Answers (documents_of policy review.now namespace.now params.now) steps result room.old room.new len.new }
+    ensures answers { (policy : List ℕ) → Holds policy place.old.gate
+        → Answers (image_held place.old.gate) (documents_of policy review.now namespace.now params.now) steps result room.old room.new len.new }
 {
     *len = 0;
     let Some(held) = place.take(alloc) else {
@@ -100,7 +102,8 @@ fn decided(
     params: &[u8],
     steps: u64,
 ) -> Result<Reply, RunError>
-    ensures { (policy : List ℕ) → IsPolicyOf policy gate.now → Reviews (documents_of policy review.now namespace.now params.now) steps (answer_view result) }
+    ensures reviews { (policy : List ℕ) → IsPolicyOf policy gate.now → Reviews (documents_of policy review.now namespace.now params.now) steps (answer_view result) }
+    ensures runs { (policy : List ℕ) → IsPolicyOf policy gate.now → RunAgrees (exactly gate.now.image) (documents_of policy review.now namespace.now params.now) steps (answer_view result) }
 {
     gate.decide(review, given(namespace), given(params), steps)
 }

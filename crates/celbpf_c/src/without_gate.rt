@@ -1,6 +1,8 @@
 //! The calls that hold nothing between them. Each compiles its policy anew.
 ghost use Rattle.std.specs.Prelude.{◌≡◌, option_map};
+ghost use Rattle.policy_glue.specs.OneImage.{OneImage};
 ghost use Rattle.admission.specs.Deciding.{answer_view, Reviews};
+ghost use Rattle.admission.specs.Standing.{RunAgrees};
 ghost use Rattle.celbpf_c.specs.Calls.{documents_of, file_view, given, interface_version, Answers, CompilesToRoom, IsFileOf};
 
 use crate::output::{write_answer, write_refusal, write_text};
@@ -22,7 +24,7 @@ pub extern "C" fn celbpf_review(
     room: &mut [u8],
     len: &mut usize,
 ) -> u32
-    ensures { Answers (documents_of policy.now review.now namespace.now params.now) steps result room.old room.new len.new }
+    ensures { Answers OneImage (documents_of policy.now review.now namespace.now params.now) steps result room.old room.new len.new }
 {
     let answer = reviewed(alloc, policy, review, namespace, params, steps);
     write_answer(alloc, answer, room, len)
@@ -75,7 +77,8 @@ fn reviewed(
     params: &[u8],
     steps: u64,
 ) -> Result<Reply, RunError>
-    ensures { Reviews (documents_of policy.now document.now namespace.now params.now) steps (answer_view result) }
+    ensures reviews { Reviews (documents_of policy.now document.now namespace.now params.now) steps (answer_view result) }
+    ensures runs { RunAgrees OneImage (documents_of policy.now document.now namespace.now params.now) steps (answer_view result) }
 {
     review(
         alloc,
