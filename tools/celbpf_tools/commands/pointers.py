@@ -2,9 +2,9 @@
 
 usage: tools/pointers
 
-It compares each name before a file in docs/CHANGING.md, docs/MACHINE.md, docs/POLICIES.md, docs/PROOFS.md and
-docs/READING.md with the words of that file; the variants of errors in docs/GLOSSARY.md, and the names in a crate's
-README, with the words of the crate's sources; and each path in a page with the files that there are.
+It compares each name before a file in docs/CHANGING.md, docs/PROOFS.md, docs/READING.md and the tables of standards in
+crates with the words of that file; the types of errors in docs/GLOSSARY.md, and the names in a crate's README, with the
+words of the crate's sources; and each path in a page with the files that there are.
 """
 
 import re
@@ -17,9 +17,9 @@ from ..home import ROOT
 SPAN = re.compile(r"`([^`]+)`")
 WORD = re.compile(r"[A-Za-z_][\w']*")
 PATH = re.compile(r"(\w+)/(specs|src|proofs|tests)/([\w/]*)(\.antt|\.rt)?")
-VARIANTS = re.compile(r"`(\w+)::(\w+)`: ((?:`\w+`(?:, )?)+)")
+TYPE = re.compile(r"`([a-z]\w*)::([A-Z]\w*)`")
 # pages that name definitions before their file
-NAMED_PAGES = ("CHANGING.md", "MACHINE.md", "POLICIES.md", "PROOFS.md", "READING.md")
+NAMED_PAGES = ("CHANGING.md", "PROOFS.md", "READING.md", "RFC9669.md", "KUBERNETES.md")
 NAMED = re.compile(r"((?:`\w+`(?:, | and )?)+) \(`([^`]+\.(?:antt|rt))`")
 # names that a README gives to what the crate's own sources have; printed numbers, as K3, are none of them
 NAME = re.compile(r"(?=\w*(?:[A-Z]|_))(?![A-Z]\d$)[A-Za-z_]\w*(?:::\w+)*")
@@ -46,12 +46,11 @@ def of_names(lines: list, crates: Path) -> Iterator[str]:
         yield from (f"{name} is not in {file}" for name in SPAN.findall(names) if name not in found)
 
 
-def of_variants(lines: list, crates: Path) -> Iterator[str]:
-    """Types with their variants, as `crate::Type`: `A`, `B`: names that no source of the crate has."""
-    for line in lines:
-        for crate, name, variants in VARIANTS.findall(line):
-            found = set().union(*(WORD.findall(path.read_text()) for path in (crates / crate / "src").rglob("*.rt")))
-            yield from (f"{word} is not in {crate}" for word in [name, *SPAN.findall(variants)] if word not in found)
+def of_types(lines: list, crates: Path) -> Iterator[str]:
+    """Types, as `crate::Type`, that no source of the crate has."""
+    for crate, name in (found for line in lines for found in TYPE.findall(line)):
+        if not any(name in words_of(path) for path in (crates / crate / "src").rglob("*.rt")):
+            yield f"{name} is not in {crate}"
 
 
 def of_readme(lines: list, crate: Path) -> Iterator[str]:
@@ -72,15 +71,15 @@ def of_paths(lines: list, crates: Path) -> Iterator[str]:
 
 
 def faults(root: Path, crates: Path) -> Iterator[str]:
-    pages = [*sorted(root.glob("*.md")), *sorted((root / "docs").glob("*.md")), *sorted(crates.glob("*/README.md"))]
+    pages = [*sorted(root.glob("*.md")), *sorted((root / "docs").glob("*.md")), *sorted(crates.glob("*/*.md"))]
     for page in pages:
         lines = page.read_text().splitlines()
         checks = [of_paths(lines, crates)]
         if page.name == "GLOSSARY.md":
-            checks.append(of_variants(lines, crates))
+            checks.append(of_types(lines, crates))
         if page.name in NAMED_PAGES:
             checks.append(of_names(lines, crates))
-        if page.parent.parent == crates:
+        if page.name == "README.md" and page.parent.parent == crates:
             checks.append(of_readme(lines, page.parent))
         yield from (f"{page.relative_to(root)}: {fault}" for check in checks for fault in check)
 

@@ -52,9 +52,13 @@ class Pointers(unittest.TestCase):
             ["docs/CHANGING.md: take is not in one/src/held.rt", "crates/one/README.md: take is in no source"],
         )
 
-    def test_a_variant_that_is_gone(self) -> None:
-        found = self.found(**{"docs/PROOFS.md": "", "docs/GLOSSARY.md": "| K1, K2 | `one::Held`: `take`, `Gone` | page |\n"})
+    def test_a_type_that_is_gone(self) -> None:
+        found = self.found(**{"docs/PROOFS.md": "", "docs/GLOSSARY.md": "| K1; K2 | `one::Held`; `one::Gone` | page |\n"})
         self.assertEqual(found, ["docs/GLOSSARY.md: Gone is not in one"])
+
+    def test_a_table_of_a_standard(self) -> None:
+        found = self.found(**{"docs/PROOFS.md": "", "crates/one/RFC9669.md": "| 3.1 | `gone` (`one/specs/Held.antt`) |\n"})
+        self.assertEqual(found, ["crates/one/RFC9669.md: gone is not in one/specs/Held.antt"])
 
     def test_a_file_that_is_gone(self) -> None:
         found = self.found(**{"docs/PROOFS.md": "", "docs/ARCHITECTURE.md": "In `one/src/gone.rt` and `one/specs/Gone`.\n"})
