@@ -1,4 +1,4 @@
--- What the trees of a policy that is compiled are, and its image.
+-- The trees and the image of a policy that compiles.
 use Rattle.policy_glue.proofs.Prelude.{◌≡◌, ◌≤◌, ◌*◌, ◌++◌, ◌∷◌, ℕ, Bool, false, List, [], Some, None, Result, Ok, length, append-nil, append_assoc, refl, sym, ap, ◌∙◌, subst, arith, ◌≢◌, ◌<◌, Err, ltb-false, All-head, All-tail, fold-append, All, if◌then◌else◌, Tree, Trees, TreeEntries, no_trees, more_trees, no_entries, more_entries, IsWellFormed, AreWellFormed, HasWellFormedEntries, expanded, expansion_plain, Declaration, scope_of, Typing, typing, CelType, expansion_typed, need, joined, HasLiterals, HaveLiterals, EntriesHaveLiterals, IsEmittable, Checks, IsFormedValidation, IsFormedVariable, IsChecked, HasTrees, EmitsProgram, Checked, TakenOrRefused, over, refused, next, IsOneOf, PartsEnd, TakesCondition, RefusesCondition, TakesValidation, RefusesValidation, TakesVariable, RefusesVariable, depth_in, expression_judged, scope_after, truths, with_variable, excess, policy_nodes, policy_texts, Compiles, NamedExpression, Validation, Policy, HasProgram, ProgramDecides, ProgramIsShort, ProgramStops, IsAcceptedPolicy, PolicyTree, ValidationTree, VariableTree, CompileError, TooManyNodes, TooManyTextBytes, nat_tests, Insn, Exit, image_from, Second, length-spelling, size-append, size-cons, size, spellings, CompilesTo, IsCompiled, OneImage, contents, program_of, FailurePolicy, word_limit, variable_depth_limit, slot_limit, constants_limit, slots_per_node}
 use Rattle.cel_reader.specs.Tree as tree
 use Rattle.cel_types.specs.Types as types
@@ -53,7 +53,7 @@ one_expression : (kinds : List CelType) (scope : List Declaration) (text : List 
     → IsEmittable scope (expanded a)
 one_expression kinds scope text a one formed = is_expression scope a one.cel_type one.taken.judged formed
 
--- ---- lists: what holds of all that is taken, where it holds of nothing, and of one more before others
+-- ---- lists: a fact that holds of no parts, and of a list with one more part in front, holds of all accepted parts
 
 record Rest {A B : Type 0} (P : List B → List B → Type 0) (taken : List B) (ns : List A) (all : List B) : Type 0 where
   more : List B
@@ -76,7 +76,7 @@ module _ {A B : Type 0} (Takes : List B → A → B → Type 0) (Refuses : List 
       let rest = rest_of [] ns (Ok all) ends all refl in
       (ap length rest.is ∙ rest.count, subst (P []) (sym rest.is) rest.holds)
 
--- ---- as the program asks of them
+-- ---- in the form that the program needs
 
 abbrev VariablesHold : List VariableTree → List VariableTree → Type 0
 VariablesHold taken more = All IsFormedVariable more → program.AreVariables (scope_after taken) more
@@ -118,7 +118,7 @@ within_limits t is = grind (arith, is, limits_by, ltb-false)
 
 -- ---- the policy
 
--- the trees are as many as the parts, and where they are formed they are as the program asks of them
+-- the trees match the parts of the policy, and well-formed trees meet what the program needs
 record IsWhole (p : Policy) (t : PolicyTree) : Type 0 where
   variables : (length t.variables ≡ length p.variables) × VariablesHold [] t.variables
   conditions : (length t.conditions ≡ length p.conditions) × ConditionsHold [] t.conditions
@@ -134,7 +134,7 @@ whole_by p end (parts.taken vs cs rs variables conditions validations) t is =
     })
 whole_by p end _ t is = cc
 
--- the trees of what is checked are taken, and the validations are few
+-- the checked trees can be emitted, and there are few enough validations
 pub has_trees : (p : Policy) (c : Checked) → IsAcceptedPolicy p → Checks p (Ok c) → HasTrees c
 has_trees p c accepted checks = grind (arith, whole_by, few_parts)
 
@@ -152,7 +152,7 @@ failed p e why = grind arith
 pub refused_part : (p : Policy) (e : CompileError) → Checks p (Err e) → CompilesTo p (Err e)
 refused_part p e checks = failed p e (λ some. limits.refused e (checks some))
 
--- the whole is too large
+-- the whole policy is too large
 pub refused_whole : (p : Policy) (c : Checked) (e : CompileError) → Checks p (Ok c) → ((t : PolicyTree) → IsChecked c t → EmitsProgram p.failure_policy t (Err e))
     → CompilesTo p (Err e)
 refused_whole p c e checks emits = failed p e (λ some. limits.too_large checks.0 e checks.2 (emits checks.0 checks.1 some))
@@ -163,7 +163,7 @@ length-spellings : (is : List Insn) → length (spellings is) ≡ 8 * size is
 length-spellings [] = refl
 length-spellings (i ∷ is) = grind (arith, length-spellings is, length-spelling, size-cons)
 
--- it ends with an exit
+-- the program ends with an exit
 ends_with : (is : List Insn) → 1 ≤ size (is ++ Exit ∷ [])
 ends_with is = let whole = size-append is (Exit ∷ []) in omega arith
 
@@ -212,7 +212,7 @@ module _ (short : ProgramIsShort) (law : ProgramDecides) (stopped : ProgramStops
         };
       })
 
--- and it is the one
+-- the image is the one that `OneImage` names
 pub image_is_one : (p : Policy) (c : Checked) (code constants : List ℕ) (image : loader.Image) → (checks : Checks p (Ok c)) → excess checks.0 ≡ None
     → code ≡ spellings (program_of p.failure_policy checks.0)
     → constants ≡ joined (policy_texts checks.0) → image ≡ contents Second code constants → OneImage p image

@@ -25,13 +25,13 @@ message_tail_last i d = refl
 one_slot : (x : Insn) → slot_count x ≡ 1 → length (slots (x ∷ [])) ≡ 1
 one_slot x one = grind (arith, append-nil, length-insn_slots)
 
--- the slot of the last instruction of the tail is the last slot
+-- the last instruction of the tail is in the last slot
 pub last_slot : {E : Type 0} (i : ℕ) (tail : List Insn) (d : Insn) (e1 e2 : Emitted) (r : Result ℕ E) → tail ≡ message_tail i → IfOk r (λ slot. slot ≡ length e1.code) → OnOk r (e2 ≡ with_piece e1 (get_or tail 5 d ∷ [])) → IfOk r (λ slot. slot + 1 ≡ length e2.code)
 last_slot i tail d e1 e2 r is at put = grind (arith, message_tail_last, length-append, one_slot)
 
 -- ---- an expression
 
--- it has few slots, whether there is room for it or not
+-- it has few slots, whether or not there is room for it
 few_where : (room : Bool) (e : Emitted) (piece : List Insn) → (room ≡ true → size piece ≤ part_slot_limit) → length (if room then with_piece e piece else e).code ≤ length e.code + part_slot_limit
 few_where true e piece few = let counted = length-append e.code (slots piece) in let within = few refl in omega arith
 few_where false e piece few = omega arith
@@ -44,7 +44,7 @@ few_slots e scope tree =
     let short = whole_short tree counted.constants (routines_of scope counted.routines) (length e.code) in
     omega (arith, within, short))
 
--- and stands behind the code that was there
+-- it follows the code that was already there
 begins_where : (room : Bool) (e : Emitted) (piece : List Insn) → (more : List (Option Insn)) × ((if room then with_piece e piece else e).code ≡ e.code ++ more)
 begins_where true e piece = (slots piece, refl)
 begins_where false e piece = ([], sym (append-nil e.code))
@@ -54,7 +54,7 @@ begins e scope tree =
     let counted = with_counted e tree (nodes tree) in
     begins_where (has_room counted) counted (code_at counted scope tree (length e.code))
 
--- ---- the jumps behind a validation
+-- ---- the jumps after a validation
 
 get_behind : (xs ys : List (Option Insn)) (k : ℕ) → slice_get (xs ++ ys) (length xs + k) ≡ slice_get ys k
 get_behind [] ys k = ap (slice_get ys) (omega arith)
@@ -68,7 +68,7 @@ module _ (f : FailurePolicy) (i : ℕ) (scope : List Declaration) (tree : Core) 
   abbrev rest : List (Option Insn)
   rest = (begins (with_nodes e2 1) scope tree).0 ++ slots (message_tail i)
 
-  -- where they stand once the message is there
+  -- their slots once the message is emitted
   stands : e3.code ≡ e.code ++ Some jump ∷ (slots (denial_code f i 0) ++ rest)
   stands = grind (arith, begins, one, append_assoc)
 
@@ -83,7 +83,7 @@ module _ (f : FailurePolicy) (i : ℕ) (scope : List Declaration) (tree : Core) 
   unfolding denial_code
   leave_in more = refl
 
-  -- the other jump, when the first one has its way
+  -- the other jump, once the first one has its target
   pub leave_stands : (e4 : Emitted) (new : Insn) → e4 ≡ with_insn_at e3 (length e.code) new → slice_get e4.code (length e.code + 5) ≡ Some (Some (leave_error f 4))
   leave_stands e4 new put = grind (arith, stands, set_here, get_behind, leave_in)
 
@@ -107,7 +107,7 @@ take_more f (y ∷ ys) (suc i) x below is = let n : suc i + 1 ≡ suc (i + 1) = 
 one_more : (ds : List Declaration) (v : VariableTree) → length (with_declared ds v) ≡ length ds + 1
 one_more ds v = length-append ds (declared v.name (type_or_any (type_of v.expression (scope_of ds))) (depth_in ds v.expression) ∷ [])
 
--- a scope with more variables begins with those that were there
+-- a scope with more variables begins with those of the smaller scope
 pub scope_begins : (vs : List VariableTree) (ds : List Declaration) → (more : List Declaration) × (fold with_declared ds vs ≡ ds ++ more)
 scope_begins [] ds = ([], sym (append-nil ds))
 scope_begins (v ∷ vs) ds = grind (arith, append_assoc, scope_begins vs (with_declared ds v))
@@ -161,12 +161,11 @@ messages_fit scope [] (v ∷ vs) are same k d below = absurd (cc)
 messages_fit scope (r ∷ more) (v ∷ vs) are same zero d below = grind (arith, first_same)
 messages_fit scope (r ∷ more) (v ∷ vs) are same (suc k) d below = messages_fit scope more vs are.2 (cc) k d (omega arith)
 
--- the emitter that has taken this code, these texts, nodes and routines
+-- the emitter with this code, these texts, nodes and routines
 abbrev pub emitter : List Insn → List (List ℕ) → ℕ → List ℕ → Emitted
 emitter code texts n routines = record { code = slots code; constants = texts; nodes = saturated n; routines = routines }
 
--- the emitter has counted n nodes and what stands so far, and where there was room, as behind few slots, it has the
--- code
+-- the emitter has counted n nodes and everything so far; if there was room for the slots, it also has the code
 pub record Same (e : Emitted) (l : Laid) (code : List Insn) (n : ℕ) : Type 0 where
   pub nodes_are : e.nodes ≡ saturated n
   pub texts_are : e.constants ≡ l.texts
@@ -183,7 +182,7 @@ has_room_in code texts n routines short near =
 nodes_more : (n k : ℕ) → saturated (saturated n + k) ≡ saturated (n + k)
 nodes_more n k = omega arith
 
--- where there is no room for code, all is counted alike
+-- if there is no room for code, everything else is counted in the same way
 either : {A : Type 0} (see : Emitted → A) (b : Bool) (more less : Emitted) → see more ≡ see less → see (if b then more else less) ≡ see less
 either see true more less same = same
 either see false more less same = refl
@@ -246,7 +245,7 @@ same_conditions f (a ∷ more) s =
     let counted = sum_by-cons part_nodes a more in
     same_at (same_conditions f more (same_condition f a s)) (simp append_assoc) (omega (arith, counted))
 
--- what they decide, if there are any
+-- the code that follows the conditions, if there are any
 same_decided : {e : Emitted} {l : Laid} {code : List Insn} {n : ℕ} (cs : List Tree) (before : Laid) → Same e l code n
     → Same (with_decided e (map expanded cs)) (with_slots (decided_slots cs) l) (code ++ decided_code (condition_codes before cs)) n
 same_decided {e} {l} {code} {n} [] before s = grind (arith, same_at, append-nil)
@@ -258,7 +257,7 @@ set_behind : (xs ys : List (Option Insn)) (k : ℕ) (o : Option Insn) → slice_
 set_behind [] ys k o = ap (λ (m : ℕ). slice_set ys m o) (omega arith)
 set_behind (x ∷ xs) ys k o = grind (arith, set_behind xs ys k o)
 
--- the code behind a validation, in which two jumps get their way
+-- the code after a validation once both jumps have their targets
 way_put : (f : FailurePolicy) (i n : ℕ) (message : List Insn) → slice_set (slice_set (slots (result_code f i [] ++ message)) 0 (Some (if_true (n + 9)))) 5 (Some (leave_error f (n + 4))) ≡ slots (if_true (n + 9) ∷ (denial_code f i n ++ message))
 unfolding denial_code
 way_put f i n message = refl
@@ -288,7 +287,7 @@ same_validation : {e : Emitted} {l : Laid} {code : List Insn} {n : ℕ} (f : Fai
     → Same (with_validation f i ds e (validation_expanded r)) (with_message_laid ds (before_message ds l r) r.message) (code ++ validation_code f i (tree_code ds l r.expression, message_codes ds (before_message ds l r) r.message)) (n + validation_nodes r)
 same_validation f i ds r s = same_at (same_result f i ds r.message (same_expression (same_nodes s 1) ds r.expression)) (simp append_assoc) (omega arith)
 
--- what stands behind validations
+-- the layout after the validations
 abbrev after_rules : List Declaration → Laid → List ValidationTree → Laid
 after_rules ds l [] = l
 after_rules ds l (r ∷ more) = after_rules ds (with_message_laid ds (before_message ds l r) r.message) more
@@ -318,7 +317,7 @@ code_before f t =
     policy_code f (variable_codes [] nothing_laid t.variables) (condition_codes (laid_routines t) t.conditions)
     (validation_codes (scope_after t.variables) (laid_conditions t) t.validations)
 
--- what is laid behind all
+-- the layout after the whole policy
 abbrev laid_whole : PolicyTree → Laid
 laid_whole t = with_slots 7 (after_rules (scope_after t.variables) (laid_conditions t) t.validations)
 
@@ -352,7 +351,7 @@ policy_emitted f t few =
     let whole = size-append (code_before f t) (Exit ∷ []) in
     ap (λ (e : Emitted). e.code) ((whole_is f t).is few (omega (arith, short, whole, few)))
 
--- what was checked is emitted as the policy's trees
+-- the checked parts are emitted as the policy's trees
 pub emitted_is : (f : FailurePolicy) (c : Checked) (t : PolicyTree) → IsChecked c t → emitted f c ≡ emitted_of f t
 emitted_is f c t is = grind arith
 
@@ -382,12 +381,12 @@ with_exit piece =
     ∙ ap slot_spellings (sym (slots-append piece (Exit ∷ [])))
     ∙ slots_spelled (piece ++ Exit ∷ [])
 
--- the bytes that it answers are those of the policy's program, and of its texts
+-- the bytes that are returned are those of the program and of its texts
 pub finished : (f : FailurePolicy) (t : PolicyTree) (code constants : List ℕ) → (IsTooLong (emitted_of f t) → ⊥) → (HasTooManyTexts (emitted_of f t) → ⊥) → code ≡ slot_spellings (emitted_of f t).code ++ spelling Exit → constants ≡ joined (emitted_of f t).constants → (excess t ≡ None) × (code ≡ spellings (program_of f t)) × (constants ≡ joined (policy_texts t))
 unfolding program_of
 finished f t code constants short few is are = grind (arith, not_long, cases_lt, le-ltb, policy_emitted, with_exit, texts_counted f t, joined_counted)
 
--- ---- what an emitter that has taken what was checked of a policy answers
+-- ---- the result of an emitter after the checked parts of a policy
 
 module _ (f : FailurePolicy) (c : Checked) (t : PolicyTree) (is : IsChecked c t) (e : Emitted) (took : e ≡ emitted f c) where
   pub answers_program : (code constants : List ℕ) → (IsTooLong e → ⊥) → (HasTooManyTexts e → ⊥) → code ≡ slot_spellings e.code ++ spelling Exit

@@ -1,4 +1,4 @@
--- The checking of a policy, step by step, over plain variables.
+-- The check of a policy, step by step, in lemmas over plain variables.
 use Rattle.policy_glue.proofs.Prelude.{◌≡◌, ◌≤◌, ◌<◌, ◌++◌, ◌∷◌, ℕ, List, [], nat_lt, false, Option, Some, None, Result, Ok, Err, IsErr, IfSome, arith, refl, sym, ap, ◌∙◌, ◌+◌, drop, get_or, length, length-append, map, subst, false≢true, nat_tests, All, IsErrAnd, ReadError, UnknownCharacter, InvalidTextLiteral, IntOutOfRange, UnexpectedToken, TooManyOpen, TextTooLong, Tree, ReadReturns, ErrorIsAt, Core, expanded, core_view, MacroFault, ArgumentCount, IterationName, NoSelection, macro_fault, fault_error, CodeCore, MacroError, Declaration, declared, depths_of, scope_of, allowed, typing, CelType, depth, need, saturated, ChecksValidation, ReadsAndExpands, IsAdded, IsExpanded, Judges, JudgesVariable, Sorts, SortsMessage, PartsChecked, Checks, ChecksConditions, ChecksValidations, ChecksVariables, IsFormedVariable, validation_trees, variable_expanded, ReadsTree, IsExpressionRefused, unread, judged, refused, of_another_type, expression, message, depth_in, expression_judged, texts, truths, type_or_any, variable_judged, with_depth, with_macros, with_typing, TakenOrRefused, over, next, IsVariable, TakesVariable, RefusesVariable, ValidationsEnd, in_conditions, in_validations, in_variables, scope_after, taken, with_variable, from_macros, from_reader, in_part, CompileError, NamedExpression, Validation, Policy, CheckedValidation, NotABool, MessageNotAString, PartKind, Message, CodeValidation, ExpressionError, NeedsTooManyWords, VariableTooDeep, Unread, Unexpanded, Untyped, drop_of_length-le, drop_more, map-append, All-push, fold-append, Checked, CodeNamedExpression, variable_depth_limit}
 use Rattle.cel_tokens.specs.declared.read_error.ReadError.TheVariants as read_error
 use Rattle.cel_macros.specs.declared.macro_error.MacroError.TheVariants as macro_error
@@ -16,7 +16,7 @@ unread_by text (TooManyOpen place) said at = λ some scope. unread (TooManyOpen 
 unread_by text (TextTooLong place) said at = λ some scope. unread (TextTooLong place) (record { some = λ no. cc; answers = said; placed = at })
 unread_by text read_error.Memory said at = λ some. absurd (some refl)
 
--- the text is no expression
+-- the text is not an expression
 pub unread_is : (text : List ℕ) (e : ReadError) (r : Result CodeCore ExpressionError) → ReadReturns text (Err e) → ErrorIsAt text (Err e) → IsErr r
     → IsErrAnd r (λ x. x ≡ from_reader e) → ReadsAndExpands text r
 unread_is text e r said at err is = grind (arith, false≢true, unread_by)
@@ -46,9 +46,9 @@ pub macros_refused : (text : List ℕ) (a : Tree) (e : MacroError) (r : Result C
     → IsErr r → IsErrAnd r (λ x. x ≡ from_macros e) → ReadsAndExpands text r
 macros_refused text a e r reads clause only err is = grind (arith, false≢true, refused_by)
 
--- what has no type, or needs too many words
+-- a tree that has no type, or needs too many words
 
--- both together
+-- the two together
 expression_is : (scope : List Declaration) (a : Tree) (r : Result CelType ExpressionError) → macro_fault a ≡ None
     → r ≡ with_typing (typing a (scope_of scope)) (need (expanded a)) → expression_judged scope a ≡ r
 unfolding expression_judged
@@ -117,7 +117,7 @@ part_refused types other part place scope text e x judges is = grind (arith, par
 
 -- ---- a variable in scope
 
--- what passes the guard of depths is shallow, and was there
+-- a variable that is not too deep keeps the type that it was given
 pub shallow_known : (d : ℕ) (r : Result CelType ExpressionError) (u : CelType) → with_depth d r ≡ Ok u → (nat_lt variable_depth_limit d ≡ false) × (r ≡ Ok u)
 shallow_known d r u is = grind arith
 
@@ -140,7 +140,7 @@ added_is n place old new core t d before after judges scope_is trees_are =
       formed = judges.1.1;
     }
 
--- ---- an error that is passed on
+-- ---- an error that is returned unchanged
 
 pub passed_on : {X : Type 0} (Target : Result X CompileError → Type 0) (e : CompileError) (r : Result X CompileError) → Target (Err e) → IsErr r
     → IsErrAnd r (λ x. x ≡ e) → Target r
@@ -168,7 +168,8 @@ pub rule_is : (scope : List Declaration) (place : ℕ) (n : Validation) (v : Che
 rule_is scope place n v sorts says =
     (record { expression = sorts.0; message = says.0 }, pair_is sorts.1.0 says.1, record { expression = sorts.2; message = says.2 }, (sorts.1.1, says.3))
 
--- the parts before this place are taken, and what the rest comes to behind them, all come to
+-- the invariant of a check: the parts before this place are accepted, and the result for the rest, given them, is the
+-- result for all parts
 pub record Walked {A B C : Type 0} (Takes : List B → A → B → Type 0) (Refuses : List B → A → CompileError → Type 0) (seen : B → C)
     (IsFormed : B → Type 0) (all rest : List A) (place : ℕ) (trees : List C) : Type 0 where
   pub taken : List B
@@ -177,13 +178,13 @@ pub record Walked {A B C : Type 0} (Takes : List B → A → B → Type 0) (Refu
   pub formed : All IsFormed taken
   pub goes : (end : Result (List B) CompileError) → TakenOrRefused Takes Refuses taken rest end → TakenOrRefused Takes Refuses [] all end
 
--- where the walk stands in a list of the code
+-- the place of the loop in a list of the code
 pub at_place : {A B : Type 0} (f : A → B) (xs : List A) (i : ℕ) (x : A) → i < length xs → x ≡ get_or xs i x → map f (drop i xs) ≡ f x ∷ map f (drop (i + 1) xs)
 at_place f xs i x below is = ap (map f) (drop_more xs i x below ∙ ap (λ y. y ∷ drop (i + 1) xs) (sym is))
 
 module _ {A B C X : Type 0} {Takes : List B → A → B → Type 0} {Refuses : List B → A → CompileError → Type 0} {seen : B → C}
     {IsFormed : B → Type 0} {all : List A} {place : ℕ} {trees : List C} (view : X → A) (xs : List X) where
-  -- in a list of the code, of which this is seen
+  -- one step of the loop over a list of the code
   module _ {x : X} (below : place < length xs) (is : x ≡ get_or xs place x)
       (go : Walked Takes Refuses seen IsFormed all (map view (drop place xs)) place trees) where
     here : map view (drop place xs) ≡ view x ∷ map view (drop (place + 1) xs)
@@ -240,7 +241,7 @@ pub variables_end : (view : CodeNamedExpression → NamedExpression) (xs : List 
 unfolding walk_ends
 variables_end view xs past go = record { are = walk_ends view xs past go.walked; scope_is = go.scope_is }
 
--- one more behind the others, as the code's values are seen
+-- one more element at the end, as the code's values are seen
 pub pushed : {A B : Type 0} (f : A → B) (old new : List A) (x : A) → new ≡ old ++ x ∷ [] → map f new ≡ map f old ++ f x ∷ []
 pushed f old new x is = ap (map f) is ∙ map-append f old (x ∷ [])
 

@@ -1,3 +1,5 @@
+-- The proofs of `policy_glue`.
+
 mod Compiles
 mod Distinct
 mod Emission

@@ -1,4 +1,4 @@
--- Lists of the code, over plain variables.
+-- Lists of the code, in lemmas over plain variables.
 use Rattle.policy_glue.proofs.Prelude.{◌≡◌, ℕ, Bool, List, [], ◌∷◌, map, string_bytes, refl, ap, ◌++◌, Option, Some, None, true, false, append-nil, codes, ◌<◌, ◌+◌, zero, suc, length, set, get_or, arith, sym, ◌∙◌, subst, ◌||◌, slice_get, list_any, bytes_eq, CodeNamedExpression, named_view, validation_view, has_line_break, each, separator_of, cases_lt, get_or-set_other, get_or-set_same, length-set, map-set, slice_get-get_or, lent}
 use Rattle.policy_glue.specs.declared.validation.Validation.{Validation}
 use Rattle.serde_json.specs.Data as json
@@ -36,7 +36,7 @@ pub record JoinGo (all rest : List (List ℕ)) (later : Bool) (text : List ℕ) 
 pub join_start : (all : List (List ℕ)) (text : List ℕ) → text ≡ [] → JoinGo all all false text
 join_start all text e = record { left = rw e (same all) }
 
--- the first i elements are those of f, of n in all
+-- n elements, of which the first i are those of f
 pub record IsFilled {A : Type 0} (f : ℕ → A) (n i : ℕ) (xs : List A) : Type 0 where
   pub size : length xs ≡ n
   pub each : (k : ℕ) → k < i → slice_get xs k ≡ Some (f k)
@@ -55,7 +55,7 @@ filled_more f n i xs y go h is = record {
   each = λ k below. grind (arith, cases_lt, set_below, set_same);
 }
 
--- the same of what the elements show
+-- one more element is set, for a list that is seen through g
 pub filled_view : {A B : Type 0} (g : A → B) (f : ℕ → B) (n i : ℕ) (xs : List A) (y : A) → IsFilled f n i (map g xs) → i < n → g y ≡ f i
     → IsFilled f n (i + 1) (map g (set xs i y))
 filled_view g f n i xs y go h is = subst (IsFilled f n (i + 1)) (sym (map-set g xs i y)) (filled_more f n i (map g xs) (g y) go h is)

@@ -1,10 +1,10 @@
--- A policy has one answer, and one image.
+-- Compilation has one result and one image.
 use Rattle.policy_glue.proofs.Prelude.{◌≡◌, ℕ, List, [], Result, Ok, Err, refl, sym, ap, ◌∙◌, subst, true≢false, ◌∷◌, ◌++◌, length, arith, Token, ReadError, IsReadResult, words_only, Tree, one_refusal, whole_unique, one_list, only_of, Declaration, allowed, CelType, ConditionsEnd, TakenOrRefused, IsNoValidation, IsNoneOf, IsOneOf, HasOtherType, IsExpressionRefused, IsValidation, IsTaken, IsVariable, PartsEnd, ReadsTree, RefusesCondition, RefusesValidation, RefusesVariable, TakesCondition, TakesValidation, TakesVariable, ValidationsEnd, VariablesEnd, expression, expression_judged, judged, of_another_type, refused, scope_after, texts, truths, unread, variable_judged, CompileError, InvalidExpression, NotABool, MessageNotAString, ExpressionError, Unread, PartKind, HasOneImage, Compiles, excess, NamedExpression, Validation, Policy, PolicyTree, ValidationTree, VariableTree, Condition, Message, CodeValidation, open_limit}
 use Rattle.cel_reader.specs.Answers.{IsExpression}
 use Rattle.policy_glue.specs.Checking as checking
 use Rattle.policy_glue.specs.Limits as limits
 
--- answers of one kind have the same within, and none is of two kinds
+-- equal results of one kind hold equal values, and results of two kinds differ
 pub ok_same : {A E : Type 0} (x y : A) → ◌≡◌ {A = Result A E} (Ok x) (Ok y) → x ≡ y
 ok_same x y is = cc
 
@@ -20,17 +20,17 @@ pub reads_once : (text : List ℕ) (a b : Tree) → ReadsTree text a → ReadsTr
 reads_once text a b r s =
     whole_unique open_limit open_limit (words_only s.0) a b (subst (λ (ls : List Token). IsExpression open_limit (words_only ls) a) (one_list text r.0 s.0 r.1 s.1) r.2) s.2
 
--- a text that is an expression is not refused for its form
+-- a text that is an expression is not refused as unreadable
 not_unread : (text : List ℕ) (a : Tree) (e : ReadError) → ReadsTree text a → IsReadResult text (Err e) → ⊥
 not_unread text a e r is = is.some (ap Err (only_of text (Err e) is.answers r.0 a r.1 r.2))
 
--- ---- what is judged
+-- ---- judged texts
 
 module _ (judge : Tree → Result CelType ExpressionError) (text : List ℕ) where
   type_once : (a b : Tree) (t u : CelType) → IsTaken judge text a t → IsTaken judge text b u → t ≡ u
   type_once a b t u taken other = ok_same t u (sym taken.judged ∙ ap judge (reads_once text a b taken.reads other.reads) ∙ other.judged)
 
-  -- what is taken is not refused
+  -- an accepted text is not refused
   pub not_refused : (a : Tree) (t : CelType) (e : ExpressionError) → IsTaken judge text a t → IsExpressionRefused judge text e → ⊥
   not_refused a t e taken (unread x is) = not_unread text a x taken.reads is
   not_refused a t e taken (judged b x reads is) = ok_is_no_err t x (sym taken.judged ∙ ap judge (reads_once text a b taken.reads reads) ∙ is)
@@ -41,7 +41,7 @@ module _ (judge : Tree → Result CelType ExpressionError) (text : List ℕ) whe
   refused_once e f (judged a x reads is) (unread y also) = absurd (not_unread text a y reads also)
   refused_once e f (judged a x reads is) (judged b y more also) = err_same x y (sym is ∙ ap judge (reads_once text a b reads more) ∙ also)
 
--- ---- what is of a type
+-- ---- texts of a type
 
 module _ (types : List CelType) (scope : List Declaration) (text : List ℕ) where
   pub one_of_once : (a b : Tree) → IsOneOf types scope text a → IsOneOf types scope text b → a ≡ b
@@ -61,7 +61,7 @@ module _ (types : List CelType) (scope : List Declaration) (text : List ℕ) whe
     none_once e f (of_another_type is) (refused y because) = absurd (not_refused (expression_judged scope) text is.tree is.cel_type y is.taken because)
     none_once e f (of_another_type is) (of_another_type also) = refl
 
--- ---- answers
+-- ---- results
 
 refusal_is : {A B : Type 0} (e f : CompileError) → ◌≡◌ {A = Result A CompileError} (Err e) (Err f) → ◌≡◌ {A = Result B CompileError} (Err e) (Err f)
 refusal_is e f is = let same : e ≡ f = cc in ap Err same

@@ -1,4 +1,4 @@
--- The names that these proofs cite of the library, of the crates below and of the definitions here. Declares nothing.
+-- The names of the library, of the crates below and of the definitions that these proofs use. Declares nothing.
 pub use Rattle.std.proofs.Common.{All, Bool, Err, IfOk, IfSome, IsErr, IsErrOf, List, None, Ok, OnOk, Option, Result}
 pub use Rattle.std.proofs.Common.{Some, nat_le, ℕ, ℤ, [], ap, append-nil, append_assoc, arith, codes, count_by, drop}
 pub use Rattle.std.proofs.Common.{false, fold, get_or, if◌then◌else◌, length, length-append, map, nat_lt, not}

@@ -1,4 +1,4 @@
--- A program of a policy: its code, what it gives, and that it decides as the policy does.
+-- The program of a policy: its code, the values it computes, and that it decides as the policy does.
 pub mod Conditions
 pub mod Parts
 pub mod Runs

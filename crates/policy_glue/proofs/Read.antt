@@ -1,4 +1,4 @@
--- What a document says, by what `serde_json` answers.
+-- The policy in a document, given the result of `serde_json`.
 use Rattle.policy_glue.proofs.Prelude.{◌≡◌, ℕ, List, Some, None, sym, arith, IsUtf8, IsUtf8-from_is_utf8, is_utf8-from_IsUtf8, read, document_of}
 use Rattle.serde_json.specs.Data as json
 

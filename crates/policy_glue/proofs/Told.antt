@@ -1,4 +1,4 @@
--- What the words of a verdict tell.
+-- The verdict that its words represent.
 use Rattle.policy_glue.proofs.Prelude.{◌≡◌, ◌<◌, ◌≤◌, ◌+◌, ◌*◌, ℕ, Bool, true, false, List, [], length, Option, None, nat_lt, arith, refl, sym, ap, ◌∙◌, zero, suc, ◌∷◌, ◌++◌, Some, ◌-◌, map, ltb-false, nat_tests, slice_get_past, slice_get, if◌then◌else◌, slice_index, Memory, IsMemory, base_of, word_in, read_word, ValueOrError, AreRead, IsLayout, Encodes, VerdictWords, finding_word, first_message, message_at, message_in, part_limit, ok_or_zero, result_at, text_named, verdict_word, outcome_of, outcome_word, truth_word, Finding, Verdict, CheckResult, Outcome, denies, FailurePolicy, IsAcceptedPolicy, Parts, denials_told, denies_word, lent, Validation, Policy, validation_view, policy_view, Rejection, rejection_tree, rejection_by, rejection_of, response_text, Denial, denials_of, response_of, tree_of}
 use Rattle.guest_memory.specs.Memory.{Verdict as VerdictRegion}
 
@@ -6,7 +6,7 @@ word_is : (m : Memory) (i : ℕ) → IsMemory m → i < 256 → verdict_word m i
 unfolding verdict_word
 word_is m i is below = ap ok_or_zero (read_word m VerdictRegion i (base_of VerdictRegion + 8 * i) is (let size = is.verdict in omega arith) refl)
 
--- where a finding is read it is that one, and elsewhere there is none
+-- the finding at one place is read as it is; at other places there is none
 read_by : {A : Type 0} (read : Option Finding → A) (here : A) (x : Option Finding) (b : Bool) → (b ≡ true → here ≡ read x) → (b ≡ false → x ≡ None)
     → (if b then here else read None) ≡ read x
 read_by read here x true is beyond = is refl
@@ -25,16 +25,16 @@ module _ (f : FailurePolicy) (v : Verdict) (values : List ValueOrError) (m : Mem
   message_is : (i : ℕ) → i < part_limit → message_at m values count i ≡ message_in (slice_get v.findings i)
   message_is i below = read_by message_in _ (slice_get v.findings i) (nat_lt i count) (λ e. named_is i below) (beyond i)
 
-  -- what is read tells the verdict of which the region has the layout
+  -- the words that are read represent the verdict of which the region is the layout
   pub layout_told : (words : VerdictWords) → AreRead m values count words → Encodes f v words
   layout_told words read = grind (arith, word_is, result_is, message_is)
 
--- ---- the walk
+-- ---- the loop over the validations
 
 pub record DenialsGo (f : FailurePolicy) (all rest : List Validation) (words : VerdictWords) (i : ℕ) (done : List Denial) : Type 0 where
   pub left : denials_told f all words 0 ≡ done ++ denials_told f rest words i
 
--- ---- what the words of a verdict tell
+-- ---- the verdict in the words
 
 none_told : (f : FailurePolicy) (rs : List Validation) (words : VerdictWords) (i : ℕ) → ((k : ℕ) → i ≤ k → k < i + length rs → slice_index words.results k ≡ 0)
     → denials_told f rs words i ≡ []
@@ -47,7 +47,7 @@ one_told : (f : FailurePolicy) (r : Validation) (t : CheckResult) (m : Option (L
     ≡ (if denies f t then record { validation = r; message = m } ∷ more else more)
 one_told f r t m word message told more is said same = grind arith
 
--- the words from place i on are those of these findings
+-- the words from place i on represent these findings
 pub record TellFrom (xs : List Finding) (words : VerdictWords) (i n : ℕ) : Type 0 where
   pub results : (k : ℕ) → k < n → slice_index words.results (i + k) ≡ finding_word (slice_get xs k)
   pub messages : (k : ℕ) → k < n → slice_get words.messages (i + k) ≡ Some (message_in (slice_get xs k))
@@ -71,7 +71,7 @@ denials_from f (r ∷ rs) (x ∷ xs) words i (suc n) short told =
     (ap (slice_get words.messages) (omega arith) ∙ told.messages 0 (omega arith))
     (denials_from f rs xs words (i + 1) n (omega arith) (rest_told x xs words i n told))
 
--- the word of an outcome states it
+-- the word of an outcome gives back the outcome
 pub outcome_told : (o : Outcome) → outcome_of (outcome_word o) ≡ o
 outcome_told o = grind arith
 
@@ -85,7 +85,7 @@ rejection_is f rs v words short told = grind (arith, outcome_told, denials_from,
 pub few_parts : (p : Policy) → IsAcceptedPolicy p → (length p.variables ≤ 64) × (length p.validations ≤ 64)
 few_parts p accepted = grind (arith, ltb-false)
 
--- what is said is what the verdict that the words tell says
+-- the rejection that is returned is the one for the verdict in the words
 pub objected : (parts : Parts) (p : Policy) (v : Verdict) (words : VerdictWords) (said : Option Rejection) → p ≡ policy_view parts → IsAcceptedPolicy (policy_view parts)
     → Encodes p.failure_policy v words
     → said ≡ rejection_by (outcome_of words.outcome) (denials_told parts.failure_policy (map validation_view parts.validations.items) words 0) → said ≡ rejection_of p v
@@ -94,7 +94,7 @@ objected parts p v words said is accepted told here = grind (arith, rejection_is
 tree_by : (o : Outcome) (ds : List Denial) (uid : List ℕ) → rejection_tree (rejection_by o ds) uid ≡ tree_of o ds uid
 tree_by o ds uid = grind arith
 
--- the response by what a verdict says is the one to the verdict
+-- the response to the rejection is the response to the verdict
 pub responded : (p : Policy) (v : Verdict) (uid bytes : List ℕ) (said : Option Rejection) → said ≡ rejection_of p v → bytes ≡ response_text said uid
     → bytes ≡ response_of p v uid
 unfolding response_of response_text

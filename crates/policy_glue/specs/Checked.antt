@@ -1,4 +1,4 @@
--- What the code answers of a policy's expressions.
+-- Results of checking a policy's expressions, as the code returns them.
 use Rattle.std.specs.Prelude.{◌≡◌, ◌≢◌, ℕ, All, IfSome, List, [], ◌∷◌, ◌++◌, map, Option, Some, None, option_map, Result, Ok, Err, Vec}
 use Rattle.std.specs.Global.{Global}
 use Rattle.cel_reader.specs.Tree.{Tree}
@@ -23,39 +23,39 @@ use Rattle.policy_glue.specs.declared.expression_error.ExpressionError.{Expressi
 use Rattle.policy_glue.specs.declared.expression_error.ExpressionError.TheVariants as expression_error
 use Rattle.policy_glue.specs.declared.part_kind.PartKind.{PartKind, TheVariants.Message}
 
--- the tree with its macros expanded, whose literals are values and whose names are names
+-- the tree with its macros expanded; its literals are valid values and its names valid names
 abbrev pub IsExpanded : CodeCore → Tree → Type 0
 IsExpanded core a = (core_view core ≡ expanded a) × IsWellFormed a
 
--- a validation's trees are such
+-- the trees of a validation are well formed
 abbrev pub IsFormedValidation : ValidationTree → Type 0
 IsFormedValidation r = IsWellFormed r.expression × IfSome r.message IsWellFormed
 
--- a text is read and its macros are expanded, or it is refused in every scope; or the host has no memory for it
+-- the text is read and its macros are expanded, or it is refused in every scope; an allocation failure says nothing
 abbrev pub ReadsAndExpands : List ℕ → Result CodeCore ExpressionError → Type 0
 ReadsAndExpands text (Ok core) = (a : Tree) × IsExpanded core a × ReadsTree text a × (macro_fault a ≡ None)
 ReadsAndExpands text (Err e) = e ≢ expression_error.Memory → (scope : List Declaration)
     → IsExpressionRefused (expression_judged scope) text e
 
--- a text is judged, or the host has no memory for it
+-- the result of judging a text; an allocation failure says nothing
 abbrev pub Judges : (Tree → Result CelType ExpressionError) → List ℕ → Result (CodeCore × CelType) ExpressionError → Type 0
 Judges judge text (Ok x) = (a : Tree) × IsExpanded x.0 a × IsTaken judge text a x.1
 Judges judge text (Err e) = e ≢ expression_error.Memory → IsExpressionRefused judge text e
 
--- and is of one of these types
+-- the result of judging a text that must have one of these types
 abbrev pub Sorts : List CelType → CompileError → PartKind → ℕ → List Declaration → List ℕ → Result CodeCore CompileError → Type 0
 Sorts types other part place scope text (Ok core) = (a : Tree) × IsExpanded core a × IsOneOf types scope text a
 Sorts types other part place scope text (Err e) = e ≢ compile_error.Memory → IsNoneOf types other part place scope text e
 
 -- ---- parts and lists of them
 
--- a variable's text is judged, and its depth is told
+-- the result of judging a variable's text: its tree, its type and its depth
 abbrev pub JudgesVariable : List Declaration → ℕ → List ℕ → Result (CodeCore × CelType × ℕ) CompileError → Type 0
 JudgesVariable scope place text (Ok x) =
     (a : Tree) × IsExpanded x.0 a × IsTaken (variable_judged scope) text a x.1 × (x.2 ≡ depth_in scope a)
 JudgesVariable scope place text (Err e) = e ≢ compile_error.Memory → IsNoVariable scope place text e
 
--- a variable comes into scope, and its tree behind the others
+-- a variable is added to the scope, and its tree to the end of the trees
 pub record IsAdded (n : NamedExpression) (old new : List Declaration) (before after : List Core) : Type 0 where
   pub variable : VariableTree
   pub taken : IsVariable old n variable
@@ -68,7 +68,7 @@ abbrev pub AddsVariable : NamedExpression → ℕ → List Declaration → List 
 AddsVariable n place old new before after (Ok u) = IsAdded n old new before after
 AddsVariable n place old new before after (Err e) = e ≢ compile_error.Memory → IsNoVariable old place n.expression e
 
--- each part of a list is taken, and shows this of its tree, which is well formed
+-- the result of checking a list of parts: all are accepted and their trees well formed, or the first refusal
 pub record PartsChecked {A B C : Type 0} (Takes : List B → A → B → Type 0) (Refuses : List B → A → CompileError → Type 0) (seen : B → C)
     (IsFormed : B → Type 0) (ns : List A) (trees : List C) : Type 0 where
   pub taken : List B
@@ -103,7 +103,7 @@ validation_trees v = (core_view v.expression, option_map core_view v.message)
 abbrev pub validation_expanded : ValidationTree → Core × Option Core
 validation_expanded r = (expanded r.expression, option_map expanded r.message)
 
--- a message expression that a validation may have
+-- the refusal of a validation's message expression, if it has one
 pub record IsNoMessage (scope : List Declaration) (place : ℕ) (text : Option (List ℕ)) (e : CompileError) : Type 0 where
   pub source : List ℕ
   pub is : text ≡ Some source
@@ -129,13 +129,13 @@ ChecksValidations scope ns (Err e) = e ≢ compile_error.Memory → ValidationsE
 
 -- ---- a policy
 
--- its trees' literals are values, and their names are names
+-- the literals of its trees are valid values, and the names valid names
 pub record IsFormed (t : PolicyTree) : Type 0 where
   pub variables : All IsFormedVariable t.variables
   pub conditions : All IsWellFormed t.conditions
   pub validations : All IsFormedValidation t.validations
 
--- what is checked, beside its trees
+-- the result of the check holds these trees
 pub record IsChecked (checked : Checked) (t : PolicyTree) : Type 0 where
   pub scope : checked.scope ≡ scope_after t.variables
   pub variables : map core_view checked.variables.items ≡ map variable_expanded t.variables
@@ -143,7 +143,7 @@ pub record IsChecked (checked : Checked) (t : PolicyTree) : Type 0 where
   pub validations : map validation_trees checked.validations.items ≡ map validation_expanded t.validations
   pub formed : IsFormed t
 
--- the policy's parts are checked, or the first refusal is answered; or the host has no memory for them
+-- the parts of the policy are checked, or its first refusal is returned; an allocation failure says nothing
 abbrev pub Checks : Policy → Result Checked CompileError → Type 0
 Checks p (Ok checked) = (t : PolicyTree) × IsChecked checked t × PartsEnd p (Ok t)
 Checks p (Err e) = e ≢ compile_error.Memory → PartsEnd p (Err e)

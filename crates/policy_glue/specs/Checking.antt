@@ -1,5 +1,6 @@
--- Which expressions a policy may have, and the first that is refused: variables, conditions and validations, each in
--- its order, a message expression behind its validation, and each judged whole before the next.
+-- Which expressions a policy may have, and which one is refused first. Variables, conditions and validations are
+-- checked in this order, each list in its own order. A message expression comes directly after its validation. Each
+-- expression is checked completely before the next.
 use Rattle.std.specs.Prelude.{◌≡◌, ℕ, true, false, List, [], ◌∷◌, ◌++◌, length, fold, nat_lt, Option, Some, None, Result, Ok, Err, if◌then◌else◌}
 use Rattle.cel_reader.specs.Limits.{open_limit}
 use Rattle.cel_tokens.specs.declared.read_error.ReadError.{ReadError}
@@ -23,24 +24,24 @@ use Rattle.policy_glue.specs.declared.expression_error.ExpressionError.{Expressi
 use Rattle.policy_glue.specs.declared.expression_error.ExpressionError.TheVariants.{Unread, Unexpanded, Untyped, NeedsTooManyWords, VariableTooDeep}
 use Rattle.policy_glue.specs.declared.compile_error.CompileError.{CompileError, TheVariants.InvalidExpression, TheVariants.NotABool, TheVariants.MessageNotAString}
 
--- ---- one tree: macros, types, stack words, and for a variable its depth
+-- ---- one tree: its macros, its types, its stack words and, for a variable, its depth
 
--- the error that the type checker reports, by why a tree has no type
+-- the error that the type checker reports for this fault
 abbrev pub type_error : TypeFault → TypeError
 type_error UnknownName = UnknownIdentifier
 type_error NoOverload = NoMatchingOverload
 type_error MisplacedVariables = MisusedVariables
 
--- the type of a tree; `NeedsTooManyWords` if the tree needs more stack words than there are
+-- this type; `NeedsTooManyWords` if the tree needs more stack words than a frame has
 abbrev pub with_need : ℕ → CelType → Result CelType ExpressionError
 with_need n t = if nat_lt word_limit n then Err NeedsTooManyWords else Ok t
 
--- the same of what typing says of the tree
+-- the outcome of type checking: a type with the stack words that the tree needs, or an error
 abbrev pub with_typing : Typing → ℕ → Result CelType ExpressionError
 with_typing (typing.typed t) n = with_need n t
 with_typing (typing.refused y) n = Err (Untyped (type_error y))
 
--- the same behind the first misuse of a macro, if there is one
+-- the first misuse of a macro if there is one, else the outcome of type checking
 abbrev pub with_macros : Option MacroFault → Typing → ℕ → Result CelType ExpressionError
 with_macros None t n = with_typing t n
 with_macros (Some fault) t n = Err (Unexpanded (fault_error fault))
@@ -49,67 +50,67 @@ with_macros (Some fault) t n = Err (Unexpanded (fault_error fault))
 unfoldable pub expression_judged : List Declaration → Tree → Result CelType ExpressionError
 expression_judged scope a = with_macros (macro_fault a) (type_of a (scope_of scope)) (need (expanded a))
 
--- a variable at this depth, judged as a tree; `VariableTooDeep` if it is too deep
+-- the result for a variable of this depth: `VariableTooDeep` if it is too deep, else the result of its tree
 abbrev pub with_depth : ℕ → Result CelType ExpressionError → Result CelType ExpressionError
 with_depth d (Ok t) = if nat_lt variable_depth_limit d then Err VariableTooDeep else Ok t
 with_depth d (Err e) = Err e
 
--- the depth of a variable with this tree, which may name these variables
+-- the depth of a variable with this tree, which may use these variables
 abbrev pub depth_in : List Declaration → Tree → ℕ
 depth_in scope a = depth (expanded a) (depths_of scope)
 
--- the same of a variable's tree
+-- the type of a variable's tree, or why the variable is refused
 abbrev pub variable_judged : List Declaration → Tree → Result CelType ExpressionError
 variable_judged scope a = with_depth (depth_in scope a) (expression_judged scope a)
 
 -- ---- one text
 
--- the text is this tree, with at most 100 brackets and conditionals open
+-- the text parses as this tree, with at most 100 brackets and conditionals open at once
 abbrev pub ReadsTree : List ℕ → Tree → Type 0
 ReadsTree text a = HasTokens text (λ ws. IsExpression open_limit ws a)
 
--- the text is this tree, of this type
+-- the text parses as this tree, which has this type
 pub record IsTaken (judge : Tree → Result CelType ExpressionError) (text : List ℕ) (a : Tree) (t : CelType) : Type 0 where
   pub reads : ReadsTree text a
   pub judged : judge a ≡ Ok t
 
--- the text is no expression, or is refused as the tree that it is
+-- the text is not an expression, or its tree is refused
 pub data IsExpressionRefused (judge : Tree → Result CelType ExpressionError) (text : List ℕ) : ExpressionError → Type 0 where
   unread : (e : ReadError) → IsReadResult text (Err e) → IsExpressionRefused judge text (Unread e)
   judged : (a : Tree) (e : ExpressionError) → ReadsTree text a → judge a ≡ Err e → IsExpressionRefused judge text e
 
--- conditions and validations are bools, message expressions texts, each as far as is known
+-- the type of a condition or validation: Bool, or Dyn if the type is not known statically
 abbrev pub truths : List CelType
 truths = type.Bool ∷ []
 
--- message expressions are texts
+-- the type of a message expression: String, or Dyn if the type is not known statically
 abbrev pub texts : List CelType
 texts = type.String ∷ []
 
--- the types of the expression of a part that is no variable
+-- the types that the expression of a part may have; not used for variables
 abbrev pub types_of : PartKind → List CelType
 types_of Message = texts
 types_of _ = truths
 
--- the refusal of one of another type
+-- the error for an expression of another type
 abbrev pub other_type : PartKind → CompileError
 other_type Message = MessageNotAString
 other_type _ = NotABool
 
--- the text is this tree, of one of these types or of none that is known
+-- the text parses as this tree, whose type is one of these
 pub record IsOneOf (types : List CelType) (scope : List Declaration) (text : List ℕ) (a : Tree) : Type 0 where
   pub cel_type : CelType
   pub taken : IsTaken (expression_judged scope) text a cel_type
   pub kind : allowed types cel_type ≡ true
 
--- the text is a tree of another type
+-- the text parses as a tree of another type
 pub record HasOtherType (types : List CelType) (scope : List Declaration) (text : List ℕ) : Type 0 where
   pub tree : Tree
   pub cel_type : CelType
   pub taken : IsTaken (expression_judged scope) text tree cel_type
   pub kind : allowed types cel_type ≡ false
 
--- the text of the part at this place is refused, or is a tree of another type than these
+-- the expression of the part at this place is refused, or has a type that is not in the list
 pub data IsNoneOf (types : List CelType) (other : CompileError) (part : PartKind) (place : ℕ) (scope : List Declaration) (text : List ℕ)
     : CompileError → Type 0 where
   refused : (e : ExpressionError) → IsExpressionRefused (expression_judged scope) text e
@@ -118,7 +119,8 @@ pub data IsNoneOf (types : List CelType) (other : CompileError) (part : PartKind
 
 -- ---- lists of parts
 
--- from here on, behind what is taken, each part is taken, or the first that is not is refused
+-- from here on: every remaining part is accepted, or the first one that is not is refused. The first list holds the
+-- parts accepted so far.
 pub data TakenOrRefused {A B : Type 0} (Takes : List B → A → B → Type 0) (Refuses : List B → A → CompileError → Type 0)
     : List B → List A → Result (List B) CompileError → Type 0 where
   over : {taken : List B} → TakenOrRefused Takes Refuses taken [] (Ok taken)
@@ -127,20 +129,20 @@ pub data TakenOrRefused {A B : Type 0} (Takes : List B → A → B → Type 0) (
   next : {taken : List B} {part : A} {more : List A} {end : Result (List B) CompileError} (tree : B) → Takes taken part tree
       → TakenOrRefused Takes Refuses (taken ++ tree ∷ []) more end → TakenOrRefused Takes Refuses taken (part ∷ more) end
 
--- the type that was found, or `dyn` where there is none
+-- the type if type checking found one, else `dyn`
 abbrev pub type_or_any : Typing → CelType
 type_or_any (typing.typed t) = t
 type_or_any (typing.refused y) = type.Dyn
 
--- with one more variable in scope, of the type that it has there
+-- the scope with one more variable, which has the type found for it there
 abbrev pub with_variable : List Declaration → VariableTree → List Declaration
 with_variable scope v = scope ++ declared v.name (type_or_any (type_of v.expression (scope_of scope))) (depth_in scope v.expression) ∷ []
 
--- the scope of what may use these variables
+-- the scope after these variables
 abbrev pub scope_after : List VariableTree → List Declaration
 scope_after variables = fold with_variable [] variables
 
--- a variable may use those in scope, which are those before it
+-- a variable may use those in scope: the earlier ones
 pub record IsVariable (scope : List Declaration) (n : NamedExpression) (v : VariableTree) : Type 0 where
   pub name : v.name ≡ n.name
   pub cel_type : CelType
@@ -152,11 +154,11 @@ pub record IsNoVariable (scope : List Declaration) (place : ℕ) (text : List �
   pub because : IsExpressionRefused (variable_judged scope) text cause
   pub is : e ≡ InvalidExpression Variable place cause
 
--- the next variable, which may use those taken so far
+-- the next variable is accepted; it may use those accepted so far
 abbrev pub TakesVariable : List VariableTree → NamedExpression → VariableTree → Type 0
 TakesVariable taken n v = IsVariable (scope_after taken) n v
 
--- it is refused, at the place behind them
+-- the next variable is refused; its place is the number of variables accepted so far
 abbrev pub RefusesVariable : List VariableTree → NamedExpression → CompileError → Type 0
 RefusesVariable taken n e = IsNoVariable (scope_after taken) (length taken) n.expression e
 
@@ -176,29 +178,29 @@ RefusesCondition taken n e = IsNoneOf truths NotABool Condition (length taken) [
 abbrev pub ConditionsEnd : List NamedExpression → Result (List Tree) CompileError → Type 0
 ConditionsEnd ns end = TakenOrRefused TakesCondition RefusesCondition [] ns end
 
--- a validation and its message expression may use all variables
+-- the message expression, if there is one, parses as this tree; it may use all variables
 abbrev pub IsMessage : List Declaration → Option (List ℕ) → Option Tree → Type 0
 IsMessage scope (Some text) (Some a) = IsOneOf texts scope text a
 IsMessage scope None None = Unit {0}
 IsMessage scope _ _ = ⊥
 
--- a validation is these trees: a bool, and a text where it has a message expression
+-- a validation parses as these trees: one of type Bool, and one of type String if it has a message expression
 pub record IsValidation (scope : List Declaration) (n : Validation) (r : ValidationTree) : Type 0 where
   pub expression : IsOneOf truths scope n.expression r.expression
   pub message : IsMessage scope n.message_expression r.message
 
--- the validation at this place is refused: its expression, or else its message expression, with `MessageNotAString` for
--- its type
+-- the validation at this place is refused: for its expression, or else for its message expression
+-- (`MessageNotAString` if it has another type)
 pub data IsNoValidation (scope : List Declaration) (place : ℕ) (n : Validation) : CompileError → Type 0 where
   expression : (e : CompileError) → IsNoneOf truths NotABool CodeValidation place scope n.expression e → IsNoValidation scope place n e
   message : (a : Tree) (text : List ℕ) (e : CompileError) → IsOneOf truths scope n.expression a → n.message_expression ≡ Some text
       → IsNoneOf texts MessageNotAString Message place scope text e → IsNoValidation scope place n e
 
--- the next validation
+-- the next validation is accepted
 abbrev pub TakesValidation : List Declaration → List ValidationTree → Validation → ValidationTree → Type 0
 TakesValidation scope taken n r = IsValidation scope n r
 
--- it is refused, at the place behind those taken so far
+-- the next validation is refused; its place is the number of validations accepted so far
 abbrev pub RefusesValidation : List Declaration → List ValidationTree → Validation → CompileError → Type 0
 RefusesValidation scope taken n e = IsNoValidation scope (length taken) n e
 
@@ -208,7 +210,7 @@ ValidationsEnd scope ns end = TakenOrRefused (TakesValidation scope) (RefusesVal
 
 -- ---- the policy
 
--- its expressions as trees, or the first refusal
+-- the expressions of the policy as trees, or the first refusal
 pub data PartsEnd (p : Policy) : Result PolicyTree CompileError → Type 0 where
   in_variables : (e : CompileError) → VariablesEnd p.variables (Err e) → PartsEnd p (Err e)
   in_conditions : (vs : List VariableTree) (e : CompileError) → VariablesEnd p.variables (Ok vs)

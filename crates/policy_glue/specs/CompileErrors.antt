@@ -1,4 +1,4 @@
--- The refusals of a policy that is not compiled, as they are printed.
+-- How compile errors are printed.
 use Rattle.std.specs.Prelude.{ℕ, List, ◌++◌, Option, None, Some, codes, decimal}
 use Rattle.cel_tokens.specs.declared.read_error.ReadError.{ReadError}
 use Rattle.cel_tokens.specs.declared.read_error.ReadError.TheVariants as read_error
@@ -11,42 +11,42 @@ use Rattle.policy_glue.specs.declared.expression_error.ExpressionError.TheVarian
 use Rattle.policy_glue.specs.declared.compile_error.CompileError.{CompileError, TheVariants.InvalidExpression}
 use Rattle.policy_glue.specs.declared.compile_error.CompileError.TheVariants as compile_error
 
--- the word for the kind of a part
+-- the word for this kind of part
 abbrev pub kind_text : PartKind → List ℕ
 kind_text Variable = codes "variable"
 kind_text Condition = codes "condition"
 kind_text Validation = codes "validation"
 kind_text Message = codes "message"
 
--- a code, and after it these words and the number, if there is one
+-- the code, then these words and the number if there is a number
 abbrev pub with_number : List ℕ → List ℕ → Option ℕ → List ℕ
 with_number code words None = code
 with_number code words (Some n) = code ++ (words ++ decimal n)
 
--- why an expression is refused: its code, and the byte at which a text is refused
+-- an expression's error: its code, and the byte at which its text is refused
 abbrev pub expression_text : ExpressionError → List ℕ
 expression_text e = with_number (expression_error_code e) (codes " at ") (expression_error_place e)
 
--- which part is refused: its kind, its place from 0, and why its expression is refused
+-- the part whose expression is refused: its kind, its place counted from 0, and the expression's error
 abbrev pub part_text : PartKind → ℕ → ExpressionError → List ℕ
 part_text part place e = kind_text part ++ (codes " " ++ (decimal place ++ (codes " " ++ expression_text e)))
 
--- why a policy is not compiled: its code, and for an expression the part
+-- a compile error: its code, and the part if an expression is refused
 abbrev pub compile_text : CompileError → List ℕ
 compile_text (InvalidExpression part place e) = compile_error_code (InvalidExpression part place e) ++ (codes " " ++ part_text part place e)
 compile_text e = compile_error_code e
 
--- want of memory is said for itself
+-- a read error as an expression's error; out of memory stays `Memory`
 abbrev pub from_reader : ReadError → ExpressionError
 from_reader read_error.Memory = expression_error.Memory
 from_reader e = Unread e
 
--- the same of the refusal of a macro
+-- a macro error as an expression's error; out of memory stays `Memory`
 abbrev pub from_macros : MacroError → ExpressionError
 from_macros macro_error.Memory = expression_error.Memory
 from_macros e = Unexpanded e
 
--- the refusal of an expression as that of the part at a place
+-- an expression's error as the error of the part at this place
 abbrev pub in_part : PartKind → ℕ → ExpressionError → CompileError
 in_part part place expression_error.Memory = compile_error.Memory
 in_part part place e = InvalidExpression part place e

@@ -1,4 +1,4 @@
--- What is known of the image of a compiled policy.
+-- What is proved of the image of a compiled policy.
 use Rattle.std.specs.Prelude.{◌≡◌, ℕ, ◌*◌, ◌<◌, ◌≤◌, All, false, length, Result, Ok, Err}
 use Rattle.expression_code.specs.Limits.{slots_per_node, steps_per_visit}
 use Rattle.loader.specs.Contents as loader
@@ -17,8 +17,8 @@ use Rattle.policy_glue.specs.Trees.{PolicyTree}
 use Rattle.policy_glue.specs.declared.compile_error.CompileError.{CompileError, TheVariants.Memory}
 use Rattle.policy_glue.specs.declared.failure_policy.FailurePolicy.{FailurePolicy}
 
--- an image of version 2, with at most 128 slots of 8 bytes for each of the policy's nodes; on every five roots it has
--- decided as the policy does after 128 steps for each unit of the policy's work, and wherever it stands stopped before
+-- An image of version 2 with at most 128 slots of 8 bytes for each of the policy's nodes. On any five roots it has
+-- decided as the policy does after 128 steps for each unit of the policy's work, and also if it stopped earlier.
 pub record IsProgram (f : FailurePolicy) (t : PolicyTree) (image : loader.Image) : Type 0 where
   pub version : image.version ≡ Second
   pub code : All (λ b. b < 256) image.code
@@ -30,13 +30,13 @@ pub record IsProgram (f : FailurePolicy) (t : PolicyTree) (image : loader.Image)
       → is_running (state_after k (start_state image values)).status ≡ false
       → Decides f t roots values (state_after k (start_state image values))
 
--- an image of a policy that is compiled
+-- the image of a policy that compiles
 pub record IsCompiled (p : Policy) (image : loader.Image) : Type 0 where
   pub trees : PolicyTree
   pub compiles : Compiles p (Ok trees)
   pub program : IsProgram p.failure_policy trees image
 
--- the image is answered, or why there is none; or the host has no memory for it
+-- the image or the reason for the refusal; an allocation failure says nothing
 abbrev pub CompilesTo : Policy → Result loader.Image CompileError → Type 0
 CompilesTo p (Ok image) = IsCompiled p image
 CompilesTo p (Err Memory) = Unit {0}

@@ -1,4 +1,4 @@
--- Policies with their decisions and the first of their refusals, worked by hand.
+-- Decisions of policies, and the first refusals of others, worked by hand.
 use Rattle.std.specs.Prelude.{◌≡◌, ℕ, zero, suc, pos, true, false, List, [], ◌∷◌, ◌++◌, Some, None, Ok, Err, codes, decimal}
 use Rattle.value_store.specs.Value.{int, map}
 use Rattle.cel_reader.specs.Tree.{Tree, binary, select}
@@ -21,7 +21,7 @@ use Rattle.policy_glue.specs.declared.failure_policy.FailurePolicy.{FailurePolic
 
 -- ---- decisions
 
--- where object is {"spec":{"replicas":5}}
+-- roots whose object is {"spec":{"replicas":5}}
 abbrev pub five : Roots
 five = record review.roots { object = map (entries_of ((codes "spec", map (entries_of ((codes "replicas", int (pos 5)) ∷ []))) ∷ [])) }
 
@@ -43,7 +43,7 @@ undecided = binary Equal wrong (num 1)
 abbrev pub bare : Tree → ValidationTree
 bare a = record { expression = a; message = None }
 
--- validations alone
+-- a policy with only validations
 abbrev pub policy_of_validations : List ValidationTree → PolicyTree
 policy_of_validations validations = record { variables = []; conditions = []; validations = validations }
 
@@ -53,7 +53,7 @@ decided f rules = decision_of f (policy_of_validations rules) five
 abbrev pub under : FailurePolicy → List Tree → Verdict
 under f conditions = decision_of f (record { variables = []; conditions = conditions; validations = bare no ∷ [] }) five
 
--- where variable v is 1 / 0
+-- the decision of a policy whose variable v is 1 / 0
 abbrev pub with_wrong : FailurePolicy → List ValidationTree → Verdict
 with_wrong f rules =
     decision_of f (record { variables = record { name = codes "v"; expression = wrong } ∷ []; conditions = []; validations = rules }) five
@@ -85,7 +85,7 @@ pub record DecisionRowsStand : Type 0 where
   pub undecided_condition : under Fail (undecided ∷ yes ∷ []) ≡ record { outcome = Rejected; findings = [] }
   pub ignored_condition : under Ignore (undecided ∷ yes ∷ []) ≡ record { outcome = Skipped; findings = [] }
   pub true_condition : under Fail (yes ∷ []) ≡ denied (found Fails ∷ [])
-  -- an error of a variable that nothing names is nothing's
+  -- an error in a variable that no expression uses has no effect
   pub unused_variable : with_wrong Fail (bare yes ∷ []) ≡ admitted (found Holds ∷ [])
   pub used_variable : with_wrong Ignore (bare (binary Equal (variable "v") (num 1)) ∷ bare no ∷ []) ≡ denied (found Errs ∷ found Fails ∷ [])
   pub text : with_message how_many ≡ denied (record { truth = Fails; message = Some (codes "replicas 5 above 3") } ∷ [])
@@ -110,7 +110,7 @@ chained (suc n) = chained n ++ record { name = numbered n; expression = earlier 
 pub record CheckingRowsStand : Type 0 where
   pub sixth : variable_judged (scope_after (chained 5)) (earlier 5) ≡ Ok type.Int
   pub seventh : variable_judged (scope_after (chained 6)) (earlier 6) ≡ Err VariableTooDeep
-  -- a variable may not use a later one, nor a condition any
+  -- a variable may not use a later one, and a condition may use none
   pub later_variable : variable_judged (scope_after []) (variable "v1") ≡ Err (Untyped MisusedVariables)
   pub in_condition : expression_judged [] (variable "v0") ≡ Err (Untyped MisusedVariables)
   pub in_validation : expression_judged (scope_after (chained 1)) (binary Equal (variable "v0") (num 1)) ≡ Ok type.Bool

@@ -1,4 +1,4 @@
--- The denials as the words of a verdict tell them.
+-- The denials of a verdict, read from its words.
 use Rattle.std.specs.Prelude.{ℕ, ◌+◌, ◌&&◌, ◌||◌, Bool, true, false, List, [], ◌∷◌, map, nat_eq, slice_get, slice_index}
 use Rattle.std.specs.Prelude.{Option, Some, None, option_map, if◌then◌else◌}
 use Rattle.policy_glue.specs.Policy.{Validation, validation_view}
@@ -16,7 +16,7 @@ abbrev pub is_fail : FailurePolicy → Bool
 is_fail Fail = true
 is_fail Ignore = false
 
--- whether the word for what a validation came to says that it denies
+-- whether a validation with this result word denies
 abbrev pub denies_word : FailurePolicy → ℕ → Bool
 denies_word f word = nat_eq word 1 || (nat_eq word 2 && is_fail f)
 
@@ -24,13 +24,13 @@ abbrev pub lent : Option (Option (List ℕ)) → Option (List ℕ)
 lent (Some message) = message
 lent None = None
 
--- those of the validations from place i on
+-- the denials of the validations from place i on
 abbrev pub denials_told : FailurePolicy → List Validation → VerdictWords → ℕ → List Denial
 denials_told f [] words i = []
 denials_told f (r ∷ rs) words i =
     let more = denials_told f rs words (i + 1) in
     if denies_word f (slice_index words.results i) then record { validation = r; message = lent (slice_get words.messages i) } ∷ more else more
 
--- those of all validations
+-- the denials of all validations
 abbrev pub denials_in : Parts → Verdict → List Denial
 denials_in p v = denials_told p.failure_policy (map validation_view p.validations.items) (words_view v) 0

@@ -1,4 +1,4 @@
--- JSON documents as `serde_json` reads them, part by part.
+-- Parts of JSON documents, as `serde_json` reads them.
 use Rattle.std.specs.Prelude.{ℕ, ◌&&◌, Bool, true, false, List, [], ◌∷◌, Option, Some, None, if◌then◌else◌}
 use Rattle.std.specs.List.{list_any}
 use Rattle.std.specs.Str.{bytes_eq}
@@ -6,55 +6,55 @@ use Rattle.serde_json.specs.Data as json
 unfoldable pub use Rattle.value_store.specs.Documents.{document_of}
 pub use Rattle.value_store.specs.Documents.{equals_string}
 
--- each key is one of those known
+-- all keys are in the list
 abbrev pub keys_within : List (List ℕ) → json.Members → Bool
 keys_within known json.no_members = true
 keys_within known (json.member k d ms) = list_any (λ w. bytes_eq k w) known && keys_within known ms
 
--- an object without a key that is not known
+-- the value is an object, and all its keys are in the list
 abbrev pub has_only : List (List ℕ) → json.Data → Bool
 has_only known (json.object ms) = keys_within known ms
 has_only known _ = false
 
--- nothing, or an object
+-- absent, or an object
 abbrev pub is_object_or_absent : Option json.Data → Bool
 is_object_or_absent None = true
 is_object_or_absent (Some (json.object ms)) = true
 is_object_or_absent (Some _) = false
 
--- a text that has to be there
+-- the bytes of a required text
 abbrev pub text_of : Option json.Data → Option (List ℕ)
 text_of (Some (json.string s)) = Some s
 text_of _ = None
 
--- a text that may be absent
+-- the bytes of an optional text, if it is present
 abbrev pub optional_text_of : Option json.Data → Option (Option (List ℕ))
 optional_text_of None = Some None
 optional_text_of (Some (json.string s)) = Some (Some s)
 optional_text_of (Some _) = None
 
--- a text that is empty where it is absent
+-- the bytes of an optional text, empty if it is absent
 abbrev pub text_or_empty_of : Option json.Data → Option (List ℕ)
 text_or_empty_of None = Some []
 text_or_empty_of (Some (json.string s)) = Some s
 text_or_empty_of (Some _) = None
 
--- both, if both are there
+-- the list with this first element, if both are there
 abbrev pub cons_if : {A : Type 0} → Option A → Option (List A) → Option (List A)
 cons_if (Some a) (Some rest) = Some (a ∷ rest)
 cons_if _ _ = None
 
--- what each item says, if every item says something
+-- the results for all items, if each item has one
 abbrev pub each : {A : Type 0} → (json.Data → Option A) → json.Items → Option (List A)
 each f json.no_items = Some []
 each f (json.item d ds) = cons_if (f d) (each f ds)
 
--- what each item of a list says, which has to be there
+-- the results for all items of a required list
 abbrev pub list_in : {A : Type 0} → (json.Data → Option A) → Option json.Data → Option (List A)
 list_in f (Some (json.array ds)) = each f ds
 list_in f _ = None
 
--- what each item of a list says, which may be absent
+-- the results for all items of an optional list, empty if it is absent
 abbrev pub optional_list_in : {A : Type 0} → (json.Data → Option A) → Option json.Data → Option (List A)
 optional_list_in f None = Some []
 optional_list_in f (Some (json.array ds)) = each f ds

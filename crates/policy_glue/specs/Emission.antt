@@ -1,4 +1,4 @@
--- A policy's program as it is emitted: what an emitter has taken behind each part of the policy.
+-- The emission of a policy's program: the state of the emitter after each part of the policy.
 use Rattle.std.specs.Prelude.{◌≡◌, ◌≢◌, ℕ, ◌+◌, ◌-◌, ◌≤◌, List, [], ◌∷◌, fold, length, map, slice_get, take, Option, Some, None, Result, Ok, Err, Vec}
 use Rattle.std.specs.Global.{Global}
 use Rattle.cel_macros.specs.CoreTree.{Core}
@@ -24,7 +24,7 @@ use Rattle.policy_glue.specs.declared.failure_policy.FailurePolicy.{FailurePolic
 
 -- ---- each part
 
--- from variable i on, each in the scope of those before it
+-- after the variables from number i on; each may use the earlier ones
 abbrev pub with_variables : List Declaration → ℕ → Emitted → List Core → Emitted
 with_variables declarations i e [] = e
 with_variables declarations i e (tree ∷ more) = with_variables declarations (i + 1) (with_variable e (take i declarations) tree) more
@@ -35,7 +35,7 @@ with_condition f e tree = with_piece (with_expression (with_nodes e 1) [] tree) 
 abbrev pub with_conditions : FailurePolicy → Emitted → List Core → Emitted
 with_conditions f e trees = fold (with_condition f) e trees
 
--- what the conditions decide, if there are any
+-- after the code that follows the conditions, if there are any
 abbrev pub with_decided : {A : Type 0} → Emitted → List A → Emitted
 with_decided e [] = e
 with_decided e (condition ∷ more) = with_piece e decided_tail
@@ -43,12 +43,12 @@ with_decided e (condition ∷ more) = with_piece e decided_tail
 abbrev pub with_message : ℕ → List Declaration → Emitted → Core → Emitted
 with_message i scope e tree = with_piece (with_expression (with_nodes e 1) scope tree) (message_tail i)
 
--- what stands behind a validation from a slot on leads behind all of the code
+-- the jumps of a validation whose code begins at this slot are set to go to the end of the code
 abbrev pub with_way : FailurePolicy → ℕ → Emitted → Emitted
 with_way f slot e =
     with_insn_at (with_insn_at e slot (if_true (length e.code - 1 - slot))) (slot + 5) (leave_error f (length e.code - 1 - slot - 5))
 
--- what is done where a validation is not true, and the message
+-- after the code that runs if a validation is not true, and its message
 abbrev pub with_result : FailurePolicy → ℕ → List Declaration → Emitted → Option Core → Emitted
 with_result f i scope e None = with_piece e (result_code f i [])
 with_result f i scope e (Some tree) = with_way f (length e.code) (with_message i scope (with_piece e (result_code f i [])) tree)
@@ -56,7 +56,7 @@ with_result f i scope e (Some tree) = with_way f (length e.code) (with_message i
 abbrev pub with_validation : FailurePolicy → ℕ → List Declaration → Emitted → Core × Option Core → Emitted
 with_validation f i scope e v = with_result f i scope (with_expression (with_nodes e 1) scope v.0) v.1
 
--- from validation i on
+-- after the validations from number i on
 abbrev pub with_validations : FailurePolicy → ℕ → List Declaration → Emitted → List (Core × Option Core) → Emitted
 with_validations f i scope e [] = e
 with_validations f i scope e (v ∷ more) = with_validations f (i + 1) scope (with_validation f i scope e v) more
@@ -81,7 +81,7 @@ emitted f c = with_piece (with_validations f 0 c.scope (before_validations f c) 
 
 -- ---- what can be emitted
 
--- each expression has words enough in a frame, and each variable's is not too deep among those before it
+-- each expression fits the stack words of a frame, and no variable is too deep
 abbrev pub FitInOrder : List Declaration → List Core → Type 0
 FitInOrder declarations trees = (i : ℕ) (tree : Core) → slice_get trees i ≡ Some tree
     → (need tree ≤ word_limit) × (depth tree (depths_of (take i declarations)) ≤ variable_depth_limit)
@@ -93,7 +93,7 @@ abbrev pub MayFit : Option Core → Type 0
 MayFit (Some tree) = FitsFrame tree
 MayFit None = Unit {0}
 
--- what is checked are the trees of a policy, and they are taken
+-- the result of the check holds the trees of a policy, and they can be emitted
 pub record HasTrees (checked : Checked) : Type 0 where
   pub trees : PolicyTree
   pub are : IsChecked checked trees
@@ -102,7 +102,7 @@ pub record HasTrees (checked : Checked) : Type 0 where
   pub validations : AreValidations (scope_after trees.variables) trees.validations
   pub few : length trees.validations ≤ part_limit
 
--- the bytes of a policy's program and those of its texts, or that it is too large; or the host has no memory for them
+-- the bytes of the program and of its texts, or the limit that the policy exceeds; an allocation failure says nothing
 abbrev pub EmitsProgram : FailurePolicy → PolicyTree → Result (Vec ℕ Global × Vec ℕ Global) CompileError → Type 0
 EmitsProgram f t (Ok r) = (excess t ≡ None) × (r.0.items ≡ spellings (program_of f t)) × (r.1.items ≡ joined (policy_texts t))
 EmitsProgram f t (Err e) = e ≢ Memory → excess t ≡ Some e

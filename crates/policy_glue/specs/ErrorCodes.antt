@@ -1,4 +1,4 @@
--- The codes of the errors.
+-- The codes of this crate's errors.
 use Rattle.std.specs.Prelude.{ℕ, List, Option, None, codes}
 use Rattle.cel_macros.specs.ErrorCodes.{macro_error_code}
 use Rattle.cel_tokens.specs.ErrorCodes.{read_error_code, read_error_place}
@@ -12,7 +12,7 @@ use Rattle.policy_glue.specs.declared.expression_error.ExpressionError.TheVarian
 use Rattle.policy_glue.specs.declared.policy_error.PolicyError.{PolicyError, TheVariants.NotJson, TheVariants.NotAPolicy, TheVariants.InvalidField, TheVariants.NoValidations, TheVariants.TooManyParts, TheVariants.MessageWithLineBreak}
 use Rattle.policy_glue.specs.declared.policy_error.PolicyError.TheVariants as policy_error
 
--- the code of a document that is not a policy: K1 to K5, K8, or memory
+-- the code of a policy error: K1 to K5, K8 or memory
 abbrev pub policy_error_code : PolicyError → List ℕ
 policy_error_code NotJson = codes "K1"
 policy_error_code NotAPolicy = codes "K2"
@@ -22,7 +22,7 @@ policy_error_code TooManyParts = codes "K5"
 policy_error_code MessageWithLineBreak = codes "K8"
 policy_error_code policy_error.Memory = codes "memory"
 
--- the code of a refused expression: that of its text, macro or type, or G1, G2 or memory
+-- the code of an expression's error: that of its text, macro or type, or G1, G2 or memory
 abbrev pub expression_error_code : ExpressionError → List ℕ
 expression_error_code (Unread e) = read_error_code e
 expression_error_code (Unexpanded e) = macro_error_code e
@@ -40,7 +40,7 @@ expression_error_place NeedsTooManyWords = None
 expression_error_place VariableTooDeep = None
 expression_error_place expression_error.Memory = None
 
--- the code of a policy that is not compiled: K6, K7, K9, G3, G4 or memory
+-- the code of a compile error: K6, K7, K9, G3, G4 or memory
 abbrev pub compile_error_code : CompileError → List ℕ
 compile_error_code (InvalidExpression part place e) = codes "K6"
 compile_error_code NotABool = codes "K7"

@@ -1,4 +1,4 @@
--- What a policy decides of a request, from what its expressions mean.
+-- What a policy decides on a request, given the meaning of its expressions.
 use Rattle.std.specs.Prelude.{ℕ, List, [], ◌∷◌, ◌++◌, map, fold, Option, option_map}
 use Rattle.value_store.specs.Value.{ValueOrError}
 use Rattle.cel_reader.specs.Tree.{Tree}
@@ -8,27 +8,27 @@ use Rattle.policy_glue.specs.Trees.{VariableTree, ValidationTree, PolicyTree}
 use Rattle.policy_glue.specs.Verdict.{Verdict, verdict_of}
 use Rattle.policy_glue.specs.declared.failure_policy.FailurePolicy.{FailurePolicy}
 
--- outside of every macro, the roots and these variables have names
+-- the environment outside all macros: it has names for the roots and for these variables
 abbrev pub environment_with : Roots → List (List ℕ × ValueOrError) → Environment
 environment_with roots variables = record { roots = roots; items = []; variables = variables }
 
--- one more variable, which may use those before it
+-- the values with one more variable, which may use the earlier ones
 abbrev pub with_value : Roots → List (List ℕ × ValueOrError) → VariableTree → List (List ℕ × ValueOrError)
 with_value roots before v = before ++ (v.name, meaning v.expression (environment_with roots before)) ∷ []
 
--- each variable gets its value or the error, in order
+-- the variables with their values or errors, in order
 abbrev pub values_of : Roots → List VariableTree → List (List ℕ × ValueOrError)
 values_of roots variables = fold (with_value roots) [] variables
 
--- conditions may use no variable
+-- the values of the conditions; a condition may use no variable
 abbrev pub condition_values : Roots → List Tree → List ValueOrError
 condition_values roots conditions = map (λ e. meaning e (environment_with roots [])) conditions
 
--- what the expression of a validation means, and its message expression, if it has one
+-- the value of a validation's expression, and of its message expression if it has one
 abbrev pub validation_value : Environment → ValidationTree → ValueOrError × Option ValueOrError
 validation_value env r = (meaning r.expression env, option_map (λ m. meaning m env) r.message)
 
--- validations and their message expressions may use all variables
+-- the values of the validations, which may use all variables
 abbrev pub validation_values : Roots → PolicyTree → List (ValueOrError × Option ValueOrError)
 validation_values roots p = map (validation_value (environment_with roots (values_of roots p.variables))) p.validations
 

@@ -1,5 +1,5 @@
--- How a program leaves its verdict: words of its verdict region (layout 2). Word i begins 8 * i bytes after the
--- region's first address.
+-- The layout of a verdict (layout 2): words of the verdict region. Word i begins 8 * i bytes after the region's first
+-- address.
 use Rattle.std.specs.Prelude.{◌≡◌, ℕ, ◌+◌, ◌*◌, ◌<◌, ◌≤◌, List, map, nat_eq, nat_lt, count_by, slice_get, slice_index}
 use Rattle.std.specs.Prelude.{Option, Some, None, option_map, Result, Ok, Err, if◌then◌else◌}
 use Rattle.guest_memory.specs.Memory.{Memory, Verdict as VerdictRegion, base_of}
@@ -15,23 +15,23 @@ use Rattle.policy_glue.specs.declared.outcome.Outcome.{Outcome, TheVariants.Skip
 use Rattle.policy_glue.specs.declared.failure_policy.FailurePolicy.{FailurePolicy}
 use Rattle.policy_glue.specs.declared.verdict.Verdict.{Verdict as CodeVerdict}
 
--- the outcome is word 0 and the number of denials word 1; from these words on stand what each validation came
--- to, and where the text of each message is
+-- the outcome is word 0 and the number of denials is word 1. The results of the validations begin at this word; the
+-- references of the message texts begin at `first_message`.
 abbrev pub first_result : ℕ
 first_result = 2
 
--- the first of the words that name messages
+-- the first of the words that refer to messages
 abbrev pub first_message : ℕ
 first_message = first_result + part_limit
 
--- the word of an outcome
+-- the word for an outcome
 abbrev pub outcome_word : Outcome → ℕ
 outcome_word Skipped = 1
 outcome_word Rejected = 2
 outcome_word Denied = 3
 outcome_word Admitted = 4
 
--- the outcome that a word states; a word that states none rejects the request
+-- the outcome for a word; a word that is no outcome rejects the request
 abbrev pub outcome_of : ℕ → Outcome
 outcome_of word =
     if nat_eq word (outcome_word Skipped) then Skipped
@@ -39,28 +39,28 @@ outcome_of word =
     else (if nat_eq word (outcome_word Admitted) then Admitted
     else Rejected))
 
--- the word of what a validation came to
+-- the word for the result of a validation
 abbrev pub truth_word : CheckResult → ℕ
 truth_word Holds = 0
 truth_word Fails = 1
 truth_word Errs = 2
 
--- the same, and 0 where there is no such validation
+-- the word for a finding, and 0 if there is none
 abbrev pub finding_word : Option Finding → ℕ
 finding_word (Some x) = truth_word x.truth
 finding_word None = 0
 
--- the text of its message, if it has one
+-- the message text of a finding, if there is one
 abbrev pub message_in : Option Finding → Option (List ℕ)
 message_in (Some x) = x.message
 message_in None = None
 
--- a word for a text is the reference of one that is equal, and for no text it is 0
+-- the word is the reference of a value equal to this text, or 0 if there is no text
 abbrev pub IsMessageWord : List ValueOrError → ℕ → Option (List ℕ) → Type 0
 IsMessageWord values word (Some t) = (0 < word) × (text_at (slice_get values word) ≡ Some t)
 IsMessageWord values word None = word ≡ 0
 
--- the words of a verdict under a failure policy, in the bytes of a region; every other word is 0
+-- the bytes of a region are the layout of this verdict under a failure policy; all other words are 0
 pub record IsLayout (f : FailurePolicy) (verdict : Verdict) (values : List ValueOrError) (region : List ℕ) : Type 0 where
   pub outcome : word_in region 0 ≡ outcome_word verdict.outcome
   pub denials : word_in region 1 ≡ count_by (is_denial f) verdict.findings
@@ -69,21 +69,21 @@ pub record IsLayout (f : FailurePolicy) (verdict : Verdict) (values : List Value
       → IsMessageWord values (word_in region (first_message + i)) (message_in (slice_get verdict.findings i))
   pub others : (i : ℕ) → first_message + part_limit ≤ i → i < 256 → word_in region i ≡ 0
 
--- ---- reading it
+-- ---- reading the layout
 
--- a verdict as it stands in words, with the texts that are lent
+-- the words of a verdict, and the texts that its message words refer to
 pub record VerdictWords : Type 0 where
   pub outcome : ℕ
   pub denials : ℕ
   pub results : List ℕ
   pub messages : List (Option (List ℕ))
 
--- the word that was read, and 0 where there is none
+-- the word that was read, or 0 if the read failed
 abbrev pub ok_or_zero : Result ℕ fault.Fault → ℕ
 ok_or_zero (Ok word) = word
 ok_or_zero (Err f) = 0
 
--- what the code's verdict holds
+-- the words and texts in the code's verdict
 abbrev pub words_view : CodeVerdict → VerdictWords
 words_view v = record {
   outcome = v.outcome;
@@ -92,30 +92,30 @@ words_view v = record {
   messages = map (option_map (λ t. t.now)) v.messages;
 }
 
--- word i of the verdict region, 0 where there is none
+-- word i of the verdict region, 0 if it has no such word
 unfoldable pub verdict_word : Memory → ℕ → ℕ
 verdict_word m i = ok_or_zero (read_of m (base_of VerdictRegion + 8 * i) Dw)
 
--- the text that a word names, and none for 0
+-- the text with this reference; none for 0
 abbrev pub text_named : List ValueOrError → ℕ → Option (List ℕ)
 text_named values word = if nat_eq word 0 then None else text_at (slice_get values word)
 
--- what stands for a validation of a policy with `count` of them
+-- the result word of validation i, 0 unless i < count
 abbrev pub result_at : Memory → ℕ → ℕ → ℕ
 result_at m count i = if nat_lt i count then verdict_word m (first_result + i) else 0
 
--- the text of the message that stands for it
+-- the message text of validation i; none unless i < count
 abbrev pub message_at : Memory → List ValueOrError → ℕ → ℕ → Option (List ℕ)
 message_at m values count i = if nat_lt i count then text_named values (verdict_word m (first_message + i)) else None
 
--- the words and texts are those of the verdict region and the values
+-- the words and texts are read from the verdict region and the values
 pub record AreRead (m : Memory) (values : List ValueOrError) (count : ℕ) (words : VerdictWords) : Type 0 where
   pub outcome : words.outcome ≡ verdict_word m 0
   pub denials : words.denials ≡ verdict_word m 1
   pub results : (i : ℕ) → i < part_limit → slice_index words.results i ≡ result_at m count i
   pub messages : (i : ℕ) → i < part_limit → slice_get words.messages i ≡ Some (message_at m values count i)
 
--- the words and texts encode a verdict
+-- the words and texts represent this verdict
 pub record Encodes (f : FailurePolicy) (verdict : Verdict) (words : VerdictWords) : Type 0 where
   pub outcome : words.outcome ≡ outcome_word verdict.outcome
   pub denials : words.denials ≡ count_by (is_denial f) verdict.findings

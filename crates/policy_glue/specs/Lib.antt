@@ -1,3 +1,5 @@
+-- Definitions for policies: their documents, their compilation, their verdicts and their responses.
+
 pub mod Budget
 pub mod BudgetRows
 pub mod Checked

@@ -1,4 +1,4 @@
--- How many parts a policy may have, and what each reason is answered as, worked by hand.
+-- The largest numbers of parts, and the response for each reason, worked by hand.
 use Rattle.std.specs.Prelude.{◌≡◌, ℕ, zero, suc, List, [], ◌∷◌, ◌++◌, None, Some, Ok, Err, codes, decimal}
 use Rattle.policy_glue.specs.Policy.{NamedExpression, Policy, Validation}
 use Rattle.policy_glue.specs.Reading.{failure_named, judged, reason_named}
@@ -36,7 +36,7 @@ pub record LimitRowsStand : Type 0 where
   pub too_many_conditions : judged (sized 65 0 1) ≡ Err TooManyParts
   pub too_many_variables : judged (sized 0 65 1) ≡ Err TooManyParts
   pub too_many_validations : judged (sized 0 0 65) ≡ Err TooManyParts
-  -- that there is nothing to decide is tested first
+  -- an empty list of validations is reported before too many parts
   pub nothing_to_decide : judged (sized 0 65 0) ≡ Err NoValidations
   pub fail : failure_named (codes "Fail") ≡ Some Fail
   pub ignore : failure_named (codes "Ignore") ≡ Some Ignore

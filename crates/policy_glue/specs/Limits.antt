@@ -1,4 +1,4 @@
--- How large a policy may be, and which policies are compiled.
+-- The size limits of policies, and which policies compile.
 use Rattle.std.specs.Prelude.{◌≡◌, ℕ, ◌+◌, ◌*◌, List, [], ◌∷◌, ◌++◌, length, nat_lt, Option, Some, None, Result, Ok, Err, if◌then◌else◌}
 use Rattle.std.specs.List.{sum_by}
 use Rattle.loader.specs.Limits.{constants_limit}
@@ -14,18 +14,18 @@ use Rattle.policy_glue.specs.Policy.{Policy}
 use Rattle.policy_glue.specs.Trees.{VariableTree, ValidationTree, PolicyTree}
 use Rattle.policy_glue.specs.declared.compile_error.CompileError.{CompileError, TheVariants.TooManyNodes, TheVariants.TooManyTextBytes}
 
--- ---- nodes: one for the policy, and one for each part beside those of its expression
+-- ---- nodes: one for the policy, and for each part one and those of its expression
 
--- of a part: one, and those of its expression with its macros expanded
+-- the nodes of a part: one, and those of its expression with its macros expanded
 abbrev pub part_nodes : Tree → ℕ
 part_nodes a = 1 + nodes (expanded a)
 
--- of a message expression, if there is one
+-- the nodes of a message expression, 0 if there is none
 abbrev pub message_nodes : Option Tree → ℕ
 message_nodes (Some a) = part_nodes a
 message_nodes None = 0
 
--- of a validation with its message expression
+-- the nodes of a validation with its message expression
 abbrev pub validation_nodes : ValidationTree → ℕ
 validation_nodes r = part_nodes r.expression + message_nodes r.message
 
@@ -34,51 +34,52 @@ unfoldable pub policy_nodes : PolicyTree → ℕ
 policy_nodes p =
     1 + sum_by (λ v. part_nodes v.expression) p.variables + sum_by part_nodes p.conditions + sum_by validation_nodes p.validations
 
--- ---- texts: the field names and text literals, each once, in order of first use
+-- ---- texts: field names and text literals, each once, in order of first use
 
--- those of an expression with its macros expanded
+-- the texts of an expression with its macros expanded
 abbrev pub tree_texts : Tree → List (List ℕ)
 tree_texts a = texts_of (expanded a)
 
--- those of a message expression, if there is one
+-- the texts of a message expression, if there is one
 abbrev pub message_texts : Option Tree → List (List ℕ)
 message_texts (Some a) = tree_texts a
 message_texts None = []
 
--- those of a validation with its message expression
+-- the texts of a validation with its message expression
 abbrev pub validation_tree_texts : ValidationTree → List (List ℕ)
 validation_tree_texts r = tree_texts r.expression ++ message_texts r.message
 
--- those of all variables
+-- the texts of all variables
 abbrev pub variable_texts : List VariableTree → List (List ℕ)
 variable_texts [] = []
 variable_texts (v ∷ vs) = tree_texts v.expression ++ variable_texts vs
 
--- those of all conditions
+-- the texts of all conditions
 abbrev pub condition_texts : List Tree → List (List ℕ)
 condition_texts [] = []
 condition_texts (a ∷ more) = tree_texts a ++ condition_texts more
 
--- those of all validations
+-- the texts of all validations
 abbrev pub validation_texts : List ValidationTree → List (List ℕ)
 validation_texts [] = []
 validation_texts (r ∷ rs) = validation_tree_texts r ++ validation_texts rs
 
--- those of the whole, each once
+-- the texts of the whole policy, each once
 unfoldable pub policy_texts : PolicyTree → List (List ℕ)
 policy_texts p =
     with_texts [] (variable_texts p.variables ++ (condition_texts p.conditions ++ validation_texts p.validations))
 
--- ---- the limits, and the whole
+-- ---- the limits
 
--- an image has room for `slot_limit` slots, `slots_per_node` for each node, and for `constants_limit` bytes of texts
+-- the limit that a policy exceeds: an image has `slot_limit` slots, `slots_per_node` for each node, and room for
+-- `constants_limit` bytes of texts
 abbrev pub excess : PolicyTree → Option CompileError
 excess p =
     if nat_lt slot_limit (slots_per_node * policy_nodes p) then Some TooManyNodes
     else (if nat_lt constants_limit (length (joined (policy_texts p))) then Some TooManyTextBytes
     else None)
 
--- the trees of a policy that is compiled, or why it is not
+-- the trees of a policy that compiles, or why it does not
 pub data Compiles (p : Policy) : Result PolicyTree CompileError → Type 0 where
   refused : (e : CompileError) → PartsEnd p (Err e) → Compiles p (Err e)
   too_large : (t : PolicyTree) (e : CompileError) → PartsEnd p (Ok t) → excess t ≡ Some e → Compiles p (Err e)

@@ -1,4 +1,4 @@
--- A policy is compiled in one way, or refused for one cause.
+-- Compilation has one result: one image, or one refusal.
 use Rattle.std.specs.Prelude.{◌≡◌, ℕ, List, Result}
 use Rattle.cel_reader.specs.Tree.{Tree}
 use Rattle.cel_types.specs.Declarations.{Declaration}
@@ -11,7 +11,7 @@ use Rattle.policy_glue.specs.Policy.{Policy}
 use Rattle.policy_glue.specs.Trees.{PolicyTree}
 use Rattle.policy_glue.specs.declared.compile_error.CompileError.{CompileError}
 
--- two answers to a policy are the same trees or the same refusal
+-- two results for a policy are the same trees or the same refusal
 abbrev pub CompileHasOneResult : Type 0
 CompileHasOneResult = (p : Policy) (a b : Result PolicyTree CompileError) → Compiles p a → Compiles p b → a ≡ b
 
@@ -19,7 +19,7 @@ CompileHasOneResult = (p : Policy) (a b : Result PolicyTree CompileError) → Co
 abbrev pub HasOneImage : Type 0
 HasOneImage = (p : Policy) (a b : loader.Image) → OneImage p a → OneImage p b → a ≡ b
 
--- an expression of one of the types that are asked for has no other type: the validation `true` is no int
+-- an expression that has one of the wanted types has no other type; so the validation `true` is not refused as an int
 abbrev pub HasNoOtherType : Type 0
 HasNoOtherType =
     (types : List CelType) (scope : List Declaration) (text : List ℕ) (a : Tree) → IsOneOf types scope text a → HasOtherType types scope text → ⊥

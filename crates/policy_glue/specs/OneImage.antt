@@ -1,6 +1,6 @@
--- Which image a policy has. What it is made of does not have to be believed: what an image does is said by `IsProgram`,
--- of whichever image it is. This page only names the one that is made, so that a policy has one image (law
--- `compiles_once`), which is the one that `compile` gives and that answers reviews, and a review one answer.
+-- The image that is built for a policy. Nobody has to trust this definition: `IsProgram` states what an image does,
+-- for any image. It only pins the image, so that a policy has one (law `compiles_once`), which is the one that
+-- `compile` returns, and a review has one answer.
 use Rattle.std.specs.Prelude.{◌≡◌, ℕ, List, Ok}
 use Rattle.loader.specs.Contents as loader
 use Rattle.loader.specs.declared.version.Version.{Version, TheVariants.Second}
@@ -12,7 +12,7 @@ use Rattle.policy_glue.specs.ProgramCode.{program_of}
 use Rattle.policy_glue.specs.Trees.{PolicyTree}
 use Rattle.policy_glue.specs.declared.failure_policy.FailurePolicy.{FailurePolicy}
 
--- what an image of this version holds
+-- the contents of an image of this version
 abbrev pub contents : Version → List ℕ → List ℕ → loader.Image
 contents version code constants = record { version = version; code = code; constants = constants }
 
@@ -20,7 +20,7 @@ contents version code constants = record { version = version; code = code; const
 abbrev pub program_image : FailurePolicy → PolicyTree → loader.Image
 program_image f t = contents Second (spellings (program_of f t)) (joined (policy_texts t))
 
--- the image is the one that is made of this policy
+-- the image is the one built for this policy
 pub record OneImage (p : Policy) (image : loader.Image) : Type 0 where
   pub trees : PolicyTree
   pub compiles : Compiles p (Ok trees)

@@ -1,5 +1,5 @@
--- A policy (ValidatingAdmissionPolicy, admissionregistration.k8s.io/v1) as its document says it. Texts are
--- their bytes in UTF-8.
+-- A policy (ValidatingAdmissionPolicy, admissionregistration.k8s.io/v1) as its document states it. Texts are bytes in
+-- UTF-8.
 use Rattle.std.specs.Prelude.{ℕ, List, map, Option, option_map, string_bytes, codes}
 use Rattle.policy_glue.specs.declared.failure_policy.FailurePolicy.{FailurePolicy}
 use Rattle.policy_glue.specs.declared.reason.Reason.{Reason}
@@ -8,7 +8,7 @@ use Rattle.policy_glue.specs.declared.named_expression.NamedExpression.{NamedExp
 use Rattle.policy_glue.specs.declared.validation.Validation.{Validation as CodeValidation}
 use Rattle.policy_glue.specs.declared.parts.Parts.{Parts}
 
--- the most conditions, variables and validations, of each kind; a verdict has words for as many validations
+-- the largest number of conditions, of variables and of validations; a verdict has a word for each validation
 abbrev pub part_limit : ℕ
 part_limit = 64
 
@@ -17,7 +17,7 @@ pub record NamedExpression : Type 0 where
   pub name : List ℕ
   pub expression : List ℕ
 
--- a validation; its message is empty where none is set
+-- a validation; its message is empty if none is set
 pub record Validation : Type 0 where
   pub expression : List ℕ
   pub message : List ℕ
@@ -31,11 +31,11 @@ pub record Policy : Type 0 where
   pub variables : List NamedExpression
   pub validations : List Validation
 
--- the code's condition or variable
+-- a condition or variable of the code
 abbrev pub named_view : CodeNamedExpression → NamedExpression
 named_view n = record { name = string_bytes n.name; expression = string_bytes n.expression }
 
--- the code's validation
+-- a validation of the code
 abbrev pub validation_view : CodeValidation → Validation
 validation_view v = record {
   expression = string_bytes v.expression;
@@ -44,7 +44,7 @@ validation_view v = record {
   message_expression = option_map string_bytes v.message_expression;
 }
 
--- the code's policy
+-- a policy of the code
 abbrev pub policy_view : Parts → Policy
 policy_view p = record {
   failure_policy = p.failure_policy;
@@ -53,7 +53,7 @@ policy_view p = record {
   validations = map validation_view p.validations.items;
 }
 
--- the name of a reason (Kubernetes, Validation.reason) and its HTTP status
+-- the name of a reason (Kubernetes, Validation.reason)
 abbrev pub reason_name : Reason → List ℕ
 reason_name Unauthorized = codes "Unauthorized"
 reason_name Forbidden = codes "Forbidden"

@@ -1,5 +1,5 @@
--- The code of a policy. The code of each expression leaves the reference of its value in R0; what comes to be known
--- stands in the words of the verdict region, since code for expressions keeps these.
+-- The code of a policy. The code of each expression leaves the reference of its value in R0. Results are kept in the
+-- words of the verdict region, because code for expressions does not change them.
 use Rattle.std.specs.Prelude.{ℕ, ◌+◌, ◌*◌, pos, List, [], ◌∷◌, ◌++◌, Option, Some, None}
 use Rattle.insn_codec.specs.declared.alu_op.AluOp.TheVariants.{Add}
 use Rattle.insn_codec.specs.declared.comparison.Comparison.TheVariants.{Eq, Ne}
@@ -18,8 +18,8 @@ use Rattle.policy_glue.specs.Verdict.{Fails, Errs, undecided}
 use Rattle.policy_glue.specs.declared.outcome.Outcome.{TheVariants.Skipped, TheVariants.Denied, TheVariants.Admitted}
 use Rattle.policy_glue.specs.declared.failure_policy.FailurePolicy.{FailurePolicy, TheVariants.Fail, TheVariants.Ignore}
 
--- behind a condition: true goes on, false ends the program with the policy skipped, and an error leaves the outcome
--- that stands where no condition is false
+-- after a condition: true continues, false ends the program with the policy skipped, and an error stores the outcome
+-- that applies if no condition is false
 unfoldable pub condition_tail : FailurePolicy → List Insn
 condition_tail f =
     jump_if_imm Eq R0 (pos 3) 8
@@ -32,7 +32,7 @@ condition_tail f =
     ∷ Store Dw R1 (pos 0) R2
     ∷ []
 
--- behind all conditions: an outcome that stands ends the program
+-- after all conditions: if an outcome is stored, the program ends
 abbrev pub decided_tail : List Insn
 decided_tail =
     lddw R1 (verdict_address 0)
@@ -41,16 +41,16 @@ decided_tail =
     ∷ Exit
     ∷ []
 
--- where there are no conditions there is nothing to decide
+-- without conditions there is nothing to test
 abbrev pub decided_code : {A : Type 0} → List A → List Insn
 decided_code [] = []
 decided_code (condition ∷ more) = decided_tail
 
--- past so many slots where a validation is true: its word is 0 as it is
+-- skips this number of slots if a validation is true: its word is already 0
 abbrev pub if_true : ℕ → Insn
 if_true n = jump_if_imm Eq R0 (pos 3) n
 
--- an error is counted as a denial, or passes that and the message
+-- the jump for an error: to the count of denials, or past it and the message if the error does not deny
 abbrev pub error_way : FailurePolicy → ℕ → ℕ
 error_way Fail n = 1
 error_way Ignore n = n
@@ -58,11 +58,11 @@ error_way Ignore n = n
 abbrev pub leave_error : FailurePolicy → ℕ → Insn
 leave_error f n = ja (error_way f n)
 
--- the word of validation i begins so many bytes behind that of the denials
+-- the distance in bytes from the word of the denials to the word of validation i
 abbrev pub result_offset : ℕ → ℕ
 result_offset i = 8 * (i + 1)
 
--- behind validation i, where it is not true: its word, and one more denial; its message takes n slots
+-- after validation i, if it is not true: stores its word and counts a denial; its message takes n slots
 unfoldable pub denial_code : FailurePolicy → ℕ → ℕ → List Insn
 denial_code f i n =
     lddw R1 (verdict_address 1)
@@ -75,11 +75,11 @@ denial_code f i n =
     ∷ Store Dw R1 (pos 0) R2
     ∷ []
 
--- the kind of a text, as helper 1 answers it
+-- the kind of a text, as helper 1 returns it
 abbrev pub text_kind : ℕ
 text_kind = 4
 
--- behind the message expression of validation i: its word gets the reference of a text
+-- after the message expression of validation i: stores the reference of a text in its word
 unfoldable pub message_tail : ℕ → List Insn
 message_tail i =
     mov_reg R6 R0
@@ -90,23 +90,23 @@ message_tail i =
     ∷ Store Dw R1 (pos 0) R6
     ∷ []
 
--- the message of validation i, where it has an expression for it
+-- the code for the message of validation i, if it has a message expression
 abbrev pub message_code : ℕ → Option (List Insn) → List Insn
 message_code i (Some message) = message ++ message_tail i
 message_code i None = []
 
--- what stands behind the expression of validation i
+-- the code after the expression of validation i
 abbrev pub result_code : FailurePolicy → ℕ → List Insn → List Insn
 result_code f i message = if_true (size message + 9) ∷ (denial_code f i (size message) ++ message)
 
--- a validation's code, and that of its message expression, if it has one
+-- the code of a validation, and of its message expression if it has one
 abbrev pub ValidationCode : Type 0
 ValidationCode = List Insn × Option (List Insn)
 
 abbrev pub validation_code : FailurePolicy → ℕ → ValidationCode → List Insn
 validation_code f i v = v.0 ++ result_code f i (message_code i v.1)
 
--- the outcome of a policy that ran: the exit behind it answers R0
+-- the outcome of a policy that ran, left in R0 for the exit that follows
 unfoldable pub outcome_tail : List Insn
 outcome_tail =
     lddw R1 (verdict_address 0)
@@ -117,22 +117,22 @@ outcome_tail =
     ∷ Store Dw R1 (pos 0) R0
     ∷ []
 
--- conditions one behind another
+-- the code of all conditions, in order
 unfoldable pub conditions_code : FailurePolicy → List (List Insn) → List Insn
 conditions_code f [] = []
 conditions_code f (condition ∷ more) = condition ++ (condition_tail f ++ conditions_code f more)
 
--- validations one behind another, from number i on
+-- the code of the validations from number i on, in order
 unfoldable pub validations_code : FailurePolicy → ℕ → List ValidationCode → List Insn
 validations_code f i [] = []
 validations_code f i (v ∷ more) = validation_code f i v ++ validations_code f (i + 1) more
 
--- routines one behind another, each behind a jump over it
+-- the routines of the variables in order, each after a jump over it
 abbrev pub routines_code : List (List Insn) → List Insn
 routines_code [] = []
 routines_code (routine ∷ more) = passed routine ++ routines_code more
 
--- the whole but for its exit
+-- the whole program without its exit
 unfoldable pub policy_code : FailurePolicy → List (List Insn) → List (List Insn) → List ValidationCode → List Insn
 policy_code f routines conditions validations =
     routines_code routines

@@ -1,4 +1,4 @@
--- The code of a policy's trees: the code of each expression where it stands, with the texts and the routines before it.
+-- The code of a policy's trees: each expression is compiled for its place, the texts and the routines before it.
 use Rattle.std.specs.Prelude.{ℕ, ◌+◌, List, [], ◌∷◌, ◌++◌, length, Option, Some, None}
 use Rattle.insn_codec.specs.declared.insn.Insn.{Insn, TheVariants.Exit}
 use Rattle.cel_reader.specs.Tree.{Tree}
@@ -15,7 +15,7 @@ use Rattle.policy_glue.specs.ProgramParts.{condition_slots, decided_slots, messa
 use Rattle.policy_glue.specs.Trees.{PolicyTree, ValidationTree, VariableTree}
 use Rattle.policy_glue.specs.declared.failure_policy.FailurePolicy.{FailurePolicy}
 
--- what stands so far: how many slots, the texts among the constants, and where the routines begin
+-- the layout so far: the number of slots, the texts among the constants, and the places of the routines
 pub record Laid : Type 0 where
   pub place : ℕ
   pub texts : List (List ℕ)
@@ -38,7 +38,7 @@ tree_code scope l a = whole_code (expanded a) (texts_with l a) (routines_of scop
 abbrev pub with_tree : List Declaration → Laid → Tree → Laid
 with_tree scope l a = record l { place = l.place + size (tree_code scope l a); texts = texts_with l a }
 
--- ---- variables: each routine stands behind a jump over it
+-- ---- variables: each routine follows a jump over it
 
 abbrev pub variable_code : List Declaration → Laid → VariableTree → List Insn
 variable_code scope l v = routine_code (expanded v.expression) (texts_with l v.expression) (routines_of scope l.routines)
@@ -93,14 +93,14 @@ validation_codes scope l (r ∷ more) =
 
 -- ---- the whole
 
--- behind the routines, and behind the conditions and what they decide
+-- after the routines, and after the conditions with their test
 abbrev pub laid_routines : PolicyTree → Laid
 laid_routines p = after_variables [] nothing_laid p.variables
 
 abbrev pub laid_conditions : PolicyTree → Laid
 laid_conditions p = with_slots (decided_slots p.conditions) (after_conditions (laid_routines p) p.conditions)
 
--- with its exit
+-- the whole program with its exit
 unfoldable pub program_of : FailurePolicy → PolicyTree → List Insn
 program_of f p =
     policy_code f (variable_codes [] nothing_laid p.variables) (condition_codes (laid_routines p) p.conditions)

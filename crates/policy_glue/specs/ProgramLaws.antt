@@ -1,4 +1,4 @@
--- What is proved of the code of a policy as a list of instructions.
+-- What is proved of a policy's code as a list of instructions.
 use Rattle.std.specs.Prelude.{◌≡◌, ℕ, ◌+◌, ◌<◌, ◌≤◌, All, Bool, true, List, [], ◌∷◌, ◌++◌, length, map, if◌then◌else◌}
 use Rattle.insn_codec.specs.declared.insn.Insn.{Insn, TheVariants.Exit}
 use Rattle.insn_codec.specs.declared.register.Register.TheVariants.{R0}
@@ -23,7 +23,7 @@ use Rattle.policy_glue.specs.ProgramParts.{decided_slots, codes_of_validations, 
 use Rattle.policy_glue.specs.Verdict.{Verdict, decided_before, truth_of, verdict_of}
 use Rattle.policy_glue.specs.declared.failure_policy.FailurePolicy.{FailurePolicy}
 
--- R0 has the word of the verdict's outcome, and the verdict region is the layout of the verdict
+-- R0 holds the outcome's word, and the verdict region is the layout of the verdict
 pub record LeavesVerdict (f : FailurePolicy) (v : Verdict) (b : CpuState) : Type 0 where
   pub answers : b.registers R0 ≡ outcome_word v.outcome
   pub layout : IsLayout f v b.values.values b.memory.verdict
@@ -32,7 +32,8 @@ pub record LeavesVerdict (f : FailurePolicy) (v : Verdict) (b : CpuState) : Type
 abbrev pub passes : FailurePolicy → List Part → Bool
 passes f conditions = is_running (decided_before f (map truth_of (values_given conditions)))
 
--- the steps of the whole but for its exit and for the first uses of variables; validations run where the policy does
+-- the steps of the program without its exit and without the first uses of variables; validations count if the policy
+-- runs
 abbrev pub program_steps : FailurePolicy → List (List Insn) → List Part → List ValidationPart → ℕ
 program_steps f routines conditions rules =
     length routines + (conditions_steps conditions + 3 + (if passes f conditions then validations_steps f rules + 6 else 0))
@@ -40,7 +41,7 @@ program_steps f routines conditions rules =
 abbrev pub program_charge : FailurePolicy → List Part → List ValidationPart → ℕ
 program_charge f conditions rules = conditions_charge conditions + (if passes f conditions then validations_charge f rules else 0)
 
--- the first slots of conditions and of validations
+-- the first slot of the conditions, and of the validations
 abbrev pub conditions_place : List (List Insn) → ℕ
 conditions_place routines = size (routines_code routines)
 
@@ -48,8 +49,8 @@ abbrev pub validations_place : FailurePolicy → List (List Insn) → List Part 
 validations_place f routines conditions =
     conditions_place routines + size (conditions_code f (codes_of conditions)) + decided_slots conditions
 
--- an image that begins with the code of a policy and an exit, run from the start, has exited with the verdict's outcome
--- and layout, or stopped for its charge or a depth, after its steps and those of its variables
+-- An image that begins with the code of a policy and an exit is run from the start. After its steps and those of its
+-- variables it has exited with the verdict's outcome and layout, or stopped for its charge or a depth.
 abbrev pub PolicyDecides : Type 0
 PolicyDecides = (image : loader.Image) (deep : Bool) (values : Contents) (roots : Roots) (scope : List Variable) (f : FailurePolicy)
     (routines : List (List Insn)) (conditions : List Part) (rules : List ValidationPart) (after : List ℕ) (m : ℕ)

@@ -1,4 +1,4 @@
--- What is known of the parts of a policy's code: where each expression stands, what it gives, and what that takes.
+-- Facts about the parts of a policy's code: the place of each expression, its value, its steps and its charge.
 use Rattle.std.specs.Prelude.{◌≡◌, ℕ, ◌+◌, List, [], ◌∷◌, map, Bool, true, Option, Some, None, option_map, if◌then◌else◌}
 use Rattle.insn_codec.specs.declared.insn.Insn.{Insn}
 use Rattle.value_store.specs.Value.{ValueOrError}
@@ -9,14 +9,14 @@ use Rattle.policy_glue.specs.Program.{ValidationCode}
 use Rattle.policy_glue.specs.Verdict.{Finding, denies, finding_of, truth_of}
 use Rattle.policy_glue.specs.declared.failure_policy.FailurePolicy.{FailurePolicy}
 
--- the code of an expression, its value or error, and within how many steps and how much charge the code gives it
+-- the code of an expression, its value or error, and bounds on the steps and the charge of computing it
 pub record Part : Type 0 where
   pub code : List Insn
   pub value : ValueOrError
   pub steps : ℕ
   pub charge : ℕ
 
--- a validation, with its message expression, if it has one
+-- a validation, and its message expression if it has one
 pub record ValidationPart : Type 0 where
   pub expression : Part
   pub message : Option Part
@@ -45,7 +45,7 @@ found f r = finding_of f (values_of_validation r)
 
 -- ---- places
 
--- slots of what stands behind a condition, behind all of them if there are any, and behind the expression of a
+-- the number of slots after a condition, after all conditions if there are any, and after the expression of a
 -- validation and of a message
 abbrev pub condition_slots : ℕ
 condition_slots = 9
@@ -70,17 +70,17 @@ validation_size r = size r.expression.code + result_slots + message_size r.messa
 abbrev pub PartGives : RunContext → Context → ℕ → Part → Type 0
 PartGives s c p a = Evaluates s p a.code c 0 0 a.value a.steps a.charge
 
--- each condition gives its value where it stands, the first one at slot p
+-- each condition gives its value at its place; the first one begins at slot p
 abbrev pub ConditionsGive : RunContext → Context → ℕ → List Part → Type 0
 ConditionsGive s c p [] = Unit {0}
 ConditionsGive s c p (a ∷ more) = PartGives s c p a × ConditionsGive s c (p + size a.code + condition_slots) more
 
--- a message where it is evaluated
+-- a message gives its value if it is evaluated
 abbrev pub MessageGives : RunContext → Context → ℕ → Bool → Option Part → Type 0
 MessageGives s c p denied (Some m) = denied ≡ true → PartGives s c p m
 MessageGives s c p denied None = Unit {0}
 
--- each validation, with its message where it denies
+-- each validation gives its value, and its message too if the validation denies
 abbrev pub ValidationsGive : FailurePolicy → RunContext → Context → ℕ → List ValidationPart → Type 0
 ValidationsGive f s c p [] = Unit {0}
 ValidationsGive f s c p (r ∷ more) = PartGives s c p r.expression
@@ -89,7 +89,7 @@ ValidationsGive f s c p (r ∷ more) = PartGives s c p r.expression
 
 -- ---- budgets
 
--- what is done of a message, which is evaluated for a denial alone
+-- the steps of a message, which is evaluated only for a denial
 abbrev pub message_steps : Bool → Option Part → ℕ
 message_steps denied (Some m) = if denied then m.steps + 6 else 0
 message_steps denied None = 0

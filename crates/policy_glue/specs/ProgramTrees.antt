@@ -30,29 +30,29 @@ use Rattle.policy_glue.specs.declared.failure_policy.FailurePolicy.{FailurePolic
 
 -- ---- policies
 
--- each expression is one that the type checker takes with the variables before it, and no variable is too deep
+-- the type checker accepts each expression with the variables before it, and no variable is too deep
 abbrev pub AreVariables : List Declaration → List VariableTree → Type 0
 AreVariables scope [] = Unit {0}
 AreVariables scope (v ∷ more) =
     IsEmittable scope (expanded v.expression) × (depth_in scope v.expression ≤ variable_depth_limit)
     × AreVariables (with_variable scope v) more
 
--- each condition is an expression that is taken without variables
+-- the type checker accepts each condition, without variables
 abbrev pub AreConditions : List Tree → Type 0
 AreConditions [] = Unit {0}
 AreConditions (a ∷ more) = IsEmittable [] (expanded a) × AreConditions more
 
--- a message expression, if there is one, is taken in this scope
+-- the type checker accepts the message expression, if there is one, in this scope
 abbrev pub IsEmittableMessage : List Declaration → Option Tree → Type 0
 IsEmittableMessage scope (Some a) = IsEmittable scope (expanded a)
 IsEmittableMessage scope None = Unit {0}
 
--- each validation and its message expression are taken in this scope
+-- the type checker accepts each validation and its message expression in this scope
 abbrev pub AreValidations : List Declaration → List ValidationTree → Type 0
 AreValidations scope [] = Unit {0}
 AreValidations scope (r ∷ more) = IsEmittable scope (expanded r.expression) × IsEmittableMessage scope r.message × AreValidations scope more
 
--- a policy whose expressions are taken, within its limits
+-- the type checker accepts all expressions, and the policy is within its limits
 pub record HasProgram (p : PolicyTree) : Type 0 where
   pub variables : AreVariables [] p.variables
   pub conditions : AreConditions p.conditions
@@ -64,23 +64,22 @@ pub record HasProgram (p : PolicyTree) : Type 0 where
 
 -- ---- programs
 
--- the program of a policy has exited with the outcome of its decision in R0 and the layout of the decision in the
--- verdict region, or has stopped where its charge would pass the limit or a value is too deep
+-- The program of a policy has exited with the outcome of its decision in R0 and the decision's layout in the verdict
+-- region, or has stopped because its charge would pass the limit or a value is too deep.
 pub data Decides (f : FailurePolicy) (p : PolicyTree) (roots : Roots) (values : Contents) (t : State) : Type 0 where
   OutOfBudget : t.status ≡ Fault F8 → (charge_limit < values.charge + charge_per_unit * policy_spent f p roots) ⊎ IsDeepPolicy f p roots
       → Decides f p roots values t
   LeavesByExit : t.status ≡ Exited (outcome_word (decision_of f p roots).outcome)
       → IsLayout f (decision_of f p roots) t.values.values t.memory.verdict → Decides f p roots values t
 
--- the image of a policy's program, with its texts, run from the start, is there after 128 steps for each unit of the
--- policy's work
+-- the image of a policy's program, run from the start, has decided after 128 steps for each unit of the policy's work
 abbrev pub ProgramDecides : Type 0
 ProgramDecides = (f : FailurePolicy) (p : PolicyTree) (roots : Roots) (image : loader.Image) (values : Contents) (m : ℕ)
     → HasProgram p → image.code ≡ spellings (program_of f p) → image.constants ≡ joined (policy_texts p)
     → All (λ b. b < 256) image.code → All (λ b. b < 256) image.constants → HasValues roots values
     → steps_per_visit * policy_work f p roots ≤ m → Decides f p roots values (state_after m (start_state image values))
 
--- and wherever that run stands stopped, it is there
+-- if that run has stopped, it has decided
 abbrev pub ProgramStops : Type 0
 ProgramStops = (f : FailurePolicy) (p : PolicyTree) (roots : Roots) (image : loader.Image) (values : Contents) (k : ℕ)
     → HasProgram p → image.code ≡ spellings (program_of f p) → image.constants ≡ joined (policy_texts p)
@@ -88,10 +87,10 @@ ProgramStops = (f : FailurePolicy) (p : PolicyTree) (roots : Roots) (image : loa
     → is_running (state_after k (start_state image values)).status ≡ false
     → Decides f p roots values (state_after k (start_state image values))
 
--- it has at most 128 slots for each of the policy's nodes, and can be spelled
+-- the program has at most 128 slots for each of the policy's nodes, and can be encoded
 abbrev pub ProgramIsShort : Type 0
 ProgramIsShort = (f : FailurePolicy) (p : PolicyTree) → size (program_of f p) ≤ slots_per_node * policy_nodes p
 
--- and each of its slots can be spelled
+-- each slot of the program can be encoded
 abbrev pub ProgramIsCode : Type 0
 ProgramIsCode = (f : FailurePolicy) (p : PolicyTree) → HasProgram p → AreInsns (program_of f p)

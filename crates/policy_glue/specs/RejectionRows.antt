@@ -1,4 +1,4 @@
--- What is said against requests, the responses by it, and words of verdict regions, worked by hand.
+-- Rejections, the responses to them, and words of verdict regions, worked by hand.
 use Rattle.std.specs.Prelude.{◌≡◌, ℕ, [], ◌∷◌, List, Option, Some, None, Ok, Err, codes}
 use Rattle.value_store.specs.Value.{value, text}
 use Rattle.policy_glue.specs.Layout.{IsMessageWord, finding_word, first_message, first_result, message_in, ok_or_zero, outcome_of, outcome_word, text_named}
@@ -10,11 +10,11 @@ use Rattle.policy_glue.specs.declared.failure_policy.FailurePolicy.TheVariants.{
 use Rattle.policy_glue.specs.declared.outcome.Outcome.TheVariants.{Skipped, Rejected, Denied, Admitted}
 use Rattle.policy_glue.specs.declared.reason.Reason.TheVariants.{Forbidden, Invalid}
 
--- the response to the request u1 by what the verdict of the policy says against it
+-- the response to the request u1, by way of the policy's rejection
 abbrev pub by_rejection : Policy → Verdict → List ℕ
 by_rejection p verdict = response_text (rejection_of p verdict) (codes "u1")
 
--- a verdict of one validation, which came to this
+-- a verdict that admits, with one validation
 abbrev pub admitted : Verdict
 admitted = record { outcome = Admitted; findings = record { truth = Holds; message = None } ∷ [] }
 
@@ -39,7 +39,7 @@ pub record RejectionRowsStand : Type 0 where
   pub two_text : by_rejection (policy_with Fail two_denials) two_findings
       ≡ denied_as (codes "{\"code\":403,\"message\":\"a; failed expression: 1/0 == 1\",\"reason\":\"Forbidden\"}")
 
--- the words of a verdict region: outcomes from 1 to 4, what validations came to from word 2 on, and messages from word 66 on
+-- the words of a verdict region: outcomes from 1 to 4, results from word 2 on, and messages from word 66 on
 pub record LayoutRowsStand : Type 0 where
   pub results_begin : first_result ≡ 2
   pub messages_begin : first_message ≡ 66

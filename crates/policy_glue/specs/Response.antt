@@ -10,38 +10,38 @@ use Rattle.policy_glue.specs.declared.outcome.Outcome.{Outcome, TheVariants.Skip
 use Rattle.policy_glue.specs.declared.failure_policy.FailurePolicy.{FailurePolicy}
 use Rattle.policy_glue.specs.declared.reason.Reason.{Reason, TheVariants.Invalid}
 
--- ---- what a denial says
+-- ---- the message of a denial
 
--- a validation that denies, with the text of its message expression, if it gave one
+-- a validation that denies, and the text of its message expression if it gave one
 pub record Denial : Type 0 where
   pub validation : Validation
   pub message : Option (List ℕ)
 
--- the validations that deny, in their order, each beside what it came to
+-- the validations that deny, in order, with their findings
 abbrev pub denials_of : FailurePolicy → List Validation → List Finding → List Denial
 denials_of f [] xs = []
 denials_of f (r ∷ rs) [] = []
 denials_of f (r ∷ rs) (x ∷ xs) =
     if is_denial f x then record { validation = r; message = x.message } ∷ denials_of f rs xs else denials_of f rs xs
 
--- the message that is set, and else that the expression failed
+-- the message if one is set, else that the expression failed
 abbrev pub set_message : List ℕ → List ℕ → List ℕ
 set_message [] expression = codes "failed expression: " ++ expression
 set_message (b ∷ message) expression = b ∷ message
 
--- what a validation says without its message expression
+-- the message of a validation without its message expression
 abbrev pub plain_message : Validation → List ℕ
 plain_message r = set_message r.message r.expression
 
--- a text serves as a message if it is not spaces alone, nor empty, and has no line break
+-- a text can be used as a message if it is not empty, not only spaces, and has no line break
 abbrev pub is_space : ℕ → Bool
 is_space b = nat_eq b 32
 
--- the text can be answered as a message
+-- the text can be used as a message
 abbrev pub serves : List ℕ → Bool
 serves text = not (list_all is_space text) && not (has_line_break text)
 
--- the text of the message expression where it serves, and else the plain message
+-- the text of the message expression if it can be used, else the plain message
 abbrev pub message_or : Option (List ℕ) → List ℕ → List ℕ
 message_or (Some text) plain = if serves text then text else plain
 message_or None plain = plain
@@ -50,7 +50,7 @@ message_or None plain = plain
 abbrev pub denial_text : Denial → List ℕ
 denial_text d = message_or d.message (plain_message d.validation)
 
--- texts with `; ` between them
+-- the texts, joined with `; `
 abbrev pub joined : List (List ℕ) → List ℕ
 joined [] = []
 joined (t ∷ []) = t
@@ -76,36 +76,36 @@ allowed_tree uid = json.object
     (json.member (codes "allowed") (json.boolean true)
     (json.member (codes "uid") (json.string uid) json.no_members))
 
--- the response that does not, with its status
+-- the response that denies it, with its status
 abbrev pub denied_tree : List ℕ → List ℕ → Reason → json.Data
 denied_tree uid message reason = json.object
     (json.member (codes "allowed") (json.boolean false)
     (json.member (codes "status") (status_tree message reason)
     (json.member (codes "uid") (json.string uid) json.no_members)))
 
--- the review that has this response
+-- the review that holds this response
 unfoldable pub review_tree : json.Data → json.Data
 review_tree response = json.object
     (json.member (codes "apiVersion") (json.string (codes "admission.k8s.io/v1"))
     (json.member (codes "kind") (json.string (codes "AdmissionReview"))
     (json.member (codes "response") response json.no_members)))
 
--- the conditions of the policy came to an error
+-- the response if the conditions could not be decided
 abbrev pub rejected_tree : List ℕ → json.Data
 rejected_tree uid = denied_tree uid (codes "match conditions not decided") Invalid
 
--- the messages of all denials, and the reason of the first
+-- the response for denials: their messages, and the reason of the first
 abbrev pub denials_tree : List Denial → List ℕ → json.Data
 denials_tree ds uid = denied_tree uid (joined (map denial_text ds)) (first_reason ds)
 
--- the response by the outcome; a policy that was skipped, and one that admits, allows
+-- the response for an outcome; `Skipped` and `Admitted` allow the request
 abbrev pub tree_of : Outcome → List Denial → List ℕ → json.Data
 tree_of Rejected ds uid = rejected_tree uid
 tree_of Denied ds uid = denials_tree ds uid
 tree_of Skipped ds uid = allowed_tree uid
 tree_of Admitted ds uid = allowed_tree uid
 
--- the text of the response to a verdict of the policy on the request with this uid
+-- the text of the response to a verdict of the policy, for the request with this uid
 unfoldable pub response_of : Policy → Verdict → List ℕ → List ℕ
 response_of p verdict uid =
     compact_text (review_tree (tree_of verdict.outcome (denials_of p.failure_policy p.validations verdict.findings) uid))

@@ -12,7 +12,7 @@ use Rattle.policy_glue.specs.declared.reason.Reason.TheVariants.{Forbidden, Inva
 
 -- ---- documents
 
--- a policy with this specification
+-- reads a policy with this specification
 abbrev pub said : List ℕ → Result Policy PolicyError
 said spec =
     policy_in (codes "{\"apiVersion\":\"admissionregistration.k8s.io/v1\",\"kind\":\"ValidatingAdmissionPolicy\",\"spec\":"
@@ -63,7 +63,7 @@ truth b = value (boolean b)
 abbrev pub bare : ValueOrError → ValueOrError × Option ValueOrError
 bare x = (x, None)
 
--- the policy did not run
+-- the verdict of a policy that did not run
 abbrev pub skipped : Verdict
 skipped = record { outcome = Skipped; findings = [] }
 
@@ -71,7 +71,7 @@ abbrev pub rejected : Verdict
 rejected = record { outcome = Rejected; findings = [] }
 
 pub record VerdictRowsStand : Type 0 where
-  -- a false condition decides before an error does
+  -- a false condition decides even if an earlier one is an error
   pub false_condition : verdict_of Fail (error ∷ truth false ∷ []) (bare (truth false) ∷ []) ≡ skipped
   pub undecided : verdict_of Fail (error ∷ truth true ∷ []) (bare (truth true) ∷ []) ≡ rejected
   pub undecided_ignored : verdict_of Ignore (error ∷ truth true ∷ []) (bare (truth false) ∷ []) ≡ skipped
@@ -84,7 +84,7 @@ pub record VerdictRowsStand : Type 0 where
       ≡ record { outcome = Admitted; findings = record { truth = Errs; message = None } ∷ [] }
   pub false_denies : verdict_of Ignore [] (bare error ∷ bare (truth false) ∷ [])
       ≡ record { outcome = Denied; findings = record { truth = Errs; message = None } ∷ record { truth = Fails; message = None } ∷ [] }
-  -- message expressions give texts for denials, and deny nothing
+  -- message expressions give texts for denials, and do not deny themselves
   pub text : verdict_of Fail [] ((truth false, Some (value (text (codes "a")))) ∷ [])
       ≡ record { outcome = Denied; findings = record { truth = Fails; message = Some (codes "a") } ∷ [] }
   pub no_text : verdict_of Fail [] ((truth false, Some (value (int (pos 1)))) ∷ [])
@@ -100,7 +100,7 @@ answered response = codes "{\"apiVersion\":\"admission.k8s.io/v1\",\"kind\":\"Ad
 abbrev pub denied_as : List ℕ → List ℕ
 denied_as status = answered (codes "{\"allowed\":false,\"status\":" ++ (status ++ codes ",\"uid\":\"u1\"}"))
 
--- the response of a policy with one validation, which is false and whose message expression gave this text
+-- the response for a policy with one false validation whose message expression gave this text
 abbrev pub with_text : Option (List ℕ) → List ℕ
 with_text message =
     response_of (policy_with Fail (few_replicas ∷ []))
@@ -109,7 +109,7 @@ with_text message =
 abbrev pub plain : List ℕ
 plain = denied_as (codes "{\"code\":422,\"message\":\"failed expression: object.spec.replicas <= 3\",\"reason\":\"Invalid\"}")
 
--- false with a message and a reason, and then an error
+-- a false validation with a message and a reason, then one that is an error
 abbrev pub two_denials : List Validation
 two_denials =
     record { expression = codes "false"; message = codes "a"; reason = Forbidden; message_expression = None } ∷ plain_validation (codes "1/0 == 1") ∷ []

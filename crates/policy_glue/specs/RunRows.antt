@@ -1,4 +1,4 @@
--- Programs of policies run by hand, step by step, on five documents `null`.
+-- Programs of policies run by hand, step by step, on five roots that are `null`.
 use Rattle.std.specs.Prelude.{◌≡◌, ℕ, List, [], ◌∷◌, map, Some, codes}
 use Rattle.guest_memory.specs.RegionWords.{word_in}
 use Rattle.cel_reader.specs.Tree.{Tree, literal, null}
@@ -12,15 +12,15 @@ use Rattle.policy_glue.specs.OneImage.{program_image}
 use Rattle.policy_glue.specs.Trees.{PolicyTree}
 use Rattle.policy_glue.specs.declared.failure_policy.FailurePolicy.{FailurePolicy, TheVariants.Fail, TheVariants.Ignore}
 
--- after so many steps
+-- the state after this number of steps
 abbrev pub run : FailurePolicy → PolicyTree → ℕ → State
 run f p n = state_after n (start_state (program_image f p) null_values)
 
--- words of the verdict region
+-- these words of the verdict region
 abbrev pub words : List ℕ → State → List ℕ
 words places s = map (word_in s.memory.verdict) places
 
--- an expression that is no bool
+-- an expression that is not a bool
 abbrev pub other : Tree
 other = literal null
 
@@ -35,13 +35,13 @@ false_variable =
     record { variables = record { name = codes "v"; expression = no } ∷ []; conditions = []; validations = bare (variable "v") ∷ [] }
 
 pub record RunRowsStand : Type 0 where
-  -- its outcome, one denial, that it is false, and the reference of its text
+  -- the outcome, one denial, the result false, and the reference of the message text
   pub denied : (run Fail false_with_message 24).status ≡ Exited 3
   pub denied_words : words (0 ∷ 1 ∷ 2 ∷ 66 ∷ []) (run Fail false_with_message 24) ≡ 3 ∷ 1 ∷ 1 ∷ 9 ∷ []
   pub admitted : (run Fail (policy_of_validations (bare yes ∷ [])) 8).status ≡ Exited 4
   pub error_denies : (run Fail (policy_of_validations (bare other ∷ [])) 16).status ≡ Exited 3
   pub error_ignored : words (0 ∷ 1 ∷ 2 ∷ []) (run Ignore (policy_of_validations (bare other ∷ [])) 12) ≡ 4 ∷ 0 ∷ 2 ∷ []
-  -- a false condition decides behind an error
+  -- a false condition decides after one that is an error
   pub skipped : (run Fail (under_conditions (other ∷ no ∷ [])) 14).status ≡ Exited 1
   pub rejected : (run Fail (under_conditions (other ∷ yes ∷ [])) 12).status ≡ Exited 2
   pub ignored : (run Ignore (under_conditions (other ∷ yes ∷ [])) 12).status ≡ Exited 1

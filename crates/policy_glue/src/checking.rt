@@ -1,4 +1,4 @@
-//! The checking of a policy's expressions.
+//! Checks a policy's expressions.
 
 ghost use Rattle.std.specs.Prelude.{◌≡◌, None, Ok, map, option_map, string_bytes};
 ghost use Rattle.cel_macros.specs.CoreView.{core_view};
@@ -18,8 +18,8 @@ use cel_macros::Core;
 use cel_types::Scope;
 use std::alloc::Global;
 
-/// The policy with its expressions checked, or its first refusal: of its variables, match
-/// conditions and validations in this order, each with its place, a message expression behind its
+/// The policy with its expressions checked, or its first refusal. Variables come first, then match
+/// conditions, then validations, each list in order; a message expression comes directly after its
 /// validation.
 pub(crate) fn checked(alloc: Global, policy: &Policy) -> Result<Checked, CompileError>
     ensures { Checks policy.now result }
@@ -41,7 +41,7 @@ fn parts_checked(alloc: Global, parts: &Parts) -> Result<Checked, CompileError>
     })
 }
 
-/// The variables, each of which may use those before it.
+/// Checks the variables. Each may use the earlier ones.
 fn variables(alloc: Global, named: &[NamedExpression]) -> Result<(Scope, Vec<Core>), CompileError>
     ensures { ChecksVariables (map named_view named.now) result }
 {
@@ -53,7 +53,7 @@ fn variables(alloc: Global, named: &[NamedExpression]) -> Result<(Scope, Vec<Cor
     Ok((scope, cores))
 }
 
-/// Adds the variable at this place, which may use those in scope.
+/// Adds the variable at this place. It may use those in scope.
 fn add_variable(
     alloc: Global,
     variable: &NamedExpression,
@@ -70,7 +70,7 @@ fn add_variable(
     Ok(())
 }
 
-/// The match conditions, which may use no variable.
+/// Checks the match conditions. They may use no variable.
 fn conditions(alloc: Global, named: &[NamedExpression]) -> Result<Vec<Core>, CompileError>
     ensures { ChecksConditions (map named_view named.now) result }
 {
@@ -84,7 +84,7 @@ fn conditions(alloc: Global, named: &[NamedExpression]) -> Result<Vec<Core>, Com
     Ok(cores)
 }
 
-/// The validations, which may use the variables of the scope.
+/// Checks the validations. They may use the variables of the scope.
 fn validations(
     alloc: Global,
     validations: &[Validation],

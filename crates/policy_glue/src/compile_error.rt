@@ -12,21 +12,21 @@ use std::error::Error;
 use std::fmt;
 
 /// Why a policy is not compiled. If several causes hold, the first is reported: the parts are
-/// tested in their order, each for the first three causes of this list, and then the policy for the
+/// tested in order, each for the first three causes of this list, and then the whole policy for the
 /// next two.
 #[derive(Clone, Copy, Debug, PartialEq, Eq)]
 pub enum CompileError {
-    /// The expression of a part is refused: the part's kind, its place in its list, counted from 0,
-    /// and why.
+    /// The expression of a part is refused. Gives the kind of the part, its place in its list,
+    /// counted from 0, and the cause.
     InvalidExpression(PartKind, usize, ExpressionError),
     /// The type of a condition or a validation is neither `Bool` nor `Dyn`.
     NotABool,
     /// The type of a message expression is neither `String` nor `Dyn`.
     MessageNotAString,
-    /// The policy has more than 512 nodes, for each of which an image of 65,536 slots has 128.
+    /// The policy has more than 512 nodes. An image has 65,536 slots, which is 128 for each node.
     TooManyNodes,
-    /// The distinct texts of the policy have more than 1,048,576 bytes together, the most that the
-    /// constants of an image can have.
+    /// The texts of the policy, each counted once, have more than 1,048,576 bytes together, which
+    /// is the limit for the constants of an image.
     TooManyTextBytes,
     /// An allocation failed.
     Memory,
@@ -52,7 +52,7 @@ impl CompileError {
     }
 }
 
-/// The code, and for an expression the part and why it is refused: `K6 validation 0 P4 at 13`.
+/// The code, and for an expression the part and the cause: `K6 validation 0 P4 at 13`.
 impl fmt::Display for CompileError {
     ghost output = { λ e. Some (compile_text e) };
 

@@ -1,4 +1,4 @@
-//! The compilation of policies.
+//! Compiles policies.
 
 ghost use Rattle.std.specs.Prelude.{◌≡◌, ◌<◌, All, IfOk, Ok};
 ghost use Rattle.loader.specs.Format.{image_from};
@@ -14,17 +14,17 @@ use crate::program::program;
 use loader::Image;
 use std::alloc::Global;
 
-/// The image of the policy's program, of version 2. From its start on the roots of a request it
-/// leaves the verdict in the words of its verdict region and exits with the outcome, or is stopped
-/// for its charge or for a value that is too deep.
+/// Compiles the policy to an image of version 2. Started on the roots of a request, the program
+/// leaves the verdict in its verdict region and exits with the outcome, or it is stopped for its
+/// charge or because a value is too deep.
 ///
 /// # Errors
 ///
-/// The first refusal in the order of [`CompileError`]; `Memory` where memory runs out, which says
-/// nothing of the policy.
+/// The first refusal in the order of [`CompileError`]. `Memory` if an allocation fails, which says
+/// nothing about the policy.
 pub fn compile(alloc: Global, policy: &Policy) -> Result<Image, CompileError>
     ensures compiles { CompilesTo policy.now result }
-    // Which image it is, of those that do this.
+    // Pins the image: there is only one that meets this clause.
     ensures one { IfOk result (λ image. OneImage policy.now image) }
 {
     let checked = checked(alloc, policy)?;
@@ -33,7 +33,7 @@ pub fn compile(alloc: Global, policy: &Policy) -> Result<Image, CompileError>
     Ok(image(code, constants))
 }
 
-/// The image of this code and these constants, which fit one.
+/// The image with this code and these constants.
 fn image(code: Vec<u8>, constants: Vec<u8>) -> Image
     requires { image_from Second code.items constants.items ≡ Ok (contents Second code.items constants.items) }
     ensures is { result ≡ contents Second code.items constants.items }

@@ -1,4 +1,4 @@
-//! Denials.
+//! One denial.
 
 ghost use Rattle.std.specs.Prelude.{◌≡◌, string_bytes, IfOk};
 ghost use Rattle.std.specs.List.{list_all};
@@ -19,7 +19,8 @@ pub struct Denial<'a> {
 }
 
 impl<'a> Denial<'a> {
-    /// What the denial says: the text where it serves as a message, and else the plain message.
+    /// The message of the denial: the text of the message expression if it can be used, else the
+    /// plain message.
     pub fn text(&self, alloc: Global) -> Result<String, AllocError>
         ensures { IfOk result (λ s. string_bytes s ≡ denial_text (denial_view self.now)) }
     {
@@ -30,7 +31,7 @@ impl<'a> Denial<'a> {
     }
 }
 
-/// The message that is set, and else that the expression failed.
+/// The message that is set, else one that says that the expression failed.
 fn plain_message(alloc: Global, validation: &Validation) -> Result<String, AllocError>
     ensures { IfOk result (λ s. string_bytes s ≡ plain_message (validation_view validation.now)) }
 {
@@ -41,7 +42,8 @@ fn plain_message(alloc: Global, validation: &Validation) -> Result<String, Alloc
     }
 }
 
-/// Whether the text serves as a message: it is not spaces alone, nor empty, and has no line break.
+/// Whether the text can be used as a message: it is not empty, not only spaces, and has no line
+/// break.
 fn serves(text: &str) -> bool
     ensures { result ≡ serves text.now }
 {

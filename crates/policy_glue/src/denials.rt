@@ -13,7 +13,7 @@ use crate::validation::Validation;
 use crate::verdict::{ERRS, FAILS, Verdict};
 use std::alloc::{AllocError, Global};
 
-/// The denials of a verdict on these validations, in their order.
+/// The denials of a verdict on these validations, in order.
 pub fn denials<'a>(
     alloc: Global,
     failure_policy: FailurePolicy,
@@ -36,7 +36,7 @@ pub fn denials<'a>(
     Ok(denials)
 }
 
-/// Whether the word for what a validation came to says that it denies.
+/// Whether a validation with this result word denies.
 fn denies(failure_policy: FailurePolicy, word: u64) -> bool
     ensures { result ≡ denies_word failure_policy word }
 {
@@ -53,7 +53,7 @@ pub fn first_reason(denials: &[Denial]) -> Reason
     }
 }
 
-/// What the denials say, joined.
+/// The messages of the denials, joined with `; `.
 #[tactic(auto, using(crate::proofs::Lists::join_start))]
 pub fn joined(alloc: Global, denials: &[Denial]) -> Result<String, AllocError>
     ensures { IfOk result (λ s. string_bytes s ≡ joined (map denial_text (map denial_view denials.now))) }

@@ -1,4 +1,4 @@
-//! Documents, and what stands at their keys.
+//! Documents, and the values at their keys.
 
 ghost use Rattle.std.specs.Prelude.{◌≡◌, map, option_map, string_bytes, IfOk};
 ghost use Rattle.std.specs.List.{list_any};
@@ -11,7 +11,7 @@ use crate::policy_error::PolicyError;
 use serde_json::{Map, Value};
 use std::alloc::{AllocError, Global};
 
-/// What a document says, if it is a JSON text.
+/// Parses a JSON text; `None` if the bytes are not JSON.
 #[tactic(auto, using(crate::proofs::Read::document_read, crate::proofs::Read::document_refused))]
 pub fn parse_document(alloc: Global, bytes: &[u8]) -> Result<Option<Value>, AllocError>
     ensures { IfOk result (λ v. option_map view v ≡ document_of bytes.now) }
@@ -43,7 +43,7 @@ fn keys_known(members: &Map<String, Value>, known: &[&str]) -> bool
     true
 }
 
-/// Whether the value is an object without a key that is not known.
+/// Whether the value is an object with known keys only.
 pub fn has_only_keys(value: &Value, known: &[&str]) -> bool
     ensures { result ≡ has_only (map (λ s. s.now) known.now) (view value.now) }
 {
@@ -53,7 +53,7 @@ pub fn has_only_keys(value: &Value, known: &[&str]) -> bool
     }
 }
 
-/// Whether an object stands there, or nothing.
+/// Whether the value is an object or absent.
 pub fn is_object_or_absent(value: Option<&Value>) -> bool
     ensures { result ≡ is_object_or_absent (option_map (λ v. view v.now) value.entry) }
 {
@@ -63,7 +63,7 @@ pub fn is_object_or_absent(value: Option<&Value>) -> bool
     }
 }
 
-/// Whether this text stands there.
+/// Whether the value is this text.
 pub(crate) fn equals_string(value: Option<&Value>, text: &str) -> bool
     ensures { result ≡ equals_string (option_map (λ v. view v.now) value.entry) text.now }
 {
@@ -73,7 +73,7 @@ pub(crate) fn equals_string(value: Option<&Value>, text: &str) -> bool
     }
 }
 
-/// The text that has to stand there.
+/// A required text.
 pub fn text(alloc: Global, value: Option<&Value>) -> Result<String, PolicyError>
     ensures { Forms string_bytes (text_of (option_map (λ v. view v.now) value.entry)) result }
 {
@@ -83,7 +83,7 @@ pub fn text(alloc: Global, value: Option<&Value>) -> Result<String, PolicyError>
     }
 }
 
-/// The text that may stand there.
+/// An optional text.
 pub fn optional_text(alloc: Global, value: Option<&Value>) -> Result<Option<String>, PolicyError>
     ensures { Forms (option_map string_bytes) (optional_text_of (option_map (λ v. view v.now) value.entry)) result }
 {
@@ -94,7 +94,7 @@ pub fn optional_text(alloc: Global, value: Option<&Value>) -> Result<Option<Stri
     }
 }
 
-/// The text that may stand there, and else the empty one.
+/// An optional text, empty if it is absent.
 pub fn text_or_empty(alloc: Global, value: Option<&Value>) -> Result<String, PolicyError>
     ensures { Forms string_bytes (text_or_empty_of (option_map (λ v. view v.now) value.entry)) result }
 {

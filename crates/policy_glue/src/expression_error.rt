@@ -24,15 +24,15 @@ pub enum ExpressionError {
     Untyped(TypeError),
     /// The expression needs more than 60 words of the stack.
     NeedsTooManyWords,
-    /// The variable's depth is above 6. (1 more than the greatest depth of the variables that it
-    /// names)
+    /// The variable's depth is above 6. The depth is 1 more than the greatest depth of the
+    /// variables that it uses.
     VariableTooDeep,
     /// An allocation failed.
     Memory,
 }
 
 impl ExpressionError {
-    /// The error's code: that of the text, the macro or the type, or `G1`, `G2` or `memory`.
+    /// The error's code: that of the text's, macro's or type's error, or `G1`, `G2` or `memory`.
     pub fn code(&self) -> &'static str
         ensures text { result.now ≡ expression_error_code self.now }
         ensures length { length result.now ≤ 6 }

@@ -1,10 +1,10 @@
-//! What is done where an expression cannot be decided.
+//! What happens if an expression cannot be decided.
 
-/// What is done where an expression cannot be decided. (Kubernetes, `failurePolicy`)
+/// What happens if an expression cannot be decided. (Kubernetes, `failurePolicy`)
 #[derive(Clone, Copy, Debug, PartialEq, Eq)]
 pub enum FailurePolicy {
-    /// The request is not admitted.
+    /// The request is rejected.
     Fail,
-    /// The expression is passed over.
+    /// The expression is ignored.
     Ignore,
 }

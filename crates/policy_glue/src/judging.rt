@@ -1,4 +1,4 @@
-//! The judging of single expressions.
+//! Checks single expressions.
 
 ghost use Rattle.std.specs.Prelude.{◌≡◌};
 ghost use Rattle.cel_reader.specs.Tree.{Tree};
@@ -20,7 +20,7 @@ use cel_types::{CelType, Scope, check};
 use expression_code::limits::{VARIABLE_DEPTH_LIMIT, WORD_LIMIT};
 use std::alloc::Global;
 
-/// The expression in a text, with its macros expanded.
+/// Parses the text and expands its macros.
 fn expression(alloc: Global, text: &str) -> Result<Core, ExpressionError>
     ensures { ReadsAndExpands text.now result }
 {
@@ -39,7 +39,7 @@ fn type_of(core: &Core, scope: &Scope) -> Result<CelType, ExpressionError>
     Ok(cel_type)
 }
 
-/// The expression in a text, which may use the variables of the scope, and its type.
+/// Parses and checks an expression that may use the variables of the scope; returns its type too.
 pub fn judged(alloc: Global, text: &str, scope: &Scope) -> Result<(Core, CelType), ExpressionError>
     ensures { Judges (expression_judged scope.now) text.now result }
 {
@@ -50,7 +50,7 @@ pub fn judged(alloc: Global, text: &str, scope: &Scope) -> Result<(Core, CelType
     }
 }
 
-/// The expression of the variable at this place, its type and its depth.
+/// Checks the expression of the variable at this place; returns its type and its depth too.
 pub fn variable_judged(
     alloc: Global,
     place: usize,
@@ -72,7 +72,7 @@ pub fn variable_judged(
     }
 }
 
-/// Whether the expression of such a part may have this type.
+/// Whether the expression of this kind of part may have this type.
 fn may_have(part: PartKind, cel_type: CelType) -> bool
     ensures { result ≡ allowed (types_of part) cel_type }
 {
@@ -82,7 +82,7 @@ fn may_have(part: PartKind, cel_type: CelType) -> bool
     }
 }
 
-/// The refusal of an expression of another type.
+/// The error for an expression of another type.
 fn other_type(part: PartKind) -> CompileError
     ensures { result ≡ other_type part }
 {
@@ -92,7 +92,7 @@ fn other_type(part: PartKind) -> CompileError
     }
 }
 
-/// The expression of a condition, of a validation or of its message.
+/// Checks the expression of a condition, a validation or a message.
 pub fn part_judged(
     alloc: Global,
     part: PartKind,

@@ -1,5 +1,5 @@
-//! Policies, verdicts and responses worked by hand, and what is proved of policies and of their
-//! code, each the clause of a function that does nothing.
+//! Laws: what is proved of policies and of their code, and examples worked by hand. Each is the
+//! clause of a function that does nothing.
 ghost use Rattle.policy_glue.specs.BudgetRows.{BudgetRowsStand};
 ghost use Rattle.policy_glue.specs.DecisionRows.{CheckingRowsStand, DecisionRowsStand};
 ghost use Rattle.policy_glue.specs.LimitRows.{LimitRowsStand};
@@ -12,19 +12,19 @@ ghost use Rattle.policy_glue.specs.Rows.{PolicyRowsStand, VerdictRowsStand, Resp
 
 use bpf_machine::laws::decodes_spelling;
 
-/// Documents of policies, with what they say or why they are refused.
+/// Documents of policies, and the results of reading them.
 #[tactic(auto, unfolding(crate::proofs::OnLiterals::documents_on_literals))]
 pub fn policy_rows_stand()
     ensures { PolicyRowsStand }
 {}
 
-/// How many parts a policy may have, and what each reason is answered as.
+/// The largest numbers of parts, and the response for each reason.
 #[tactic(auto, unfolding(crate::proofs::OnLiterals::documents_on_literals))]
 pub fn limit_rows_stand()
     ensures { LimitRowsStand }
 {}
 
-/// Verdicts, from what conditions, validations and message expressions come to.
+/// Verdicts for the values of conditions, validations and message expressions.
 #[tactic(auto, unfolding(crate::proofs::OnLiterals::policies_on_literals))]
 pub fn verdict_rows_stand()
     ensures { VerdictRowsStand }
@@ -36,7 +36,7 @@ pub fn response_rows_stand()
     ensures { ResponseRowsStand }
 {}
 
-/// What is said against requests, and words of verdict regions.
+/// Rejections of requests, and words of verdict regions.
 #[tactic(auto, unfolding(crate::proofs::OnLiterals::documents_on_literals))]
 pub fn rejection_rows_stand()
     ensures rejections { RejectionRowsStand }
@@ -49,21 +49,21 @@ pub fn decision_rows_stand()
     ensures { DecisionRowsStand }
 {}
 
-/// Expressions that are taken, and those that are refused.
+/// Expressions that are accepted and others that are refused.
 #[tactic(auto, unfolding(crate::proofs::OnLiterals::policies_on_literals))]
 pub fn checking_rows_stand()
     ensures { CheckingRowsStand }
 {}
 
-/// What policies visit, spend and have room for.
+/// The visits and costs of policies, and their size limits.
 #[tactic(auto, unfolding(crate::proofs::OnLiterals::policies_on_literals))]
 pub fn budget_rows_stand()
     ensures { BudgetRowsStand }
 {}
 
-/// The code of a policy, made of code for its expressions, leaves the policy's verdict in its words
-/// and its outcome in R0, or has stopped for its charge or a depth, after its steps and those of
-/// its variables.
+/// The code of a policy, composed of the code of its expressions, leaves the policy's verdict in
+/// the verdict words and its outcome in R0, or stops for its charge or a depth, after its steps and
+/// those of its variables.
 pub fn policy_decides()
     ensures { PolicyDecides }
 {
@@ -77,7 +77,7 @@ pub fn run_rows_stand()
 {}
 
 /// The program of a policy has at most 128 slots for each of the policy's nodes, and can be
-/// spelled.
+/// encoded.
 #[tactic(auto, using(crate::proofs::Programs::Sizes::program_is_short, crate::proofs::Programs::Sizes::program_is_code))]
 pub fn program_is_code()
     ensures short { ProgramIsShort }
@@ -85,9 +85,9 @@ pub fn program_is_code()
 {}
 
 /// The program of a policy, run from the start, has decided as the policy does after 128 steps for
-/// each unit of the policy's work, and wherever it stands stopped: it left the verdict, or it was
-/// stopped where 16 of charge for each unit of what is spent pass the limit, or where a value is
-/// too deep.
+/// each unit of the policy's work, and also if it stopped earlier. Either it left the verdict, or
+/// it was stopped: because 16 of charge for each unit of the policy's cost pass the limit, or
+/// because a value is too deep.
 #[tactic(auto, using(crate::proofs::Programs::Runs::program_decides, crate::proofs::Programs::Sizes::program_is_code, crate::proofs::Programs::Runs::program_stops))]
 pub fn program_decides()
     ensures decides { ProgramDecides }
@@ -96,8 +96,8 @@ pub fn program_decides()
     decodes_spelling();
 }
 
-/// A policy has one answer at most, its trees or its first refusal, and one image; and none is
-/// refused for the type of an expression that has the type it is to have.
+/// Compilation of a policy has one result, its trees or its first refusal, and one image. No policy
+/// is refused for the type of an expression that has the required type.
 #[tactic(auto, using(crate::proofs::OneAnswer::compiled_once, crate::proofs::OneAnswer::one_image))]
 pub fn compiles_once()
     ensures answer { CompileHasOneResult }

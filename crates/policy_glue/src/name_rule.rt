@@ -8,9 +8,9 @@ use cel_reader::is_identifier;
 /// Which names are allowed.
 #[derive(Clone, Copy, Debug, PartialEq, Eq)]
 pub enum NameRule {
-    /// Any but the empty one: those of match conditions.
+    /// Any name that is not empty: for match conditions.
     NotEmpty,
-    /// Identifiers that may stand free: those of variables.
+    /// Identifiers that CEL does not reserve: for variables.
     Identifier,
 }
 

@@ -3,7 +3,7 @@
 /// A match condition or a variable.
 #[derive(Debug, Drop)]
 pub struct NamedExpression {
-    /// Its name, of which no other in its list has the same.
+    /// Its name, unique in its list.
     pub name: String,
     /// Its CEL expression.
     pub expression: String,

@@ -14,7 +14,7 @@ use serde_json::Value;
 use std::alloc::{AllocError, Global};
 use std::collections::BTreeSet;
 
-/// The conditions or variables that may stand there, of which no two have one name.
+/// An optional list of conditions or variables, whose names must be unique.
 pub fn named_list(
     alloc: Global,
     value: Option<&Value>,
@@ -80,7 +80,7 @@ fn named_parts(alloc: Global, value: &Value) -> Result<NamedExpression, PolicyEr
     Ok(NamedExpression { name, expression })
 }
 
-/// Whether no two have one name.
+/// Whether no two names are equal.
 fn are_distinct(alloc: Global, list: &[NamedExpression]) -> Result<bool, AllocError>
     ensures { IfOk result (λ distinct. distinct ≡ are_distinct (map named_view list.now)) }
 {

@@ -1,11 +1,11 @@
-//! What policies decide of requests.
+//! Outcomes of policies.
 
 ghost use Rattle.std.specs.Prelude.{◌≡◌};
 ghost use Rattle.policy_glue.specs.Layout.{outcome_of};
 
 use crate::verdict::{ADMITTED, DENIED, SKIPPED};
 
-/// What a policy decides of a request. (Kubernetes, ValidatingAdmissionPolicy)
+/// What a policy decides on a request. (Kubernetes, ValidatingAdmissionPolicy)
 #[derive(Clone, Copy, Debug, PartialEq, Eq)]
 pub enum Outcome {
     /// A condition is false, or is in error under `Ignore`.
@@ -19,8 +19,7 @@ pub enum Outcome {
 }
 
 impl Outcome {
-    /// The outcome that a word of a verdict states. A word that states no outcome rejects the
-    /// request.
+    /// The outcome for this word of a verdict. A word that is no outcome rejects the request.
     pub fn of_word(word: u64) -> Outcome
         ensures { result ≡ outcome_of word }
     {

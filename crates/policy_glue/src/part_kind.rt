@@ -5,21 +5,21 @@ ghost use Rattle.policy_glue.specs.CompileErrors.{kind_text};
 
 use std::fmt;
 
-/// What kind of part of a policy an expression is.
+/// The part of a policy that an expression belongs to.
 #[derive(Clone, Copy, Debug, PartialEq, Eq)]
 pub enum PartKind {
-    /// A variable's.
+    /// A variable.
     Variable,
-    /// A match condition's.
+    /// A match condition.
     Condition,
-    /// A validation's.
+    /// A validation.
     Validation,
-    /// That of a validation's message.
+    /// The message of a validation.
     Message,
 }
 
 impl PartKind {
-    /// The word for it.
+    /// The word that error messages use for it.
     pub fn word(self) -> &'static str
         ensures text { result.now ≡ kind_text self }
         ensures length { length result.now ≤ 10 }

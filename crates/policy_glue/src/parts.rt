@@ -1,18 +1,18 @@
-//! What a policy's document says.
+//! The contents of a policy's document.
 
 use crate::failure_policy::FailurePolicy;
 use crate::named_expression::NamedExpression;
 use crate::validation::Validation;
 
-/// What a policy's document says.
+/// The contents of a policy's document.
 #[derive(Debug, Drop)]
 pub struct Parts {
-    /// What is done where an expression cannot be decided.
+    /// What happens if an expression cannot be decided.
     pub failure_policy: FailurePolicy,
-    /// The match conditions in their order.
+    /// The match conditions, in order.
     pub conditions: Vec<NamedExpression>,
-    /// The variables in their order.
+    /// The variables, in order.
     pub variables: Vec<NamedExpression>,
-    /// The validations in their order.
+    /// The validations, in order.
     pub validations: Vec<Validation>,
 }

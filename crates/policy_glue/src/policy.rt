@@ -1,4 +1,4 @@
-//! Policies.
+//! Policies, read from their documents.
 
 ghost use Rattle.std.specs.Prelude.{◌≡◌, ◌≢◌, Err, string_bytes};
 ghost use Rattle.std.specs.List.{list_any};
@@ -16,12 +16,12 @@ use serde_json::Value;
 use std::alloc::Global;
 use std::marker::Model;
 
-/// The most conditions, variables and validations, of each kind; a verdict has words for as many
-/// validations.
+/// The largest number of conditions, of variables and of validations. A verdict has a word for each
+/// validation.
 pub(crate) const PART_LIMIT: usize = 64;
 
-/// A policy: at most 64 match conditions, 64 variables and 64 validations, of these at least one,
-/// and no message with a line break. Its expressions are not read yet.
+/// A policy: at most 64 match conditions, at most 64 variables, 1 to 64 validations, and no message
+/// with a line break. Its expressions are not parsed yet.
 #[derive(Debug, Drop)]
 pub struct Policy {
     pub(crate) parts: Parts,
@@ -39,12 +39,13 @@ impl Model for Policy {
 }
 
 impl Policy {
-    /// The policy in a document (ValidatingAdmissionPolicy, `admissionregistration.k8s.io/v1`).
+    /// Reads the policy in a document (ValidatingAdmissionPolicy,
+    /// `admissionregistration.k8s.io/v1`).
     ///
     /// # Errors
     ///
-    /// The first refusal in the order of [`PolicyError`]; `Memory` where memory runs out, which
-    /// says nothing of the document.
+    /// The first refusal in the order of [`PolicyError`]. `Memory` if an allocation fails, which
+    /// says nothing about the document.
     #[tactic(auto, unfolding(crate::specs::Reading::policy_in))]
     pub fn read(alloc: Global, bytes: &[u8]) -> Result<Policy, PolicyError>
         ensures { PolicyReadReturns (policy_in bytes.now) result }
@@ -66,7 +67,7 @@ fn policy_of(alloc: Global, value: &Value) -> Result<Policy, PolicyError>
     judged(parts(alloc, value)?)
 }
 
-/// The policy with these parts.
+/// The policy with these parts, if they are within the limits.
 fn judged(parts: Parts) -> Result<Policy, PolicyError>
     ensures reads { PolicyReadReturns (judged (policy_view parts)) result }
     ensures no_memory { result ≢ Err Memory }
@@ -98,7 +99,7 @@ fn has_broken_message(parts: &Parts) -> bool
     is_one_broken(parts.validations.as_slice())
 }
 
-/// Whether one of the messages has a line break.
+/// Whether a message has a line break.
 fn is_one_broken(validations: &[Validation]) -> bool
     ensures { result ≡ list_any (λ v. has_line_break (string_bytes v.message)) validations.now }
 {

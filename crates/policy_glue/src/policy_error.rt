@@ -12,11 +12,11 @@ pub enum PolicyError {
     /// It is not a JSON text.
     #[error("the policy is no JSON text")]
     NotJson,
-    /// It is not an object, or its `apiVersion` or `kind` is missing or another one.
+    /// It is not an object, or its `apiVersion` or `kind` is missing or different.
     #[error("the document is no ValidatingAdmissionPolicy")]
     NotAPolicy,
-    /// A key is unknown, missing or has a value of another type; or a name, the failure policy or a
-    /// reason is not allowed.
+    /// A key is unknown or missing or has a value of the wrong type, or a name, the failure policy
+    /// or a reason is not allowed.
     #[error("the policy has not the form of a ValidatingAdmissionPolicy")]
     InvalidField,
     /// It has no validation.

@@ -1,4 +1,4 @@
-//! The programs of policies.
+//! Emits the program of a policy.
 
 ghost use Rattle.std.specs.Prelude.{◌≡◌, IfOk};
 ghost use Rattle.policy_glue.specs.Checked.{IsChecked};
@@ -23,12 +23,12 @@ use tails::outcome_tail;
 use validations::validations;
 use variables::variables;
 
-/// The bytes of the policy's program, and of the texts that it names.
+/// The bytes of the policy's program, and those of the texts that it uses.
 ///
 /// # Errors
 ///
-/// `TooManyNodes` if the policy has too many nodes, else `TooManyTextBytes` if it has too many
-/// bytes of texts; `Memory`.
+/// `TooManyNodes` if the policy has too many nodes, else `TooManyTextBytes` if its texts have too
+/// many bytes. `Memory` if an allocation fails.
 pub(crate) fn program(
     alloc: Global,
     failure_policy: FailurePolicy,
@@ -47,7 +47,7 @@ pub(crate) fn program(
     }
 }
 
-/// An emitter that has taken the policy. The error says that there is no memory for it.
+/// Emits the whole policy.
 fn emitted(
     alloc: Global,
     failure_policy: FailurePolicy,

@@ -17,7 +17,7 @@ use crate::validations::validations;
 use serde_json::Value;
 use std::alloc::Global;
 
-/// Whether the document says that it is a policy.
+/// Whether the document has the API version and the kind of a policy.
 #[tactic(auto, unfolding(crate::specs::Reading::has_head))]
 pub fn has_head(value: &Value) -> bool
     ensures { result ≡ has_head (view value.now) }
@@ -26,7 +26,7 @@ pub fn has_head(value: &Value) -> bool
         && equals_string(value.get("kind"), "ValidatingAdmissionPolicy")
 }
 
-/// The parts of a policy's document.
+/// Reads the parts of a policy's document.
 pub fn parts(alloc: Global, value: &Value) -> Result<Parts, PolicyError>
     ensures { Forms policy_view (policy_parts_in (view value.now)) result }
 {

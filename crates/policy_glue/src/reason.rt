@@ -8,7 +8,7 @@ ghost use Rattle.policy_glue.specs.Policy.{reason_code, reason_name};
 pub enum Reason {
     Unauthorized,
     Forbidden,
-    /// Where the policy names no reason.
+    /// The default.
     Invalid,
     RequestEntityTooLarge,
 }

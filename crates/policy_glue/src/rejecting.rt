@@ -1,4 +1,4 @@
-//! What verdicts say against requests.
+//! Rejections, computed from verdicts.
 
 ghost use Rattle.std.specs.Prelude.{◌≡◌, ◌≤◌, option_map, vec_len, IfOk};
 ghost use Rattle.policy_glue.specs.Verdict as decided;
@@ -16,8 +16,7 @@ use crate::rejection::Rejection;
 use crate::verdict::Verdict;
 use std::alloc::{AllocError, Global};
 
-/// What a verdict of the policy says against the request, and nothing where it allows it. The error
-/// says that there is no memory for it.
+/// Why the verdict of the policy rejects the request; `None` if it allows the request.
 pub fn rejection_of(
     alloc: Global,
     policy: &Policy,
@@ -43,7 +42,7 @@ fn rejection_by(
     }
 }
 
-/// That the conditions of the policy came to an error.
+/// The rejection if the conditions could not be decided.
 fn undecided(alloc: Global) -> Result<Rejection, AllocError>
     ensures { IfOk result (λ o. rejection_view o ≡ undecided) }
 {
@@ -52,7 +51,7 @@ fn undecided(alloc: Global) -> Result<Rejection, AllocError>
     Ok(Rejection { message, reason })
 }
 
-/// What the denials of a verdict say.
+/// The rejection for the denials of a verdict.
 fn denied(alloc: Global, parts: &Parts, verdict: &Verdict) -> Result<Rejection, AllocError>
     requires { vec_len parts.now.validations ≤ part_limit }
     ensures { IfOk result (λ o. rejection_view o ≡ denied (denials_in parts.now verdict.now)) }

@@ -1,11 +1,11 @@
-//! What policies say against requests.
+//! Rejections of requests.
 
 use crate::reason::Reason;
 
-/// What a policy says against a request.
+/// Why a policy rejects a request.
 #[derive(Debug, Drop)]
 pub struct Rejection {
-    /// What its denials say, with `; ` between them.
+    /// The messages of the denials, joined with `; `.
     pub message: String,
     /// The reason of the first denial.
     pub reason: Reason,

@@ -1,4 +1,4 @@
-//! Responses.
+//! Responses to reviews.
 
 ghost use Rattle.std.specs.Prelude.{◌≡◌, option_map, IfOk};
 ghost use Rattle.serde_json.specs.View.{view};
@@ -15,8 +15,8 @@ use crate::verdict::Verdict;
 use serde_json::{Value, json};
 use std::alloc::{AllocError, Global};
 
-/// The text of the response to a verdict of the policy (AdmissionReview, `admission.k8s.io/v1`),
-/// for the request with this uid. The error says that there is no memory for it.
+/// The text of the response to a verdict of the policy, for the request with this uid
+/// (AdmissionReview, `admission.k8s.io/v1`).
 #[tactic(auto, using(crate::proofs::Told::responded))]
 pub fn respond(
     alloc: Global,
@@ -30,9 +30,8 @@ pub fn respond(
     response_text(alloc, &said, uid)
 }
 
-/// The text of the response by what is said against the request with this uid, and the one that
-/// allows it where nothing is (AdmissionReview, `admission.k8s.io/v1`). The error says that there
-/// is no memory for it.
+/// The text of the response to the request with this uid: it denies the request if there is a
+/// rejection, else it allows it (AdmissionReview, `admission.k8s.io/v1`).
 #[tactic(auto, unfolding(crate::specs::Rejections::response_text, crate::specs::Response::review_tree))]
 pub fn response_text(
     alloc: Global,

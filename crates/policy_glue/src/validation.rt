@@ -5,12 +5,12 @@ use crate::reason::Reason;
 /// A validation of a policy.
 #[derive(Debug, Drop)]
 pub struct Validation {
-    /// Its CEL expression, which denies where it is false.
+    /// Its CEL expression. The validation denies if it is false.
     pub expression: String,
-    /// What a denial says, empty where nothing is set.
+    /// The message of a denial, empty if none is set.
     pub message: String,
     /// The reason of its denials.
     pub reason: Reason,
-    /// A CEL expression for what a denial says, in place of the message.
+    /// A CEL expression that gives the message of a denial instead.
     pub message_expression: Option<String>,
 }

@@ -14,7 +14,7 @@ use crate::validation::Validation;
 use serde_json::Value;
 use std::alloc::Global;
 
-/// The validations that have to stand there.
+/// A required list of validations.
 pub fn validations(alloc: Global, value: Option<&Value>) -> Result<Vec<Validation>, PolicyError>
     ensures { Forms (λ v. map validation_view v.items) (list_in validation_in (option_map (λ v. view v.now) value.entry)) result }
 {

@@ -1,4 +1,4 @@
-//! Verdicts.
+//! Verdicts, read from the words that a program left.
 
 ghost use Rattle.std.specs.Prelude.{◌≡◌, ◌<◌, ◌≤◌, ◌*◌, ◌+◌, ℕ, length, map, option_map, slice_get, slice_index, Some};
 ghost use Rattle.guest_memory.specs.Memory.{IsMemory};
@@ -11,44 +11,44 @@ use crate::policy::{PART_LIMIT, Policy};
 use guest_memory::{Regions, Size, VERDICT};
 use value_store::ValueStore;
 
-/// The word from which on there is one for what each validation came to.
+/// The first of the words with the results of the validations.
 pub(crate) const FIRST_RESULT: u64 = 2;
 
-/// The word from which on there is one for the text of each message.
+/// The first of the words with the references of the message texts.
 pub(crate) const FIRST_MESSAGE: u64 = 66;
 
-/// The outcome of a policy of which a condition is false.
+/// The outcome if a condition is false.
 pub(crate) const SKIPPED: u64 = 1;
 
-/// The outcome of a policy of which a condition could not be decided, under `Fail`.
+/// The outcome if a condition could not be decided, under `Fail`.
 pub(crate) const REJECTED: u64 = 2;
 
-/// The outcome of a policy of which a validation denies.
+/// The outcome if a validation denies.
 pub(crate) const DENIED: u64 = 3;
 
-/// The outcome of a policy of which no validation denies.
+/// The outcome if no validation denies.
 pub(crate) const ADMITTED: u64 = 4;
 
-/// What is kept of a validation that is false.
+/// The result word of a validation that is false.
 pub(crate) const FAILS: u64 = 1;
 
-/// What is kept of a validation that is an error.
+/// The result word of a validation that is an error.
 pub(crate) const ERRS: u64 = 2;
 
-/// What a program decided, in the words of its verdict.
+/// What a program decided, read from its verdict words.
 #[derive(Debug, Drop)]
 pub struct Verdict<'v> {
-    /// 1 where the policy was skipped, 2 rejected, 3 denied, 4 admitted.
+    /// 1 if the policy was skipped, 2 rejected, 3 denied, 4 admitted.
     pub outcome: u64,
-    /// How many validations deny.
+    /// The number of validations that deny.
     pub denials: u64,
-    /// For each validation 0 where it is true, 1 false, 2 an error.
+    /// For each validation: 0 if it is true, 1 if false, 2 if it is an error.
     pub results: [u64; PART_LIMIT],
-    /// For each denial the text of its message expression, if it gave one.
+    /// For each denial, the text of its message expression if it gave one.
     pub messages: [Option<&'v str>; PART_LIMIT],
 }
 
-/// Word i of the verdict, 0 where the memory has none.
+/// Word i of the verdict, 0 if the memory has no such word.
 #[tactic(auto, unfolding(crate::specs::Layout::verdict_word))]
 fn word<M: Regions>(memory: &M, i: u64) -> u64
     requires { i < 256 }
@@ -60,7 +60,7 @@ fn word<M: Regions>(memory: &M, i: u64) -> u64
     }
 }
 
-/// What validation i came to, 0 where there are not so many.
+/// The result word of validation i, 0 unless i < `count`.
 fn result_at<M: Regions>(memory: &M, count: usize, i: usize) -> u64
     requires { i < part_limit }
     ensures { result ≡ result_at (M.bytes memory.now) count i }
@@ -72,7 +72,7 @@ fn result_at<M: Regions>(memory: &M, count: usize, i: usize) -> u64
     }
 }
 
-/// What each of the first `count` validations came to, and 0 behind them.
+/// The result words of the first `count` validations; the others are 0.
 fn results<M: Regions>(memory: &M, count: usize) -> [u64; PART_LIMIT]
     ensures { (i : ℕ) → i < part_limit → slice_index result i ≡ result_at (M.bytes memory.now) count i }
 {
@@ -83,14 +83,14 @@ fn results<M: Regions>(memory: &M, count: usize) -> [u64; PART_LIMIT]
     results
 }
 
-/// The text that a word names, and none for 0.
+/// The text with this reference; `None` for 0.
 fn text_named<V: ValueStore>(values: &V, word: u64) -> Option<&str>
     ensures { option_map (λ t. t.now) result ≡ text_named (V.values values.now) word }
 {
     if word == 0 { None } else { values.text(word) }
 }
 
-/// The text of the message of validation i, and none where there are not so many.
+/// The message text of validation i; `None` unless i < `count`.
 fn message_at<'v, M: Regions, V: ValueStore>(
     memory: &M,
     values: &'v V,
@@ -107,7 +107,7 @@ fn message_at<'v, M: Regions, V: ValueStore>(
     }
 }
 
-/// The texts of the messages of the first `count` validations, and none behind them.
+/// The message texts of the first `count` validations; the others are `None`.
 fn messages<'v, M: Regions, V: ValueStore>(
     memory: &M,
     values: &'v V,
@@ -135,8 +135,8 @@ fn read<'v, M: Regions, V: ValueStore>(memory: &M, values: &'v V, count: usize) 
 }
 
 impl<'v> Verdict<'v> {
-    /// The verdict that a program has left for a policy, in the words of its verdict region; the
-    /// texts of its messages are lent from the values. It takes no memory.
+    /// The verdict that a program left for a policy in its verdict region. The message texts are
+    /// borrowed from the values. Nothing is allocated.
     pub fn of<M: Regions, V: ValueStore>(memory: &M, values: &'v V, policy: &Policy) -> Verdict<'v>
         ensures read { AreRead (M.bytes memory.now) (V.values values.now) (length policy.now.validations) (words_view result) }
         ensures told { (v : decided.Verdict) → IsMemory (M.bytes memory.now) → length v.findings ≤ length policy.now.validations
@@ -145,7 +145,7 @@ impl<'v> Verdict<'v> {
         read(memory, values, policy.parts.validations.len())
     }
 
-    /// The word for what validation i came to.
+    /// The result word of validation i.
     pub(crate) fn result_at(&self, i: usize) -> u64
         requires { i < part_limit }
         ensures { result ≡ slice_index (words_view self.now).results i }
@@ -153,7 +153,7 @@ impl<'v> Verdict<'v> {
         self.results[i]
     }
 
-    /// The text of the message of validation i.
+    /// The message text of validation i.
     #[tactic(auto, using(crate::proofs::Lists::read_lent))]
     pub(crate) fn message_at(&self, i: usize) -> Option<&'v str>
         requires { i < part_limit }

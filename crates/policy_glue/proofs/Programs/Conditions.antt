@@ -1,8 +1,8 @@
--- The conditions of a policy's program, one behind another, and what they decide.
+-- The conditions of a policy's program, in order, and what they decide.
 use Rattle.policy_glue.proofs.Prelude.{◌≡◌, ℕ, ◌+◌, List, [], Some, refl, subst, sym, arith, ◌∷◌, ◌++◌, Bool, true, false, true≢false, None, Option, ap, ◌∙◌, pos, ◌||◌, map, if◌then◌else◌, w64, cast_unsigned, Exit, R0, R1, R2, ValueOrError, fetched, CpuState, set_register, Context, RunContext, RunsTo, IsCodeAt, size, set_verdict, verdict_address, begins, load_wide, mov, no, yes, done, looser, and_then, into, to_place, outcome_word, condition_tail, conditions_code, decided_code, decided_tail, Finding, Outcome, Skipped, Holds, Fails, Errs, truth_of, undecided, CheckResult, is_failed, is_held, decided_before, FailurePolicy, list_any, list_all, Insn, size-append, stands_back, stands_front, ConditionsGive, Part, PartGives, codes_of, conditions_charge, conditions_steps, decided_slots, equal_no, equal_yes}
 use Rattle.policy_glue.proofs.Programs.Words.{Judges, Marked, marks_registers, outcome_stored, tested, marks_shown, store_verdict, load_verdict}
 
--- the outcome stands in the verdict region and in R0
+-- the outcome is in the verdict region and in R0
 pub record Ends (c : Context) (f : FailurePolicy) (outcome : Outcome) (xs : List Finding) (b : CpuState) : Type 0 where
   pub marked : Marked c f (outcome_word outcome) xs b
   pub answers : b.registers R0 ≡ outcome_word outcome
@@ -55,7 +55,7 @@ pub exit_stands : (code : List ℕ) (f : FailurePolicy) (o : ℕ) → IsCodeAt c
 unfolding condition_tail
 exit_stands code f o has = has.here 7 Exit refl
 
--- an expression has run between the others
+-- an expression has run among the others
 pub part_runs : (s : RunContext) (c : Context) (f : FailurePolicy) (w p : ℕ) (xs : List Finding) (a : Part) (b : CpuState) → IsCodeAt s.image.code p a.code
     → PartGives s c p a → Marked c f w xs b → RunsTo s a.steps a.charge p b (p + size a.code) (Judges c f w xs a.value)
 part_runs s c f w p xs a b has gives marked =
@@ -68,7 +68,7 @@ tail_size f = refl
 pub condition_size : (f : FailurePolicy) (condition rest : List Insn) → size (condition ++ (condition_tail f ++ rest)) ≡ size condition + (9 + size rest)
 condition_size f condition rest = grind (arith, size-append, tail_size)
 
--- the outcome that stands behind conditions of which none is false
+-- the stored outcome after conditions of which none is false
 abbrev pub stands_after : FailurePolicy → ℕ → List CheckResult → ℕ
 stands_after f w [] = w
 stands_after f w (t ∷ more) = stands_after f (if is_held t then w else outcome_word (undecided f)) more
@@ -76,12 +76,12 @@ stands_after f w (t ∷ more) = stands_after f (if is_held t then w else outcome
 abbrev pub truths_of : List Part → List CheckResult
 truths_of parts = map (λ a. truth_of a.value) parts
 
--- where a row of conditions comes to: the exit of the first that is false, and else the slot behind them
+-- the slot that a list of conditions reaches: the exit of the first false one, or else the slot after all of them
 abbrev pub row_end : ℕ → List Part → ℕ
 row_end p [] = p
 row_end p (a ∷ more) = if is_failed (truth_of a.value) then p + size a.code + 7 else row_end (p + size a.code + 9) more
 
--- where one is false the program ends, and else this outcome stands
+-- if one is false the program ends, else this outcome is stored
 abbrev pub RowLeft : Context → FailurePolicy → Bool → ℕ → CpuState → Type 0
 RowLeft c f true w = Ends c f Skipped []
 RowLeft c f false w = Marked c f w []
@@ -93,7 +93,7 @@ row_end_is f [] p none = omega arith
 row_end_is f (a ∷ more) p none = grind (arith, row_end_is f more (p + size a.code + 9), condition_size)
 
 module _ (s : RunContext) (c : Context) (f : FailurePolicy) where
-  -- where the first of a row stands, and what stands behind it
+  -- the first condition of a list, and the conditions after it
   module _ (p : ℕ) (a : Part) (more : List Part) (has : IsCodeAt s.image.code p (conditions_code f (codes_of (a ∷ more)))) where
     abbrev tail_slot : ℕ
     tail_slot = p + size a.code
@@ -114,7 +114,7 @@ module _ (s : RunContext) (c : Context) (f : FailurePolicy) where
         subst (λ (n : ℕ). IsCodeAt s.image.code (tail_slot + n) (conditions_code f (codes_of more))) (tail_size f)
         (stands_back s.image.code tail_slot (condition_tail f) (conditions_code f (codes_of more)) behind_stands)
 
-    -- what the others come to
+    -- the run of the other conditions
     abbrev Later : ℕ → CpuState → Type 0
     Later w b1 = RunsTo s (conditions_steps more) (conditions_charge more) (tail_slot + 9) b1 (row_end (tail_slot + 9) more)
         (RowLeft c f (list_any is_failed (truths_of more)) (stands_after f w (truths_of more)))
@@ -144,7 +144,7 @@ module _ (s : RunContext) (c : Context) (f : FailurePolicy) where
           passes_on (outcome_word (undecided f)) (λ b1 judges. condition_errs s c f tail_slot w tail_stands a.value b1 judges is)
           (later (outcome_word (undecided f)))
 
-  -- a row of them
+  -- a list of conditions
   pub row_runs : (parts : List Part) (p w : ℕ) (b : CpuState) → IsCodeAt s.image.code p (conditions_code f (codes_of parts)) → ConditionsGive s c p parts
       → Marked c f w [] b
       → RunsTo s (conditions_steps parts) (conditions_charge parts) p b (row_end p parts)
@@ -166,13 +166,13 @@ pub record Exits (s : RunContext) (n x p : ℕ) (b : CpuState) (Q : CpuState →
   pub comes : RunsTo s n x p b place Q
   pub here : fetched s.image.code (pos place) ≡ Some (Some Exit)
 
--- ---- the outcome that stands
+-- ---- the stored outcome
 
 stands_is : (f : FailurePolicy) (w : ℕ) (ts : List CheckResult) → stands_after f w ts ≡ (if list_all is_held ts then w else outcome_word (undecided f))
 stands_is f w [] = refl
 stands_is f w (t ∷ more) = stands_is f (if is_held t then w else outcome_word (undecided f)) more ∙ (grind arith)
 
--- ---- the code behind all conditions
+-- ---- the code after all conditions
 
 module _ (s : RunContext) (c : Context) (f : FailurePolicy) (o : ℕ) (has : IsCodeAt s.image.code o decided_tail) (b : CpuState) where
   runs_on : Marked c f 0 [] b → RunsTo s 3 0 o b (o + 5) (Marked c f 0 [])
@@ -196,7 +196,7 @@ module _ (s : RunContext) (c : Context) (f : FailurePolicy) (o : ℕ) (has : IsC
 pub decided_size : (parts : List Part) → size (decided_code (codes_of parts)) ≡ decided_slots parts
 decided_size parts = grind arith
 
--- there is nothing to stop where there are none
+-- without conditions nothing can end the program
 tail_is : (parts : List Part) → list_all is_held (truths_of parts) ≡ false → decided_code (codes_of parts) ≡ decided_tail
 tail_is [] e = absurd (true≢false e)
 tail_is (a ∷ more) e = refl
@@ -207,7 +207,7 @@ goes_on s c f [] o b has marked =
     looser s {n = 0} {x = 0} 3 0 (omega arith) (omega arith) (to_place s (o + 0) (omega arith) (done s o b (Marked c f 0 []) marked))
 goes_on s c f (a ∷ more) o b has marked = runs_on s c f o has b marked
 
--- ---- all conditions, and the code behind them
+-- ---- all conditions, and the code after them
 
 module _ (s : RunContext) (c : Context) (f : FailurePolicy) (parts : List Part) (p : ℕ) (b : CpuState) (has : IsCodeAt s.image.code p (conditions_code f (codes_of parts) ++ decided_code (codes_of parts))) (gives : ConditionsGive s c p parts) (marked : Marked c f 0 [] b) where
   abbrev row : List Insn

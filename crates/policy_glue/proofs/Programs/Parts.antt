@@ -1,4 +1,4 @@
--- The parts of a policy's program, each with what it gives and within which bounds.
+-- The parts of a policy's program, with their values and their bounds.
 use Rattle.policy_glue.proofs.Prelude.{◌≡◌, ◌-◌, ◌*◌, ◌≤◌, List, [], ◌∷◌, length, true, refl, ap, arith, Option, Some, None, suc, map, value, Roots, Environment, Declaration, cost, spent_by, conditions_cost, validations_cost, environment_with, condition_values, validation_value, Laid, after_condition, before_message, condition_codes, tree_code, validation_codes, with_message, Tree, ValidationTree, Insn, meaning, Part, ValidationPart, codes_of, conditions_charge, conditions_steps, codes_of_validations, values_of_validations, validations_charge, validations_steps, values_given, FailurePolicy, steps_per_visit, charge_per_unit}
 
 -- ---- the parts of the trees
@@ -44,7 +44,7 @@ pub rule_values_are : (ds : List Declaration) (l : Laid) (env : Environment) (rs
 rule_values_are ds l env [] = refl
 rule_values_are ds l env (r ∷ more) = grind (arith, rule_values_are ds (after_rule ds l r) env more)
 
--- ---- budgets: steps, and what is charged
+-- ---- budgets: steps and charge
 
 pub conditions_within : (roots : Roots) (l : Laid) (trees : List Tree)
     → (conditions_steps (condition_parts roots l trees) ≤ steps_per_visit * (conditions_cost roots trees).visits)

@@ -8,7 +8,7 @@ use Rattle.policy_glue.proofs.Programs.Parts.{tree_part, condition_parts, messag
 
 -- ---- texts
 
--- the texts so far and those that are still to be used are all
+-- the texts so far and the texts still to come are all texts
 pub used_more : (all texts first rest : List (List ℕ)) → all ≡ with_texts texts (first ++ rest) → all ≡ with_texts (with_texts texts first) rest
 used_more all texts first rest e = e ∙ fold-append with_text texts first rest
 
@@ -31,7 +31,7 @@ shallow_more (x ∷ ds) d h low = (h.0, shallow_more ds d h.1 low)
 -- ---- the scope
 
 module _ (image : loader.Image) (deep : Bool) (roots : Roots) where
-  -- the variables that stand so far
+  -- the scope, the declarations and the layout agree on the variables so far
   pub record Known (scope : List Variable) (ds : List Declaration) (l : Laid) : Type 0 where
     pub taken : AreTaken l.routines ds scope []
     pub is : IsScope image deep roots image.constants scope
@@ -40,7 +40,7 @@ module _ (image : loader.Image) (deep : Bool) (roots : Roots) where
   abbrev pub newest : List Variable → Laid → VariableTree → Variable
   newest scope l v = variable_of roots scope (texts_with l v.expression) v.name (expanded v.expression) (l.place + 1)
 
-  -- with those of these trees behind them
+  -- the scope with the variables of these trees added
   abbrev pub scope_with : List Variable → List Declaration → Laid → List VariableTree → List Variable
   scope_with scope ds l [] = scope
   scope_with scope ds l (v ∷ more) = scope_with (scope ++ newest scope l v ∷ []) (with_variable ds v) (with_routine ds l v) more
@@ -57,11 +57,11 @@ module _ (image : loader.Image) (deep : Bool) (roots : Roots) where
 
   -- ---- all of them
 
-  -- the expression of a variable costs no more than the whole
+  -- the expression of a variable costs no more than the whole policy
   deep_first : (ds : List Declaration) (scope : List Variable) (v : VariableTree) (more : List VariableTree) → ((variables_cost roots (bindings scope) (v ∷ more)).is_deep ≡ true → deep ≡ true) → IsDeep (plain_tree (expanded v.expression)) (environment_in roots [] scope) → deep ≡ true
   deep_first ds scope v more may e = grind (arith, expansion_plain, or_left)
 
-  -- the name of the newest stands for its value
+  -- the name of the newest variable has its value
   pub newest_value : (scope : List Variable) (l : Laid) (v : VariableTree) → bindings (scope ++ newest scope l v ∷ []) ≡ with_value roots (bindings scope) v
   newest_value scope l v = grind (arith, map-append, expansion_plain)
 
@@ -84,13 +84,13 @@ module _ (image : loader.Image) (deep : Bool) (roots : Roots) where
   values_are [] scope ds l = refl
   values_are (v ∷ more) scope ds l = grind (arith, newest_value, values_are more (scope ++ newest scope l v ∷ []) (with_variable ds v) (with_routine ds l v))
 
-  -- ---- what they take
+  -- ---- their cost
 
   total-append : (ns ms : List ℕ) → total (ns ++ ms) ≡ total ns + total ms
   total-append [] ms = omega arith
   total-append (n ∷ ns) ms = let rest = total-append ns ms in omega arith
 
-  -- first uses and the jumps over the routines are paid by their visits
+  -- the visits of the variables pay for first uses and for the jumps over the routines
   pub steps_within : (vs : List VariableTree) (scope : List Variable) (ds : List Declaration) (l : Laid) → total (first_steps (scope_with scope ds l vs)) + length (variable_codes ds l vs) ≤ total (first_steps scope) + steps_per_visit * (variables_cost roots (bindings scope) vs).visits
   steps_within [] scope ds l = omega arith
   steps_within (v ∷ more) scope ds l =
@@ -114,11 +114,11 @@ module _ (image : loader.Image) (deep : Bool) (roots : Roots) where
       let same : spent_by (variables_cost roots (bindings (scope ++ u ∷ [])) more) ≡ spent_by (variables_cost roots (with_value roots (bindings scope) v) more) = ap (λ (bs : List (List ℕ × ValueOrError)). spent_by (variables_cost roots bs more)) (newest_value scope l v) in
       omega arith
 
--- ---- an expression gives what it means
+-- ---- an expression gives its value
 
 module _ (image : loader.Image) (deep : Bool) (roots : Roots) (everything : List (List ℕ)) (are : image.constants ≡ joined everything) (few : length image.constants ≤ constants_limit) where
   module _ (scope later all : List Variable) (ds : List Declaration) (l : Laid) (a : Tree) (rest : List (List ℕ)) where
-    -- in the scope of all variables, of which it may use the first
+    -- in the scope of all variables, of which it may use the first ones
     tree_gives : scope ++ later ≡ all → AreTaken l.routines ds scope later → AreShallow ds → IsScope image deep roots image.constants scope → length scope ≤ memo_limit → IsEmittable ds (expanded a) → everything ≡ with_texts l.texts (tree_texts a ++ rest) → (IsDeep a (environment_with roots (bindings scope)) → deep ≡ true) → PartGives (scope_setting image deep all) (routine_context roots (bindings all) image.constants) l.place (tree_part ds l (environment_with roots (bindings scope)) a)
     tree_gives whole taken shallow is short expression used may =
         grind (arith, expansion_plain, expression_gives, frames_are_enough, has_constants, wider_gives)
@@ -221,7 +221,7 @@ module _ (law : DecodesSpelling) (f : FailurePolicy) (p : PolicyTree) (roots : R
   abbrev start : CpuState
   start = start_body image values
 
-  -- what stands for the names
+  -- the values of the names
   names_are : bindings scope ≡ values_of roots p.variables
   names_are = values_are image deep roots p.variables [] [] nothing_laid
 
@@ -236,7 +236,7 @@ module _ (law : DecodesSpelling) (f : FailurePolicy) (p : PolicyTree) (roots : R
   unfolding program_of
   whole_is = grind (arith, condition_codes_are, rule_codes_are)
 
-  -- ---- nothing is deeper than the whole
+  -- ---- the whole policy bounds each depth
 
   deep_variables : (variables_cost roots [] p.variables).is_deep ≡ true → deep ≡ true
   unfolding policy_cost
@@ -286,7 +286,7 @@ module _ (law : DecodesSpelling) (f : FailurePolicy) (p : PolicyTree) (roots : R
   short_scope : length scope ≤ memo_limit
   short_scope = let few = has.few_variables in let long = scope_length image deep roots p.variables [] [] nothing_laid in omega arith
 
-  -- ---- where the parts stand, and what they give
+  -- ---- the places of the parts, and their values
 
   first_place : (laid_routines p).place ≡ conditions_place routines
   first_place = variables_place p.variables [] nothing_laid ∙ omega arith
@@ -297,7 +297,7 @@ module _ (law : DecodesSpelling) (f : FailurePolicy) (p : PolicyTree) (roots : R
   give_conditions : ConditionsGive (scope_setting image deep scope) (routine_context roots (bindings scope) image.constants) (conditions_place routines) conditions
   give_conditions = grind (arith, first_place, conditions_give, few_constants, slots_are, used_second, deep_conditions)
 
-  -- where they run, the validations cost what the policy says
+  -- if the validations run, they cost what the definition says
   cost_is : passes f conditions ≡ true
       → validations_cost true f env p.validations ≡ validations_cost (runs_on f p roots) f (environment_with roots (values_of roots p.variables)) p.validations
   cost_is runs = grind (arith, names_are, runs_is)

@@ -1,4 +1,4 @@
--- The slots of a policy's program, and that it can be spelled.
+-- The number of slots of a policy's program, and that each can be encoded.
 use Rattle.policy_glue.proofs.Prelude.{◌≡◌, ℕ, ◌+◌, ◌*◌, ◌≤◌, List, [], ◌∷◌, ◌++◌, Option, refl, sym, ◌∙◌, arith, suc, ◌<◌, length, length-append, ap, subst, sum_by, fold-append, sum_by-cons, Insn, Tree, expanded, nodes, Declaration, size, AreInsns, size-append, size-cons, with_text, with_texts, routines_of, whole_short, whole_insns, with_variable, scope_after, condition_texts, message_nodes, message_texts, part_nodes, policy_nodes, validation_nodes, tree_texts, variable_texts, condition_tail, conditions_code, message_code, policy_code, routines_code, validation_code, validations_code, denial_code, message_tail, outcome_tail, result_code, Laid, after_condition, after_conditions, after_variables, before_message, condition_codes, message_codes, program_of, texts_with, tree_code, validation_codes, variable_code, variable_codes, with_message, with_routine, laid_conditions, laid_routines, nothing_laid, ProgramIsShort, AreConditions, AreValidations, AreVariables, IsEmittableMessage, ProgramIsCode, ValidationTree, VariableTree, FailurePolicy, memo_tail, insns_append, memo_insns, whole_code, IsEmittable, AreLow, AreNear, near_named, decided_slots, part_slots_per_node, slots_per_node, branch_limit, part_limit, slot_reach, slot_limit}
 use Rattle.policy_glue.proofs.Programs.Validations.{outcome_tail_size, message_tail_size, result_size}
 use Rattle.policy_glue.proofs.Programs.Conditions.{condition_size}
@@ -54,7 +54,7 @@ conditions_slots (a ∷ more) l = conditions_slots more (after_condition l a)
 
 -- ---- texts
 
--- those behind all variables, all conditions and a message
+-- the texts after all variables, all conditions and a message
 pub variables_texts : (ds : List Declaration) (l : Laid) (vs : List VariableTree) → (after_variables ds l vs).texts ≡ with_texts l.texts (variable_texts vs)
 variables_texts ds l [] = refl
 variables_texts ds l (v ∷ more) = grind (arith, fold-append, variables_texts (with_variable ds v) (with_routine ds l v) more)
@@ -72,7 +72,7 @@ pub program_is_short : ProgramIsShort
 unfolding program_of policy_code policy_nodes
 program_is_short f p = grind (arith, size-append, outcome_tail_size, routines_short, conditions_short, validations_short)
 
--- ---- what stands behind expressions
+-- ---- the code after expressions
 
 condition_tail_insns : (f : FailurePolicy) → AreInsns (condition_tail f)
 unfolding condition_tail
@@ -96,13 +96,13 @@ outcome_tail_insns : AreInsns outcome_tail
 unfolding outcome_tail
 outcome_tail_insns = (omega arith, (omega arith, (omega arith, ((omega arith, omega arith), (omega arith, (omega arith, tt))))))
 
--- ---- routines that stand so far
+-- ---- the routines so far
 
 low_more : (slots : List ℕ) (slot : ℕ) → AreLow slots → slot ≤ slot_reach → AreLow (slots ++ slot ∷ [])
 low_more [] slot low h = (h, tt)
 low_more (s ∷ slots) slot low h = (low.0, low_more slots slot low.1 h)
 
--- the routines that stand begin in an image, and with n more there are at most 64
+-- the routines so far begin inside an image, and with n more there are at most 64
 record Low (l : Laid) (n : ℕ) : Type 0 where
   pub slots : AreLow l.routines
   pub few : length l.routines + n ≤ 64

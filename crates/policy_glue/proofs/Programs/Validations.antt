@@ -1,10 +1,10 @@
--- The validations of a policy's program, one behind another, and its outcome.
+-- The validations of a policy's program, in order, and its outcome.
 use Rattle.policy_glue.proofs.Prelude.{◌≡◌, ℕ, ◌+◌, ◌<◌, ◌%◌, ◌^◌, List, [], ◌∷◌, ◌++◌, length, length-append, None, Bool, true, false, refl, ap, ◌∙◌, sym, arith, true≢false, ◌≤◌, Some, Option, subst, append-nil, append_assoc, if◌then◌else◌, pos, map, option_map, ◌||◌, Insn, R1, R2, R0, R6, ValueOrError, error, value, null, boolean, int, text, list, CpuState, set_register, Context, IsWellFormedState, RunContext, RunsTo, IsCodeAt, size, set_verdict, verdict_address, verdict_at, add_is, differs_no, differs_yes, equal_no, equal_yes, alu, begins, jump, load_wide, no, yes, ask, mov, done, from_place, looser, and_then, to_place, first_result, part_limit, truth_word, IsMessageWord, first_message, finding_word, message_in, denial_code, error_way, result_code, message_tail, if_true, message_code, validation_code, validations_code, outcome_tail, Finding, CheckResult, Holds, Fails, Errs, denies, is_denial, truth_of, text_given, Denied, Admitted, FailurePolicy, cases_lt, kind_number, Names, Ne, W64, text_at, charge_limit, outcome_view, compares, Tells, answered, fits_registers, helpers, fits_told, names_error, small_reference, size-append, size-cons, stands_back, stands_front, MessageGives, Part, PartGives, ValidationPart, ValidationsGive, found, message_charge, message_size, message_steps, validation_charge, codes_of_validation, codes_of_validations, validation_size, validation_steps, validations_charge, validations_steps, list_any, sum_by-cons}
 use Rattle.value_store.specs.Value.{map as map_value}
 use Rattle.policy_glue.proofs.Programs.Words.{Judges, Marked, Marks, denials_stored, marks_registers, marks_told, result_stored, tested, message_stored, marks_shown, outcome_stored, load_verdict, put_verdict, store_verdict, count_more, count_of, count_small, message_none, message_of, result_of, message_last, get_last, get_other, none_more}
 use Rattle.policy_glue.proofs.Programs.Conditions.{part_runs, Ends}
 
--- an error that denies goes to the count, and one that does not behind the message
+-- an error that denies jumps to the count; one that does not deny jumps past the message
 way_counts : (f : FailurePolicy) (n : ℕ) → denies f Errs ≡ true → error_way f n ≡ 1
 way_counts f n e = grind arith
 
@@ -12,11 +12,11 @@ way_leaves : (f : FailurePolicy) (n : ℕ) → denies f Errs ≡ false → error
 way_leaves f n e = grind arith
 
 module _ (s : RunContext) (c : Context) (f : FailurePolicy) (xs : List Finding) (x : Finding) (few : length xs < part_limit) where
-  -- the validation's word is kept, and a denial counted
+  -- the validation's word is stored, and a denial is counted
   abbrev pub Counted : CpuState → Type 0
   Counted = Marks c 0 (count_of f (xs ++ x ∷ [])) (result_of (xs ++ x ∷ [])) (message_of xs)
 
-  -- what does not deny is not counted
+  -- a finding that does not deny is not counted
   same_count : is_denial f x ≡ false → count_of f (xs ++ x ∷ []) ≡ count_of f xs
   same_count denial = let count = count_more f xs x ∙ ap (λ (t : Bool). count_of f xs + (if t then 1 else 0)) denial in omega arith
 
@@ -24,14 +24,14 @@ module _ (s : RunContext) (c : Context) (f : FailurePolicy) (xs : List Finding) 
     abbrev place : ℕ
     place = first_result + length xs
 
-    -- its address is told from that of the denials
+    -- R1 holds the address of the count of denials
     abbrev asked : CpuState
     asked = set_register b R1 (verdict_address 1)
 
     abbrev worded : CheckResult → CpuState
     worded t = set_verdict place (truth_word t) asked
 
-    -- the word of the validation is put, and no more
+    -- only the word of the validation is stored
     abbrev Worded : CpuState → Type 0
     Worded = Marks c 0 (count_of f xs) (result_of (xs ++ x ∷ [])) (message_of xs)
 
@@ -41,7 +41,7 @@ module _ (s : RunContext) (c : Context) (f : FailurePolicy) (xs : List Finding) 
     marks_worded : (t : CheckResult) → truth_of v ≡ t → Worded (worded t)
     marks_worded t is_t = result_stored marks_asked (truth_word t) (grind arith) (length xs) few (result_of (xs ++ x ∷ [])) (ap finding_word (get_last xs x) ∙ ap truth_word (is ∙ is_t)) (λ j apart. ap finding_word (get_other xs x j apart))
 
-    -- ---- it denies
+    -- ---- the validation denies
 
     abbrev counted : CheckResult → CpuState
     counted t = set_register (set_register (worded t) R2 (verdict_at 1 (worded t))) R2 (count_of f (xs ++ x ∷ []))
@@ -86,7 +86,7 @@ module _ (s : RunContext) (c : Context) (f : FailurePolicy) (xs : List Finding) 
     pub denied : is_denial f x ≡ true → RunsTo s 8 0 o b (o + 10) Counted
     denied denial = denied_by (truth_of v) refl denial (ap (denies f) (sym is) ∙ denial)
 
-    -- ---- it does not
+    -- ---- the validation does not deny
 
     not_denied_by : (t : CheckResult) → truth_of v ≡ t → is_denial f x ≡ false → x.message ≡ None → denies f t ≡ false
         → RunsTo s 8 0 o b (o + (size message + 10)) (Marked c f 0 (xs ++ x ∷ []))
@@ -113,7 +113,7 @@ module _ (s : RunContext) (c : Context) (f : FailurePolicy) (xs : List Finding) 
     pub not_denied : is_denial f x ≡ false → x.message ≡ None → RunsTo s 8 0 o b (o + (size message + 10)) (Marked c f 0 (xs ++ x ∷ []))
     not_denied no_denial no_message = not_denied_by (truth_of v) refl no_denial no_message (ap (denies f) (sym is) ∙ no_denial)
 
--- a text, or something else
+-- the value is a text or something else
 pub data TextOr (y : ValueOrError) : Type 0 where
   Text : (t : List ℕ) → y ≡ value (text t) → TextOr y
   Else : text_at (Some y) ≡ None → compares W64 Ne (kind_number (outcome_view y)) 4 ≡ true → TextOr y
@@ -137,7 +137,7 @@ module _ (s : RunContext) (c : Context) (f : FailurePolicy) (xs : List Finding) 
   kind : Tells (pos 1) asks (kind_number (outcome_view y)) 1
   kind = helpers.kind c.environment.roots asks y asks_fits.values named
 
-  -- the kind is told
+  -- R0 holds the kind of the value
   abbrev told : CpuState
   told = answered asks (kind_number (outcome_view y)) b.values.values (b.values.charge + 1)
 
@@ -188,7 +188,7 @@ abbrev pub rules_slots : List ValidationPart → ℕ
 rules_slots [] = 0
 rules_slots (r ∷ more) = validation_size r + rules_slots more
 
--- what stands before the message of a validation
+-- the code before the message of a validation
 abbrev pub result_front : FailurePolicy → ℕ → ℕ → List Insn
 result_front f i n = if_true (n + 9) ∷ denial_code f i n
 
@@ -227,7 +227,7 @@ module _ (s : RunContext) (c : Context) (f : FailurePolicy) (xs : List Finding) 
       (and_then s 6 1 (q + 7) Q ((gives refl).runs b (stands_front s.image.code o m.code (message_tail (length xs)) has) counted.fits) (λ b1 shown.
       message_runs s c f xs x few q (stands_back s.image.code o m.code (message_tail (length xs)) has) m.value b1 (marks_shown counted m.value b1 shown) shown.shows is))
 
-  -- what stands behind the expression
+  -- the code after the expression
   result_runs : (o : ℕ) (m : Option Part) (v : ValueOrError) (d : Bool) (b : CpuState) → IsCodeAt s.image.code o (result_code f (length xs) (message_code (length xs) (codes_in m))) → MessageGives s c (o + 10) d m → x.truth ≡ truth_of v → is_denial f x ≡ d → x.message ≡ (if d then text_given (value_in m) else None) → Judges c f 0 xs v b → RunsTo s (8 + message_steps d m) (message_charge d m) o b (o + 10 + message_size m) (Marked c f 0 (xs ++ x ∷ []))
   result_runs o m v false b has gives truth denial is judges =
       let long = message_code_size (length xs) m in
@@ -264,7 +264,7 @@ module _ (s : RunContext) (c : Context) (f : FailurePolicy) where
       (and_then s (8 + message_steps d r.message) (message_charge d r.message) (q + 10 + message_size r.message) Q (part_runs s c f 0 p xs e b (stands_front s.image.code p e.code code has) gives marked) (λ b1 judges.
       result_runs s c f xs (found f r) few q r.message e.value d b1 behind told refl refl refl judges)))
 
-  -- a row of them
+  -- a list of validations
   pub rules_run : (rules : List ValidationPart) (xs : List Finding) (p : ℕ) (b : CpuState) → length xs + length rules ≤ part_limit
       → IsCodeAt s.image.code p (validations_code f (length xs) (codes_of_validations rules)) → ValidationsGive f s c p rules → Marked c f 0 xs b
       → RunsTo s (validations_steps f rules) (validations_charge f rules) p b (p + rules_slots rules) (Marked c f 0 (xs ++ map (found f) rules))
@@ -289,9 +289,9 @@ pub outcome_tail_size : size outcome_tail ≡ 7
 unfolding outcome_tail
 outcome_tail_size = refl
 
--- ---- there is a denial where one is count_all
+-- ---- the count is positive exactly if a validation denies
 
--- none is count_all, or some
+-- the count is at least 1 if a validation denies, else 0
 abbrev IsCounted : Bool → ℕ → Type 0
 IsCounted true n = 1 ≤ n
 IsCounted false n = n ≡ 0

@@ -24,7 +24,7 @@ verdict_is : (f : FailurePolicy) (conditions : List Part) (rules : List Validati
 unfolding verdict_of
 verdict_is f conditions rules = grind (arith, truths_are, truths_of, findings_are)
 
--- ---- routines are jumped over
+-- ---- the program jumps over the routines
 
 pub routines_pass : (s : RunContext) (routines : List (List Insn)) (p : ℕ) (b : CpuState) → IsCodeAt s.image.code p (routines_code routines)
     → RunsTo s (length routines) 0 p b (p + size (routines_code routines)) (λ last. last ≡ b)
@@ -95,7 +95,7 @@ module _ (s : RunContext) (c : Context) (f : FailurePolicy) (routines : List (Li
   abbrev found_all : List Finding
   found_all = map (found f) rules
 
-  -- behind the routines
+  -- after the routines
   behind : (n x : ℕ) (q : ℕ) (Q : CpuState → Type 0) → RunsTo s n x first b q Q → RunsTo s (length routines + n) (0 + x) 0 b q Q
   behind n x q Q comes =
       let place : 0 + size (routines_code routines) ≡ first = omega arith in

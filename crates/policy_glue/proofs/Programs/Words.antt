@@ -1,10 +1,10 @@
--- The words of a verdict as a program fills them in.
+-- The words of a verdict, as a program stores them.
 use Rattle.policy_glue.proofs.Prelude.{◌≡◌, ◌<◌, ◌≤◌, ◌+◌, ◌*◌, ◌^◌, ℕ, zero, suc, List, [], ◌∷◌, ◌++◌, length, Option, Some, None, arith, refl, sym, ap, ◌∙◌, not, ◌%◌, Result, false, count_by, slice_get, if◌then◌else◌, ℤ, pos, cases_eq, count_by-le-length, sum_by-append, put_word, word_in, put_word-other, put_word-same, read_word, write_word, ValueOrError, IsLayout, IsMessageWord, finding_word, first_message, first_result, message_in, part_limit, outcome_word, Finding, Verdict, is_denial, CheckResult, is_failed, is_held, truth_of, FailurePolicy, Names, Eq, Ne, Register, R0, R10, W64, compares, CpuState, at, set_register, Context, IsWellFormedState, LeavesValue, set_verdict, Framed, verdict_address, verdict_at, fits_registers, fits_verdict, told, w64, cast_unsigned, Memory, Constants, IsMemory, base_of, Fault, Insn, Load, Store, StoreImm, Imm, Reg, Dw, load_row, loaded, store_row, stored, is_frame_pointer, RunContext, RunsTo, slots, IsCodeAt, has_verdict, does, operand_is, register_set, one}
 use Rattle.guest_memory.specs.Memory.{Verdict as VerdictRegion}
 use Rattle.loader.specs.Contents.{Image}
 use Rattle.expression_code.proofs.Steps as step
 
--- the words of a region: the outcome's, the number of denials, what each validation came to, and its message
+-- the words of a region: the outcome, the number of denials, the result of each validation and its message
 pub record HasWords (outcome denials : ℕ) (result : ℕ → ℕ) (message : ℕ → Option (List ℕ)) (values : List ValueOrError) (region : List ℕ) : Type 0 where
   pub outcome_is : word_in region 0 ≡ outcome
   pub denials_are : word_in region 1 ≡ denials
@@ -12,9 +12,9 @@ pub record HasWords (outcome denials : ℕ) (result : ℕ → ℕ) (message : �
   pub messages : (i : ℕ) → i < part_limit → IsMessageWord values (word_in region (first_message + i)) (message i)
   pub others : (i : ℕ) → first_message + part_limit ≤ i → i < 256 → word_in region i ≡ 0
 
--- ---- a word is put
+-- ---- a word is stored
 
--- no word of a region of 2048 bytes lies past it
+-- each word of a region of 2048 bytes ends within it
 whole_word : (region : List ℕ) (i : ℕ) → length region ≡ 2048 → i < 256 → 8 * i + 8 ≤ length region
 whole_word region i long below = omega arith
 
@@ -35,7 +35,7 @@ module _ {outcome denials : ℕ} {result : ℕ → ℕ} {message : ℕ → Optio
   denials_put = grind (arith, other, same, message_on)
 
   module _ (k : ℕ) (inside : k < part_limit) where
-    -- one word of a row that stands from `first` on is another now, and of the others is said what was said
+    -- one word of a list that begins at `first` is changed; the others keep their facts
     row_put : (Says : ℕ → ℕ → Type 0) (first : ℕ) → first + part_limit ≤ 256 → Says word k
         → ((i : ℕ) → i < part_limit → (i ≡ k → ⊥) → Says (word_in region (first + i)) i)
         → (i : ℕ) → i < part_limit → Says (word_in (put_word region (first + k) word) (first + i)) i
@@ -79,7 +79,7 @@ get_other [] x zero apart = absurd (apart refl)
 get_other (y ∷ xs) x (suc j) apart = get_other xs x j (λ e. apart (ap suc e))
 get_other _ x _ apart = refl
 
--- one more finding leaves what is read as where there is none
+-- a further finding that is read like an absent one does not change what is read
 pub none_more : {A : Type 0} (read : Option Finding → A) (xs : List Finding) (x : Finding) (j : ℕ)
     → read (Some x) ≡ read None → read (slice_get (xs ++ x ∷ []) j) ≡ read (slice_get xs j)
 none_more read [] x zero none = none
@@ -89,7 +89,7 @@ none_more read _ x _ none = refl
 pub message_last : (xs : List Finding) (x : Finding) → message_of (xs ++ x ∷ []) (length xs) ≡ x.message
 message_last xs x = ap message_in (get_last xs x)
 
--- without a message the words for messages stay
+-- without a message, the words for messages are unchanged
 pub message_none : (xs : List Finding) (x : Finding) (j : ℕ) → x.message ≡ None → message_of (xs ++ x ∷ []) j ≡ message_of xs j
 message_none xs x j none = none_more message_in xs x j none
 
@@ -112,11 +112,11 @@ pub record Marks (c : Context) (outcome denials : ℕ) (result : ℕ → ℕ) (m
   pub fits : IsWellFormedState c 0 0 b
   pub words : HasWords outcome denials result message b.values.values b.memory.verdict
 
--- the words for an outcome and for these findings
+-- the region holds this outcome and these findings
 abbrev pub Marked : Context → FailurePolicy → ℕ → List Finding → CpuState → Type 0
 Marked c f outcome xs = Marks c outcome (count_of f xs) (result_of xs) (message_of xs)
 
--- and R0 names the value of an expression
+-- and R0 refers to the value of an expression
 pub record Judges (c : Context) (f : FailurePolicy) (outcome : ℕ) (xs : List Finding) (x : ValueOrError) (b : CpuState) : Type 0 where
   pub marked : Marked c f outcome xs b
   pub named : Names b.values.values (b.registers R0) x
@@ -134,7 +134,7 @@ module _ {c : Context} {outcome denials : ℕ} {result : ℕ → ℕ} {message :
   pub marks_shown : (x : ValueOrError) (last : CpuState) → LeavesValue c 0 0 x b last → Marks c outcome denials result message last
   marks_shown x last shown = grind arith
 
-  -- the same words, said otherwise
+  -- the same words with equal numbers
   pub marks_told : {d : ℕ} {results : ℕ → ℕ} {messages : ℕ → Option (List ℕ)} → d ≡ denials → ((j : ℕ) → results j ≡ result j)
       → ((j : ℕ) → messages j ≡ message j) → Marks c outcome d results messages b
   marks_told count same_results same_messages = grind arith
@@ -161,9 +161,9 @@ module _ {c : Context} {outcome denials : ℕ} {result : ℕ → ℕ} {message :
     message_stored k inside more here rest =
         word_stored (first_message + k) w (omega arith) (message_put long_region marks.words w small k inside more here rest)
 
--- ---- tests of a reference
+-- ---- tests of the reference in R0
 
--- what tests of a reference for true and false say of what it comes to
+-- what the tests for the references of true and false show of the value
 pub record Tests (t : CheckResult) (r : ℕ) : Type 0 where
   pub held : compares W64 Eq r 3 ≡ is_held t
   pub failed : compares W64 Eq r 2 ≡ is_failed t
@@ -173,7 +173,7 @@ pub tested : (c : Context) (x : ValueOrError) (t : CheckResult) (b : CpuState) �
     → Tests t (b.registers R0)
 tested c x t b fits named is = grind (arith, told)
 
--- a register has the address of word i, and word w is j words behind it
+-- a register holds the address of word i; word w is j words after it
 module _ (image : Image) (p : ℕ) (b : CpuState) (i j w : ℕ) (is : IsMemory b.memory) (same : w ≡ i + j) (below : w < 256) where
   load_does : (dst src : Register) → b.registers src ≡ verdict_address i → is_frame_pointer dst ≡ false
       → load_row Dw dst src (pos (8 * j)) (at image p b) ≡ at image (p + 1) (set_register b dst (verdict_at w b))

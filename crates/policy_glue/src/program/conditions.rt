@@ -12,7 +12,7 @@ use cel_types::Scope;
 use codegen::Emitter;
 use std::alloc::{AllocError, Global};
 
-/// Puts the conditions into the emitter. The error says that there is no memory for them.
+/// Emits the conditions.
 pub(super) fn conditions(
     alloc: Global,
     failure_policy: FailurePolicy,
@@ -28,8 +28,8 @@ pub(super) fn conditions(
     Ok(())
 }
 
-/// Puts behind the conditions the end of the program where they decide it, if there are any. The
-/// error says that there is no memory for it.
+/// Emits the code that follows the conditions, if there are any: it ends the program if they decide
+/// the outcome.
 pub(super) fn decided(cores: &[Core], emitter: &mut Emitter) -> Result<(), AllocError>
     ensures { OnOk result (emitter.new ≡ with_decided emitter.old (map core_view cores.now)) }
 {
@@ -39,7 +39,7 @@ pub(super) fn decided(cores: &[Core], emitter: &mut Emitter) -> Result<(), Alloc
     put_each(&decided_tail(), emitter)
 }
 
-/// Puts the condition into the emitter. It may use no variable.
+/// Emits one condition. It may use no variable.
 fn put_condition(
     alloc: Global,
     failure_policy: FailurePolicy,

@@ -1,4 +1,4 @@
-//! What is put into an emitter.
+//! Emits instructions, expressions and variables.
 
 ghost use Rattle.std.specs.Prelude.{◌≡◌, ◌≤◌, OnOk};
 ghost use Rattle.cel_macros.specs.CoreView.{core_view};
@@ -15,7 +15,7 @@ use codegen::{CodeError, Emitter, expression, variable};
 use insn_codec::Insn;
 use std::alloc::{AllocError, Global};
 
-/// Puts the instructions behind the code. The error says that there is no memory for them.
+/// Appends the instructions.
 pub(super) fn put_each(insns: &[Insn], emitter: &mut Emitter) -> Result<(), AllocError>
     ensures { OnOk result (emitter.new ≡ with_piece emitter.old insns.now) }
 {
@@ -25,7 +25,7 @@ pub(super) fn put_each(insns: &[Insn], emitter: &mut Emitter) -> Result<(), Allo
     Ok(())
 }
 
-/// Puts the code of the expression behind the code. The error says that there is no memory for it.
+/// Appends the code of the expression.
 pub(super) fn put_expression(
     alloc: Global,
     core: &Core,
@@ -42,8 +42,7 @@ pub(super) fn put_expression(
     }
 }
 
-/// Puts the routine of the next variable behind the code. The error says that there is no memory
-/// for it.
+/// Appends the routine of the next variable.
 pub(super) fn put_variable(
     alloc: Global,
     core: &Core,

@@ -1,4 +1,4 @@
-//! What a program does with the value of each expression, whose reference stands in R0.
+//! What a program does with the value of each expression, whose reference is in R0.
 
 ghost use Rattle.std.specs.Prelude.{◌≡◌, ◌<◌, pos};
 ghost use Rattle.expression_code.specs.Words.{verdict_address as address_of_word};
@@ -19,16 +19,16 @@ use expression_code::references::{FALSE, TRUE};
 use guest_memory::VERDICT;
 use insn_codec::{Comparison, Insn, Register, Size};
 
-/// The word of the verdict in which the denials are counted.
+/// The word of the verdict that counts the denials.
 const DENIALS: u64 = 1;
 
-/// The slots of `denial_code`.
+/// The number of slots of `denial_code`.
 pub(super) const DENIAL_SLOTS: u64 = 9;
 
-/// Where in `denial_code` an error leaves it, counted from the jump before it.
+/// The slot of the jump that an error takes, counted from the jump before `denial_code`.
 pub(super) const LEAVE_SLOT: u64 = 5;
 
-/// R1 gets the address of word i of the verdict. This takes two slots.
+/// Loads the address of word i of the verdict into R1. Takes two slots.
 fn verdict_word(i: u64) -> Insn
     requires { i < 256 }
     ensures { result ≡ Insn.LoadWide Register.R1 (address_of_word i) }
@@ -36,7 +36,7 @@ fn verdict_word(i: u64) -> Insn
     lddw(R1, VERDICT + 8 * i)
 }
 
-/// The outcome where no condition is false and one could not be decided.
+/// The outcome if no condition is false and one could not be decided.
 fn undecided(failure_policy: FailurePolicy) -> i32
     ensures { result ≡ pos (outcome_word (outcome_undecided failure_policy)) }
 {
@@ -46,7 +46,7 @@ fn undecided(failure_policy: FailurePolicy) -> i32
     }
 }
 
-/// Behind a condition: true goes on, false ends the program, and an error leaves its outcome.
+/// After a condition: true continues, false ends the program, and an error stores its outcome.
 #[tactic(auto, unfolding(crate::specs::Program::condition_tail))]
 pub(super) fn condition_tail(failure_policy: FailurePolicy) -> [Insn; 8]
     ensures { result ≡ specs.condition_tail failure_policy }
@@ -63,7 +63,7 @@ pub(super) fn condition_tail(failure_policy: FailurePolicy) -> [Insn; 8]
     ]
 }
 
-/// Behind all conditions: an outcome that was left ends the program.
+/// After all conditions: if an outcome is stored, the program ends.
 pub(super) fn decided_tail() -> [Insn; 4]
     ensures { result ≡ specs.decided_tail }
 {
@@ -75,7 +75,7 @@ pub(super) fn decided_tail() -> [Insn; 4]
     ]
 }
 
-/// Past so many slots where the validation is true: its word is 0 as it is.
+/// Skips this number of slots if the validation is true: its word is already 0.
 pub(super) fn if_true(slots: u64) -> Insn
     requires { slots < jump_limit }
     ensures { result ≡ specs.if_true slots }
@@ -83,7 +83,8 @@ pub(super) fn if_true(slots: u64) -> Insn
     jump_if_imm(Comparison::Eq, R0, TRUE, slots as usize)
 }
 
-/// Where an error goes: to the count of the denials, or past so many slots where it does not deny.
+/// The jump for an error: to the count of denials, or past it by this number of slots if an error
+/// does not deny.
 pub(super) fn leave_error(failure_policy: FailurePolicy, slots: u64) -> Insn
     requires { slots < jump_limit }
     ensures { result ≡ specs.leave_error failure_policy slots }
@@ -95,7 +96,7 @@ pub(super) fn leave_error(failure_policy: FailurePolicy, slots: u64) -> Insn
     Insn::Jump { offset: way as i16 }
 }
 
-/// Word i of the verdict gets the number, where R1 has the address of the denials.
+/// Stores the number in word i of the verdict. R1 holds the address of the count of denials.
 fn put_result(i: usize, n: i32) -> Insn
     requires { i < part_limit }
     ensures { result ≡ Insn.StoreImm Size.Dw Register.R1 (pos (specs.result_offset i)) n }
@@ -108,7 +109,7 @@ fn put_result(i: usize, n: i32) -> Insn
     }
 }
 
-/// Behind validation i without a message, where it is not true: its word, and one more denial.
+/// After validation i without a message, if it is not true: stores its word and counts a denial.
 #[tactic(auto, unfolding(crate::specs::Program::denial_code))]
 pub(super) fn denial_code(failure_policy: FailurePolicy, i: usize) -> [Insn; 8]
     requires { i < part_limit }
@@ -126,7 +127,7 @@ pub(super) fn denial_code(failure_policy: FailurePolicy, i: usize) -> [Insn; 8]
     ]
 }
 
-/// Behind the message expression of validation i: its word gets the reference of a text.
+/// After the message expression of validation i: stores the reference of a text in its word.
 #[tactic(auto, unfolding(crate::specs::Program::message_tail))]
 pub(super) fn message_tail(i: usize) -> [Insn; 6]
     requires { i < part_limit }

@@ -1,8 +1,8 @@
-//! Places of validations.
+//! Where a validation is in its policy.
 
 use crate::failure_policy::FailurePolicy;
 
-/// Where a validation is in its policy's list, and what the policy does where it is an error.
+/// The place of a validation in its policy's list, and the policy's `failurePolicy`.
 #[derive(Clone, Copy)]
 pub(super) struct ValidationPlace {
     pub(super) failure_policy: FailurePolicy,

@@ -16,7 +16,7 @@ use cel_types::Scope;
 use codegen::Emitter;
 use std::alloc::{AllocError, Global};
 
-/// Puts the validations into the emitter. The error says that there is no memory for them.
+/// Emits the validations.
 pub(super) fn validations(
     alloc: Global,
     failure_policy: FailurePolicy,
@@ -39,7 +39,7 @@ pub(super) fn validations(
     Ok(())
 }
 
-/// Puts this validation into the emitter.
+/// Emits one validation.
 fn put_validation(
     alloc: Global,
     which: ValidationPlace,
@@ -57,8 +57,8 @@ fn put_validation(
     put_result(alloc, which, &validation.message, scope, emitter)
 }
 
-/// Puts into the emitter what is done where the validation is not true: its word is kept, a denial
-/// counted, and its message, if it has an expression for one, evaluated.
+/// Emits what happens if the validation is not true: its word is stored, a denial is counted, and
+/// its message expression, if it has one, is evaluated.
 fn put_result(
     alloc: Global,
     which: ValidationPlace,
@@ -83,8 +83,8 @@ fn put_result(
     Ok(())
 }
 
-/// Puts the message expression of the validation at this place into the emitter, and answers the slot of
-/// the last instruction.
+/// Emits the message expression of the validation at this place, and returns the slot of the last
+/// instruction.
 fn put_message(
     alloc: Global,
     place: usize,

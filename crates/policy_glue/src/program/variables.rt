@@ -11,8 +11,7 @@ use cel_types::{Scope, Variable};
 use codegen::Emitter;
 use std::alloc::{AllocError, Global};
 
-/// Puts the routines of the variables into the emitter, each of which may use those before it. The
-/// error says that there is no memory for them.
+/// Emits the routines of the variables. Each may use the earlier ones.
 pub(super) fn variables(
     alloc: Global,
     declared: &[Variable],

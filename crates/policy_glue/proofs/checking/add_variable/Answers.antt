@@ -1,3 +1,5 @@
+-- Proofs of `checking::add_variable`: the result meets the contract.
+
 use Rattle.policy_glue.proofs.Prelude.{core_view, named_view}
 use Rattle.policy_glue.proofs.Judged.{added_is, pushed}
 use Rattle.policy_glue.proofs.checking.add_variable.Goals as goal

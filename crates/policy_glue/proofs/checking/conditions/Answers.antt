@@ -1,3 +1,5 @@
+-- Proofs of `checking::conditions`: the result meets the contract; each turn of the loop keeps the invariant.
+
 use Rattle.policy_glue.proofs.Prelude.{◌∷◌, [], ◌++◌, ◌∙◌, ap, map, core_view, ChecksConditions, named_view}
 use Rattle.policy_glue.proofs.Judged.{passed_on, pushed, walk_ends, walk_fails, walk_steps}
 use Rattle.policy_glue.proofs.checking.conditions.Goals as goal

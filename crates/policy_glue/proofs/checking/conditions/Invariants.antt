@@ -1,3 +1,5 @@
+-- Loop invariant of `checking::conditions`.
+
 use Rattle.policy_glue.proofs.Prelude.{drop, map, expanded, core_view, IsWellFormed, RefusesCondition, TakesCondition, named_view}
 use Rattle.policy_glue.proofs.Judged.{Walked}
 use Rattle.policy_glue.proofs.checking.conditions.Given as goal

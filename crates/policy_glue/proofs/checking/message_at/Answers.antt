@@ -1,3 +1,5 @@
+-- Proofs of `checking::message_at`: the result meets the contract.
+
 use Rattle.policy_glue.proofs.Prelude.{string_bytes}
 use Rattle.policy_glue.proofs.Judged.{message_is}
 use Rattle.policy_glue.proofs.checking.message_at.Goals as goal

@@ -1,3 +1,5 @@
+-- Proofs of `checking::parts_checked`: the result meets the contract.
+
 use Rattle.policy_glue.proofs.Prelude.{arith}
 use Rattle.policy_glue.proofs.Judged.{passed_on, all_taken, refused_conditions, refused_validations, refused_variables}
 use Rattle.policy_glue.proofs.checking.parts_checked.Goals as goal

@@ -1,3 +1,5 @@
+-- Proofs of `checking::validation_at`: the result meets the contract.
+
 use Rattle.policy_glue.proofs.Prelude.{arith, ChecksValidation, validation_view}
 use Rattle.policy_glue.proofs.Judged.{passed_on, rule_is, rule_unexpressed, rule_unsaid}
 use Rattle.policy_glue.proofs.checking.validation_at.Goals as goal

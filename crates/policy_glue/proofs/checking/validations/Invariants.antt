@@ -1,3 +1,5 @@
+-- Loop invariant of `checking::validations`.
+
 use Rattle.policy_glue.proofs.Prelude.{drop, map, IsFormedValidation, validation_expanded, validation_trees, RefusesValidation, TakesValidation, validation_view}
 use Rattle.policy_glue.proofs.Judged.{Walked}
 use Rattle.policy_glue.proofs.checking.validations.Given as goal

@@ -1,3 +1,5 @@
+-- Proofs of `checking::variables`: the result meets the contract; the loop invariant holds at first and is kept.
+
 use Rattle.policy_glue.proofs.Prelude.{ap, map, core_view, ChecksVariables, named_view}
 use Rattle.policy_glue.proofs.Judged.{passed_on, variables_begin, variables_end, variables_step, walk_fails}
 use Rattle.policy_glue.proofs.checking.variables.Goals as goal

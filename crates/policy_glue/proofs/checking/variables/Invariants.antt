@@ -1,3 +1,5 @@
+-- Loop invariant of `checking::variables`.
+
 use Rattle.policy_glue.proofs.Prelude.{drop, map, core_view, named_view}
 use Rattle.policy_glue.proofs.Judged.{VariablesGo}
 use Rattle.policy_glue.proofs.checking.variables.Given as goal

@@ -1,3 +1,5 @@
+-- Proofs of `compiling::compile`: the result meets the contract; its calls meet what they require.
+
 use Rattle.policy_glue.proofs.Prelude.{Err, Ok, subst, IsChecked, CompilesTo, EmitsProgram, IsAcceptedPolicy, PolicyTree}
 use Rattle.policy_glue.proofs.Compiles.{has_trees, image_compiled, image_due, image_is_one, refused_part, refused_whole}
 use Rattle.policy_glue.proofs.Judged.{passed_on}

@@ -1,3 +1,5 @@
+-- Loop invariant of `denials::denials`.
+
 use Rattle.policy_glue.proofs.Prelude.{drop, map, denial_view, words_view, validation_view}
 use Rattle.policy_glue.proofs.Told.{DenialsGo}
 use Rattle.policy_glue.proofs.denials.denials.Given as goal

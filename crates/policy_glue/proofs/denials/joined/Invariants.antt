@@ -1,3 +1,5 @@
+-- Loop invariant of `denials::joined`.
+
 use Rattle.policy_glue.proofs.Prelude.{drop, map, string_bytes, denial_view, denial_text}
 use Rattle.policy_glue.proofs.Lists.{JoinGo}
 use Rattle.policy_glue.proofs.denials.joined.Given as goal

@@ -1,3 +1,5 @@
+-- Termination measure of `documents::is_known`.
+
 use Rattle.policy_glue.proofs.Prelude.{length}
 use Rattle.policy_glue.proofs.documents.+is_known.Given as goal
 

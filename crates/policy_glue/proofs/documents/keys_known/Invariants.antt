@@ -1,3 +1,5 @@
+-- Loop invariant of `documents::keys_known`.
+
 use Rattle.policy_glue.proofs.Prelude.{◌≡◌, map, members_view, keys_within}
 use Rattle.policy_glue.proofs.documents.keys_known.Given as goal
 

@@ -1,3 +1,5 @@
+-- Proofs of `judging::expression`: the result meets the contract.
+
 use Rattle.policy_glue.proofs.Prelude.{view}
 use Rattle.policy_glue.proofs.Judged.{macros_refused, unread_is}
 use Rattle.policy_glue.proofs.judging.expression.Goals as goal

@@ -1,3 +1,5 @@
+-- Proofs of `judging::judged`: the result meets the contract.
+
 use Rattle.policy_glue.proofs.Judged.{judged_is, mistyped_is}
 use Rattle.policy_glue.proofs.judging.judged.Goals as goal
 

@@ -1,3 +1,5 @@
+-- Proofs of `judging::part_judged`: the result meets the contract.
+
 use Rattle.policy_glue.proofs.Prelude.{arith, ◌∙◌, sym, other_type, types_of}
 use Rattle.policy_glue.proofs.Judged.{other_is, part_refused}
 use Rattle.policy_glue.proofs.judging.part_judged.Goals as goal

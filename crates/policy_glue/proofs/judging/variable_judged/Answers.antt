@@ -1,3 +1,5 @@
+-- Proofs of `judging::variable_judged`: the result meets the contract.
+
 use Rattle.policy_glue.proofs.Prelude.{arith}
 use Rattle.policy_glue.proofs.Judged.{deep_is, shallow_is, variable_refused}
 use Rattle.policy_glue.proofs.judging.variable_judged.Goals as goal

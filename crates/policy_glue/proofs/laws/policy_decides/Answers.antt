@@ -1,3 +1,5 @@
+-- Proofs of `laws::policy_decides`: the result meets the contract.
+
 use Rattle.policy_glue.proofs.Programs.Whole.{policy_decides}
 use Rattle.policy_glue.proofs.laws.policy_decides.Goals as goal
 

@@ -1,3 +1,5 @@
+-- Proofs of `named_list::are_distinct`: the result meets the contract; the loop invariant holds at first and is kept.
+
 use Rattle.policy_glue.proofs.Prelude.{◌+◌, ◌∙◌, refl, arith}
 use Rattle.policy_glue.proofs.Distinct.{distinct_more, distinct_stop, names_more, names_none}
 use Rattle.policy_glue.proofs.named_list.are_distinct.Goals as goal

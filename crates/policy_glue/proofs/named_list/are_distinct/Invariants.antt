@@ -1,3 +1,5 @@
+-- Loop invariant of `named_list::are_distinct`.
+
 use Rattle.policy_glue.proofs.Prelude.{◌≡◌, true, map, take, named_view, are_distinct}
 use Rattle.policy_glue.proofs.Distinct.{HasNames}
 use Rattle.policy_glue.proofs.named_list.are_distinct.Given as goal

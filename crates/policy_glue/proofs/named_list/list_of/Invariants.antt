@@ -1,3 +1,5 @@
+-- Loop invariant of `named_list::list_of`.
+
 use Rattle.policy_glue.proofs.Prelude.{drop, map, items_view, named_view, named_in}
 use Rattle.policy_glue.proofs.Lists.{EachGo}
 use Rattle.policy_glue.proofs.named_list.list_of.Given as goal

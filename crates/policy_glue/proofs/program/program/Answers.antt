@@ -1,3 +1,5 @@
+-- Proofs of `program::program`: the result meets the contract.
+
 use Rattle.policy_glue.proofs.Prelude.{Err, ap, arith, IsTooLong}
 use Rattle.policy_glue.proofs.Emission.{answers_long, answers_program, answers_texts, no_error}
 use Rattle.policy_glue.proofs.program.program.Goals as goal

@@ -1,3 +1,5 @@
+-- Proofs of `rejecting::rejection_of`: the result meets the contract.
+
 use Rattle.policy_glue.proofs.Prelude.{sym, option_map, IfOk-weaker, words_view, rejection_view}
 use Rattle.policy_glue.proofs.Told.{objected}
 use Rattle.policy_glue.proofs.rejecting.rejection_of.Goals as goal

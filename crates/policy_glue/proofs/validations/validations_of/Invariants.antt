@@ -1,3 +1,5 @@
+-- Loop invariant of `validations::validations_of`.
+
 use Rattle.policy_glue.proofs.Prelude.{drop, map, items_view, validation_view, validation_in}
 use Rattle.policy_glue.proofs.Lists.{EachGo}
 use Rattle.policy_glue.proofs.validations.validations_of.Given as goal

@@ -1,3 +1,5 @@
+-- Proofs of `verdict::messages`: each turn of the loop keeps the invariant.
+
 use Rattle.policy_glue.proofs.Prelude.{option_map, message_at, part_limit}
 use Rattle.policy_glue.proofs.Lists.{filled_view}
 use Rattle.policy_glue.proofs.verdict.messages.Goals as goal

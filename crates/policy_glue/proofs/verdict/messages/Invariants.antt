@@ -1,3 +1,5 @@
+-- Loop invariant of `verdict::messages`.
+
 use Rattle.policy_glue.proofs.Prelude.{map, option_map, message_at, part_limit}
 use Rattle.policy_glue.proofs.Lists.{IsFilled}
 use Rattle.policy_glue.proofs.verdict.messages.Given as goal

@@ -1,3 +1,5 @@
+-- Proofs of `verdict::results`: each turn of the loop keeps the invariant.
+
 use Rattle.policy_glue.proofs.Prelude.{part_limit, result_at}
 use Rattle.policy_glue.proofs.Lists.{filled_more}
 use Rattle.policy_glue.proofs.verdict.results.Goals as goal

@@ -1,3 +1,5 @@
+-- Loop invariant of `verdict::results`.
+
 use Rattle.policy_glue.proofs.Prelude.{part_limit, result_at}
 use Rattle.policy_glue.proofs.Lists.{IsFilled}
 use Rattle.policy_glue.proofs.verdict.results.Given as goal

@@ -1,3 +1,5 @@
+-- Loop invariant of `program::conditions::conditions`.
+
 use Rattle.policy_glue.proofs.Prelude.{◌≡◌, drop, map, core_view, with_conditions}
 use Rattle.policy_glue.proofs.program.conditions.conditions.Given as goal
 

@@ -1,3 +1,5 @@
+-- Loop invariant of `program::pieces::put_each`.
+
 use Rattle.policy_glue.proofs.Prelude.{◌≡◌, drop, with_piece}
 use Rattle.policy_glue.proofs.program.pieces.put_each.Given as goal
 

@@ -1,3 +1,5 @@
+-- Loop invariant of `program::validations::validations`.
+
 use Rattle.policy_glue.proofs.Prelude.{◌≡◌, drop, map, validation_trees, with_validations}
 use Rattle.policy_glue.proofs.program.validations.validations.Given as goal
 

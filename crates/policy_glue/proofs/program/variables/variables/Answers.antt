@@ -1,3 +1,6 @@
+-- Proofs of `program::variables::variables`: each turn of the loop keeps the invariant; its calls meet what they
+-- require.
+
 use Rattle.policy_glue.proofs.Prelude.{◌∷◌, [], ◌++◌, ap, sym, ◌∙◌, arith, core_view, declaration}
 use Rattle.policy_glue.proofs.Emission.{at_index, take_more}
 use Rattle.policy_glue.proofs.Judged.{at_place}

@@ -1,3 +1,5 @@
+-- Loop invariant of `program::variables::variables`.
+
 use Rattle.policy_glue.proofs.Prelude.{◌≡◌, drop, map, take, core_view, declaration, with_variables}
 use Rattle.policy_glue.proofs.program.variables.variables.Given as goal
 

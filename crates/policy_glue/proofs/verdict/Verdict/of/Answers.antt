@@ -1,3 +1,5 @@
+-- Proofs of `verdict::Verdict::of`: the result meets the contract.
+
 use Rattle.policy_glue.proofs.Prelude.{◌≡◌, ◌≤◌, ◌∙◌, ap, length, rules, subst, sym, vec_len, length-map, words_view, validation_view}
 use Rattle.policy_glue.proofs.Told.{layout_told}
 use Rattle.policy_glue.proofs.verdict.Verdict.of.Goals as goal
