@@ -1,4 +1,4 @@
--- What the gates decide, one after the other.
+-- The decisions of the gates, one after the other.
 use Rattle.gatekeeper_runner.proofs.Prelude.{◌≡◌, ℕ, zero, suc, ◌+◌, ◌<◌, ◌≤◌, List, [], ◌∷◌, ◌++◌, Ok, Err, Option, Some, None, Result, String, Global, string_bytes, drop, length, take, map, refl, sym, ap, ◌∙◌, subst, arith, get_or, map-append, take_all, take_more, document_of, OneImage, Decision, RunError, DecideTogether, AreGates, AreResults, AreValuesOf, AreTallied, AddsResult, IsGateOf, IsResult, DecidesAlone, Gatekeeper, NamedGate, PolicyFile, PolicyResult, Refused, Tally, decided, ending_of, joined, label_view, uid_in, values_under}
 use Rattle.std.specs.Prelude.{option_and_then}
 use Rattle.value_store.specs.Documents.{document_given}
@@ -14,13 +14,13 @@ use Rattle.gatekeeper_runner.specs.Together.{no_values}
 
 -- ---- the review
 
--- the values of a review's roots are those on which every policy decides
+-- the values of a review's roots are those that every policy decides on
 pub are_values : (t : Gatekeeper) (review : List ℕ) {S : Type 0} (contents : S → Contents) (s : S) (uid : List ℕ)
     → ReviewTableReturns contents (Ok s) (option_and_then parts_in (document_of review)) (document_given t.namespace) (document_given t.params) → uid ≡ uid_in review
     → AreValuesOf t review (contents s) uid
 are_values t review contents s uid opened is = record { values_are = table_due contents (Some review) t.namespace t.params s opened; uid_is = is }
 
--- want of memory for the table is want of memory
+-- a failed allocation for the table is reported as `Memory`
 memory_is : (e : ReviewError) → e ≡ review_error.Memory → table_refusal e ≡ Memory
 memory_is e is = ap table_refusal is
 
@@ -54,7 +54,7 @@ results_more : (t : Gatekeeper) (review : List ℕ) (results : List PolicyResult
 results_more t review [] r are is = (is, tt)
 results_more t review (x ∷ xs) r are is = (are.0, results_more t review xs r are.1 is)
 
--- the policies of the gates so far were asked
+-- the gates so far were asked
 module _ (t : Gatekeeper) (review : List ℕ) (gates : List NamedGate) (are : AreGates t.policies gates) (i : ℕ) (before : Tally) (so_far : AreTallied OneImage t review (take i t.policies) before) where
   pub tallied_all : length gates ≤ i → AreTallied OneImage t review t.policies before
   tallied_all past = subst (λ (ps : List PolicyFile). AreTallied OneImage t review ps before) (take_all i t.policies (let many = as_many t.policies gates are in omega (arith, past, many))) so_far
@@ -82,7 +82,7 @@ module _ (t : Gatekeeper) (review : List ℕ) (gates : List NamedGate) (are : Ar
       tallied = adds.adds so_far.results policy its_policy.label so_far.tallied;
     }
 
--- all policies were asked
+-- all gates were asked
 pub all_decided : (t : Gatekeeper) (review : List ℕ) (values : Contents) (uid : String Global) (tally : Tally) (r : Result Decision Refused) → AreValuesOf t review values (string_bytes uid)
     → AreTallied OneImage t review t.policies tally → r ≡ ending_of tally uid → DecideTogether OneImage t review r
 all_decided t review values uid tally r given tallied is =

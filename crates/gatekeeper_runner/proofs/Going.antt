@@ -1,4 +1,4 @@
--- How the answers go on.
+-- The answers, from one part of the input to the next.
 use Rattle.gatekeeper_runner.proofs.Prelude.{◌≡◌, ℕ, ◌<◌, ◌≤◌, Bool, true, false, List, [], ◌∷◌, ◌++◌, length, length-drop, take, drop, Option, Some, refl, sym, ap, subst, ◌∙◌, inl, inr, arith, append_assoc, append-nil, true≢false, Result, Ok, Err, ◌⊎◌, take-append-drop, AddsBytes, cut, input_lines, readable, with_rest, SessionError, ReadFailed, WriteFailed, Pieces, cut-none, cut-line, cut-part, input_lines-ended, readable-all, HasNoFeed, HeardByResult, OfBytes, OneImage, AnswersReviewLine, PolicyFile, no_memory, passed_over, too_long, Gatekeeper, KeepsLine, Answered, AnsweredPart, AnswersEach, AnswersByResult, AnswersSoFar, AnswersToEnd, AnswersCut, AnswersEnd, AnswersBreak, AnsweredPartOfLines, AreGates, gatekeeper_of, UnderPolicies, UnderSame}
 use Rattle.streams.specs.declared.session_error.SessionError.TheVariants.{Memory as SessionMemory}
 use Rattle.gatekeeper_runner.specs.declared.gatekeeper.Gatekeeper.{Gatekeeper as CodeGatekeeper}
@@ -6,14 +6,14 @@ use Rattle.gatekeeper_runner.specs.declared.line.Line.{Line}
 use Rattle.gatekeeper_runner.specs.Lines.{decided, is_blank}
 use Rattle.gatekeeper_runner.specs.AnsweredLines as told
 
--- nothing is answered to an empty line
+-- an empty line has no answer
 pub no_answer : (t : Gatekeeper) (line text : List ℕ) → line ≡ [] → AnswersReviewLine OneImage t line text → text ≡ []
 no_answer t line text none (passed_over short blank) = refl
 no_answer t line text none (too_long long) = absurd (let zero = ap length none in omega (arith, long, zero))
 no_answer t line text none (decided short full decides) = absurd (let blank : is_blank line ≡ true = ap is_blank none in true≢false (sym blank ∙ full))
 no_answer t line text none (no_memory some) = absurd (let zero = ap length none in omega (arith, some, zero))
 
--- the answers to ended lines and to the rest behind them
+-- the answers to complete lines and to the rest after them
 with_last : (t : Gatekeeper) (lines : List (List ℕ)) (rest text answer : List ℕ) → AnswersEach OneImage t lines text → AnswersReviewLine OneImage t rest answer
     → AnswersEach OneImage t (with_rest lines rest) (text ++ answer)
 with_last t lines [] text answer each last = rw (no_answer t [] answer refl last, append-nil text) each
@@ -39,7 +39,7 @@ module _ (t : Gatekeeper) (before heard : List ℕ) (written : Option (List ℕ)
   pub going_part : (part : List ℕ) → HasNoFeed part → AnswersSoFar OneImage t before (heard ++ part) written
   going_part part plain = record { text = g.text; lines = rw (cut-part heard part plain) g.lines; written_is = g.written_is }
 
-  -- an answer that was written in part
+  -- an answer was written in part
   part_told : (whole all : List ℕ) (new : Option (List ℕ)) → AnsweredPart OneImage t whole written new → (cut heard).0 ++ whole ∷ [] ≡ input_lines all
       → AnswersCut OneImage t before all new
   part_told whole all new a are = record {
@@ -72,7 +72,7 @@ module _ (t : Gatekeeper) (before heard : List ℕ) (written : Option (List ℕ)
         let all = input_lines-ended (heard ++ (rest ++ 10 ∷ [])) (ap (λ (p : Pieces). take 65 p.1) ends_line) ∙ ap (λ (p : Pieces). p.0) ends_line in
         (part_told ((cut heard).1 ++ rest) (heard ++ (rest ++ 10 ∷ [])) new a (sym all), ap (λ (p : Pieces). p.1) ends_line)
 
-  -- the end, where the rest behind the last line feed is answered
+  -- the end: the rest after the last line feed is answered
   pub end_whole : (new : Option (List ℕ)) → Answered OneImage t (cut heard).1 written new → AnswersToEnd OneImage t before heard new
   end_whole new a = record {
     text = g.text ++ a.text;
@@ -83,19 +83,19 @@ module _ (t : Gatekeeper) (before heard : List ℕ) (written : Option (List ℕ)
   pub end_part : (new : Option (List ℕ)) → AnsweredPart OneImage t (cut heard).1 written new → AnswersCut OneImage t before heard new
   end_part new a = part_told (cut heard).1 heard new a (is_line t (cut heard).0 (cut heard).1 a.text a.many a.answers a.is_cut)
 
--- what is kept once the rest of a line, or its end, is heard
+-- the contents of the buffer after a further part of a line
 pub kept_part : (most : ℕ) (line : Line) (heard part : List ℕ) → HasNoFeed part → KeepsLine most line ((cut heard).1 ++ part) → KeepsLine most line (cut (heard ++ part)).1
 kept_part most line heard part plain keeps = rw (cut-part heard part plain) keeps
 
 pub kept_none : (most : ℕ) (line : Line) (heard rest : List ℕ) → HasNoFeed rest → KeepsLine most line [] → KeepsLine most line (cut (heard ++ (rest ++ 10 ∷ []))).1
 kept_none most line heard rest plain keeps = rw (cut-line heard rest plain) keeps
 
--- what holds under the gatekeeper of the start
+-- a fact that holds for the unchanged gatekeeper
 pub under_start : (keeper start : CodeGatekeeper) (Q : Gatekeeper → Type 0) → UnderSame keeper start Q → UnderPolicies start Q
 under_start keeper start Q h = subst (λ (k : CodeGatekeeper). UnderPolicies k Q) h.0 h.1
 
 module _ (t : Gatekeeper) (input before : List ℕ) (left written : Option (List ℕ)) where
-  -- a write that failed
+  -- a failed write
   cut_told : (read : ℕ) → read ≤ length (readable input) → left ≡ Some (drop read input) → AnswersCut OneImage t before (take read input) written
       → ((cut (take read input)).1 ≡ []) ⊎ (read ≡ length (readable input)) → AnsweredPartOfLines OneImage t input before left written
   cut_told read inside gone a ends = record {
@@ -115,7 +115,7 @@ module _ (t : Gatekeeper) (input before : List ℕ) (left written : Option (List
     part_written = a.part_written;
   }
 
-  -- what was read and written once the input was heard
+  -- the bytes read and written once the input has ended
   pub answers_told : (goes : OfBytes) (ended broke : Bool → OfBytes) (result : Result (Unit {0}) SessionError)
       → ((heard : List ℕ) → goes heard written → AnswersSoFar OneImage t before heard written)
       → ((last : Bool) (heard : List ℕ) → ended last heard written → AnswersEnd last OneImage t before heard written)
@@ -136,7 +136,7 @@ module _ (t : Gatekeeper) (input before : List ℕ) (left written : Option (List
       (subst (λ (bytes : List ℕ). AnswersCut OneImage t before bytes written) (sym (readable-all input)) (broken true (readable input) r.of_bytes)) (inr refl)
   answers_told goes ended broke (Err SessionMemory) on over broken none = absurd none
 
--- the same of what the answers have heard
+-- the same for the bytes received so far
 pub heard_told : (keeper start : CodeGatekeeper) (line : Line) (policies : List PolicyFile) → AreGates policies start.gates.items → (input before : List ℕ)
     (left written : Option (List ℕ)) (result : Result (Unit {0}) SessionError)
     → HeardByResult (λ heard new. UnderSame keeper start (λ t. AnswersSoFar OneImage t before heard new × KeepsLine t.max_line line (cut heard).1))

@@ -1,3 +1,5 @@
+-- The proofs of `gatekeeper_runner`.
+
 mod OneLine
 mod Going
 mod Gates

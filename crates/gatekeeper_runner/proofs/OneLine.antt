@@ -7,7 +7,7 @@ use Rattle.gatekeeper_runner.proofs.Prelude.{◌≡◌, ◌++◌, ◌+◌, ◌�
 use Rattle.gatekeeper_runner.specs.Lines.{decided, is_blank}
 use Rattle.gatekeeper_runner.specs.declared.line.Line.{Line}
 
--- what is kept of a line that is not too long is the line
+-- the buffer of a line that is not too long holds the whole line
 pub kept_whole : (most : ℕ) (kept line : List ℕ) → kept ≡ take (suc most) line → length kept ≤ most → kept ≡ line
 kept_whole most kept line keeps short =
     let many = ap length keeps in
@@ -34,7 +34,7 @@ module _ (t : Gatekeeper) where
         let above = ltb-true l.most (length l.bytes.items) (sym long) in
         subst (AnswersReviewLine OneImage t line) (sym is) (too_long (omega (arith, many, above, most, keeps.most_is)))
 
-    -- what is answered to what is kept is answered to the line
+    -- the answer to the buffer's contents is the answer to the line
     pub was_whole : false ≡ nat_lt l.most (length l.bytes.items) → (Q : List ℕ → Type 0) → (length l.bytes.items ≤ t.max_line → Q l.bytes.items) → Q line
     was_whole whole Q of_kept =
         let above = ltb-false l.most (length l.bytes.items) (sym whole) in
@@ -45,7 +45,7 @@ pub written_part : (t : Gatekeeper) (line text : List ℕ) (old new : Option (Li
     → (n : ℕ) × (n < length text) × AddsBytes old new (take n text) → AnsweredPart OneImage t line old new
 written_part t line text old new answers part = record { text = text; answers = answers; many = part.0; is_cut = part.1; written = part.2 }
 
--- the first bytes of one text behind another
+-- the first bytes of two texts that are joined
 front_more : (n : ℕ) (xs ys : List ℕ) → length xs ≤ n → take n (xs ++ ys) ≡ xs ++ take (n - length xs) ys
 front_more n xs ys short =
     let whole : length xs + (n - length xs) ≡ n = omega (arith, short) in
@@ -53,7 +53,7 @@ front_more n xs ys short =
     ∙ take-add (length xs) (n - length xs) (xs ++ ys)
     ∙ (λ i. take_at xs ys (length xs) refl i ++ take (n - length xs) (drop_at xs ys (length xs) refl i))
 
--- what is kept of a line once its next part is added
+-- the contents of the buffer after the next part of the line
 pub keeps_more : (most : ℕ) (lacks : Bool) (kept new line part added : List ℕ) (len : ℕ) → lacks ≡ false → IsKeptOfLine lacks most kept line → len ≡ length kept → length kept ≤ most
     → added ≡ take (suc (most - len)) part → new ≡ kept ++ added → IsKeptOfLine lacks most new (line ++ part)
 keeps_more most true kept new line part added len off keeps size short is all = absurd (cc)

@@ -1,4 +1,4 @@
--- The policies, opened one after the other.
+-- The policies are opened one after the other.
 use Rattle.gatekeeper_runner.proofs.Prelude.{◌≡◌, ℕ, suc, ◌+◌, ◌<◌, List, [], ◌∷◌, ◌++◌, drop, length, map, take, Option, Ok, Err, String, string_bytes, sym, ap, ◌∙◌, get_or, Global, map-append, take_more, split_at, Text, CompilesDocument, IsPolicy, FileSystem, IsReading, policy_refusal_of, PolicyRefusal, Refusal, IsUnopened, OneUnopened, Opens, OpensGate, refused, AreGates, IsGateOf, NamedGate, PolicyFile}
 use Rattle.admission.specs.declared.policy_refusal.PolicyRefusal.TheVariants.{Memory}
 use Rattle.gatekeeper_runner.specs.Starting.{next, no_memory}
@@ -22,7 +22,7 @@ gates_more policies gates policy gate are of = absurd are
 abbrev pub Opened : Option FileSystem → List Text → List NamedGate → Type 0
 Opened known names gates = (policies : List PolicyFile) × AreGates policies gates × Opens known names policies
 
--- the loop over the words stands at a word, and the policies in the files of those before it are opened
+-- the loop is at a word, and the policies in the files of the earlier words are opened
 module _ (known : Option FileSystem) (words : List (String Global)) (i : ℕ) (word : String Global) (gates : List NamedGate) (within : i < length words) (is : word ≡ get_or words i word)
     (opened : Opened known (map string_bytes (take i words)) gates) where
   one_more : take (i + 1) words ≡ take i words ++ word ∷ []

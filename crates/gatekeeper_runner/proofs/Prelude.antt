@@ -1,4 +1,4 @@
--- The names that these proofs cite of the library, of the crates below and of the definitions here. Declares nothing.
+-- The names of the library, of the crates below and of the definitions that these proofs use. Declares nothing.
 pub use Rattle.std.proofs.Common.{Bool, Err, IfErr, IfOk, IsErr, List, None, Ok, OnErr, OnOk, Option, Result, Some}
 pub use Rattle.std.proofs.Common.{String, ℕ, [], ap, append-nil, append_assoc, arith, codes, drop, false, get_or, inl}
 pub use Rattle.std.proofs.Common.{inr, length, length-drop, length-take, map, nat_lt, option_map, refl, string_bytes}

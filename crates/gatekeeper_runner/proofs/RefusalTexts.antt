@@ -1,4 +1,4 @@
--- The text of a refusal, from its tokens.
+-- The text of a refusal consists of its tokens.
 use Rattle.gatekeeper_runner.proofs.Prelude.{◌≡◌, ℕ, List, [], ◌∷◌, ◌++◌, Option, Some, None, Result, Ok, Err, OnOk, refl, sym, ap, ◌∙◌, append-nil, append_assoc, RefusingPolicy, Refused, refusal_text}
 use Rattle.json.specs.Print.{print}
 use Rattle.json.specs.Token.{Token}
@@ -22,7 +22,7 @@ adds_more {a} {b} {c} {xs} {ys} first second = record {
 pub one : {E : Type 0} {a b : Written} {t : Token} → Writes {E = E} (Ok tt) a b t → AddsTokens a b (t ∷ [])
 one writes = record { before = writes.room.0; added = writes.ok }
 
--- one more token, if it is written
+-- one more token, if writing it succeeds
 pub last : {E : Type 0} {a b c : Written} {ts : List Token} {t : Token} (r : Result (Unit {0}) E) → AddsTokens a b ts → Writes r b c t → OnOk r (AddsTokens a c (ts ++ t ∷ []))
 last {E} {a} {b} {c} {ts} {t} (Ok u) adds writes =
     let more : AddsTokens b c (t ∷ []) = record { before = writes.room.0; added = writes.ok } in
@@ -35,7 +35,7 @@ refusal_is name None (Some label) = print-outline (refusal_tree name None (Some 
 refusal_is name (Some uid) None = print-outline (refusal_tree name (Some uid) None)
 refusal_is name (Some uid) (Some label) = print-outline (refusal_tree name (Some uid) (Some label))
 
--- what was written on no byte
+-- the text that is written to an empty buffer
 pub text_written : (refused : Refused) (uid : Option (List ℕ)) (old new : Written) → old.before ≡ [] → old.tokens ≡ []
     → AddsTokens old new (refusal_tokens (run_error_code refused.error) uid refused.policy) → new.before ++ print new.tokens ≡ refusal_text refused uid
 unfolding refusal_text

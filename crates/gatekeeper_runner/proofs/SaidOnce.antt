@@ -1,8 +1,8 @@
--- A policy says one thing of a review.
+-- A policy has one result for a review.
 use Rattle.gatekeeper_runner.proofs.Prelude.{◌≡◌, ◌≢◌, ℕ, Result, Ok, Err, refl, sym, ap, ◌∙◌, decision_of, OneImage, Reply, Documents, answer_of, decision, ReviewHasOneResult, IsAnswerTo, uid_in, IsDecisionOf, Decision, DecidesReview, decision_from_verdict, RunAgrees, RunError, Memory, cases_once, refused_so}
 use Rattle.policy_glue.specs.OneAnswer as policy
 
--- memory was not wanted
+-- the error is not `Memory`
 said_cause : (r : Result Decision RunError) (e : RunError) → r ≡ Err e → r ≢ Err Memory → e ≢ Memory
 said_cause r e is some same = some (is ∙ ap Err same)
 
@@ -13,7 +13,7 @@ some_answer : (r : Result Reply RunError) (a : Reply) → r ≡ Ok a → r ≢ E
 some_answer r a is same = cc
 
 module _ (compiles_once : policy.CompileHasOneResult) (reviews_once : ReviewHasOneResult) (d : Documents) (n : ℕ) where
-  -- what is said, as whose image stands
+  -- a result with a matching run of the program
   abbrev pub IsTrue : Result Decision RunError → Type 0
   IsTrue r = DecidesReview d n r × RunAgrees OneImage d n r
 
@@ -24,11 +24,11 @@ module _ (compiles_once : policy.CompileHasOneResult) (reviews_once : ReviewHasO
       λ i. decision_from_verdict (same.0 i) (decision_of (same.0 i).failure_policy (same.1 i) (same.2 i)) (uid_in d.review) in
       is.decision_is ∙ both ∙ sym also.decision_is
 
-  -- a review of which something is said has an answer
+  -- a review with a decision has an answer
   answered : (x : Decision) → IsTrue (Ok x) → (a : Reply) × IsAnswerTo d n (Ok a)
   answered x is = (answer_of is.0.case.policy.parsed (decision is.0.case) (uid_in d.review), record { reviews = record { case = is.0.case; answer_is = refl }; runs = is.1 })
 
-  -- and one that is refused has none
+  -- a review with an error has this error as its result
   refused : (e : RunError) → IsTrue (Err e) → IsAnswerTo d n (Err e)
   refused e is = record { reviews = is.0; runs = refused_so Decision Reply OneImage d n e is.1 }
 

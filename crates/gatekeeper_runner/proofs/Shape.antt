@@ -1,4 +1,4 @@
--- The program's command is a simple one, of which clap says exactly what it takes.
+-- The program's command is simple in the sense of `clap`, which states exactly what such a command accepts.
 use Rattle.gatekeeper_runner.proofs.Prelude.{◌≡◌, true, refl, is_simple, is_simple_and_free, option_rule, required_option_rule, steps_rule, with_documents, gatekeeper_app, max_line_rule, policies_rule}
 use Rattle.clap.proofs.OnLiterals.{clap_on_literals}
 

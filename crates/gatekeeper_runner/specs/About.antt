@@ -1,4 +1,4 @@
--- What the program tells of itself.
+-- The help and version texts.
 use Rattle.std.specs.Prelude.{ℕ, List, ◌∷◌, ◌++◌, codes, Option, Some, None, Result, Ok, if◌then◌else◌}
 use Rattle.std.specs.Str.{bytes_eq}
 use Rattle.clap.specs.Words.{Text}
@@ -25,13 +25,13 @@ help_text =
 unfoldable pub version_text : Text
 version_text = codes "gatekeeper 0.20261127\n"
 
--- the text that a word asks for
+-- the text for a word
 abbrev pub text_of_word : Text → Option Text
 text_of_word word =
     if bytes_eq word (codes "--help") then Some help_text
     else (if bytes_eq word (codes "--version") then Some version_text else None)
 
--- the text that the first word after the program's name asks for
+-- the text for the first word after the program's name
 abbrev pub text_asked : Given → Option Text
 text_asked (Ok (name ∷ word ∷ words)) = text_of_word word
 text_asked _ = None

@@ -1,4 +1,4 @@
--- What is read and written where lines are answered.
+-- The bytes that are read and written while lines are answered.
 use Rattle.std.specs.Prelude.{◌≡◌, ℕ, ◌<◌, ◌≤◌, ◌⊎◌, Bool, true, false, List, [], ◌∷◌, ◌++◌, length, take, drop, Option, Some, Result, Ok, Err}
 use Rattle.streams.specs.Lines.{cut, input_lines, readable}
 use Rattle.streams.specs.Streams.{AddsBytes, Stream}
@@ -10,7 +10,7 @@ use Rattle.gatekeeper_runner.specs.Together.{gatekeeper_of, AreGates, Gatekeeper
 use Rattle.gatekeeper_runner.specs.declared.gatekeeper.Gatekeeper.{Gatekeeper as CodeGatekeeper}
 use Rattle.gatekeeper_runner.specs.declared.line.Line.{Line}
 
--- the joined answers to lines
+-- the answers to these lines, joined
 pub data AnswersEach (chosen : Images) (t : Gatekeeper) : List (List ℕ) → List ℕ → Type 0 where
   none : AnswersEach chosen t [] []
   more : {lines : List (List ℕ)} {text : List ℕ} {line answer : List ℕ} → AnswersEach chosen t lines text
@@ -24,7 +24,7 @@ pub record AnsweredAllLines (chosen : Images) (t : Gatekeeper) (input before : L
   pub all_lines : AnswersEach chosen t (input_lines (readable input)) text
   pub all_written : written ≡ Some (before ++ text)
 
--- so many bytes were read, and the lines that ended among them were answered
+-- `read` bytes were read, and the lines that ended among them were answered
 pub record AnsweredSomeLines (chosen : Images) (t : Gatekeeper) (input before : List ℕ) (left written : Option (List ℕ)) : Type 0 where
   pub read : ℕ
   pub within : read ≤ length (readable input)
@@ -33,8 +33,8 @@ pub record AnsweredSomeLines (chosen : Images) (t : Gatekeeper) (input before : 
   pub some_lines : AnswersEach chosen t (cut (take read input)).0 text
   pub some_written : written ≡ Some (before ++ text)
 
--- so many bytes were read, up to a line's end: the answers to the lines before it were written whole, and its own but
--- for a rest
+-- `read` bytes were read, up to the end of a line. The answers to the earlier lines were written completely, and the
+-- answer to this line in part.
 pub record AnsweredPartOfLines (chosen : Images) (t : Gatekeeper) (input before : List ℕ) (left written : Option (List ℕ)) : Type 0 where
   pub read : ℕ
   pub within : read ≤ length (readable input)
@@ -51,7 +51,8 @@ pub record AnsweredPartOfLines (chosen : Images) (t : Gatekeeper) (input before 
   pub is_cut : 0 < length rest
   pub part_written : written ≡ Some (before ++ (text ++ part))
 
--- what was read and written, by the result: `ReadFailed` if a read failed, `WriteFailed` if a write failed
+-- the bytes that were read and written, for each result: `ReadFailed` if a read failed, `WriteFailed` if a write
+-- failed
 abbrev pub AnswersByResult : Images → Gatekeeper → List ℕ → List ℕ → Option (List ℕ) → Option (List ℕ) → Result (Unit {0}) SessionError
     → Type 0
 AnswersByResult chosen t input before left written (Ok u) = AnsweredAllLines chosen t input before left written
@@ -59,7 +60,7 @@ AnswersByResult chosen t input before left written (Err ReadFailed) = AnsweredSo
 AnswersByResult chosen t input before left written (Err WriteFailed) = AnsweredPartOfLines chosen t input before left written
 AnswersByResult chosen t input before left written (Err Memory) = ⊥
 
--- what answering does to a reader and a writer
+-- the effect on the reader and the writer
 pub record AnswersLines (chosen : Images) (t : Gatekeeper) (r r_after w w_after : Stream)
     (result : Result (Unit {0}) SessionError) : Type 0 where
   pub told : (input before : List ℕ) → r.bytes ≡ Some input → w.bytes ≡ Some before
@@ -68,11 +69,11 @@ pub record AnswersLines (chosen : Images) (t : Gatekeeper) (r r_after w w_after 
 
 -- ---- parts
 
--- so it is with the policies by which the gates decide
+-- Q holds for the policies that the gates decide by
 abbrev pub UnderPolicies : CodeGatekeeper → (Gatekeeper → Type 0) → Type 0
 UnderPolicies keeper Q = (policies : List PolicyFile) → AreGates policies keeper.gates.items → Q (gatekeeper_of policies keeper)
 
--- and with the line that is kept
+-- Q holds for these policies and the line in the buffer
 abbrev pub OfLine : CodeGatekeeper → Line → (Gatekeeper → List ℕ → Type 0) → Type 0
 OfLine keeper line Q = UnderPolicies keeper (λ t. (bytes : List ℕ) → KeepsLine t.max_line line bytes → Q t bytes)
 
@@ -82,7 +83,7 @@ pub record Answered (chosen : Images) (t : Gatekeeper) (line : List ℕ) (old ne
   pub answers : AnswersReviewLine chosen t line text
   pub written : AddsBytes old new text
 
--- the answer to a line was written but for a rest
+-- the answer to a line was written in part
 pub record AnsweredPart (chosen : Images) (t : Gatekeeper) (line : List ℕ) (old new : Option (List ℕ)) : Type 0 where
   pub text : List ℕ
   pub answers : AnswersReviewLine chosen t line text
@@ -90,19 +91,19 @@ pub record AnsweredPart (chosen : Images) (t : Gatekeeper) (line : List ℕ) (ol
   pub is_cut : many < length text
   pub written : AddsBytes old new (take many text)
 
--- the lines that ended among the bytes that were heard were answered
+-- the lines that ended among the bytes received so far were answered
 pub record AnswersSoFar (chosen : Images) (t : Gatekeeper) (before heard : List ℕ) (written : Option (List ℕ)) : Type 0 where
   pub text : List ℕ
   pub lines : AnswersEach chosen t (cut heard).0 text
   pub written_is : written ≡ Some (before ++ text)
 
--- the bytes that were heard are all, and their lines were answered
+-- all bytes were received, and their lines were answered
 pub record AnswersToEnd (chosen : Images) (t : Gatekeeper) (before heard : List ℕ) (written : Option (List ℕ)) : Type 0 where
   pub text : List ℕ
   pub lines : AnswersEach chosen t (input_lines heard) text
   pub written_is : written ≡ Some (before ++ text)
 
--- the answers to all lines of the bytes that were heard but the last were written whole, and its own but for a rest
+-- the answers to all received lines but the last were written completely, and the answer to the last one in part
 pub record AnswersCut (chosen : Images) (t : Gatekeeper) (before heard : List ℕ) (written : Option (List ℕ)) : Type 0 where
   pub lines : List (List ℕ)
   pub last : List ℕ
@@ -115,16 +116,16 @@ pub record AnswersCut (chosen : Images) (t : Gatekeeper) (before heard : List �
   pub is_cut : 0 < length rest
   pub part_written : written ≡ Some (before ++ (text ++ part))
 
--- how answering ends: never at a line
+-- the loop ends only at the end of the input
 abbrev pub AnswersEnd : Bool → Images → Gatekeeper → List ℕ → List ℕ → Option (List ℕ) → Type 0
 AnswersEnd false chosen t before heard written = ⊥
 AnswersEnd true chosen t before heard written = AnswersToEnd chosen t before heard written
 
--- how a write fails, at a line or at the input's end
+-- a write failed, after a line or at the end of the input
 abbrev pub AnswersBreak : Bool → Images → Gatekeeper → List ℕ → List ℕ → Option (List ℕ) → Type 0
 AnswersBreak false chosen t before heard written = AnswersCut chosen t before heard written × ((cut heard).1 ≡ [])
 AnswersBreak true chosen t before heard written = AnswersCut chosen t before heard written
 
--- so it is with the policies by which the gates of a gatekeeper decide, which is the one of the start
+-- the gatekeeper is unchanged, and Q holds for the policies that its gates decide by
 abbrev pub UnderSame : CodeGatekeeper → CodeGatekeeper → (Gatekeeper → Type 0) → Type 0
 UnderSame keeper start Q = (keeper ≡ start) × UnderPolicies keeper Q

@@ -1,3 +1,5 @@
+-- Definitions for the gatekeeper: its command line, its decisions, its answers and its program.
+
 pub mod Texts
 pub mod Together
 pub mod Tally

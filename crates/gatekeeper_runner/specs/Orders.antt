@@ -1,4 +1,4 @@
--- What the words ask for.
+-- What the command line asks for.
 use Rattle.std.specs.Prelude.{◌≡◌, ℕ, List, [], ◌∷◌, map, Option, Some, option_map, Result, codes, string_bytes, unwrap_or}
 use Rattle.clap.specs.Words.{App, Kinds, Row, Rule, Text, fault_of, first_of, matches_of, new_app, new_rule, one_of, with_rule}
 use Rattle.clap.specs.Walk.{all_of}
@@ -11,15 +11,15 @@ use Rattle.cli.specs.Limits.{default_steps}
 use Rattle.host.specs.declared.order_error.OrderError.{OrderError}
 use Rattle.gatekeeper_runner.specs.declared.order.Order.{Order as CodeOrder}
 
--- --policy F, once or more
+-- --policy F, one or more times
 unfoldable pub policies_rule : Rule
 policies_rule = record (required_option_rule (codes "policy")) { action = Some arg_action.Append }
 
--- the most bytes of a line that may be asked for, and that are if no number is given
+-- the largest value of --max-line, and its default
 abbrev pub longest_line : ℕ
 longest_line = 16777216
 
--- --max-line N, from 1 on
+-- --max-line N, at least 1
 unfoldable pub max_line_rule : Rule
 max_line_rule = record (new_rule (codes "max-line")) {
   long = Some (codes "max-line");
@@ -32,7 +32,7 @@ unfoldable pub gatekeeper_app : App
 gatekeeper_app =
     with_rule (with_rule (with_documents (with_rule (new_app (codes "gatekeeper")) policies_rule)) steps_rule) max_line_rule
 
--- the reasons to refuse the words, of which there are none where they are taken
+-- the errors of the words; there are none if the words are accepted
 unfoldable pub faults : List Text → Kinds
 faults words = fault_of gatekeeper_app words
 
@@ -40,7 +40,8 @@ faults words = fault_of gatekeeper_app words
 unfoldable pub entered : List Text → List Row
 entered words = matches_of gatekeeper_app words
 
--- the names of the files, the policies in the order of the words, the most steps, and the most bytes of a line
+-- the names of the files, the policies in the order of the words, the limit of steps, and the largest length of a
+-- line
 pub record GatekeeperOrder : Type 0 where
   pub policies : List Text
   pub namespace : Option Text
@@ -48,7 +49,7 @@ pub record GatekeeperOrder : Type 0 where
   pub steps : ℕ
   pub max_line : ℕ
 
--- the same of the code's order
+-- an order of the code
 abbrev pub order_view : CodeOrder → GatekeeperOrder
 order_view o = record {
   policies = map string_bytes o.policies.items;
@@ -58,7 +59,7 @@ order_view o = record {
   max_line = o.max_line;
 }
 
--- from the values of the arguments; a number that is not there is the default one
+-- the order in the values of the arguments; a number that is missing is the default
 unfoldable pub order_from : List Row → GatekeeperOrder
 order_from rows = record {
   policies = unwrap_or (all_of (codes "policy") rows) [];
@@ -68,6 +69,6 @@ order_from rows = record {
   max_line = unwrap_or (number_of (one_of (codes "max-line") rows)) longest_line;
 }
 
--- an order only where the words are taken, and then theirs
+-- an order is returned only if the words are accepted, and then it is theirs
 abbrev pub GatekeeperOrderReturns : List Text → Result CodeOrder OrderError → Type 0
 GatekeeperOrderReturns words result = TakesWords (faults words) (λ o. order_from (entered words) ≡ order_view o) result

@@ -1,4 +1,4 @@
--- What the program does with its words: what it reads and writes, and its status.
+-- The program's effect: what it reads and writes, and its status.
 use Rattle.std.specs.Prelude.{◌≡◌, ℕ, Some, None, Result, Ok, Err}
 use Rattle.clap.specs.Words.{Text}
 use Rattle.streams.specs.Streams.{Stream}
@@ -14,16 +14,16 @@ use Rattle.gatekeeper_runner.specs.Starting.{GatekeeperStarts}
 use Rattle.gatekeeper_runner.specs.Together.{Gatekeeper}
 use Rattle.gatekeeper_runner.specs.AnsweredLines.{AnswersLines}
 
--- the words are taken, and ask for this
+-- the words are accepted, and give this order
 abbrev pub AsksGatekeeper : Given → GatekeeperOrder → Type 0
 AsksGatekeeper given order = Asks faults (λ words. order_from (entered words)) given order
 
--- the lines are answered to the input's end, or until a read or a write fails
+-- the end of answering: the end of the input, or an error if a read or a write failed
 abbrev pub ending_of : Result (Unit {0}) SessionError → Ending
 ending_of (Ok u) = Ok 0
 ending_of (Err e) = Err (session_refusal e)
 
--- what becomes of words that ask for no text
+-- the effect of words that do not ask for a text
 pub data ServesReviews (chosen : Images) (given : Given) (old new : System) : Ending → Type 0 where
   nothing : {r : Refusal} → AsksNothing faults given r → new ≡ old → ServesReviews chosen given old new (Err r)
   not_started : {order : GatekeeperOrder} {r : Refusal} → AsksGatekeeper given order → GatekeeperStarts old.files order (Err r) → new ≡ old
@@ -33,14 +33,14 @@ pub data ServesReviews (chosen : Images) (given : Given) (old new : System) : En
       → AnswersLines chosen keeper old.input new.input old.output new.output result → new.files ≡ old.files
       → ServesReviews chosen given old new (ending_of result)
 
--- nothing is read
+-- no file and no input is read
 pub record ReadsNothing (old new : System) : Type 0 where
   pub files : new.files ≡ old.files
   pub input : new.input ≡ old.input
 
--- what becomes of the words
+-- the effect of the words
 pub data GatekeeperEffect (chosen : Images) (given : Given) (old new : System) : Ending → Type 0 where
-  -- they ask for a text, which is written, or a part of it where a write fails
+  -- the words ask for a text, which is written, or only a part of it if a write fails
   tells : {text : Text} → text_asked given ≡ Some text → ReadsNothing old new → WritesBytes old.output new.output text
       → GatekeeperEffect chosen given old new (Ok 0)
   tells_part : {text : Text} → text_asked given ≡ Some text → ReadsNothing old new → WritesPart old.output new.output text

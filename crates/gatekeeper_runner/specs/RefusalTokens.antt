@@ -1,4 +1,4 @@
--- The tokens of the text of a refusal.
+-- The JSON tokens of a refusal.
 use Rattle.std.specs.Prelude.{◌≡◌, ℕ, List, [], ◌∷◌, ◌++◌, codes, Option, Some, None}
 use Rattle.json.specs.Token.{Token, begin_object, end_object, key, string}
 use Rattle.json.specs.Written.{Written}
@@ -20,7 +20,7 @@ abbrev pub refusal_tokens : List ℕ → Option (List ℕ) → Option RefusingPo
 refusal_tokens name uid label =
     begin_object ∷ ((text_tokens (codes "refused") name ++ (uid_tokens uid ++ label_tokens label)) ++ end_object ∷ [])
 
--- these tokens are written after those that were
+-- these tokens are written after the earlier ones
 pub record AddsTokens (old new : Written) (tokens : List Token) : Type 0 where
   pub before : new.before ≡ old.before
   pub added : new.tokens ≡ old.tokens ++ tokens

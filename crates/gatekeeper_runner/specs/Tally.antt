@@ -1,4 +1,4 @@
--- What the first policies decide of a review.
+-- The results of the first policies for a review.
 use Rattle.std.specs.Prelude.{◌≡◌, ◌≢◌, ℕ, List, [], ◌∷◌, ◌++◌, map, option_map, Result, Err, String, string_bytes}
 use Rattle.std.specs.declared.alloc.Global.{Global}
 use Rattle.policy_glue.specs.Rejections.{rejection_view}
@@ -8,12 +8,12 @@ use Rattle.admission.specs.declared.run_error.RunError.{RunError, TheVariants.Me
 use Rattle.gatekeeper_runner.specs.Together.{AreResults, first_refused, joined, Gatekeeper, label_of, RefusingPolicy, PolicyFile, PolicyResult, Refused, refused_view, rejections}
 use Rattle.gatekeeper_runner.specs.declared.tally.Tally.{Tally}
 
--- the rejections of these results, joined, and the first refusal among them
+-- the joined rejections among these results, and the first refusal
 pub record IsTallyOf (results : List PolicyResult) (tally : Tally) : Type 0 where
   pub rejection : option_map rejection_view tally.rejection ≡ rejections results
   pub refused : option_map refused_view tally.refused ≡ first_refused results
 
--- one more result of a policy with this label, which is not that memory ran out
+-- the result of a policy with this label is added; no allocation failed
 pub record AddsResult (label : RefusingPolicy) (result : Result Decision RunError) (before after : Tally) : Type 0 where
   pub no_memory : result ≢ Err Memory
   pub adds : (results : List PolicyResult) (policy : PolicyFile) → label ≡ label_of policy → IsTallyOf results before
@@ -26,6 +26,6 @@ pub record AreTallied (chosen : Images) (t : Gatekeeper) (review : List ℕ) (po
   pub are : AreResults chosen t review results
   pub tallied : IsTallyOf results tally
 
--- what is made of a tally at the end
+-- the joint result for a tally
 abbrev pub ending_of : Tally → String Global → Result Decision Refused
 ending_of tally uid = joined (option_map rejection_view tally.rejection) (option_map refused_view tally.refused) (string_bytes uid)

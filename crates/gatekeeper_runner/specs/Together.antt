@@ -1,4 +1,4 @@
--- What several policies decide of a review together.
+-- The joint decision of several policies on a review.
 use Rattle.std.specs.Prelude.{◌≡◌, ◌≢◌, ℕ, List, [], ◌∷◌, ◌++◌, codes, fold, map, Option, Some, None, Result, Ok, Err}
 use Rattle.std.specs.Prelude.{option_map, string_bytes, unwrap_or, Vec, String}
 use Rattle.value_store.specs.Placing.{Contents}
@@ -24,8 +24,8 @@ pub record PolicyFile : Type 0 where
   pub file : List ℕ
   pub document : List ℕ
 
--- what every line is answered under: the policies in their order, the other documents, the most steps of a policy's
--- program, the most bytes of a line
+-- what every line is decided under: the policies in order, the other documents, the limit of steps for a policy's
+-- program, and the largest length of a line
 pub record Gatekeeper : Type 0 where
   pub policies : List PolicyFile
   pub namespace : Option (List ℕ)
@@ -33,12 +33,12 @@ pub record Gatekeeper : Type 0 where
   pub steps : ℕ
   pub max_line : ℕ
 
--- what a refusal tells of a policy
+-- the label of a policy in a refusal
 pub record RefusingPolicy : Type 0 where
   pub name : List ℕ
   pub failure_policy : List ℕ
 
--- the text at `metadata.name`, or else the name of the file; and the one at `spec.failurePolicy`, or else `Fail`
+-- the text at `metadata.name`, or else the name of the file; and the text at `spec.failurePolicy`, or else `Fail`
 abbrev pub label_of : PolicyFile → RefusingPolicy
 label_of p = record {
   name = unwrap_or (text_at (codes "metadata") (codes "name") (document_of p.document)) p.file;
@@ -47,21 +47,21 @@ label_of p = record {
 
 -- ---- one policy
 
--- the documents of a review under one of the policies
+-- the documents for a review under one of the policies
 abbrev pub under : Gatekeeper → List ℕ → List ℕ → Documents
 under t policy review = record { policy = policy; review = review; namespace = t.namespace; params = t.params }
 
--- what one policy decides of a review, or why it does not, and that the run of its program stands as that tells
+-- the result of one policy for a review, and the matching state of its program's run
 abbrev pub DecidesAlone : Images → Gatekeeper → List ℕ → List ℕ → Result Decision RunError → Type 0
 DecidesAlone chosen t policy review result =
     DecidesReview (under t policy review) t.steps result × RunAgrees chosen (under t policy review) t.steps result
 
--- a policy, and what it decides or why it does not
+-- a policy and its result
 pub record PolicyResult : Type 0 where
   pub policy : PolicyFile
   pub result : Result Decision RunError
 
--- the policy decides this, or refuses for this; memory did not run out
+-- this is the result of the policy, and no allocation failed
 pub record IsResult (chosen : Images) (t : Gatekeeper) (review : List ℕ) (r : PolicyResult) : Type 0 where
   pub decides : DecidesAlone chosen t r.policy.document review r.result
   pub no_memory : r.result ≢ Err Memory
@@ -72,18 +72,18 @@ AreResults chosen t review (r ∷ rs) = IsResult chosen t review r × AreResults
 
 -- ---- all policies
 
--- a further policy's rejection: the messages with `; ` between them, the reason of the first
+-- the rejection of one more policy is added: the messages joined with `; `, and the reason of the first
 abbrev pub and_also : Option Rejection → Option Rejection → Option Rejection
 and_also None next = next
 and_also (Some first) None = Some first
 and_also (Some first) (Some next) = Some (record { message = first.message ++ (codes "; " ++ next.message); reason = first.reason })
 
--- what a policy has against the request, if it decides
+-- the rejection in a result, if the policy decided and rejects
 abbrev pub rejection_in : Result Decision RunError → Option Rejection
 rejection_in (Ok decision) = decision.rejection
 rejection_in (Err e) = None
 
--- the rejections of the policies that decide, joined
+-- the rejections of the policies that decided, joined
 abbrev pub rejections : List PolicyResult → Option Rejection
 rejections results = fold and_also None (map (λ r. rejection_in r.result) results)
 
@@ -96,31 +96,32 @@ abbrev pub refused_or : PolicyFile → Result Decision RunError → Option Refus
 refused_or policy (Ok decision) next = next
 refused_or policy (Err e) next = Some (record { error = e; policy = Some (label_of policy) })
 
--- the first refusal of a policy that does not decide
+-- the first refusal among these results
 abbrev pub first_refused : List PolicyResult → Option Refused
 first_refused [] = None
 first_refused (r ∷ rs) = refused_or r.policy r.result (first_refused rs)
 
--- one rejection is a decision, whichever policy refuses; else the first refusal is the answer; else the request is allowed
+-- the joint result: a rejection if a policy rejects, even if others refuse; else the first refusal; else the request
+-- is allowed
 abbrev pub joined : Option Rejection → Option Refused → List ℕ → Result Decision Refused
 joined (Some rejection) refused uid = Ok (record { rejection = Some rejection; uid = uid })
 joined None (Some refused) uid = Err refused
 joined None None uid = Ok (record { rejection = None; uid = uid })
 
--- the values of the roots on which all policies decide, or why there are none
+-- the values of the roots that all policies decide on, or why there are none
 abbrev pub values_under : Gatekeeper → List ℕ → Result Contents RunError
 values_under t review = contents_given (Some review) t.namespace t.params
 
--- what all policies decide together, or why the review is refused
+-- the joint decision of all policies, or why the review is refused
 pub data DecideTogether (chosen : Images) (t : Gatekeeper) (review : List ℕ) : Result Decision Refused → Type 0 where
-  -- before any policy is asked
+  -- refused before any policy is asked
   no_values : {e : RunError} → values_under t review ≡ Err e
       → DecideTogether chosen t review (Err (record { error = e; policy = None }))
   decided : {values : Contents} (results : List PolicyResult) → values_under t review ≡ Ok values
       → map (λ r. r.policy) results ≡ t.policies → AreResults chosen t review results
       → DecideTogether chosen t review (joined (rejections results) (first_refused results) (uid_in review))
 
--- ---- what the code keeps of them
+-- ---- values of the code
 
 abbrev pub label_view : PolicyLabel → RefusingPolicy
 label_view l = record { name = string_bytes l.name; failure_policy = string_bytes l.failure_policy }
@@ -128,18 +129,18 @@ label_view l = record { name = string_bytes l.name; failure_policy = string_byte
 abbrev pub refused_view : CodeRefused → Refused
 refused_view r = record { error = r.error; policy = option_map label_view r.policy }
 
--- the decision or the refusal that the code returns
+-- a decision or refusal of the code
 abbrev pub together_view : Result CodeDecision CodeRefused → Result Decision Refused
 together_view (Ok decision) = Ok (decision_value decision)
 together_view (Err refused) = Err (refused_view refused)
 
--- the gate of this policy
+-- the gate belongs to this policy
 pub record IsGateOf (p : PolicyFile) (g : NamedGate) : Type 0 where
   pub policy : IsPolicyOf p.document g.gate
   pub image : OneImage g.gate.policy g.gate.image
   pub label : label_view g.label ≡ label_of p
 
--- the gates of these policies
+-- the gates belong to these policies
 abbrev pub AreGates : List PolicyFile → List NamedGate → Type 0
 AreGates [] [] = Unit {0}
 AreGates [] (gate ∷ gates) = ⊥
@@ -155,7 +156,7 @@ gatekeeper_of policies k = record {
   max_line = k.max_line;
 }
 
--- the values and the uid of a review under the gatekeeper's documents
+-- the values and the uid of a review, with the gatekeeper's documents
 pub record AreValuesOf (t : Gatekeeper) (review : List ℕ) (values : Contents) (uid : List ℕ) : Type 0 where
   pub values_are : values_under t review ≡ Ok values
   pub uid_is : uid ≡ uid_in review

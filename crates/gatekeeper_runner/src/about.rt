@@ -1,12 +1,11 @@
-//! What the program tells of itself.
+//! The help and version texts.
 ghost use Rattle.std.specs.Prelude.{◌≡◌, option_map};
 ghost use Rattle.cli.specs.Ending.{given_of};
 ghost use Rattle.gatekeeper_runner.specs.About.{help_text, text_asked, text_of_word, version_text};
 
 use host::OrderError;
 
-/// The text that the words ask for: that for `--help` or `--version`, if this is the first word
-/// after the program's name.
+/// The text for `--help` or `--version`, if this is the first word after the program's name.
 pub fn text_asked(words: &Result<Vec<String>, OrderError>) -> Option<&'static str>
     ensures { option_map (λ s. s.now) result ≡ text_asked (given_of words.now) }
 {
@@ -19,7 +18,7 @@ pub fn text_asked(words: &Result<Vec<String>, OrderError>) -> Option<&'static st
     }
 }
 
-/// The text that a word asks for.
+/// The text for this word.
 fn text_of_word(word: &str) -> Option<&'static str>
     ensures { option_map (λ s. s.now) result ≡ text_of_word word.now }
 {

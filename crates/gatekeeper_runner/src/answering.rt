@@ -1,4 +1,4 @@
-//! Line after line.
+//! Reads reviews line by line and writes an answer to each.
 ghost use Rattle.std.specs.Prelude.{◌≡◌, ◌<◌, ◌≤◌, false, length, IfOk, OnErr, OnOk};
 ghost use Rattle.streams.specs.Streams.{one_more, stream};
 ghost use Rattle.policy_glue.specs.OneImage.{OneImage};
@@ -15,15 +15,15 @@ use policy_glue::response_text;
 use std::alloc::{AllocError, Global};
 use streams::{Failed, LineSource, Listener, SessionError, Sink, write_all};
 
-/// What is written where there is no memory for a line's answer.
+/// The answer to a line if an allocation fails.
 const NO_MEMORY: &[u8] = b"{\"refused\":\"memory\"}\n";
 
-/// Answers each line before the next is read, until the input's end. Of an input only the first
-/// 2^63 bytes are read.
+/// Answers each line before it reads the next, until the end of the input. At most the first 2^63
+/// bytes of the input are read.
 ///
 /// # Errors
 ///
-/// `ReadFailed` if a read failed and `WriteFailed` if a write failed or took no byte, which end it.
+/// `ReadFailed` if a read failed, `WriteFailed` if a write failed or took no byte. Either ends it.
 pub fn answer_lines<R: LineSource, W: Sink>(
     keeper: &Gatekeeper,
     r: &mut R,
@@ -42,11 +42,11 @@ pub fn answer_lines<R: LineSource, W: Sink>(
     r.hear_lines(&mut answers, w)
 }
 
-/// What answers the lines.
+/// Receives the parts of the input and answers the lines.
 #[derive(Drop)]
 pub struct Answers<'a> {
     keeper: &'a Gatekeeper,
-    /// What is kept of the next line.
+    /// The part of the current line that was read so far.
     line: Line,
 }
 
@@ -81,7 +81,7 @@ impl<'a> Listener for Answers<'a> {
     }
 }
 
-/// Answers a line, and writes nothing for one that is empty or blank.
+/// Writes the answer to a line; nothing for an empty or blank one.
 fn answer_line<W: Sink>(keeper: &Gatekeeper, line: &Line, w: &mut W) -> Result<(), Failed>
     ensures whole { OnOk result (OfLine keeper.now line.now (λ t bytes. Answered OneImage t bytes (W.taken w.old) (W.taken w.new))) }
     ensures part { OnErr result (OfLine keeper.now line.now (λ t bytes. AnsweredPart OneImage t bytes (W.taken w.old) (W.taken w.new))) }
@@ -97,7 +97,7 @@ fn answer_line<W: Sink>(keeper: &Gatekeeper, line: &Line, w: &mut W) -> Result<(
     }
 }
 
-/// The answer to a line that is not empty, with its line feed; nothing if the line is blank.
+/// The answer to a nonempty line, with its line feed; empty if the line is blank.
 fn answer_of(keeper: &Gatekeeper, line: &Line) -> Result<Vec<u8>, AllocError>
     ensures { IfOk result (λ text. OfLine keeper.now line.now (λ t bytes. 0 < length bytes → AnswersReviewLine OneImage t bytes text.items)) }
 {
@@ -113,7 +113,7 @@ fn answer_of(keeper: &Gatekeeper, line: &Line) -> Result<Vec<u8>, AllocError>
     with_line_feed(decision_text(keeper, line.bytes.as_slice())?)
 }
 
-/// Whether no byte is other than a space, a tab or a carriage return.
+/// Whether all bytes are spaces, tabs or carriage returns.
 fn is_blank(line: &[u8]) -> bool
     ensures { result ≡ is_blank line.now }
 {
@@ -130,7 +130,7 @@ fn with_line_feed(text: Vec<u8>) -> Result<Vec<u8>, AllocError>
     Ok(line)
 }
 
-/// The text of the refusal of a line that is too long.
+/// The refusal of a line that is too long.
 fn too_long_text(alloc: Global) -> Result<Vec<u8>, AllocError>
     ensures { IfOk result (λ text. text.items ≡ too_long_text) }
 {
@@ -141,7 +141,7 @@ fn too_long_text(alloc: Global) -> Result<Vec<u8>, AllocError>
     refusal_text(alloc, &refused, None)
 }
 
-/// The text by what the policies decide of the review in a line.
+/// The answer to the review in a line.
 fn decision_text(keeper: &Gatekeeper, line: &[u8]) -> Result<Vec<u8>, AllocError>
     ensures { IfOk result (λ text. UnderPolicies keeper.now (λ t. length line.now ≤ t.max_line → is_blank line.now ≡ false → AnswersReviewLine OneImage t line.now (line_of text.items))) }
 {
@@ -149,7 +149,7 @@ fn decision_text(keeper: &Gatekeeper, line: &[u8]) -> Result<Vec<u8>, AllocError
     outcome_text(keeper.alloc, outcome, line)
 }
 
-/// The text of a decision or a refusal of the review in a line.
+/// The text of a decision on the review in a line, or of its refusal.
 fn outcome_text(
     alloc: Global,
     outcome: Result<Decision, Refused>,

@@ -1,4 +1,4 @@
-//! The program as `clap` is told it, and what it makes of the words.
+//! The command line as it is declared to `clap`.
 ghost use Rattle.std.specs.Prelude.{◌≡◌, map, IfOk, false};
 ghost use Rattle.clap.specs.Words.{app_of, found_of, rows_of, rule_of};
 ghost use Rattle.cli.specs.Parsing.{TakesWords};
@@ -10,7 +10,7 @@ use cli::{parse, steps_argument, with_documents};
 use host::OrderError;
 use std::alloc::{AllocError, Global};
 
-// --policy F, once or more
+// --policy F, one or more times
 #[tactic(auto, unfolding(crate::specs::Orders::policies_rule, cli::specs::Arguments::required_option_rule))]
 fn policies_argument<'a>(alloc: Global) -> Arg<'a>
     ensures rule { rule_of result ≡ policies_rule }
@@ -22,7 +22,7 @@ fn policies_argument<'a>(alloc: Global) -> Arg<'a>
         .action(ArgAction::Append)
 }
 
-// --max-line N, the most bytes of a line
+// --max-line N, the largest length of a line in bytes
 #[tactic(auto, unfolding(crate::specs::Orders::max_line_rule))]
 fn max_line_argument<'a>(alloc: Global) -> Arg<'a>
     ensures rule { rule_of result ≡ max_line_rule }
@@ -43,7 +43,7 @@ fn gatekeeper_command<'a>(alloc: Global) -> Result<Command<'a>, AllocError>
     command.arg(max_line_argument(alloc))
 }
 
-/// What `clap` makes of the words, the program's name first, or why it does not take them.
+/// The arguments that `clap` finds in the words, or its error. The program's name comes first.
 pub fn gatekeeper_matches<'a>(
     alloc: Global,
     words: &'a [&'a str],

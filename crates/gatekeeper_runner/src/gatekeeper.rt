@@ -1,4 +1,4 @@
-//! What decides the lines.
+//! Decides reviews under several policies.
 ghost use Rattle.std.specs.Prelude.{◌≡◌, ◌≢◌, ℕ, List, None, Err, IfOk, string_bytes};
 ghost use Rattle.value_table.specs.Held.{held_contents};
 ghost use Rattle.policy_glue.specs.OneImage.{OneImage};
@@ -15,26 +15,27 @@ use std::alloc::{AllocError, Global};
 use value_store::ValueStore;
 use value_table::{SharedDocuments, Table};
 
-/// The policies and the documents under which each line is decided. No line changes them.
+/// The policies and the documents under which each line is decided. They are the same for all
+/// lines.
 #[derive(Drop)]
 pub struct Gatekeeper {
     pub alloc: Global,
-    /// The policies, in their order.
+    /// The policies, in order.
     pub gates: Vec<NamedGate>,
-    /// The namespace and the params, each null if it is not given. They are read once.
+    /// The namespace and the params, each null if it is not given. They are parsed once.
     pub documents: SharedDocuments,
-    /// The most steps that a policy's program may take.
+    /// The largest number of steps of a policy's program.
     pub steps: u64,
-    /// The most bytes of a line that is read.
+    /// The largest length of a line in bytes.
     pub max_line: u64,
 }
 
 impl Gatekeeper {
-    /// What the policies decide of a review together, or why it is refused.
+    /// The joint decision of the policies on a review, or why the review is refused.
     ///
     /// # Errors
     ///
-    /// An allocation failed, which says nothing of the review.
+    /// An allocation failed, which says nothing about the review.
     pub fn decision(&self, review: &[u8]) -> Result<Result<Decision, Refused>, AllocError>
         ensures { IfOk result (λ r. (policies : List PolicyFile) → AreGates policies self.now.gates.items → DecideTogether OneImage (gatekeeper_of policies self.now) review.now (together_view r)) }
     {
@@ -44,7 +45,7 @@ impl Gatekeeper {
         }
     }
 
-    /// What the policies decide of the review with this uid whose roots are in the table.
+    /// The decision on the review with this uid whose roots are in the table.
     fn decision_on(
         &self,
         table: &Table,
@@ -63,7 +64,7 @@ impl Gatekeeper {
         Ok(tally.ending(uid))
     }
 
-    /// What one policy decides of this review. Its program runs on a copy of the table, which
+    /// The decision of one policy on this review. Its program runs on a copy of the table, which
     /// shares the table's values.
     fn decision_by(&self, gate: &NamedGate, table: &Table, uid: &str) -> Result<Decision, RunError>
         ensures { (policies : List PolicyFile) (policy : PolicyFile) (review : List ℕ) → IsGateOf policy gate.now
@@ -74,7 +75,7 @@ impl Gatekeeper {
     }
 }
 
-/// The refusal of a review for which no policy is asked. The error is that memory ran out.
+/// The refusal of a review before any policy is asked. Fails if an allocation failed.
 fn refused_first(error: RunError) -> Result<Result<Decision, Refused>, AllocError>
     ensures { IfOk result (λ r. (error ≢ Memory) × (together_view r ≡ Err (record { error = error; policy = None }))) }
 {

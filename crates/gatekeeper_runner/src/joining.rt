@@ -1,4 +1,4 @@
-//! What several policies have against a request.
+//! Joins the rejections of several policies.
 ghost use Rattle.std.specs.Prelude.{◌≡◌, option_map, IfOk, Some};
 ghost use Rattle.policy_glue.specs.Rejections.{rejection_view};
 ghost use Rattle.gatekeeper_runner.specs.Together.{and_also};
@@ -6,7 +6,7 @@ ghost use Rattle.gatekeeper_runner.specs.Together.{and_also};
 use policy_glue::Rejection;
 use std::alloc::AllocError;
 
-/// Both rejections: the messages with `; ` between them, the reason of the first.
+/// Both rejections as one: the messages joined with `; `, and the reason of the first.
 pub fn and_also(
     first: Option<Rejection>,
     next: Option<Rejection>,
@@ -22,7 +22,7 @@ pub fn and_also(
     }
 }
 
-/// The message of the next after that of the first.
+/// The first rejection with the message of the next one appended.
 fn joined(first: Rejection, next: &Rejection) -> Result<Rejection, AllocError>
     ensures { IfOk result (λ o. Some (rejection_view o) ≡ and_also (Some (rejection_view first)) (Some (rejection_view next.now))) }
 {

@@ -1,4 +1,4 @@
-//! What refusals tell of the policies in documents.
+//! Labels of policies, read from their documents.
 ghost use Rattle.std.specs.Prelude.{◌≡◌, IfOk};
 ghost use Rattle.gatekeeper_runner.specs.Together.{label_of, label_view};
 
@@ -7,7 +7,7 @@ use crate::texts::text_at;
 use policy_glue::parse_document;
 use std::alloc::{AllocError, Global};
 
-/// The label of the policy in a document, which the file of this name holds.
+/// The label of the policy in this document. `file` is the name of its file.
 pub fn label_of(alloc: Global, file: &str, document: &[u8]) -> Result<PolicyLabel, AllocError>
     ensures { IfOk result (λ l. label_view l ≡ label_of (record { file = file.now; document = document.now })) }
 {

@@ -1,11 +1,12 @@
-//! What is proved of answers beside what they are, the clause of a function that does nothing.
+//! Laws: what is proved of the answers in general. Each is the clause of a function that does
+//! nothing.
 ghost use Rattle.gatekeeper_runner.specs.SameAnswers.{LinesHaveOneAnswer};
 
 use admission::laws::reviews_once;
 use policy_glue::laws::compiles_once;
 
-/// Under the same policies, documents and steps a line has one answer, whatever stands before it,
-/// but for want of memory.
+/// Under the same policies, documents and steps a line has one answer. It does not depend on the
+/// lines before it, unless an allocation fails.
 pub fn answers_once()
     ensures { LinesHaveOneAnswer }
 {

@@ -1,5 +1,5 @@
-//! Reviews read line by line and decided under policies that are compiled once. `exit_code` is the
-//! program whole, and `answer_lines` what it does with its input.
+//! Reads reviews line by line and decides each under policies that are compiled once. `exit_code`
+//! is the whole program; `answer_lines` answers its input.
 #![tactic(auto)]
 
 mod about;

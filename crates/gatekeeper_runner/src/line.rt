@@ -1,23 +1,23 @@
-//! The line that is read.
+//! The buffer of the current line.
 ghost use Rattle.std.specs.Prelude.{◌≡◌, ◌++◌, [], ◌<◌, ◌≤◌, ℕ, List, length, nat_lt, suc, take, true, false, vec_capacity};
 ghost use Rattle.gatekeeper_runner.specs.Lines.{kept_room, KeepsLine};
 
 use crate::limits::KEPT_ROOM;
 use std::alloc::Global;
 
-/// What is kept of a line while it is read.
+/// The part of a line that was read so far.
 #[derive(Drop)]
 pub struct Line {
-    /// The most bytes of a line that is read; a longer one is refused.
+    /// The largest length in bytes; a longer line is refused.
     pub most: u64,
-    /// Its bytes, up to one more than the most.
+    /// The bytes of the line, at most one more than `most`.
     pub bytes: Vec<u8>,
-    /// Whether there was no memory for one of them.
+    /// Whether an allocation for them failed.
     pub lacks: bool,
 }
 
 impl Line {
-    /// No byte so far of a line that may have this many. It takes no memory.
+    /// An empty line with this largest length. Nothing is allocated.
     pub fn new(alloc: Global, most: u64) -> Line
         ensures { KeepsLine most result [] }
     {
@@ -28,7 +28,7 @@ impl Line {
         }
     }
 
-    /// The line's next part.
+    /// Appends a part of the line.
     pub fn extend(&mut self, part: &[u8])
         ensures { (most : ℕ) (line : List ℕ) → KeepsLine most self.old line → KeepsLine most self.new (line ++ part.now) }
     {
@@ -42,7 +42,7 @@ impl Line {
         }
     }
 
-    /// The next line begins. The room of a long line is given back.
+    /// Starts the next line. The memory of a long line is released.
     pub fn clear(&mut self)
         ensures kept { (most : ℕ) (line : List ℕ) → KeepsLine most self.old line → KeepsLine most self.new [] }
         ensures room { vec_capacity self.new.bytes ≤ kept_room }
@@ -62,7 +62,7 @@ impl Line {
         !self.lacks && self.bytes.is_empty()
     }
 
-    /// Whether it has more bytes than the most that are read.
+    /// Whether it is longer than the largest length.
     pub fn is_too_long(&self) -> bool
         ensures { result ≡ nat_lt self.now.most (length self.now.bytes.items) }
     {
@@ -70,7 +70,7 @@ impl Line {
     }
 }
 
-/// The first bytes, at most one more than so many.
+/// The first bytes, at most `most` and one more.
 fn front(bytes: &[u8], most: u64) -> &[u8]
     ensures { result.now ≡ take (suc most) bytes.now }
 {

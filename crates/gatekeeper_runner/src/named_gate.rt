@@ -1,9 +1,9 @@
-//! Policies that are compiled, with their names.
+//! Compiled policies with their labels.
 
 use crate::policy_label::PolicyLabel;
 use admission::Gate;
 
-/// A policy that is compiled, and what its refusals tell of it.
+/// A compiled policy, and the label that its refusals show.
 #[derive(Drop)]
 pub struct NamedGate {
     pub gate: Gate,

@@ -1,14 +1,14 @@
-//! What the words ask for.
+//! What the command line asks for.
 
-/// The names of files, and numbers.
+/// The names of the files, and the limits.
 #[derive(Drop)]
 pub struct Order {
-    /// Of the policies, in the order of the words.
+    /// The policies' files, in the order of the words.
     pub policies: Vec<String>,
     pub namespace: Option<String>,
     pub params: Option<String>,
-    /// The most steps of a policy's program.
+    /// The largest number of steps of a policy's program.
     pub steps: u64,
-    /// The most bytes of a line.
+    /// The largest length of a line in bytes.
     pub max_line: u64,
 }

@@ -1,4 +1,4 @@
-//! From the words of a command line to the order that they give.
+//! Reads the command line.
 ghost use Rattle.std.specs.Prelude.{◌≡◌, codes, map, string_bytes, unwrap_or, IfOk, []};
 ghost use Rattle.clap.specs.Words.{found_of, one_of, rows_of};
 ghost use Rattle.clap.specs.Walk.{all_of};
@@ -13,12 +13,12 @@ use cli::{name_in, number_in, steps_in};
 use host::OrderError;
 use std::alloc::{AllocError, Global};
 
-/// Reads the words of a command line, the program's own name first.
+/// Reads the words of a command line. The program's name comes first.
 ///
 /// # Errors
 ///
-/// `InvalidArguments` exactly if `clap` refuses the words; `Memory` where memory runs out, which
-/// says nothing of the words.
+/// `InvalidArguments` exactly if `clap` refuses the words. `Memory` if an allocation fails, which
+/// says nothing about the words.
 pub fn order_of<'a>(alloc: Global, words: &'a [&'a str]) -> Result<Order, OrderError>
     ensures { GatekeeperOrderReturns (map (λ s. s.now) words.entry.now) result }
 {
@@ -44,14 +44,14 @@ fn order_from(alloc: Global, matches: &ArgMatches) -> Result<Order, AllocError>
     })
 }
 
-// the most bytes of a line that the words allow
+// the value of --max-line
 fn max_line_in(matches: &ArgMatches) -> u64
     ensures { result ≡ unwrap_or (number_of (one_of (codes "max-line") (rows_of (found_of matches.now)))) longest_line }
 {
     number_in(matches, "max-line").unwrap_or(LONGEST_LINE)
 }
 
-// the texts of the argument `id`, each as a name of its own
+// the values of the argument `id`
 fn names_in(alloc: Global, matches: &ArgMatches, id: &str) -> Result<Vec<String>, AllocError>
     ensures { IfOk result (λ names. map string_bytes names.items ≡ unwrap_or (all_of id.now (rows_of (found_of matches.now))) []) }
 {
@@ -61,7 +61,7 @@ fn names_in(alloc: Global, matches: &ArgMatches, id: &str) -> Result<Vec<String>
     }
 }
 
-// the texts, each as a name of its own
+// copies of the texts
 fn names_of(alloc: Global, texts: &[&str]) -> Result<Vec<String>, AllocError>
     ensures { IfOk result (λ names. map string_bytes names.items ≡ map (λ s. s.now) texts.now) }
 {

@@ -1,20 +1,20 @@
-//! What refusals tell of policies.
+//! Labels of policies.
 ghost use Rattle.std.specs.Prelude.{◌≡◌, IfOk};
 ghost use Rattle.gatekeeper_runner.specs.Together.{label_view};
 
 use std::alloc::{AllocError, Global};
 
-/// What a refusal tells of a policy.
+/// What a refusal shows of the policy that caused it.
 #[derive(Drop)]
 pub struct PolicyLabel {
-    /// Its `metadata.name`, or the name of its file.
+    /// Its `metadata.name`, or else the name of its file.
     pub name: String,
     /// Its `failurePolicy`.
     pub failure_policy: String,
 }
 
 impl PolicyLabel {
-    /// A label of its own with the same texts.
+    /// A copy of the label.
     pub fn copy(&self, alloc: Global) -> Result<PolicyLabel, AllocError>
         ensures { IfOk result (λ l. label_view l ≡ label_view self.now) }
     {

@@ -1,4 +1,4 @@
-//! The program: from its words to its exit code.
+//! The program, from its words to its exit code.
 ghost use Rattle.std.specs.Prelude.{◌≡◌, map, string_bytes, IfErr, IfOk};
 ghost use Rattle.std.specs.Process.{exit_status};
 ghost use Rattle.streams.specs.Streams.{stream};
@@ -20,10 +20,10 @@ use std::alloc::Global;
 use std::process::ExitCode;
 use streams::{LineSource, Sink, write_all};
 
-/// Answers the lines of the input under the policies that the words name, the program's own name
-/// first, and answers the code that the program ends with. A refusal is one line of standard error;
-/// if that cannot be written, the code is the same. `words` is `InvalidArguments` if the system's
-/// words are no texts, and `Memory` where there is no memory for them.
+/// Answers the lines of the input under the policies that the words name, and returns the exit
+/// code. The program's name comes first. A refusal is one line on standard error; the exit code is
+/// the same if that line cannot be written. `words` is `InvalidArguments` if an argument is not
+/// UTF-8, and `Memory` if an allocation for them failed.
 pub fn exit_code<F: Files, R: LineSource, W: Sink, E: Sink>(
     alloc: Global,
     words: Result<Vec<String>, OrderError>,
@@ -42,7 +42,7 @@ pub fn exit_code<F: Files, R: LineSource, W: Sink, E: Sink>(
     exit_with(alloc, ending, refusals)
 }
 
-/// Writes the text that the words ask for, or answers the lines. Returns the status.
+/// Writes the help or version text, or answers the lines. Returns the status.
 fn ending<F: Files, R: LineSource, W: Sink>(
     alloc: Global,
     words: Result<Vec<String>, OrderError>,
@@ -90,7 +90,7 @@ fn serve<F: Files, R: LineSource, W: Sink>(
     Ok(0)
 }
 
-/// The order that the words give.
+/// Reads the command line.
 fn asked_order(alloc: Global, words: &[String]) -> Result<Order, OrderError>
     ensures { GatekeeperOrderReturns (map string_bytes words.now) result }
 {

@@ -7,6 +7,6 @@ use admission::RunError;
 #[derive(Drop)]
 pub struct Refused {
     pub error: RunError,
-    /// The policy that does not decide it. None if it is refused before any policy is asked.
+    /// The policy that caused it. `None` if the review is refused before any policy is asked.
     pub policy: Option<PolicyLabel>,
 }

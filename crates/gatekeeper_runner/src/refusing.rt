@@ -13,7 +13,7 @@ use json::Writer;
 use policy_glue::parse_document;
 use std::alloc::{AllocError, Global};
 
-/// The text of a refusal of the review in a line, with the uid of its request where it shows one.
+/// The refusal of the review in a line, with the uid of its request if the line has one.
 pub fn line_refusal_text(
     alloc: Global,
     refused: &Refused,

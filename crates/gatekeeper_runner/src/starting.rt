@@ -1,4 +1,4 @@
-//! The start, before a line is read.
+//! Prepares the gatekeeper before the first line.
 ghost use Rattle.std.specs.Prelude.{◌≡◌, map, string_bytes, ℕ, List};
 ghost use Rattle.gatekeeper_runner.specs.Orders.{order_view};
 ghost use Rattle.gatekeeper_runner.specs.Starting.{GatesFrom, KeepsFrom, OpensGate};
@@ -13,13 +13,13 @@ use host::Files;
 use std::alloc::Global;
 use value_table::SharedDocuments;
 
-/// Compiles the policies in the files that the order names, in their order, and reads the other
+/// Compiles the policies in the files that the order names, in order, and then reads the other
 /// files.
 ///
 /// # Errors
 ///
-/// The first refusal: of a policy's file or of its policy, then of the namespace's file, then of
-/// the params'. `Memory` where memory runs out, which says nothing of the rest.
+/// The first refusal: of a policy's file or its policy, then of the namespace's file, then of the
+/// params' file. `Memory` if an allocation fails, which says nothing about the files.
 pub fn start<F: Files>(alloc: Global, order: &Order, files: &mut F) -> Result<Gatekeeper, Refusal>
     ensures keeps { KeepsFrom (F.known files.old) (order_view order.now) result }
     ensures known { F.known files.new ≡ F.known files.old }
@@ -37,7 +37,7 @@ pub fn start<F: Files>(alloc: Global, order: &Order, files: &mut F) -> Result<Ga
     })
 }
 
-/// The gates of the policies in the files of these names.
+/// Compiles the policies in the files with these names.
 fn open_each<F: Files>(
     alloc: Global,
     names: &[String],
@@ -57,7 +57,7 @@ fn open_each<F: Files>(
     Ok(gates)
 }
 
-/// The gate of the policy in the file of this name.
+/// Compiles the policy in the file with this name.
 fn open<F: Files>(alloc: Global, name: &str, files: &mut F) -> Result<NamedGate, Refusal>
     ensures gate { OpensGate (F.known files.old) name.now result }
     ensures known { F.known files.new ≡ F.known files.old }

@@ -1,4 +1,4 @@
-//! What policies decide of a review, one after the other.
+//! Collects the results of the policies for one review.
 ghost use Rattle.std.specs.Prelude.{◌≡◌, option_map, IfOk, Err, Ok, Some, []};
 ghost use Rattle.std.specs.Option.{option_or};
 ghost use Rattle.admission.specs.Decisions.{decision_value, decision_view};
@@ -13,17 +13,17 @@ use admission::{Decision, RunError};
 use policy_glue::Rejection;
 use std::alloc::{AllocError, Global};
 
-/// What the policies that were asked so far have against a request.
+/// The results of the policies that were asked so far.
 #[derive(Drop)]
 pub struct Tally {
-    /// The rejections of those that decide, joined.
+    /// The rejections of the policies that decided, joined.
     pub rejection: Option<Rejection>,
-    /// The first refusal of one that does not.
+    /// The first refusal of a policy that did not decide.
     pub refused: Option<Refused>,
 }
 
 impl Tally {
-    /// No policy was asked so far.
+    /// No policy was asked yet.
     pub fn new() -> Tally
         ensures { IsTallyOf [] result }
     {
@@ -33,11 +33,11 @@ impl Tally {
         }
     }
 
-    /// Adds what the policy with this label decides, or why it does not.
+    /// Adds the result of the policy with this label.
     ///
     /// # Errors
     ///
-    /// An allocation failed, here or when the policy's program ran.
+    /// An allocation failed, here or while the policy's program ran.
     pub fn with(
         self,
         alloc: Global,
@@ -79,7 +79,7 @@ impl Tally {
         })
     }
 
-    /// The decision of all policies together on the request with this uid, or the first refusal.
+    /// The joint decision on the request with this uid, or the first refusal.
     pub fn ending(self, uid: String) -> Result<Decision, Refused>
         ensures { together_view result ≡ ending_of self uid }
     {
@@ -100,7 +100,7 @@ impl Tally {
     }
 }
 
-/// The first refusal, where the next one is that of the policy with this label.
+/// The first refusal, given that the policy with this label refuses next.
 fn first_of(
     alloc: Global,
     first: Option<Refused>,

@@ -5,7 +5,7 @@ ghost use Rattle.gatekeeper_runner.specs.Texts.{text_at, text_in};
 
 use serde_json::Value;
 
-/// The text at a key of the object at a key of a document.
+/// The text at `document[outer][inner]`, if the document has one there.
 pub fn text_at<'a>(document: &'a Option<Value>, outer: &str, inner: &str) -> Option<&'a str>
     ensures { option_map (λ s. s.now) result ≡ text_at outer.now inner.now (option_map view document.entry.now) }
 {
@@ -18,7 +18,7 @@ pub fn text_at<'a>(document: &'a Option<Value>, outer: &str, inner: &str) -> Opt
     }
 }
 
-/// The text that a value is.
+/// The text of a value, if it is one.
 fn text_in<'a>(value: Option<&'a Value>) -> Option<&'a str>
     ensures { option_map (λ s. s.now) result ≡ option_and_then text_in (option_map (λ v. view v.now) value.entry) }
 {

@@ -1,3 +1,5 @@
+-- Proofs of `answering::answer_line`: the result meets the contract.
+
 use Rattle.gatekeeper_runner.proofs.Prelude.{◌∙◌, [], Some, ap, append-nil, sym, on_err_weaker, on_ok_weaker, no_memory}
 use Rattle.gatekeeper_runner.proofs.OneLine.{is_passed, written_part}
 use Rattle.gatekeeper_runner.proofs.answering.answer_line.Goals as goal

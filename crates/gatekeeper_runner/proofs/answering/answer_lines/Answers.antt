@@ -1,3 +1,5 @@
+-- Proofs of `answering::answer_lines`: the result meets the contract; its calls meet what they require.
+
 use Rattle.gatekeeper_runner.proofs.Prelude.{refl, cut-none}
 use Rattle.gatekeeper_runner.proofs.Going.{going_start, heard_told}
 use Rattle.gatekeeper_runner.proofs.answering.answer_lines.Goals as goal

@@ -1,3 +1,5 @@
+-- Proofs of `answering::answer_of`: the result meets the contract.
+
 use Rattle.gatekeeper_runner.proofs.Prelude.{◌≡◌, ◌∙◌, true, false, ap, sym, IfOk-weaker, List, ℕ, OneImage, AnswersReviewLine, line_of, passed_over, gatekeeper_of}
 use Rattle.gatekeeper_runner.specs.Lines.{is_blank}
 use Rattle.gatekeeper_runner.proofs.OneLine.{was_long, was_whole}

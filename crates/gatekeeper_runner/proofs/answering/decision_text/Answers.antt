@@ -1,3 +1,5 @@
+-- Proofs of `answering::decision_text`: the result meets the contract.
+
 use Rattle.gatekeeper_runner.proofs.Prelude.{IfOk-weaker}
 use Rattle.gatekeeper_runner.proofs.OneLine.{answered}
 use Rattle.gatekeeper_runner.proofs.answering.decision_text.Goals as goal

@@ -1,3 +1,5 @@
+-- Proofs of `command_line::gatekeeper_command`: the result meets the contract.
+
 use Rattle.gatekeeper_runner.proofs.Prelude.{◌≡◌, ◌∙◌, ap, codes, IfOk-weaker, app_of, new_app, with_rule, with_documents, gatekeeper_app, policies_rule, steps_rule}
 use Rattle.gatekeeper_runner.proofs.command_line.gatekeeper_command.Goals as goal
 

@@ -1,3 +1,5 @@
+-- Proofs of `command_line::gatekeeper_matches`: the result meets the contract.
+
 use Rattle.gatekeeper_runner.proofs.Prelude.{ap, ◌∙◌, map, List, subst, IfOk-weaker, App, Text, fault_of, is_simple, is_simple_and_free, matches_of, entered, faults}
 use Rattle.cli.specs.Parsing.{TakesWords}
 use Rattle.gatekeeper_runner.proofs.Shape.{simple, free}

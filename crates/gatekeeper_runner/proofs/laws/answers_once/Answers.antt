@@ -1,3 +1,5 @@
+-- Proofs of `laws::answers_once`: the result meets the contract.
+
 use Rattle.gatekeeper_runner.proofs.LineOnce.{lines_once}
 use Rattle.gatekeeper_runner.proofs.laws.answers_once.Goals as goal
 

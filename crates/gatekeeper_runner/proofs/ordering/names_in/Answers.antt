@@ -1,3 +1,5 @@
+-- Proofs of `ordering::names_in`: the result meets the contract.
+
 use Rattle.gatekeeper_runner.proofs.Prelude.{◌∙◌, ap, map, string_bytes, unwrap_or, List, [], Option, IfOk-weaker, Text, found_of, raw_values-rows}
 use Rattle.gatekeeper_runner.proofs.ordering.names_in.Goals as goal
 

@@ -1,3 +1,5 @@
+-- Loop invariant of `ordering::names_of`.
+
 use Rattle.gatekeeper_runner.proofs.Prelude.{◌≡◌, map, string_bytes, take}
 use Rattle.gatekeeper_runner.proofs.ordering.names_of.Given as goal
 

@@ -1,3 +1,5 @@
+-- Proofs of `program::ending`: the result meets the contract.
+
 use Rattle.gatekeeper_runner.proofs.Prelude.{refl, sym}
 use Rattle.gatekeeper_runner.specs.Program.{serves}
 use Rattle.gatekeeper_runner.proofs.Programs.{told}

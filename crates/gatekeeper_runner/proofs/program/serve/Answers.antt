@@ -1,3 +1,5 @@
+-- Proofs of `program::serve`: the result meets the contract.
+
 use Rattle.gatekeeper_runner.proofs.Prelude.{Ok, Err, refl, faults, answers, no_words, not_started, nothing, is_err}
 use Rattle.gatekeeper_runner.proofs.Programs.{asks}
 use Rattle.cli.proofs.Endings.{words_refused}

@@ -1,3 +1,5 @@
+-- Proofs of `refusing::refusal_text`: the result meets the contract.
+
 use Rattle.gatekeeper_runner.proofs.Prelude.{◌∙◌}
 use Rattle.gatekeeper_runner.proofs.RefusalTexts.{text_written}
 use Rattle.gatekeeper_runner.proofs.refusing.refusal_text.Goals as goal

@@ -1,3 +1,5 @@
+-- Proofs of `refusing::write_label`: the result meets the contract.
+
 use Rattle.gatekeeper_runner.proofs.RefusalTexts.{adds_none}
 use Rattle.gatekeeper_runner.proofs.refusing.write_label.Goals as goal
 

@@ -1,3 +1,5 @@
+-- Proofs of `refusing::write_refusal`: the result meets the contract.
+
 use Rattle.gatekeeper_runner.proofs.RefusalTexts.{adds_more, last, one}
 use Rattle.gatekeeper_runner.proofs.refusing.write_refusal.Goals as goal
 

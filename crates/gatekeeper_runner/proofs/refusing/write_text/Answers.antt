@@ -1,3 +1,5 @@
+-- Proofs of `refusing::write_text`: the result meets the contract.
+
 use Rattle.gatekeeper_runner.proofs.RefusalTexts.{last, one}
 use Rattle.gatekeeper_runner.proofs.refusing.write_text.Goals as goal
 

@@ -1,3 +1,5 @@
+-- Proofs of `starting::open`: the result meets the contract.
+
 use Rattle.gatekeeper_runner.proofs.Prelude.{unread, is_err}
 use Rattle.gatekeeper_runner.specs.Starting.{no_memory}
 use Rattle.gatekeeper_runner.proofs.Opened.{unopened_by}

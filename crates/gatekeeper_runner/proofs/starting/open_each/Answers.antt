@@ -1,3 +1,5 @@
+-- Proofs of `starting::open_each`: the result meets the contract; the loop invariant holds at first and is kept.
+
 use Rattle.gatekeeper_runner.proofs.Prelude.{◌∙◌, [], refl, is_err}
 use Rattle.cli.specs.declared.refusal.Refusal.TheVariants.{Memory}
 use Rattle.gatekeeper_runner.specs.Starting.{no_memory, none}

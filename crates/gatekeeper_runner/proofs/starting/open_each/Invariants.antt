@@ -1,3 +1,5 @@
+-- Loop invariant of `starting::open_each`.
+
 use Rattle.gatekeeper_runner.proofs.Prelude.{◌≡◌, Ok, map, string_bytes, take, GatesFrom}
 use Rattle.gatekeeper_runner.proofs.starting.open_each.Given as goal
 

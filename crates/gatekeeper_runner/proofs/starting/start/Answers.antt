@@ -1,3 +1,5 @@
+-- Proofs of `starting::start`: the result meets the contract.
+
 use Rattle.gatekeeper_runner.proofs.Prelude.{no_namespace, no_params, no_policy, ready, is_err}
 use Rattle.gatekeeper_runner.proofs.starting.start.Goals as goal
 

@@ -1,3 +1,5 @@
+-- Proofs of `answering::AnswersListener::hear`: the result meets the contract.
+
 use Rattle.gatekeeper_runner.proofs.Going.{going_line, kept_none, told_part}
 use Rattle.gatekeeper_runner.proofs.answering.AnswersListener.hear.Goals as goal
 

@@ -1,3 +1,5 @@
+-- Proofs of `answering::AnswersListener::hear_end`: the result meets the contract.
+
 use Rattle.gatekeeper_runner.proofs.Prelude.{on_err_weaker, on_ok_weaker}
 use Rattle.gatekeeper_runner.proofs.Going.{end_part, end_whole}
 use Rattle.gatekeeper_runner.proofs.answering.AnswersListener.hear_end.Goals as goal

@@ -1,3 +1,5 @@
+-- Proofs of `answering::AnswersListener::keep`: the result meets the contract.
+
 use Rattle.gatekeeper_runner.proofs.Going.{going_part, kept_part}
 use Rattle.gatekeeper_runner.proofs.answering.AnswersListener.keep.Goals as goal
 

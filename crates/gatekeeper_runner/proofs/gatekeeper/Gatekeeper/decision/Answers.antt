@@ -1,3 +1,5 @@
+-- Proofs of `gatekeeper::Gatekeeper::decision`: the result meets the contract.
+
 use Rattle.value_store.specs.Placing.{Contents}
 use Rattle.value_table.specs.Held.{held_contents}
 use Rattle.value_table.specs.declared.table.Table.{Table}

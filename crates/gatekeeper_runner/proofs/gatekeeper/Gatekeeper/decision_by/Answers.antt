@@ -1,3 +1,5 @@
+-- Proofs of `gatekeeper::Gatekeeper::decision_by`: the result meets the contract.
+
 use Rattle.gatekeeper_runner.proofs.Prelude.{of_one, gatekeeper_of, under}
 use Rattle.gatekeeper_runner.proofs.gatekeeper.Gatekeeper.decision_by.Goals as goal
 

@@ -1,3 +1,5 @@
+-- Loop invariant of `gatekeeper::Gatekeeper::decision_on`.
+
 use Rattle.gatekeeper_runner.proofs.Prelude.{ℕ, List, take, string_bytes, OneImage, AreGates, AreTallied, AreValuesOf, PolicyFile, gatekeeper_of}
 use Rattle.value_table.specs.Held.{held_contents}
 use Rattle.gatekeeper_runner.proofs.gatekeeper.Gatekeeper.decision_on.Given as goal

@@ -1,3 +1,5 @@
+-- Proofs of `line::Line::extend`: the result meets the contract; no arithmetic overflows.
+
 use Rattle.std.proofs.Common.{rules}
 use Rattle.gatekeeper_runner.proofs.Prelude.{◌≡◌, ◌∙◌, arith, length, ltb-false, sym}
 use Rattle.gatekeeper_runner.proofs.OneLine.{keeps_more}

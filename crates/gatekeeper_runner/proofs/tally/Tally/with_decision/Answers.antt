@@ -1,3 +1,5 @@
+-- Proofs of `tally::Tally::with_decision`: the result meets the contract.
+
 use Rattle.gatekeeper_runner.proofs.Prelude.{refl}
 use Rattle.gatekeeper_runner.proofs.Tallies.{adds_decision}
 use Rattle.gatekeeper_runner.proofs.tally.Tally.with_decision.Goals as goal

@@ -1,3 +1,5 @@
+-- Proofs of `tally::Tally::with_refusal`: the result meets the contract.
+
 use Rattle.gatekeeper_runner.proofs.Prelude.{◌≡◌, refl}
 use Rattle.admission.specs.declared.run_error.RunError.TheVariants.{Memory}
 use Rattle.gatekeeper_runner.proofs.Tallies.{adds_refusal}
