@@ -1,4 +1,4 @@
--- Reviews, from the states in which the policies' programs stand.
+-- The results of reviews, from the states of the policies' programs.
 use Rattle.admission.proofs.Prelude.{◌≡◌, ℕ, ◌+◌, ◌*◌, ◌≤◌, ◌⊎◌, Bool, false, List, [], ◌∷◌, ◌++◌, length, Option, Some, Result, Ok, Err, refl, sym, ap, ◌∙◌, subst, arith, inl, inr, if◌then◌else◌, cases_lt, length-map, length_push, Fault as GuestFault, F8, StartIsCanonical, Contents, Roots, StartsAreTables, State, start_state, StatesAreKept, is_running, state_after, Status, Exited, Running, HasValues, TakenOrRefused, PartsEnd, policy_work, decision_of, outcome_of, outcome_word, Compiles, Verdict, Policy, Decides, OutOfBudget, LeavesByExit, PolicyTree, Finding, decided, judged_by, verdict_of, CompileError, FailurePolicy, PolicyAndImage, Reply, Documents, IsAnswered, IsPolicy, decision, started, values_given, IsPolicyOf, Exit, Exits, HasExited, IsExit, OfVerdict, IsDecisionOf, Decision, decision_from_verdict, Images, PolicyRun, RunHasStatus, RunAgrees, exactly, document_given, parts_given, uid_in, RunError, ReviewRefused, NamespaceOrParamsRefused, OutOfSteps, OverLimit}
 use Rattle.serde_json.specs.Data as json
 use Rattle.bpf_machine.specs.declared.status.Status.TheVariants.{Fault}
@@ -13,9 +13,9 @@ use Rattle.admission.specs.Reviews.{refusal_at, table_refusal}
 use Rattle.admission.proofs.RootTables.{refused_as}
 use Rattle.admission.proofs.RootContents.{given_have_values}
 
--- ---- findings
+-- ---- the number of findings
 
--- as many parts come out as went in
+-- the result has as many parts as the list
 ends_length : {A B : Type 0} (T : List B → A → B → Type 0) (R : List B → A → CompileError → Type 0) (taken : List B) (parts : List A) (end : Result (List B) CompileError) (out : List B)
     → TakenOrRefused T R taken parts end → end ≡ Ok out → length out ≡ length taken + length parts
 ends_length T R taken [] end out checking.over e = let same : taken ≡ out = cc in omega (arith, ap length same)
@@ -41,15 +41,15 @@ pub few_findings : (f : FailurePolicy) (t : PolicyTree) (roots : Roots) → leng
 unfolding decision_of verdict_of
 few_findings f t roots = grind (arith, findings_by, length-map)
 
--- ---- where the program stands
+-- ---- the state of the program
 
--- the laws of starts and of the states behind them
+-- the laws of starts and of later states
 pub record Laws : Type 0 where
   pub tables : StartsAreTables
   pub canonical : StartIsCanonical
   pub states : StatesAreKept
 
--- a refusal of documents
+-- a refusal of the documents
 abbrev IsOfDocuments : RunError → Type 0
 IsOfDocuments e = (e ≡ ReviewRefused) ⊎ (e ≡ NamespaceOrParamsRefused)
 
@@ -60,7 +60,7 @@ module _ (gate : PolicyAndImage) (d : Documents) (of : IsPolicyOf d.policy gate)
   abbrev policy : IsPolicy d.policy
   policy = record { parsed = gate.policy; is_said = of.0; trees = of.1.trees; compiles = of.1.compiles }
 
-  -- what the program has left of a review, and how the image stands
+  -- what the program left for a review, and the run of its image
   abbrev pub ExitsSo : Result Exit RunError → Type 0
   ExitsSo result = Exits gate.policy d n result × RunAgrees (exactly gate.image) d n result
 
@@ -94,7 +94,7 @@ module _ (gate : PolicyAndImage) (d : Documents) (of : IsPolicyOf d.policy gate)
       program = of.1.program;
     }
 
-    -- where it is stopped it has decided
+    -- a stopped program has decided
     stopped : is_running s.status ≡ false → Decides f of.1.trees roots (started roots) s
     stopped still = of.1.program.stops roots (started roots) n has still
 
@@ -135,7 +135,7 @@ module _ (gate : PolicyAndImage) (d : Documents) (of : IsPolicyOf d.policy gate)
     not_ended e none = absurd none
 
   module _ (laws : Laws) (values : Contents) (given : values_given d ≡ Ok values) (machine : State) (is : machine ≡ state_after n (start_state gate.image values)) where
-    -- what holds of a state behind a start on roots holds of the machine
+    -- a fact that holds for each state after a start on roots holds for the machine
     of_machine : (P : State → Type 0) → ((roots : Roots) → values_given d ≡ Ok (started roots) → HasValues roots (started roots) → P (state_after n (start_state gate.image (started roots)))) → P machine
     of_machine P of_roots =
         let own = given_have_values laws.tables laws.canonical (Some d.review) d.namespace d.params values given in
@@ -151,24 +151,24 @@ module _ (gate : PolicyAndImage) (d : Documents) (of : IsPolicyOf d.policy gate)
         of_machine (λ s. HasExited s.status (Ok tt) → ExitsSo (Ok (record { state = s; uid = uid })))
         (λ roots begins has exited. subst (λ (u : List ℕ). ExitsSo (Ok (record { state = state_after n (start_state gate.image (started roots)); uid = u }))) (sym same) (ended laws roots begins has exited))
 
--- ---- what is made of it
+-- ---- the results made from it
 
--- a refusal of a review says the same, whatever is answered else
+-- a refusal of a review is the same for each type of result
 pub refused_so : (A B : Type 0) (chosen : Images) (d : Documents) (n : ℕ) (e : RunError) → RunAgrees {A = A} chosen d n (Err e) → RunAgrees {A = B} chosen d n (Err e)
 refused_so A B chosen d n OutOfSteps stands = stands
 refused_so A B chosen d n OverLimit stands = stands
 refused_so A B chosen d n e stands = tt
 
--- the word of an outcome states it
+-- the word of an outcome gives back the outcome
 outcome_told : (o : Outcome) → outcome_of (outcome_word o) ≡ o
 outcome_told o = grind arith
 
--- a reply of this text, which allows what the outcome that this word states allows
+-- a reply with this text; it allows the request if the outcome with this word does
 pub replied : (p : Policy) (v : Verdict) (uid response : List ℕ) (allowed : Bool) (word : ℕ) → response ≡ response_of p v uid
     → word ≡ outcome_word v.outcome → allowed ≡ is_allowed (outcome_of word) → record { response = response; allowed = allowed } ≡ answer_of p v uid
 replied p v uid response allowed word text told allows = grind (arith, outcome_told)
 
--- the reply to the verdict that was left
+-- the reply to the verdict that the program left
 pub answered : (p : Policy) (d : Documents) (exit : Exit) (answer : Reply) → IsExit p d exit → OfVerdict p exit.state (λ v. answer ≡ answer_of p v exit.uid) → IsAnswered d answer
 answered p d exit answer is of = record {
   case = is.case;
@@ -176,7 +176,7 @@ answered p d exit answer is of = record {
       ∙ ap (λ (q : Policy). answer_of q (decision is.case) (uid_in d.review)) (sym is.of_policy);
 }
 
--- what the verdict that was left says
+-- the decision for the verdict that the program left
 pub said_so : (p : Policy) (d : Documents) (exit : Exit) (said : Decision) → IsExit p d exit → OfVerdict p exit.state (λ v. said ≡ decision_from_verdict p v exit.uid) → IsDecisionOf d said
 said_so p d exit said is of = record {
   case = is.case;

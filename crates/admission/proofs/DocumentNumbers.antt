@@ -1,4 +1,4 @@
--- The negative numbers of documents are of 64 bits signed.
+-- The negative numbers of documents fit 64 bits signed.
 use Rattle.admission.proofs.Prelude.{◌≡◌, ℕ, ◌^◌, ◌≤◌, Bool, true, List, Option, Some, None, arith, leb-true, w64, FitsSigned, option_and_then, if◌then◌else◌, is_utf8, with_sign, if_last, value, tokens, get, get_member, max_depth, of_items, of_json, of_members, FitsNumber, HasNumbers, HaveNumbers, MembersHaveNumbers, document_of}
 use Rattle.json.specs.Json as text
 use Rattle.serde_json.specs.Data as json
@@ -13,7 +13,7 @@ number_fits : (s : List ℕ) (n : json.Num) → number_of s ≡ Some n → FitsN
 unfolding number_of
 number_fits s n e = grind (arith, negative_fits, leb-true)
 
--- ---- what is read
+-- ---- parsed documents
 
 put_fits : (k : List ℕ) (d : json.Data) (ms : json.Members) → HasNumbers d → MembersHaveNumbers ms → MembersHaveNumbers (json.put k d ms)
 put_fits k d json.no_members new old = (new, tt)
@@ -36,7 +36,7 @@ mutual
 text_fits : (b : Bool) (o : Option text.Json) (d : json.Data) → (if b then option_and_then of_json o else None) ≡ Some d → HasNumbers d
 text_fits b o d e = grind (arith, data_fits)
 
--- those of a document
+-- the numbers of a document
 pub document_fits : (bytes : List ℕ) (d : json.Data) → document_of bytes ≡ Some d → HasNumbers d
 unfolding document_of
 document_fits bytes d e = text_fits (is_utf8 bytes) (option_and_then (λ p. if_last p.0 p.1) (value max_depth (tokens bytes))) d e

@@ -1,3 +1,5 @@
+-- The proofs of `admission`.
+
 pub mod Results
 mod DocumentNumbers
 pub mod RootContents

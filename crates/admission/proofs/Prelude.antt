@@ -1,4 +1,4 @@
--- The names that these proofs cite of the library, of the crates below and of the definitions here. Declares nothing.
+-- The names of the library, of the crates below and of the definitions that these proofs use. Declares nothing.
 pub use Rattle.std.proofs.Common.{Bool, Err, FitsSigned, IsErrAnd, List, None, Ok, Option, Ordering, Result, Some}
 pub use Rattle.std.proofs.Common.{String, ℕ, [], ap, arith, bytes_eq, codes, cond, false, get_or, if◌then◌else◌, inl}
 pub use Rattle.std.proofs.Common.{inr, is_eq, length, map, nat_cmp, nat_le, option_and_then, option_map, refl}

@@ -1,7 +1,7 @@
--- What results are.
+-- Facts about `Result`.
 use Rattle.admission.proofs.Prelude.{◌≡◌, Result, Ok, Err, ap, IsErrAnd}
 
--- what the exit of a `?` answers is the error
+-- the result that `?` returns early is this error
 pub is_err : {A E : Type 0} {r : Result A E} {e : E} → IsErrAnd r (λ q. q ≡ e) → r ≡ Err e
 is_err {r = Ok x} is = absurd is
 is_err {r = Err q} is = ap Err is

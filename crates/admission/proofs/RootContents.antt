@@ -54,7 +54,7 @@ review_fits review p e = review_by (document_of review) p (document_fits review)
 other_fits : (o : Option (List ℕ)) (d : json.Data) → document_given o ≡ Some d → HasNumbers d
 other_fits o d e = grind (arith, document_fits)
 
--- five documents, with their numbers
+-- five documents with their numbers
 pub record AreFive (ds : List json.Data) : Type 0 where
   pub five : length ds ≡ 5
   pub documents : AreDocuments ds
@@ -64,7 +64,7 @@ five_by : (a : Option ReviewRoots) (b c : Option json.Data) (ds : List json.Data
     → documents_from a b c ≡ Ok ds → AreFive ds
 five_by a b c ds first second third e = grind arith
 
--- null roots, where no review is given, have no numbers
+-- without a review the roots are null and have no numbers
 given_fits : (review : Option (List ℕ)) (p : ReviewRoots) → parts_given review ≡ Some p → HaveNumbers p
 given_fits review p e = grind (arith, review_fits)
 
@@ -90,7 +90,7 @@ five_roots : (vs : List Value) → length vs ≡ 5 → AreRoots vs
 five_roots (a ∷ b ∷ c ∷ d ∷ f ∷ []) e = record { roots = record { object = a; old_object = b; params = c; namespace_object = d; request = f }; are = refl }
 five_roots vs e = absurd (omega (arith, e))
 
--- the contents are those at the start of some roots
+-- the contents are those at the start with some roots
 pub record AreStarted (values : Contents) : Type 0 where
   pub roots : Roots
   pub are : values ≡ started roots
@@ -106,7 +106,7 @@ started_by (Ok vs) values five h = limited (nat_le (sizes vs) charge_limit) vs v
 pub are_started : (ds : List json.Data) (values : Contents) → length ds ≡ 5 → start_contents ds ≡ Ok values → AreStarted values
 are_started ds values five e = started_by (roots_of 4 ds) values (λ vs h. as_many 4 ds vs h ∙ five) e
 
--- code for expressions may run on them
+-- programs can run on them
 pub has_values : StartsAreTables → StartIsCanonical → (ds : List json.Data) (r : Roots) → AreFive ds → start_contents ds ≡ Ok (started r) → HasValues r (started r)
 has_values tables canonical ds r five e = record {
   table = tables ds (started r) five.five five.documents e;
@@ -130,7 +130,7 @@ unfolding contents_given
 given_have_values tables canonical review namespace params values is =
     values_of_documents (documents_given review namespace params) values is (λ ds documents starts. let own = are_five review namespace params ds documents in roots_have_values tables canonical ds values own.five own.documents starts)
 
--- documents that are roots give the contents
+-- the contents for the documents that become the roots
 pub contents_are : (review : List ℕ) (namespace params : Option (List ℕ)) (ds : List json.Data) (values : Contents) → documents_given (Some review) namespace params ≡ Ok ds → start_contents ds ≡ Ok values → contents_given (Some review) namespace params ≡ Ok values
 unfolding contents_given
 contents_are review namespace params ds values documents is = ap contents_from documents ∙ ap accepted is

@@ -1,4 +1,4 @@
--- The table of a review's roots, in the terms of its documents.
+-- The table of a review's roots, stated for its documents.
 use Rattle.admission.proofs.Prelude.{◌≡◌, ℕ, List, Option, Some, None, Result, Ok, Err, inl, inr, ◌⊎◌, refl, ap, ◌∙◌, Contents, start_contents, ReviewRoots, ReturnsDue, accepted, contents_from, contents_given, document_given, documents_from, documents_given, parts_given, RunError}
 use Rattle.serde_json.specs.Data as json
 use Rattle.value_store.specs.Reviews.{root_documents}
@@ -49,7 +49,7 @@ module _ {S : Type 0} (contents : S → Contents) where
       → contents_from (documents_from parts namespace params) ≡ Ok (contents t)
   table_is parts namespace params t h = contents_are parts namespace params h.0 h.1 ∙ ap accepted h.2
 
-  -- a refusal is the one that is due
+  -- the refusal is the one that is due
   pub refusal_is : (parts : Option ReviewRoots) (namespace params : Option json.Data) (e : ReviewError) → (e ≡ Memory → ⊥) → ReviewTableReturns contents (Err e) parts namespace params
       → contents_from (documents_from parts namespace params) ≡ Err (table_refusal e)
   refusal_is parts namespace params InvalidReview n h = ap contents_from (no_parts parts namespace params h)
@@ -71,7 +71,7 @@ module _ {S : Type 0} (contents : S → Contents) where
   refused_for parts namespace params (RootRefused k) h see = due_err see _ (table_refusal (RootRefused k)) (refusal_is parts namespace params (RootRefused k) (λ m. absurd (cc)) h)
   refused_for parts namespace params ChargeTooLarge h see = refusal_is parts namespace params ChargeTooLarge (λ m. absurd (cc)) h
 
-  -- in terms of what is given
+  -- ---- stated for the texts
   module _ (review namespace params : Option (List ℕ)) where
     pub table_due : (t : S) → ReviewTableReturns contents (Ok t) (parts_given review) (document_given namespace) (document_given params)
         → contents_given review namespace params ≡ Ok (contents t)

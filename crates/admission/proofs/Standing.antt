@@ -1,4 +1,4 @@
--- Which images stand as a review is answered.
+-- The runs of images while a review is answered.
 use Rattle.admission.proofs.Prelude.{◌≡◌, ℕ, Result, Ok, Err, sym, subst, Status, OneImage, Policy, policy_in, Verdict, Documents, RunHasStatus, RunAgrees, exactly, RunError, OutOfSteps, OverLimit}
 use Rattle.loader.specs.Contents as loader
 use Rattle.admission.proofs.Results.{ok_same}
@@ -13,7 +13,7 @@ one_stands d n due p image said one stands =
       status = stands.status;
     }
 
--- where the image that is run is the one, the one stands so
+-- if the image that runs is the one image, the one image's run matches the result
 pub of_one : {A : Type 0} (d : Documents) (n : ℕ) (p : Policy) (image : loader.Image) (result : Result A RunError) → policy_in d.policy ≡ Ok p
     → OneImage p image → RunAgrees (exactly image) d n result → RunAgrees OneImage d n result
 of_one d n p image (Ok a) said one stands = one_stands d n _ p image said one stands

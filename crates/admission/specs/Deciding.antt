@@ -1,4 +1,4 @@
--- The answer to a review under a policy.
+-- The result of a review under a policy.
 use Rattle.std.specs.Prelude.{◌≡◌, ℕ, ◌+◌, ◌*◌, ◌<◌, ◌⊎◌, Bool, true, false, List, [], ◌∷◌, ◌++◌, map, Option, Some, Result, Ok, Err}
 use Rattle.value_store.specs.Placing.{Contents, charge_limit, first_values}
 use Rattle.value_store.specs.Roots.{sizes}
@@ -37,18 +37,18 @@ is_allowed Rejected = false
 is_allowed Denied = false
 is_allowed Admitted = true
 
--- the answer to the request with this uid, by the verdict
+-- the reply to the request with this uid, for a verdict
 abbrev pub answer_of : Policy → Verdict → List ℕ → Reply
 answer_of p v uid = record { response = response_of p v uid; allowed = is_allowed v.outcome }
 
--- the same of what the code answers
+-- a result of the code
 abbrev pub answer_view : Result CodeReply RunError → Result Reply RunError
 answer_view (Ok reply) = Ok (record { response = reply.response.items; allowed = reply.allowed })
 answer_view (Err e) = Err e
 
 -- ---- policies
 
--- a document says a policy that is compiled
+-- the document holds a policy that compiles
 pub record IsPolicy (document : List ℕ) : Type 0 where
   pub parsed : Policy
   pub is_said : policy_in document ≡ Ok parsed
@@ -61,11 +61,11 @@ IsPolicyRefused document (Unread e) = policy_in document ≡ Err e
 IsPolicyRefused document (Uncompiled e) = (p : Policy) × (policy_in document ≡ Ok p) × Compiles p (Err e)
 IsPolicyRefused document policy_refusal.Memory = ⊥
 
--- a document says this policy, and this is an image of it
+-- the document holds this policy, and this is an image of it
 abbrev pub IsPolicyOf : List ℕ → PolicyAndImage → Type 0
 IsPolicyOf document c = (policy_in document ≡ Ok c.policy) × IsCompiled c.policy c.image
 
--- the policy and its image, or why there is none; or the host has no memory for it
+-- the policy and its image, or why there is none; an allocation failure says nothing
 abbrev pub CompilesDocument : List ℕ → Result PolicyAndImage PolicyRefusal → Type 0
 CompilesDocument document (Ok c) = IsPolicyOf document c
 CompilesDocument document (Err (Unread e)) = IsPolicyRefused document (Unread e)
@@ -78,7 +78,7 @@ CompilesDocument document (Err policy_refusal.Memory) = Unit {0}
 abbrev pub values_of_roots : Roots → List Value
 values_of_roots r = r.object ∷ r.old_object ∷ r.params ∷ r.namespace_object ∷ r.request ∷ []
 
--- the contents at the start, with these roots
+-- the contents of the value store at the start, with these roots
 abbrev pub started : Roots → Contents
 started r = record { values = first_values ++ map value (values_of_roots r); charge = sizes (values_of_roots r) }
 
@@ -91,52 +91,52 @@ pub record Documents : Type 0 where
   pub namespace : Option (List ℕ)
   pub params : Option (List ℕ)
 
--- the values at the start of a review's roots, or its refusal
+-- the contents at the start, with a review's roots, or its refusal
 abbrev pub values_given : Documents → Result Contents RunError
 values_given d = contents_given (Some d.review) d.namespace d.params
 
--- the values at the start and the uid are those of these documents
+-- the contents at the start and the uid are those of these documents
 pub record AreGiven (d : Documents) (values : Contents) (uid : List ℕ) : Type 0 where
   pub contents : values_given d ≡ Ok values
   pub uid_is : uid ≡ uid_in d.review
 
--- what is to be decided: the policy that one document says, and the roots that the others give
+-- the case to decide: the policy in one document, and the roots in the others
 pub record Case (d : Documents) : Type 0 where
   pub policy : IsPolicy d.policy
   pub roots : Roots
   pub are_given : values_given d ≡ Ok (started roots)
 
--- what the policy decides
+-- the policy's decision
 abbrev pub decision : {d : Documents} → Case d → Verdict
 decision case = decision_of case.policy.parsed.failure_policy case.policy.trees case.roots
 
--- the units of work of deciding it
+-- the units of work that the decision takes
 abbrev pub work : {d : Documents} → Case d → ℕ
 work case = policy_work case.policy.parsed.failure_policy case.policy.trees case.roots
 
--- the bound on its charge is above the limit, or a value is too deep
+-- the bound on the charge is above the limit, or a value is too deep
 abbrev pub IsBeyond : {d : Documents} → Case d → Type 0
 IsBeyond case =
     (charge_limit < (started case.roots).charge + charge_per_unit * policy_spent case.policy.parsed.failure_policy case.policy.trees case.roots)
     ⊎ IsDeepPolicy case.policy.parsed.failure_policy case.policy.trees case.roots
 
--- the answer is that to the policy's verdict
+-- the reply is the one for the policy's verdict
 pub record IsAnswered (d : Documents) (answer : Reply) : Type 0 where
   pub case : Case d
   pub answer_is : answer ≡ answer_of case.policy.parsed (decision case) (uid_in d.review)
 
--- n steps are fewer than the work may take
+-- the work may take more than n steps
 pub record IsUnended (d : Documents) (n : ℕ) : Type 0 where
   pub case : Case d
   pub early : n < steps_per_visit * work case
 
--- the charge of the work may pass the limit, or a value is too deep
+-- the charge of the work may exceed the limit, or a value is too deep
 pub record IsStopped (d : Documents) : Type 0 where
   pub case : Case d
   pub beyond : IsBeyond case
 
--- why a review has no response: the first refusal, of the policy, of the documents, of the run of the policy's program,
--- which may take n steps; or the host has no memory for it
+-- why a review has no response: the first refusal of the policy, of the documents, or of the program's run, which may
+-- take n steps; an allocation failure says nothing
 abbrev pub HasNoResponse : Documents → ℕ → RunError → Type 0
 HasNoResponse d n (PolicyRefused e) = IsPolicyRefused d.policy e
 HasNoResponse d n ReviewRefused = IsPolicy d.policy × (values_given d ≡ Err ReviewRefused)
@@ -145,7 +145,7 @@ HasNoResponse d n OutOfSteps = IsUnended d n
 HasNoResponse d n OverLimit = IsStopped d
 HasNoResponse d n Memory = Unit {0}
 
--- the answer to a review, or why it has none
+-- the reply to a review, or why it has none
 abbrev pub Reviews : Documents → ℕ → Result Reply RunError → Type 0
 Reviews d n (Ok answer) = IsAnswered d answer
 Reviews d n (Err e) = HasNoResponse d n e

@@ -1,9 +1,9 @@
--- The codes of the errors.
+-- The codes of this crate's errors.
 use Rattle.std.specs.Prelude.{ℕ, List, codes}
 use Rattle.admission.specs.declared.run_error.RunError.{RunError, TheVariants.PolicyRefused, TheVariants.ReviewRefused, TheVariants.NamespaceOrParamsRefused, TheVariants.OutOfSteps, TheVariants.OverLimit}
 use Rattle.admission.specs.declared.run_error.RunError.TheVariants as run_error
 
--- the code of a review without a response: N1 to N5, or memory
+-- the code of a run error: N1 to N5 or memory
 abbrev pub run_error_code : RunError → List ℕ
 run_error_code (PolicyRefused e) = codes "N1"
 run_error_code ReviewRefused = codes "N2"

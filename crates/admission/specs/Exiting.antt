@@ -1,4 +1,4 @@
--- Where the program of a policy has exited on a review, and the verdict that it left.
+-- The state in which the program of a policy has exited on a review, and its verdict.
 use Rattle.std.specs.Prelude.{◌≡◌, ℕ, ◌≤◌, List, length, Result, Ok, Err}
 use Rattle.guest_memory.specs.Memory.{IsMemory}
 use Rattle.guest_memory.specs.declared.fault.Fault as guest
@@ -11,17 +11,17 @@ use Rattle.admission.specs.Deciding.{Case, Documents, HasNoResponse, decision}
 use Rattle.admission.specs.Reviews.{uid_in}
 use Rattle.admission.specs.declared.run_error.RunError.{RunError, TheVariants.OutOfSteps, TheVariants.OverLimit}
 
--- the state in which the program has exited, and the uid of the request
+-- the state after the exit, and the uid of the request
 pub record Exit : Type 0 where
   pub state : State
   pub uid : List ℕ
 
--- the same of what the code answers, by the uid
+-- a result of the code, with the uid
 abbrev pub exit_view : List ℕ → Result State RunError → Result Exit RunError
 exit_view uid (Ok state) = Ok (record { state = state; uid = uid })
 exit_view uid (Err e) = Err e
 
--- the program has exited with the verdict of this policy in its verdict region
+-- the program has exited, and its verdict region holds the verdict of this policy
 pub record IsExit (p : Policy) (d : Documents) (exit : Exit) : Type 0 where
   pub case : Case d
   pub of_policy : case.policy.parsed ≡ p
@@ -37,12 +37,12 @@ Exits p d n (Err e) = HasNoResponse d n e
 
 -- ---- parts
 
--- this holds of the verdict in the verdict region
+-- Q holds for the verdict in the verdict region
 abbrev pub OfVerdict : Policy → State → (Verdict → Type 0) → Type 0
 OfVerdict p s holds = (v : Verdict) → IsMemory s.memory → length v.findings ≤ length p.validations
     → IsLayout p.failure_policy v s.values.values s.memory.verdict → holds v
 
--- a program has exited, or has no verdict by its status; it takes no memory to tell
+-- the program has exited, or its status says why there is no verdict; nothing is allocated
 abbrev pub HasExited : Status → Result (Unit {0}) RunError → Type 0
 HasExited s (Ok u) = (w : ℕ) × (s ≡ Exited w)
 HasExited s (Err OutOfSteps) = s ≡ Running

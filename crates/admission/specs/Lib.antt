@@ -1,3 +1,5 @@
+-- Definitions for reviews: their roots, their decisions, their results and the runs of programs.
+
 pub mod ErrorCodes
 pub mod Refusals
 pub mod Reviews

@@ -1,4 +1,4 @@
--- Why a policy gives no image, and why a review has no response for that.
+-- Why a policy gives no image, and the refusal of a review for that reason.
 use Rattle.policy_glue.specs.declared.compile_error.CompileError.{CompileError}
 use Rattle.policy_glue.specs.declared.compile_error.CompileError.TheVariants as compile_error
 use Rattle.policy_glue.specs.declared.policy_error.PolicyError.{PolicyError}
@@ -8,17 +8,17 @@ use Rattle.admission.specs.declared.policy_refusal.PolicyRefusal.{PolicyRefusal,
 use Rattle.admission.specs.declared.policy_refusal.PolicyRefusal.TheVariants as policy_refusal
 use Rattle.admission.specs.declared.run_error.RunError.TheVariants as run_error
 
--- why a document says no policy
+-- the refusal of a document that is not a policy; out of memory stays `Memory`
 abbrev pub document_refusal : PolicyError → PolicyRefusal
 document_refusal policy_error.Memory = policy_refusal.Memory
 document_refusal e = Unread e
 
--- why a policy is not compiled
+-- the refusal of a policy that does not compile; out of memory stays `Memory`
 abbrev pub compile_refusal : CompileError → PolicyRefusal
 compile_refusal compile_error.Memory = policy_refusal.Memory
 compile_refusal e = Uncompiled e
 
--- the same of a review's policy
+-- the refusal of a review for its policy; out of memory stays `Memory`
 abbrev pub run_policy_refusal : PolicyRefusal → RunError
 run_policy_refusal policy_refusal.Memory = run_error.Memory
 run_policy_refusal e = PolicyRefused e

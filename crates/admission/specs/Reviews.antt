@@ -1,4 +1,4 @@
--- Why the roots of a review's documents are refused, and what is answered.
+-- Why the roots in a review's documents are refused, and the results of reading them.
 use Rattle.std.specs.Prelude.{◌≡◌, ℕ, ◌||◌, List, Option, Some, None, Result, Ok, Err, nat_eq, if◌then◌else◌}
 use Rattle.serde_json.specs.Data as json
 use Rattle.value_store.specs.Placing.{Contents}
@@ -9,26 +9,26 @@ use Rattle.value_table.specs.declared.review_error.ReviewError.{ReviewError}
 use Rattle.value_table.specs.declared.review_error.ReviewError.TheVariants as review_error
 use Rattle.admission.specs.declared.run_error.RunError.{RunError}
 use Rattle.admission.specs.declared.run_error.RunError.TheVariants.{PolicyRefused, ReviewRefused, NamespaceOrParamsRefused, OutOfSteps, OverLimit, Memory}
--- a document that may be absent, a review, the parts that it gives, the roots, and the uid
+-- documents that may be absent, reviews with their parts, the roots, and the uid
 pub use Rattle.value_store.specs.Documents.{document_given, is_text, text_or_empty}
 pub use Rattle.value_store.specs.Reviews.{is_review, members_in, request_of, without, member_or_null, ReviewRoots, null_parts, parts_in, parts_given, roots_from}
 unfoldable pub use Rattle.value_store.specs.Reviews.{parts_of, uid_in}
 
 -- ---- roots
 
--- params and namespaceObject, at 6 and 7, are not the review's
+-- the refusal of a root; params and namespaceObject, at references 6 and 7, are not part of the review
 abbrev pub refusal_at : ℕ → RunError
 refusal_at place = if nat_eq place 6 || nat_eq place 7 then NamespaceOrParamsRefused else ReviewRefused
 
--- why values are no roots: by the reference of the first that is refused, and `ReviewRefused` if all together are too
--- large
+-- why values cannot be roots: by the reference of the first that is refused, or `ReviewRefused` if they are too large
+-- together
 abbrev pub root_refusal : TableError → RunError
 root_refusal (NotAnObject place) = refusal_at place
 root_refusal (NumberOutOfInt64 place) = refusal_at place
 root_refusal RootsTooLarge = ReviewRefused
 root_refusal table_error.Memory = Memory
 
--- the values at the start, or why there are none
+-- the contents at the start, or why there are none
 abbrev pub accepted : Result Contents TableError → Result Contents RunError
 accepted (Ok contents) = Ok contents
 accepted (Err e) = Err (root_refusal e)
@@ -41,29 +41,29 @@ table_refusal (review_error.RootRefused place) = refusal_at place
 table_refusal review_error.ChargeTooLarge = ReviewRefused
 table_refusal review_error.Memory = Memory
 
--- the documents of the roots, or the first refusal: of the review's form, of the namespace, of the params
+-- the documents of the roots, or the first refusal: of the review's form, of the namespace, or of the params
 abbrev pub documents_from : Option ReviewRoots → Option json.Data → Option json.Data → Result (List json.Data) RunError
 documents_from (Some parts) (Some namespace) (Some params) = Ok (roots_from parts namespace params)
 documents_from (Some parts) (Some namespace) None = Err NamespaceOrParamsRefused
 documents_from (Some parts) None params = Err NamespaceOrParamsRefused
 documents_from None namespace params = Err ReviewRefused
 
--- the same of the documents of a review, a namespace and the params
+-- the documents of the roots in the texts of a review, a namespace and the params, or the first refusal
 unfoldable pub documents_given : Option (List ℕ) → Option (List ℕ) → Option (List ℕ) → Result (List json.Data) RunError
 documents_given review namespace params = documents_from (parts_given review) (document_given namespace) (document_given params)
 
--- the values at the start of these roots, or the first refusal
+-- the contents at the start with these roots, or the first refusal
 abbrev pub contents_from : Result (List json.Data) RunError → Result Contents RunError
 contents_from (Ok roots) = accepted (start_contents roots)
 contents_from (Err e) = Err e
 
--- the same of the documents of a review, a namespace and the params
+-- the contents at the start for the texts of a review, a namespace and the params, or the first refusal
 unfoldable pub contents_given : Option (List ℕ) → Option (List ℕ) → Option (List ℕ) → Result Contents RunError
 contents_given review namespace params = contents_from (documents_given review namespace params)
 
--- ---- answers
+-- ---- results of the code
 
--- the answer is the one that is due; memory may run out first
+-- the result is the one that is due; an allocation failure says nothing
 abbrev pub ReturnsDue : {A B : Type 0} → (B → A) → Result A RunError → Result B RunError → Type 0
 ReturnsDue see due (Ok b) = due ≡ Ok (see b)
 ReturnsDue see due (Err (PolicyRefused e)) = due ≡ Err (PolicyRefused e)

@@ -1,4 +1,4 @@
--- Documents of reviews, written out, and the values of their roots.
+-- Literal documents of reviews, and the values of their roots.
 use Rattle.std.specs.Prelude.{◌≡◌, ℕ, pos, List, [], ◌∷◌, ◌++◌, map, Option, Some, None, Result, Ok, Err, codes}
 use Rattle.value_store.specs.Placing.{Contents, first_values}
 use Rattle.value_store.specs.Value as kind
@@ -13,7 +13,7 @@ review_of request = codes "{\"apiVersion\":\"admission.k8s.io/v1\",\"kind\":\"Ad
 abbrev pub given : List ℕ → Option (List ℕ) → Option (List ℕ) → Result Contents RunError
 given request namespace params = contents_given (Some (review_of request)) namespace params
 
--- the values of these roots, with their charge
+-- these roots, with their charge
 abbrev pub holding : List Value → ℕ → Result Contents RunError
 holding roots charge = Ok (record { values = first_values ++ map value roots; charge = charge })
 
@@ -42,7 +42,7 @@ pub record RootRowsStand : Type 0 where
   pub other_kind :
       contents_given (Some (codes "{\"apiVersion\":\"admission.k8s.io/v1\",\"kind\":\"Review\",\"request\":{\"uid\":\"u1\"}}")) None None
       ≡ Err ReviewRefused
-  -- the review's form is judged before the others, and they before the roots
+  -- the review's form is checked before the other documents, and these before the roots
   pub form_first : given (codes "{}") None (Some (codes "{")) ≡ Err ReviewRefused
   pub params_first : given (codes "{\"uid\":\"u1\",\"object\":1}") None (Some (codes "{")) ≡ Err NamespaceOrParamsRefused
   pub object_first : given (codes "{\"uid\":\"u1\",\"object\":1}") (Some (codes "1")) None ≡ Err ReviewRefused

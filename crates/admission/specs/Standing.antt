@@ -1,4 +1,4 @@
--- Where the program of a policy stands when a review is answered.
+-- The state of a policy's program when a review is answered.
 use Rattle.std.specs.Prelude.{◌≡◌, ℕ, Result, Ok, Err}
 use Rattle.guest_memory.specs.declared.fault.Fault.TheVariants.{F8}
 use Rattle.loader.specs.Contents as loader
@@ -15,35 +15,35 @@ use Rattle.admission.specs.declared.run_error.RunError.TheVariants.{PolicyRefuse
 
 -- ---- images
 
--- which of the images that decide as a policy does are chosen
+-- a choice among the images that decide as a policy does
 abbrev pub Images : Type 1
 Images = Policy → loader.Image → Type 0
 
--- this one alone
+-- only this image
 abbrev pub exactly : loader.Image → Policy → loader.Image → Type 0
 exactly image p other = other ≡ image
 
 -- ---- runs
 
--- an image of the policy's program, which runs on the roots
+-- a policy's program with an image, and the roots that it runs on
 pub record PolicyRun (d : Documents) : Type 0 where
   pub case : Case d
   pub image : loader.Image
   pub program : IsProgram case.policy.parsed.failure_policy case.policy.trees image
 
--- where it stands after n steps
+-- its state after n steps
 abbrev pub stands : {d : Documents} → PolicyRun d → ℕ → State
 stands run n = state_after n (start_state run.image (started run.case.roots))
 
--- after n steps a chosen image has this status, by what the policy decides
+-- after n steps a chosen image has the status that is due for the policy's decision
 pub record RunHasStatus (chosen : Images) (d : Documents) (n : ℕ) (due : Verdict → Status) : Type 0 where
   pub run : PolicyRun d
   pub is_chosen : chosen run.case.policy.parsed run.image
   pub status : (stands run n).status ≡ due (decision run.case)
 
--- the program has exited where the review is answered, with the word of the outcome; it still runs after n steps where
--- `OutOfSteps` is answered, and was stopped by F8 where `OverLimit` is; else it was not run, or the host had no memory
--- for it
+-- The run of the program matches the result. If there is a reply or a decision, the program has exited with the
+-- outcome's word. `OutOfSteps`: it still runs after n steps. `OverLimit`: F8 stopped it. Otherwise it was not run, or
+-- an allocation failed.
 abbrev pub RunAgrees : {A : Type 0} → Images → Documents → ℕ → Result A RunError → Type 0
 RunAgrees chosen d n (Ok a) = RunHasStatus chosen d n (λ v. Exited (outcome_word v.outcome))
 RunAgrees chosen d n (Err (PolicyRefused e)) = Unit {0}

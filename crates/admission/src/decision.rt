@@ -1,11 +1,11 @@
-//! What policies say of reviews.
+//! Decisions on reviews.
 
 use policy_glue::Rejection;
 
-/// What a policy says of a review.
+/// The decision of a policy on a review.
 #[derive(Drop)]
 pub struct Decision {
-    /// What it says against the request, and nothing where it allows it.
+    /// The rejection; `None` if the policy allows the request.
     pub rejection: Option<Rejection>,
     /// The uid of the request.
     pub uid: String,

@@ -1,4 +1,4 @@
-//! Policies that are compiled once and decide many reviews.
+//! Policies that are compiled once to decide many reviews.
 ghost use Rattle.std.specs.Prelude.{◌≡◌, ℕ, List, IfOk};
 ghost use Rattle.bpf_machine.specs.State.{start_state};
 ghost use Rattle.bpf_machine.specs.Starts.{StartsAreTables};
@@ -28,8 +28,8 @@ use value_store::ValueStore;
 use value_store::laws::values_are_as_said;
 use value_table::Table;
 
-/// A policy that is compiled and decoded once and decides any number of reviews. No decision
-/// changes it, nor one that fails for want of memory.
+/// A policy that is compiled and decoded once and decides any number of reviews. No decision changes
+/// it, not even one whose allocation fails.
 #[derive(Drop)]
 pub struct Gate {
     alloc: Global,
@@ -46,16 +46,16 @@ impl Model for Gate {
 }
 
 impl Gate {
-    /// The gate of the policy (ValidatingAdmissionPolicy, `admissionregistration.k8s.io/v1`) in a
+    /// Compiles the policy (ValidatingAdmissionPolicy, `admissionregistration.k8s.io/v1`) in a
     /// document.
     ///
     /// # Errors
     ///
-    /// Why the policy gives no image. `Memory` where memory runs out, which says nothing of the
-    /// policy.
+    /// Why the document gives no image. `Memory` if an allocation fails, which says nothing about
+    /// the policy.
     pub fn new(alloc: Global, policy: &[u8]) -> Result<Gate, PolicyRefusal>
         ensures compiles { CompilesDocument policy.now result }
-        // Which image it has, of those that decide as the policy does.
+        // Pins the image: there is only one that meets this clause.
         ensures one { IfOk result (λ g. OneImage g.policy g.image) }
     {
         let compiled = compile_document(alloc, policy)?;
@@ -67,15 +67,15 @@ impl Gate {
         })
     }
 
-    /// The response to a review (AdmissionReview, `admission.k8s.io/v1`) under the policy, whose
-    /// program may take at most `n` steps. Roots whose documents are not given are null.
+    /// The response to a review (AdmissionReview, `admission.k8s.io/v1`) under the policy. Its
+    /// program may take at most `n` steps. Roots without a document are null.
     ///
     /// # Errors
     ///
-    /// The first refusal: of the documents `ReviewRefused` and `NamespaceOrParamsRefused` as
-    /// `roots` has them; `OutOfSteps` exactly if the program still runs after `n` steps,
-    /// `OverLimit` exactly if it was stopped before. `Memory` where memory runs out, which says
-    /// nothing of the rest.
+    /// The first refusal. `ReviewRefused` and `NamespaceOrParamsRefused` refuse the documents, as
+    /// in `roots`. `OutOfSteps` exactly if the program still runs after `n` steps, `OverLimit`
+    /// exactly if it was stopped earlier. `Memory` if an allocation fails, which says nothing about
+    /// the rest.
     pub fn decide(
         &self,
         review: &[u8],
@@ -83,21 +83,21 @@ impl Gate {
         params: Option<&[u8]>,
         n: u64,
     ) -> Result<Reply, RunError>
-        // It answers as `review` does under each policy document that gives this gate.
+        // The same result as `review`, for each policy document that gives this gate.
         ensures reviews { (policy : List ℕ) → IsPolicyOf policy self.now → Reviews (documents_lent policy review.now namespace.entry params.entry) n (answer_view result) }
-        // And its image stands as the answer says.
+        // The run of its image matches the result.
         ensures runs { (policy : List ℕ) → IsPolicyOf policy self.now → RunAgrees (exactly self.now.image) (documents_lent policy review.now namespace.entry params.entry) n (answer_view result) }
     {
         let (table, uid) = Table::of_review(self.alloc, review, namespace, params)?;
         self.decide_on(table, uid.as_str(), n)
     }
 
-    /// The response to the review whose roots are in the table, and the uid of whose request this
-    /// is, in the terms of `decide`.
+    /// The response to the review whose roots are in the table. `uid` is the uid of its request.
+    /// See `decide`.
     ///
     /// # Errors
     ///
-    /// `OutOfSteps`, `OverLimit` and `Memory`, as `decide` has them.
+    /// `OutOfSteps`, `OverLimit` and `Memory`, as in `decide`.
     pub fn decide_on(&self, table: Table, uid: &str, n: u64) -> Result<Reply, RunError>
         ensures reviews { (d : Documents) → IsPolicyOf d.policy self.now → AreGiven d (held_contents table) uid.now → Reviews d n (answer_view result) }
         ensures runs { (d : Documents) → IsPolicyOf d.policy self.now → AreGiven d (held_contents table) uid.now → RunAgrees (exactly self.now.image) d n (answer_view result) }
@@ -106,11 +106,11 @@ impl Gate {
         Ok(reply(self.alloc, &self.policy, &machine, uid)?)
     }
 
-    /// What the policy says of such a review, in the terms of `decide_on`.
+    /// The policy's decision on such a review. See `decide_on`.
     ///
     /// # Errors
     ///
-    /// The first refusal, as `decide_on` has them.
+    /// The first refusal, as in `decide_on`.
     pub fn decision_on(&self, table: Table, uid: &str, n: u64) -> Result<Decision, RunError>
         ensures says { (d : Documents) → IsPolicyOf d.policy self.now → AreGiven d (held_contents table) uid.now → DecidesReview d n (decision_view result) }
         ensures runs { (d : Documents) → IsPolicyOf d.policy self.now → AreGiven d (held_contents table) uid.now → RunAgrees (exactly self.now.image) d n (decision_view result) }
@@ -119,7 +119,7 @@ impl Gate {
         Ok(decision_of_verdict(self.alloc, &self.policy, &machine, uid)?)
     }
 
-    /// The machine in which the policy's program has exited on the roots in the table.
+    /// Runs the policy's program on the roots in the table; returns the machine after the exit.
     fn run(&self, table: Table, n: u64) -> Result<Machine<Table, Guest>, RunError>
         ensures exits { (d : Documents) (uid : List ℕ) → IsPolicyOf d.policy self.now → AreGiven d (held_contents table) uid → Exits self.now.policy d n (exit_view uid result) }
         ensures runs { (d : Documents) (uid : List ℕ) → IsPolicyOf d.policy self.now → AreGiven d (held_contents table) uid → RunAgrees (exactly self.now.image) d n (exit_view uid result) }
@@ -131,7 +131,7 @@ impl Gate {
     }
 }
 
-/// What is known of every start on roots, and of every state behind it.
+/// What is proved of every start on roots, and of every later state.
 fn starts_stand()
     ensures tables { StartsAreTables }
     ensures canonical { StartIsCanonical }
@@ -142,7 +142,7 @@ fn starts_stand()
     states_are_kept();
 }
 
-/// The machine where a run of at most `n` steps stands.
+/// The machine after a run of at most `n` steps.
 fn ran(
     alloc: Global,
     program: &Program,
@@ -156,7 +156,8 @@ fn ran(
     Ok(machine)
 }
 
-/// That the policy's program has exited, or why it left no verdict. It takes no memory.
+/// Checks that the policy's program has exited; else the error says why there is no verdict.
+/// Nothing is allocated.
 fn has_exited(machine: &Machine<Table, Guest>) -> Result<(), RunError>
     ensures { HasExited machine.now.status result }
 {
@@ -167,7 +168,7 @@ fn has_exited(machine: &Machine<Table, Guest>) -> Result<(), RunError>
     }
 }
 
-/// The reply to the request with this uid, by the verdict that the policy's program has left.
+/// The reply to the request with this uid, from the verdict that the program left.
 #[tactic(auto, using(crate::proofs::Decided::replied))]
 fn reply(
     alloc: Global,
@@ -183,7 +184,7 @@ fn reply(
     Ok(Reply { response, allowed })
 }
 
-/// Whether this outcome allows the request: the policy was skipped, or admits it.
+/// Whether this outcome allows the request: the policy was skipped or admits it.
 fn allows(outcome: Outcome) -> bool
     ensures { result ≡ is_allowed outcome }
 {
@@ -193,7 +194,7 @@ fn allows(outcome: Outcome) -> bool
     }
 }
 
-/// What is said to the request with this uid, by the verdict that the policy's program has left.
+/// The decision on the request with this uid, from the verdict that the program left.
 fn decision_of_verdict(
     alloc: Global,
     policy: &Policy,

@@ -1,4 +1,4 @@
-//! What is proved of reviews beside their answers, each the clause of a function that does nothing.
+//! Laws: what is proved of reviews in general. Each is the clause of a function that does nothing.
 ghost use Rattle.std.specs.Prelude.{◌≡◌};
 ghost use Rattle.admission.specs.OneAnswer.{ReviewHasOneResult};
 ghost use Rattle.admission.specs.RootValues.{DocumentsHaveValues, GivenHaveValues};
@@ -8,8 +8,8 @@ use bpf_machine::laws::starts_are_tables;
 use policy_glue::laws::compiles_once;
 use value_store::laws::values_are_as_said;
 
-/// Within the same steps a review has one answer at most, its response or its refusal, but for want
-/// of memory.
+/// Within the same number of steps a review has one result, its response or its refusal, unless an
+/// allocation fails.
 #[tactic(auto, using(crate::proofs::OneReview::one_review))]
 pub fn reviews_once()
     ensures { ReviewHasOneResult }
@@ -17,8 +17,8 @@ pub fn reviews_once()
     compiles_once();
 }
 
-/// Five documents that are not refused, and so the documents of a review, of a namespace and of the
-/// params, give roots with the values on which the program of a policy decides.
+/// Five documents that are not refused give roots with values on which the program of a policy
+/// decides. So do the documents of a review, a namespace and the params.
 pub fn roots_have_values()
     ensures documents { DocumentsHaveValues }
     ensures given { GivenHaveValues }
@@ -27,14 +27,14 @@ pub fn roots_have_values()
     values_are_as_said();
 }
 
-/// A gate may go to another thread: it is `Send`.
+/// A gate may be sent to another thread: it is `Send`.
 pub fn gates_may_be_sent(gate: Gate) -> Gate
     ensures { result ≡ gate }
 {
     sent(gate)
 }
 
-/// The same value, of a type that may go to another thread.
+/// Returns the value, whose type may be sent to another thread.
 fn sent<T: Send>(value: T) -> T
     ensures { result ≡ value }
 {

@@ -1,5 +1,5 @@
-//! Reviews, decided under policies that are compiled once: `Gate` is a policy with its program,
-//! `review` a review under a policy's document, `roots` the values that a review gives.
+//! Decides reviews under compiled policies. `Gate` is a policy with its program, `review` decides a
+//! review under a policy's document, and `roots` gives the values of a review.
 #![tactic(auto)]
 
 mod decision;

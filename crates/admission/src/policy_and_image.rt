@@ -15,7 +15,7 @@ pub struct PolicyAndImage {
     pub image: Image,
 }
 
-/// The policy in a document, compiled.
+/// Parses and compiles the policy in a document.
 pub fn compile_document(alloc: Global, document: &[u8]) -> Result<PolicyAndImage, PolicyRefusal>
     ensures compiles { CompilesDocument document.now result }
     ensures one { IfOk result (λ c. OneImage c.policy c.image) }

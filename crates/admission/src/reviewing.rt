@@ -10,15 +10,15 @@ use crate::run_error::RunError;
 use std::alloc::Global;
 
 /// The response to a review (AdmissionReview, `admission.k8s.io/v1`) under a policy
-/// (ValidatingAdmissionPolicy, `admissionregistration.k8s.io/v1`), whose program may take at most
-/// `n` steps. Roots whose documents are not given are null.
+/// (ValidatingAdmissionPolicy, `admissionregistration.k8s.io/v1`). The policy's program may take at
+/// most `n` steps. Roots without a document are null.
 ///
 /// # Errors
 ///
-/// The first refusal: `PolicyRefused` of the policy; of the documents `ReviewRefused` and
-/// `NamespaceOrParamsRefused` as `roots` has them; `OutOfSteps` exactly where the program still
-/// runs after `n` steps, `OverLimit` exactly if it was stopped before. `Memory` where memory runs
-/// out, which says nothing of the rest.
+/// The first refusal. `PolicyRefused` refuses the policy; `ReviewRefused` and
+/// `NamespaceOrParamsRefused` refuse the documents, as in `roots`. `OutOfSteps` exactly if the
+/// program still runs after `n` steps, `OverLimit` exactly if it was stopped earlier. `Memory` if
+/// an allocation fails, which says nothing about the rest.
 pub fn review(
     alloc: Global,
     policy: &[u8],
@@ -28,7 +28,7 @@ pub fn review(
     n: u64,
 ) -> Result<Reply, RunError>
     ensures reviews { Reviews (documents_lent policy.now review.now namespace.entry params.entry) n (answer_view result) }
-    // And the policy's one image stands as the answer says.
+    // The run of the policy's one image matches the result.
     ensures runs { RunAgrees OneImage (documents_lent policy.now review.now namespace.entry params.entry) n (answer_view result) }
 {
     let gate = Gate::new(alloc, policy)?;

@@ -9,15 +9,15 @@ use value_store::ValueStore;
 use value_table::Table;
 
 /// The table of the roots of a review (AdmissionReview, `admission.k8s.io/v1`): object and
-/// oldObject of its request, the params, the namespace's object, and the rest of the request; a
-/// document that is not given gives null.
+/// oldObject of its request, the params, the namespace's object, and the rest of the request. A
+/// missing document gives null.
 ///
 /// # Errors
 ///
-/// The first refusal, in the order of the review's form, the namespace, the params, and the roots:
-/// `ReviewRefused` if it is of the review, and where the roots are too large,
-/// `NamespaceOrParamsRefused` if it is of the namespace or the params. `Memory` where memory runs
-/// out, which says nothing of the documents.
+/// The first refusal. The review's form is checked first, then the namespace, the params and the
+/// roots. `ReviewRefused` if the review is refused or the roots are too large together,
+/// `NamespaceOrParamsRefused` if the namespace or the params are refused. `Memory` if an allocation
+/// fails, which says nothing about the documents.
 pub fn roots(
     alloc: Global,
     review: Option<&[u8]>,

@@ -9,8 +9,8 @@ use std::alloc::AllocError;
 use thiserror::Error;
 use value_table::ReviewError;
 
-/// Why a review has no response. The policy is tested first, then the form of the review, the
-/// namespace and the params, then the roots. The program is run last.
+/// Why a review has no response. The policy is checked first, then the form of the review, the
+/// namespace and the params, then the roots. The program runs last.
 #[derive(Clone, Copy, Debug, PartialEq, Eq, Error)]
 pub enum RunError {
     /// The policy is refused, and why.
@@ -26,8 +26,8 @@ pub enum RunError {
     /// The program of the policy did not end within the given number of steps.
     #[error("the policy's program has not ended")]
     OutOfSteps,
-    /// The program of the policy was stopped by `F8`: the charge would be above 16,777,216, or a
-    /// list or map deeper than 255.
+    /// The program of the policy was stopped by `F8`: the charge would exceed 16,777,216, or a list
+    /// or map would be deeper than 255.
     #[error("the policy's program was stopped")]
     OverLimit,
     /// An allocation failed.
@@ -39,7 +39,7 @@ impl RunError {
     ghost use Rattle.std.specs.Prelude.{◌≤◌, length};
     ghost use Rattle.admission.specs.ErrorCodes.{run_error_code};
 
-    /// The error's code, `N1` to `N5` or `memory`, without that of a refused policy.
+    /// The error's code, `N1` to `N5` or `memory`, without the code of the policy's refusal.
     pub fn code(&self) -> &'static str
         ensures text { result.now ≡ run_error_code self.now }
         ensures length { length result.now ≤ 6 }
@@ -88,7 +88,7 @@ impl From<ReviewError> for RunError {
     }
 }
 
-/// The refusal of the root at a reference.
+/// The refusal of the root with this reference.
 fn refusal_at(place: u64) -> RunError
     ensures { result ≡ refusal_at place }
 {

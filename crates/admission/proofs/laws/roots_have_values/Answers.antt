@@ -1,3 +1,5 @@
+-- Proofs of `laws::roots_have_values`: the result meets the contract.
+
 use Rattle.admission.proofs.RootContents.{given_have_values, roots_have_values}
 use Rattle.admission.proofs.laws.roots_have_values.Goals as goal
 

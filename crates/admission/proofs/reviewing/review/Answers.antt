@@ -1,3 +1,5 @@
+-- Proofs of `reviewing::review`: the result meets the contract.
+
 use Rattle.admission.proofs.Standing.{of_one}
 use Rattle.admission.proofs.reviewing.review.Goals as goal
 

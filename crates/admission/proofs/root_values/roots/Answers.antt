@@ -1,3 +1,5 @@
+-- Proofs of `root_values::roots`: the result meets the contract.
+
 use Rattle.std.proofs.Common.{Global}
 use Rattle.value_table.specs.declared.table.Table.{Table}
 use Rattle.admission.proofs.Prelude.{String, Some, None, option_map, Contents}

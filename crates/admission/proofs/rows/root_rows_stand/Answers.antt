@@ -1,3 +1,5 @@
+-- Proofs of `rows::root_rows_stand`: the result meets the contract.
+
 use Rattle.admission.proofs.Prelude.{refl, document_of, contents_given, documents_given, parts_of}
 use Rattle.std.specs.Char.{encode_utf8}
 use Rattle.std.specs.Str.{chars, is_utf8}

@@ -1,3 +1,5 @@
+-- Proofs of `gate::Gate::decide`: the result meets the contract.
+
 use Rattle.std.proofs.Common.{Global}
 use Rattle.value_table.specs.declared.table.Table.{Table}
 use Rattle.admission.proofs.Prelude.{String, ◌∙◌, ℕ, List, Some, Contents, Reply, Exit, documents_lent, exactly}

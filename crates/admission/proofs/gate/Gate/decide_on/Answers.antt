@@ -1,3 +1,5 @@
+-- Proofs of `gate::Gate::decide_on`: the result meets the contract.
+
 use Rattle.admission.proofs.Prelude.{Reply, Exit, exactly}
 use Rattle.admission.proofs.Decided.{answered, refused_so}
 use Rattle.admission.proofs.Results.{is_err}

@@ -1,3 +1,5 @@
+-- Proofs of `gate::Gate::decision_on`: the result meets the contract.
+
 use Rattle.admission.proofs.Prelude.{Exit, Decision, exactly}
 use Rattle.admission.proofs.Decided.{refused_so, said_so}
 use Rattle.admission.proofs.Results.{is_err}

@@ -1,3 +1,5 @@
+-- Proofs of `gate::Gate::run`: the result meets the contract.
+
 use Rattle.admission.proofs.Decided.{Laws, has_exited, not_exited}
 use Rattle.admission.proofs.Results.{is_err}
 use Rattle.admission.proofs.gate.Gate.run.Goals as goal
