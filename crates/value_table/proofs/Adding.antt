@@ -1,4 +1,4 @@
--- A heap with one more cell, and one whose backings have grown.
+-- A heap after a cell is added, and after its backings have grown.
 use Rattle.value_table.proofs.Prelude.{◌≡◌, ℕ, ◌+◌, ◌<◌, ◌≤◌, List, [], ◌∷◌, ◌++◌, length, refl, sym, ap, ◌∙◌, arith, length-append, append-nil, slice_get, subst, Option, Some, Ok, get_or_append_left, slice_get-get_or, slice_index_or, vec_capacity, Value, meaning, grown, AreSame, ExtendsBackings, heap_values, content_at, IsHeap, IsUnchangedHeap, Gains, AreIndexes, Heap, Cell, Content, Backings}
 use Rattle.value_store.specs.Value as kind
 use Rattle.value_table.specs.declared.content.Content.TheVariants as cell
@@ -20,13 +20,13 @@ values_added bs xs ys c e = rw e (grown_one bs [] xs c)
 pub extends_same : (bs : Backings) → ExtendsBackings bs bs
 extends_same bs = record { bytes = ([], sym (append-nil bs.bytes)); keys = ([], sym (append-nil bs.keys)); lists = omega arith; items = λ b h. ([], sym (append-nil (slice_index_or bs.lists b []))) }
 
--- ---- a call that makes room first
+-- ---- a call that reserves capacity first
 
--- where it is refused
+-- the allocation fails
 pub heap_before : (old new : Heap) → IsHeap old → IsUnchangedHeap old new → vec_capacity old.same ≤ vec_capacity new.same → new.indexes ≡ old.indexes → IsHeap new
 heap_before old new h b longer indexes = grind arith
 
--- backings that have grown alone
+-- only the backings have grown
 pub values_grown : (old : Heap) (bs : Backings) (cells : List Cell) → IsHeap old → ExtendsBackings old.backings bs → cells ≡ old.cells → grown bs [] cells ≡ heap_values old
 values_grown old bs cells h e same = ap (grown bs []) same ∙ grown_kept old.backings bs [] old.cells e h.cells
 
@@ -36,7 +36,7 @@ heap_grown old new h e cells same indexes =
     let all = subst (λ vs. AreIndexes new.backings vs old.indexes.all.items) (append-nil (heap_values old)) (indexes_kept old.backings new.backings (heap_values old) [] old.indexes.all.items e h.indexes) in
     record { cells = rw cells (cells_kept old.backings new.backings [] old.cells e h.cells); same = rw (kept, same) h.same; room = rw (cells, same) h.room; indexes = rw (kept, indexes) all }
 
--- one more cell behind the others, which were `mid` once there was room, at place `i`; nothing else is changed
+-- cell c is added at place i to the cells `mid`, which were there once capacity was reserved; nothing else changed
 pub record IsAppended (old new : Heap) (mid : List Cell) (c : Cell) (i : ℕ) : Type 0 where
   pub words : new.same.items ≡ old.same.items
   pub fits : length old.cells + 1 ≤ vec_capacity new.same
@@ -45,7 +45,7 @@ pub record IsAppended (old new : Heap) (mid : List Cell) (c : Cell) (i : ℕ) : 
   pub at : i ≡ length mid
   pub indexes : new.indexes ≡ old.indexes
 
--- and where it is not
+-- the allocation succeeds
 pub gained : (old new : Heap) (mid : List Cell) (c : Cell) (i : ℕ) (due : Option Value) → IsHeap old → ExtendsBackings old.backings new.backings
     → IsAppended old new mid c i → Made new.backings (heap_values old) c due → Gains old due (Ok i) new
 gained old new mid c i due h e appended made =
@@ -70,19 +70,19 @@ gained old new mid c i due h e appended made =
       kept = tt;
     }
 
--- the cell of a list in the backing of a shorter one
+-- the cell of a list that shares the backing of a shorter one
 get_last : (xs : List Cell) (c : Cell) → slice_get (xs ++ c ∷ []) (length xs) ≡ Some c
 get_last [] c = refl
 get_last (x ∷ xs) c = get_last xs c
 
--- the content of a cell, and that of the last one
+-- the content of a cell, and of the last one
 pub content_is : (xs : List Cell) (c : Cell) (r : ℕ) (x : Content) → slice_get xs r ≡ Some c → c.content ≡ x → content_at xs r ≡ Some x
 content_is xs c r x get is = grind arith
 
 pub content_last : (ys xs : List Cell) (c : Cell) (i : ℕ) → ys ≡ xs ++ c ∷ [] → i ≡ length xs → content_at ys i ≡ Some c.content
 content_last ys xs c i cells at = grind (arith, slice_get, get_last)
 
--- if a list has the whole of its backing, the list with one more item at `i` has the same backing
+-- if a list has all items of its backing, the list with one more item at `i` has the same backing
 abbrev pub IsShared : Heap → Backings → List Cell → ℕ → ℕ → Type 0
 IsShared old bs ys l i =
     (b n : ℕ) → content_at old.cells l ≡ Some (cell.List b n) → n ≡ length (slice_index_or old.backings.lists b [])

@@ -25,7 +25,7 @@ items_pushed old lists b ws e =
       items = λ c h. rw e (more_set old.lists b c ws h);
     }
 
--- a backing behind the others
+-- a backing after the others
 pub items_behind : (old new : List (List ℕ)) (b n : ℕ) (xs : List ℕ) → b ≡ length old → length xs ≡ n → new ≡ old ++ xs ∷ [] → HoldsItems new b n xs
 items_behind old new b n xs at long e = grind (arith, get_or, get_or-append_seam, length-append, take_all)
 
@@ -35,13 +35,13 @@ length_one xs n place x low long = grind (arith, take, length-take, length-drop,
 pub whole_behind : (bs ws : List ℕ) (a b : ℕ) → a ≡ length bs → b ≡ length (bs ++ ws) → slice_range (bs ++ ws) a b ≡ ws
 whole_behind bs ws a b p q = rw (p, drop-append_seam bs ws) (take_all (b - length bs) ws (omega (arith, length-append bs ws)))
 
--- the part of the bytes behind a number of them
+-- the part of the bytes after the first `front`
 pub record IsRest (bytes : List ℕ) (front : ℕ) (r : Part) : Type 0 where
   pub from : r.from ≡ front
   pub to : r.to ≡ length bytes
   pub json : r.json ≡ saturated (length (quoted (slice_range bytes r.from r.to)))
 
--- two texts behind all others, as one
+-- the concatenation of two texts, after all others
 pub texts_joined : (bs ms ns : List ℕ) (p q r : Part) → IsText bs p → IsText bs q → ms ≡ bs ++ part_of bs p → ns ≡ ms ++ part_of ms q
     → IsRest ns (length bs) r → IsText ns r × (part_of ns r ≡ part_of bs p ++ part_of bs q)
 texts_joined bs ms ns p q r hp hq em en rest =

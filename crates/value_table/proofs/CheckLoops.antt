@@ -1,4 +1,4 @@
--- The loops that read lists and maps that are not kept.
+-- The loops that read lists and maps without keeping them.
 use Rattle.value_table.proofs.Prelude.{◌≡◌, ℕ, ◌-◌, ◌<◌, ◌≤◌, List, [], ◌∷◌, ◌++◌, length, Option, Some, None, Result, Ok, Err, IsSome, option_map, refl, ap, ◌∙◌, arith}
 use Rattle.std.specs.Prelude.{OnOk, OnErr}
 use Rattle.json.specs.Token.{Token}
@@ -82,7 +82,7 @@ pub members_checked : (depth : ℕ) (first now next : List Token) → MembersChe
     → LeavesTokens (converted (λ ms. of_members ms json.no_members) (members (value depth) (length first) first)) next
 members_checked depth first now next h over = (h.found, h.is ∙ object_end (value depth) h.found h.turns now next h.enough over)
 
--- ---- answers
+-- ---- results
 
 pub err_so : {T E : Type 0} (r : Result T E) (P : Type 0) → P → OnErr r P
 err_so (Ok a) P p = tt

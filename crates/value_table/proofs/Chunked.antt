@@ -13,7 +13,7 @@ pub full_one : {A : Type 0} (xss : List (List A)) (xs : List A) → AreFull xss 
 full_one [] xs h e = (e, tt)
 full_one (ys ∷ xss) xs h e = (h.0, full_one xss xs h.1 e)
 
--- place `k` of all items is place `j` in chunk `i` of so many
+-- place `k` among all items is place `j` in chunk `i`
 pub record IsPlaceIn (chunks i j k : ℕ) : Type 0 where
   pub chunk : i < chunks
   pub inside : j < 256
@@ -33,7 +33,7 @@ item_at {A} (xs ∷ xss) ys (suc i) j k e d h at =
     let is = at.is in
     grind (arith, append_assoc, get_or-append_right, item_at xss ys i j (k - 256) e d h.1 (record { chunk = omega (arith, low); inside = less; is = omega (arith, is) }))
 
--- each full chunk has its number of items
+-- each full chunk has 256 items
 pub chunk_long : {A : Type 0} (xss : List (List A)) (i : ℕ) (e : List A) → AreFull xss → i < length xss → length (get_or xss i e) ≡ 256
 chunk_long [] i e h low = absurd (omega arith)
 chunk_long (xs ∷ xss) zero e h low = h.0
@@ -46,5 +46,5 @@ closed xss yss xs e = append-nil (joined yss) ∙ ap joined e ∙ joined_one xss
 pub chunks_closed : {A : Type 0} (xss yss : List (List A)) (xs : List A) → yss ≡ xss ++ xs ∷ [] → length xs ≡ 256 → length xss < 1125899906842624 → AreChunks xss → AreChunks yss
 chunks_closed xss yss xs e long few h = grind (arith, full_one, length-append)
 
--- how long chunks are, for the goals about places among them
+-- the lengths of chunks, for goals about places in them
 pub ruleset chunk_lengths = (length_joined, chunk_long, length-append)

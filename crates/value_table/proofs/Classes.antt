@@ -1,7 +1,7 @@
--- Words that lead places down to the roots of their classes.
+-- Words that lead places to the roots of their classes.
 use Rattle.value_table.proofs.Prelude.{◌≡◌, ℕ, ◌<◌, ◌≤◌, ◌++◌, max, min, List, length, length-append, Option, Some, Bool, true, false, slice_get, get_or, set, inl, inr, sym, ap, ◌∙◌, subst, arith, nat_lt, if◌then◌else◌, cases_eq, ltb-true, ltb-false, get_or-set_other, get_or-set_same, get_or_append_left, length-set, slice_get-get_or, slice_get_within, Value, AreOneClass, ClassesStay, Finds, IsRoot, LeadDown, Shortens, way_down, values_at, AreSame}
 
--- ---- one step of the way down
+-- ---- one step of the path
 
 way_some : (o : Option ℕ) (here next : ℕ) → next ≡ way_down o here → next < here → o ≡ Some next
 way_some o here next e less = grind arith
@@ -35,7 +35,7 @@ module _ (old now : List ℕ) (place here next further : ℕ) (so_far : Shortens
   down_more : LeadDown (set now here further)
   down_more i d within = grind (arith, length-set, cases_eq, get_or, set, new_word, next_is, inside, other_word)
 
-  -- what is the same along the new words is so along those before
+  -- values that agree with the new words agree with the old ones
   same_before : (vs : List Value) → AreSame vs (set now here further) → AreSame vs now
   same_before vs s = record {
     long = let long = length-set now here further in let most = s.long in omega arith;
@@ -65,13 +65,13 @@ module _ (old now : List ℕ) (place here next further : ℕ) (so_far : Shortens
     others = λ i d above. other_word i d (λ e. omega arith) ∙ so_far.others i d above;
   }
 
--- the way ends where it does not go further down
+-- the path ends at a place that is its own parent
 pub ends_at : (same : List ℕ) (here : ℕ) → LeadDown same → here ≤ way_down (slice_get same here) here → IsRoot same here
 ends_at same here down last d inside = grind (arith, way_is, inside, slice_get)
 
--- ---- two classes made one
+-- ---- joining two classes
 
--- a root points at another place
+-- a root gets another place as its parent
 module _ (old : List ℕ) (root target : ℕ) (down : LeadDown old) (is : IsRoot old root) where
   pub pointed_stay : ClassesStay old (set old root target)
   pointed_stay vs s = grind (arith, length-set, cases_eq, slice_get, get_or, get_or-set_other)
@@ -80,7 +80,7 @@ module _ (old : List ℕ) (root target : ℕ) (down : LeadDown old) (is : IsRoot
   pointed_one inside vs s =
       let long = length-set old root target in ap (slice_get vs) (sym (get_or-set_same old root target 0 inside)) ∙ s.equal root 0 (omega arith)
 
--- the words once the root that stands behind points at the other one
+-- the words after the later of two roots gets the earlier one as its parent
 abbrev pub united : List ℕ → ℕ → ℕ → List ℕ
 united old a b = if nat_lt a b then set old b a else set old a b
 
@@ -105,10 +105,10 @@ unites_by false old a b e down root =
 pub unites : (old : List ℕ) (a b : ℕ) → LeadDown old → IsRoot old (max a b) → Unites old (united old a b) a b
 unites old a b down root = grind (arith, set, unites_by)
 
--- ---- parts that were compared so far
+-- ---- the parts compared so far
 
--- these parts have the same values, what was one class is one still, words behind both places are as before, and the
--- root that stands behind is one still
+-- These parts have equal values, and the classes are kept. Words after both places are unchanged, and the later root
+-- is still a root.
 pub record Matches (vs : List Value) (old now : List ℕ) (xs ys : List ℕ) (a b x y : ℕ) : Type 0 where
   pub known : AreSame vs now
   pub values : values_at vs xs ≡ values_at vs ys
@@ -117,7 +117,7 @@ pub record Matches (vs : List Value) (old now : List ℕ) (xs ys : List ℕ) (a 
   pub root : IsRoot now (max x y)
   pub long : length now ≡ length old
 
--- the roots of both places are found one after another
+-- the roots of both places are found one after the other
 pub record BothFound (old now : List ℕ) (a b x y : ℕ) : Type 0 where
   pub stay : ClassesStay old now
   pub others : (i d : ℕ) → a < i → b < i → get_or now i d ≡ get_or old i d
@@ -126,10 +126,10 @@ pub record BothFound (old now : List ℕ) (a b x y : ℕ) : Type 0 where
 pub both_found : (old middle now : List ℕ) (a b x y : ℕ) → Finds old middle a x → Finds middle now b y → BothFound old now a b x y
 both_found old middle now a b x y first second = grind arith
 
--- a root stays one where its word does
+-- a root stays a root if its word is unchanged
 pub root_stays : (old new : List ℕ) (i : ℕ) → length new ≡ length old → ((d : ℕ) → get_or new i d ≡ get_or old i d) → IsRoot old i → IsRoot new i
 root_stays old new i long same root d inside = same d ∙ root d (omega arith)
 
--- words that are put behind others leave the classes
+-- appended words do not change the classes
 pub words_before : (same more all : List ℕ) → all ≡ same ++ more → ClassesStay same all
 words_before same more all is vs s = grind (arith, length-append, get_or, inside, get_or_append_left, slice_get)

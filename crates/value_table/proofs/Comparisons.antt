@@ -1,11 +1,11 @@
--- What comparisons in a heap answer.
+-- The results of comparisons in a heap.
 use Rattle.value_table.proofs.Prelude.{◌≡◌, ℕ, suc, ◌+◌, ◌≤◌, ◌<◌, List, [], ◌∷◌, ◌++◌, inl, inr, length, Option, length-append, subst, Bool, ◌||◌, add-one, drop-cons, Some, slice_get, get_or, drop, sym, ap, ◌∙◌, arith, Decides, is_some, option_map, get_or_append_left, get_or-append_seam, one_answer, same_Some, slice_get-get_or, Value, equal, equal_decides, has_item, member, place_of_key, entries_part, has_key_place, value_in, items_at, grown, AreCells, AreSame, AreContents, AreMeanings, Cell, Backings}
 use Rattle.value_store.specs.Value as kind
 use Rattle.value_table.proofs.Growth.{found}
 use Rattle.value_table.proofs.Searches.{up_to}
 use Rattle.value_table.proofs.Walks.{same_value, same_place}
 
--- a comparison of two places answers whether their values are equal
+-- a comparison of two places returns whether their values are equal
 pub answer_is : (bs : Backings) (vs : List Value) (cs : List Cell) (a b : ℕ) (r : Bool) → AreMeanings bs vs cs → a < length cs → b < length cs
     → Decides r (slice_get vs a ≡ slice_get vs b)
     → r ≡ equal (value_in vs a) (value_in vs b)
@@ -19,7 +19,7 @@ contents_of bs cs h = λ r c e. (found bs cs r c e h).content
 pub meanings_of : (bs : Backings) (cs : List Cell) → AreCells bs [] cs → AreMeanings bs (grown bs [] cs) cs
 meanings_of bs cs h = λ r c e. let f = found bs cs r c e h in slice_get-get_or (grown bs [] cs) r kind.null f.inside ∙ ap (λ v. Some v) f.is
 
--- the first of some places, and those behind it
+-- the first of some places, and those after it
 pub item_step : (vs : List Value) (x : Value) (rs : List ℕ) (i : ℕ) (r : Bool) → i < length rs → r ≡ equal x (value_in vs (get_or rs i 0))
     → has_item x (items_at vs (drop i rs)) ≡ r || has_item x (items_at vs (drop (i + 1) rs))
 item_step vs x rs i r h e = rw (add-one, drop-cons rs i 0 h) (ap (λ b. b || has_item x (items_at vs (drop (suc i) rs))) (sym e))
@@ -43,7 +43,7 @@ word_added vs same more n h e l is =
 
 -- ---- members
 
--- a map has a text as a key where the key has a place
+-- a map has a text as a key if the key has a place
 pub key_member : (x m : Value) (key : List ℕ) (o : Option ℕ) → x ≡ kind.text key → Some o ≡ option_map (place_of_key key) (entries_part m)
     → Some (is_some o) ≡ member x m
 key_member x m key o e f = grind (arith, same_Some, has_key_place)

@@ -18,7 +18,7 @@ pub mapped_none : {A B : Type 0} (f : A → B) (x : Option A) → option_map f x
 mapped_none f None e = refl
 mapped_none f (Some a) e = absurd (cc)
 
--- a result before the tokens that are left
+-- a result with the remaining tokens
 abbrev before : {A : Type 0} → List Token → Option A → Option (A × List Token)
 before r x = option_map (λ a. (a, r)) x
 
@@ -36,12 +36,12 @@ pub converted_object : (o : Option (json.Members × List Token)) → converted o
 converted_object None = refl
 converted_object (Some p) = before_map object p.1 (of_members p.0 no_members)
 
--- what follows a result goes on from the tokens that are left
+-- what follows a result continues with the remaining tokens
 before_then : {A B : Type 0} (next : A × List Token → Option B) (r : List Token) (x : Option A) → option_and_then next (before r x) ≡ option_and_then (λ a. next (a, r)) x
 before_then next r None = refl
 before_then next r (Some a) = refl
 
--- an item is converted before the items that follow it
+-- an item is converted before those that follow it
 item_first : (j : json.Json) (x : Option Data) → of_json j ≡ x → (o : Option (json.Items × List Token))
     → converted of_items (parse_map (json.item j) o) ≡ option_and_then (λ d. parse_map (item d) (converted of_items o)) x
 item_first j None e None = refl
@@ -56,7 +56,7 @@ item_then more None = refl
 item_then more (Some (j, r)) =
     item_first j (of_json j) refl (more r) ∙ sym (before_then (λ q. parse_map (item q.0) (converted of_items (more q.1))) r (of_json j))
 
--- a member is converted before the members that follow it, and is found by them
+-- a member is converted before those that follow it, which are added to it
 member_first : (k : List ℕ) (old : Members) (j : json.Json) (x : Option Data) → of_json j ≡ x → (o : Option (json.Members × List Token))
     → converted (λ ms. of_members ms old) (parse_map (json.member k j) o) ≡ option_and_then (λ d. converted (λ ms. of_members ms (put k d old)) o) x
 member_first k old j None e None = refl
@@ -72,7 +72,7 @@ member_then k old more (Some (j, r)) =
     member_first k old j (of_json j) refl (more r) ∙ sym (before_then (λ q. converted (λ ms. of_members ms (put k q.0 old)) (more q.1)) r (of_json j))
 
 module _ (p : Parse json.Json) where
-  -- the items from a token on that ends no array
+  -- the items from a token on that does not end the array
   array_step : (n : ℕ) (ts : List Token) → after_end_array ts ≡ None
       → converted of_items (items p (suc n) ts) ≡ option_and_then (λ q. parse_map (item q.0) (converted of_items (items p n q.1))) (converted of_json (p ts))
   unfolding items
@@ -123,7 +123,7 @@ module _ (p : Parse json.Json) where
     pub object_end : (n : ℕ) (ts r : List Token) → length ts ≤ n → read_key ts ≡ Some (None, r) → converted (λ ms. of_members ms old) (members p n ts) ≡ Some (old, r)
     object_end n ts r enough e = ap (converted (λ ms. of_members ms old)) (members_end p n ts r enough e)
 
--- ---- the items that were read, before those that follow
+-- ---- the items that were read, in front of those that follow
 
 abbrev pub items_after : List Data → Items → Items
 items_after [] rest = rest
@@ -150,7 +150,7 @@ none_after (Some p) = refl
 abbrev pub whole : Option (json.Json × List Token) → Option Data
 whole o = option_and_then of_json (option_and_then (λ p. if_last p.0 p.1) o)
 
--- the result before the tokens r, if there is no other token
+-- the result, if no tokens remain
 abbrev last : List Token → Option Data → Option Data
 last [] x = x
 last (t ∷ r) x = None

@@ -1,4 +1,4 @@
--- Lists and maps of parts that stand.
+-- Lists and maps of existing values.
 use Rattle.value_table.proofs.Prelude.{◌≡◌, ℕ, ◌+◌, List, [], ◌∷◌, ◌++◌, length, refl, sym, ap, ap₂, ◌∙◌, arith, max, Some, Value, saturated, quoted, IsOrdered, part_of, items_at, entries_at, AreTexts, AreBelow, CellFound, IsCell, HoldsItems, commas, IsMeasure, with_one, HoldsKeys, Part, Cell, Measure, Backings, push_depth}
 use Rattle.value_store.specs.Value as kind
 use Rattle.value_table.specs.declared.content.Content.TheVariants as cell
@@ -17,7 +17,7 @@ with_last : {A : Type 0} (x : A) (xs : List A) → with_one (length xs) x xs ≡
 with_last x [] = refl
 with_last x (y ∷ ys) = ap (λ zs. y ∷ zs) (with_last x ys)
 
--- the measure of a map of `n` entries, and the one after an entry more
+-- the measure of a map with `n` entries, and after one more entry
 pub record AddsEntry (bs : Backings) (vs : List Value) (k : Part) (x n : ℕ) (m m' : Measure) : Type 0 where
   pub value : Cell
   pub found : CellFound bs vs x value
@@ -25,7 +25,7 @@ pub record AddsEntry (bs : Backings) (vs : List Value) (k : Part) (x n : ℕ) (m
   pub deep : m'.depth ≡ max m.depth (value.depth + 1)
   pub long : m'.json ≡ saturated (m.json + (1 + commas n 1) + k.json + value.json)
 
--- the measure of a map with one more entry behind the others
+-- the measure of a map with one more entry at the end
 pub map_measured : (bs : Backings) (vs : List Value) (ks : List Part) (rs : List ℕ) (k : Part) (x : ℕ) (m m' : Measure) → length ks ≡ length rs
     → IsMeasure (length vs) (kind.map (entries_at bs.bytes vs ks rs)) m → AddsEntry bs vs k x (length ks) m m'
     → IsMeasure (length vs) (kind.map (entries_at bs.bytes vs (ks ++ k ∷ []) (rs ++ x ∷ []))) m'
@@ -40,7 +40,7 @@ map_measured bs vs ks rs k x m m' same h adds =
     ap₂ (entries_at bytes vs) (sym (with_last k ks)) (sym (ap (λ i. with_one i x rs) same ∙ with_last x rs)) in
     grind (arith, depth_one, put_long)
 
--- the cells of wholes
+-- the cells of lists and maps
 pub list_gathered : (cs : Backings) (vs : List Value) (xs rs : List ℕ) (b : ℕ) (m : Measure) → xs ≡ rs → HoldsItems cs.lists b (length xs) xs
     → AreBelow (length vs) rs → IsMeasure (length vs) (kind.list (items_at vs rs)) m → IsOrdered (kind.list (items_at vs rs))
     → Made cs vs (record { content = cell.List b (length rs); depth = m.depth; json = m.json }) (Some (kind.list (items_at vs rs)))
@@ -50,7 +50,7 @@ pub list_new : (cs : Backings) (vs : List Value) (b n : ℕ) (rs : List ℕ) →
     → IsCell cs vs (record { content = cell.List b 0; depth = 1; json = 2 })
 list_new cs vs b n rs h = record { content = record { inside = h.inside; long = omega arith; below = tt }; depth = refl; shallow = omega arith; json = refl; ordered = tt }
 
--- keys and values of which a map may be made
+-- keys and values that can become a map
 pub record MakeMap (bytes : List ℕ) (vs : List Value) (ks : List Part) (rs : List ℕ) (m : Measure) : Type 0 where
   pub pairs : length ks ≡ length rs
   pub texts : AreTexts bytes ks
@@ -58,7 +58,7 @@ pub record MakeMap (bytes : List ℕ) (vs : List Value) (ks : List Part) (rs : L
   pub measure : IsMeasure (length vs) (kind.map (entries_at bytes vs ks rs)) m
   pub ordered : IsOrdered (kind.map (entries_at bytes vs ks rs))
 
--- backings that hold them
+-- backings that hold these keys and values
 pub record HoldsMap (cs : Backings) (row b : ℕ) (ks : List Part) (rs : List ℕ) : Type 0 where
   pub keys : HoldsKeys cs.keys row (length ks) ks
   pub values : HoldsItems cs.lists b (length rs) rs

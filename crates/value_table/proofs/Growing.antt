@@ -1,4 +1,4 @@
--- Documents become values one by one.
+-- Documents become values one after the other.
 use Rattle.value_table.proofs.Prelude.{◌≡◌, ℕ, false, List, [], ◌∷◌, ◌++◌, length, refl, sym, ap, ap₂, ◌∙◌, arith, length-append, append_assoc, append-nil, Result, Ok, Some, or_parts, map-append, AllocError, Value, Items, no_items, item, items_push, items_join, Entries, no_entries, entry, keys_of, values_of, AreItemsOrdered, AreEntriesOrdered, items_have_other, members_have_other, plain_value, plain_items, plain_entries, part_of, items_at, entries_at, AddsValue, IsText, AreTexts, AreBelow, ExtendsBackings, texts_of, values_at, entries_of, Part, Backings, HasGrown, IsValueAt, Enters, heap_values, Gains, Heap}
 use Rattle.serde_json.specs.Data as json
 use Rattle.value_table.proofs.Growth.{value_stable, mapped_stable, items_stable, text_kept, texts_kept}
@@ -22,7 +22,7 @@ stands_added vs ws v i a = let p = place_added vs ws v i a in record { inside = 
 pub enters : (old new : Heap) (v : Value) (r : Result ℕ AllocError) → Gains old (Some v) r new → Enters old v r new
 enters old new v r g = grind (arith, grown_added, stands_added)
 
--- behind others
+-- after others
 pub enters_on : (first old new : Heap) (v w : Value) (r : Result ℕ AllocError) → HasGrown (heap_values first) (heap_values old) → w ≡ v → Enters old w r new
     → Enters first v r new
 enters_on first old new v w r g e h = record { heap = h.heap; grown = grown_more _ _ _ g h.grown; value = rw (← e) h.value }
@@ -40,7 +40,7 @@ join_none : (is : Items) → items_join is no_items ≡ is
 join_none no_items = refl
 join_none (item w is) = ap (item w) (join_none is)
 
--- the values of an array's items stand at these places, but for those that are left
+-- these places hold the values of the array's items, except the remaining ones
 pub record ItemsStand (all : Items) (vs : List Value) (places : List ℕ) (rest : json.Items) : Type 0 where
   pub is : items_join (items_at vs places) (plain_items rest) ≡ all
   pub below : AreBelow (length vs) places
@@ -58,7 +58,7 @@ items_end all vs places rest g e = grind (arith, join_none)
 
 -- ---- the keys of a map
 
--- these texts are keys
+-- these texts are the keys
 pub record KeysStand (keys : List (List ℕ)) (bytes : List ℕ) (parts : List Part) : Type 0 where
   pub are : texts_of bytes parts ≡ keys
   pub texts : AreTexts bytes parts
@@ -82,7 +82,7 @@ entries_stand bytes us vs keys all parts places k g e = entries_built bytes vs p
 
 -- ---- the members of an object
 
--- the keys and the values of an object's members, but for those that are left
+-- the keys and the values of the object's members, except the remaining ones
 pub record MembersStand (all : Entries) (vs : List Value) (keys : List (List ℕ)) (places : List ℕ) (rest : json.Members) : Type 0 where
   pub keys_are : keys ++ keys_of (plain_entries rest) ≡ keys_of all
   pub values_are : values_at vs places ++ values_of (plain_entries rest) ≡ values_of all
@@ -91,7 +91,7 @@ pub record MembersStand (all : Entries) (vs : List Value) (keys : List (List ℕ
   pub whole : members_have_other rest ≡ false
   pub ordered : AreEntriesOrdered (plain_entries rest)
 
--- the values have grown, and a value is among them
+-- the values have grown, and this value is among them
 pub record HasAdded (us vs : List Value) (r : ℕ) (v : Value) : Type 0 where
   pub grown : HasGrown us vs
   pub value : IsValueAt vs r v

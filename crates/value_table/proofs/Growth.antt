@@ -1,9 +1,9 @@
--- Values stay when backings grow and when values come behind them.
+-- Values are unchanged when backings grow and when values are added.
 use Rattle.value_table.proofs.Prelude.{◌≡◌, ℕ, zero, suc, ◌+◌, ◌<◌, ◌≤◌, List, [], ◌∷◌, ◌++◌, length, get_or, take, drop, map, refl, sym, ap, ap₂, ◌∙◌, arith, length-append, append_assoc, append-nil, subst, zero-add, length-drop, Some, slice_get, slice_range, take-append-le, drop-append-le, get_or_append_left, get_or-append_seam, Value, part_of, value_in, items_at, entries_at, refs_at, keys_at, meaning, grown, IsText, AreTexts, AreBelow, IsRange, AreKeys, IsContent, IsCell, AreCells, ExtendsBackings, CellFound, Part, Content, Cell, Backings}
 use Rattle.value_store.specs.Value as kind
 use Rattle.value_table.specs.declared.content.Content.TheVariants as cell
 
--- ---- parts of what has grown
+-- ---- parts of lists that have grown
 
 pub range_kept : {A : Type 0} (xs rest : List A) (a b : ℕ) → a ≤ b → b ≤ length xs → slice_range (xs ++ rest) a b ≡ slice_range xs a b
 range_kept xs rest a b le lt = grind (arith, take, drop-append-le, take-append-le, drop, length-drop)
@@ -52,7 +52,7 @@ content_kept bs cs i _ e h = tt
 cell_kept : (bs cs : Backings) (vs : List Value) (c : Cell) → ExtendsBackings bs cs → IsCell bs vs c → IsCell cs vs c
 cell_kept bs cs vs c e h = grind (arith, meaning_kept, content_kept)
 
--- every old value stays when backings grow
+-- every old value is unchanged when backings grow
 pub grown_kept : (bs cs : Backings) (vs : List Value) (xs : List Cell) → ExtendsBackings bs cs → AreCells bs vs xs → grown cs vs xs ≡ grown bs vs xs
 grown_kept bs cs vs [] e h = refl
 grown_kept bs cs vs (c ∷ xs) e h = grind (arith, meaning_kept, grown_kept bs cs (vs ++ meaning bs vs c.content ∷ []) xs e h.1)
@@ -84,7 +84,7 @@ count_values bs xs = length_grown bs [] xs ∙ zero-add (length xs)
 pub value_stable : (vs ws : List Value) (r : ℕ) → r < length vs → value_in (vs ++ ws) r ≡ value_in vs r
 value_stable vs ws r h = get_or_append_left vs ws kind.null r h
 
--- what is told of the values at places below is told of them still
+-- a function of the values at earlier places is unchanged
 pub mapped_stable : {A : Type 0} (f : Value → A) (vs ws : List Value) (rs : List ℕ) → AreBelow (length vs) rs
     → map (λ r. f (value_in (vs ++ ws) r)) rs ≡ map (λ r. f (value_in vs r)) rs
 mapped_stable f vs ws [] h = refl

@@ -1,9 +1,9 @@
--- A value's head and the values of its parts are its own.
+-- A value determines its head and the values of its parts.
 use Rattle.value_table.proofs.Prelude.{◌≡◌, ◌≤◌, ℕ, ◌+◌, ◌-◌, List, [], ◌∷◌, length, take, drop, refl, sym, ap, ap₂, ◌∙◌, subst, arith, length-drop, length-take, ⊤, slice_index_or, slice_range, length-map, nil_from_length, Value, items_of, list_of, keys_of, values_of, part_of, value_in, items_at, entries_at, refs_at, keys_at, meaning, IsContent, Head, simple, items, entries, head, parts, texts_of, values_at, entries_of, built, Part, Content, Backings}
 use Rattle.value_store.specs.Value as kind
 use Rattle.value_table.specs.declared.content.Content.TheVariants as cell
 
--- ---- a cell's meaning is built of its head and its parts
+-- ---- the meaning of a cell is built from its head and its parts
 
 items_built : (vs : List Value) (rs : List ℕ) → items_at vs rs ≡ items_of (values_at vs rs)
 items_built vs [] = refl
@@ -17,7 +17,7 @@ entries_built bytes vs _ _ = refl
 pub meaning_built : (bs : Backings) (vs : List Value) (c : Content) → meaning bs vs c ≡ built (head bs c) (values_at vs (parts bs c))
 meaning_built bs vs c = grind (arith, items_built, entries_built)
 
--- ---- a head says how many parts there are
+-- ---- the head determines the number of parts
 
 abbrev pub HasNoParts : Value → Type 0
 HasNoParts (kind.list is) = ⊥
@@ -42,7 +42,7 @@ pub parts_long : (bs : Backings) (i j : ℕ) (c d : Content) → IsContent bs i 
     → length (parts bs c) ≡ length (parts bs d)
 parts_long bs i j c d f g e = grind (arith, fits)
 
--- ---- what is built of two heads and parts is equal only where these are
+-- ---- values built from heads and parts are equal only if these are
 
 pub list_back : (vs : List Value) → list_of (items_of vs) ≡ vs
 list_back [] = refl
@@ -86,7 +86,7 @@ meaning_apart bs vs i j c d f g e = grind (arith, length-map, fits, apart, meani
 
 -- ---- the keys of a map
 
--- a map has as many keys as values
+-- a map has the same number of keys and values
 pub map_long : (bs : Backings) (i k b n : ℕ) → IsContent bs i (cell.Map k b n) → length (keys_at bs.keys k n) ≡ length (refs_at bs.lists b n)
 map_long bs i k b n h = range_long bs.keys k n h.1.inside ∙ sym (taken_long (slice_index_or bs.lists b []) n h.0.long)
 

@@ -1,11 +1,11 @@
--- What an index knows of items, and what a search passes by it.
+-- What an index contains, and which items a search may skip.
 use Rattle.value_table.proofs.Prelude.{◌≡◌, ℕ, zero, suc, ◌+◌, ◌<◌, ◌≤◌, min, List, [], ◌∷◌, ◌++◌, length, get_or, take, drop, set, Bool, true, false, cond, bytes_eq, Option, Some, None, slice_get, refl, sym, ap, ◌∙◌, subst, arith, true≢false, length-append, if◌then◌else◌, option_map, is_some, nat_le, ◌||◌, slice_index_or, get_by_text, update, drop-nil, false_from_ne_true, nat_tests, take_more, take-append-le, map-append, get_or-take, length-take-le, slice_get-get_or, bytes_eq-Decides as bytes_decides, Value, json_text, equal, has_item, equal_decides, value_in, items_at, refs_at, grown, json_length, AreBelow, IsRange, AreCells, ExtendsBackings, place_among, looked_up_by, texts_at, IsIndex, Covers, IsIndexed, AreIndexes, AreKnown, Cell, Index, Backings}
 use Rattle.value_table.proofs.Growth.{mapped_stable, found, count_values}
 use Rattle.value_table.proofs.Walks.{below_here}
 use Rattle.value_table.proofs.Listed.{below_le, below_append}
 use Rattle.value_table.proofs.Comparisons.{meanings_of}
 
--- ---- the least place of a text
+-- ---- the first place of a text
 
 abbrev or_else : Option ℕ → Option ℕ → Option ℕ
 or_else (Some p) o = Some p
@@ -22,11 +22,11 @@ place_push : (t k : List ℕ) (ts : List (List ℕ)) → place_among t (ts ++ k 
 place_push t k [] = refl
 place_push t k (u ∷ ts) = grind (arith, bytes_eq, push_step, place_push t k ts)
 
--- one that stands there already
+-- the text is already there
 none_more : (o : Option ℕ) (b : Bool) (n : ℕ) → (b ≡ true → is_some o ≡ true) → or_else o (place_if b n) ≡ o
 none_more o b n h = grind arith
 
--- and one that does not
+-- the text is not there
 one_more : (o : Option ℕ) (b : Bool) (n : ℕ) → (b ≡ true → is_some o ≡ false) → cond b (Some n) o ≡ or_else o (place_if b n)
 one_more o b n h = grind arith
 
@@ -46,7 +46,7 @@ pub index_more : (old new : Index) (ts : List (List ℕ)) (k : List ℕ) → IsI
     → IsIndex new (ts ++ k ∷ [])
 index_more old new ts k h n put none = grind (arith, counted, bytes_eq, one_more, same_text, place_push)
 
--- ---- items before the first one with the same text
+-- ---- the items before the first one with the same text
 
 differs : (x v : Value) → bytes_eq (looked_up_by v) (looked_up_by x) ≡ false → equal x v ≡ false
 differs x v e = grind (arith, false_from_ne_true, true≢false, bytes_decides, equal_decides)
@@ -95,7 +95,7 @@ item_at lists i b n k d h l = grind (arith, get_or-take, length-take-le, below_h
 pub ref_below : (lists : List (List ℕ)) (i b n k d : ℕ) → IsRange lists i b n → k < n → get_or (refs_at lists b n) k d < i
 ref_below lists i b n k d h l = below_here i (refs_at lists b n) k d h.below (omega (arith, length-take-le n (slice_index_or lists b []) h.long))
 
--- ---- indexes stay when backings and values grow
+-- ---- indexes stay right when backings and values grow
 
 indexed_kept : (bs cs : Backings) (vs ws : List Value) (x : Index) → ExtendsBackings bs cs → IsIndexed bs vs x → IsIndexed cs (vs ++ ws) x
 indexed_kept bs cs vs ws x e h =
@@ -106,11 +106,11 @@ indexed_kept bs cs vs ws x e h =
     let u = ap (texts_at (vs ++ ws)) t ∙ mapped_stable looked_up_by vs ws (take x.count old) h.covers.below in
     grind (arith, length-append, below_le)
 
--- a new one
+-- a new index
 pub new_indexed : (bs : Backings) (vs : List Value) (x : Index) (b : ℕ) → b < length bs.lists → x.backing ≡ b → IsIndex x [] → IsIndexed bs vs x
 new_indexed bs vs x b inside is h = grind arith
 
--- an index of the first `n` items of a backing that is not full yet
+-- the index covers fewer than the first `n` items of its backing
 pub record IsFilling (bs : Backings) (vs : List Value) (index : Index) (i b n : ℕ) : Type 0 where
   pub indexed : IsIndexed bs vs index
   pub range : IsRange bs.lists i b n
@@ -118,7 +118,7 @@ pub record IsFilling (bs : Backings) (vs : List Value) (index : Index) (i b n : 
   pub at : index.backing ≡ b
   pub left : index.count < n
 
--- one with one more text
+-- one more text is added
 pub entered : (bs : Backings) (vs : List Value) (old new : Index) (i b n : ℕ) (k : List ℕ) → IsFilling bs vs old i b n
     → k ≡ looked_up_by (value_in vs (get_or (refs_at bs.lists b n) old.count 0)) → AddsText old new k → IsIndexed bs vs new
 entered bs vs old new i b n k fills is adds =
@@ -134,8 +134,8 @@ entered bs vs old new i b n k fills is adds =
     let d = covers_more vs (get_or bs.lists b []) old new 0 k c it.2 (omega arith) (is ∙ ap (λ r. looked_up_by (value_in vs r)) it.0) adds in
     grind arith
 
--- what a search passes
--- the place of a text by an index
+-- the items that a search skips
+-- the place of a text in an index
 abbrev pub IsFoundBy : Index → List ℕ → Option ℕ → Type 0
 IsFoundBy y text o = (ts : List (List ℕ)) → IsIndex y ts → o ≡ place_among text ts
 
@@ -186,7 +186,7 @@ slot_inside (x ∷ xs) (suc s) b e = let l = slot_inside xs s b e in omega arith
 pub at_slot : (bs : Backings) (vs : List Value) (xs : List Index) (s : ℕ) (d : Index) → AreIndexes bs vs xs → s < length xs → IsIndexed bs vs (get_or xs s d)
 at_slot bs vs xs s d h l = h.each s (get_or xs s d) (slice_get-get_or xs s d l)
 
--- ---- what cells tell
+-- ---- facts about cells
 
 pub known_of : (bs : Backings) (cs : List Cell) → AreCells bs [] cs → AreKnown bs (grown bs [] cs) cs
 known_of bs cs h = record { meanings = meanings_of bs cs h; lengths = λ r c e. let f = found bs cs r c e h in f.json ∙ ap json_length (sym f.is); count = count_values bs cs }

@@ -1,3 +1,5 @@
+-- The proofs of `value_table`.
+
 pub mod TextLengths
 pub mod Growth
 pub mod Backed

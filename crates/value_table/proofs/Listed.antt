@@ -1,11 +1,11 @@
--- Lists made of others.
+-- Lists made from others.
 use Rattle.value_table.proofs.Prelude.{◌≡◌, ℕ, suc, ◌+◌, ◌-◌, ◌<◌, ◌≤◌, List, [], ◌∷◌, ◌++◌, length, refl, ap, arith, subst, max, Option, Some, IfSome, Value, item, list_of, items_push, items_join, items_depth, IsOrdered, saturated, push_of, join_of, push_ordered, join_ordered, push_depth, join_depth, value_in, items_at, refs_at, meaning, AreBelow, IsRange, IsCell, CellFound, HoldsItems, commas, Cell, Content, Backings}
 use Rattle.value_store.specs.Value as kind
 use Rattle.value_table.proofs.Heads.{taken_long}
 use Rattle.value_table.proofs.TextLengths.{push_long, join_long, list_long}
 use Rattle.value_table.specs.declared.content.Content.TheVariants as content
 
--- a cell that may be placed, and what is due
+-- a cell that can be added, and its value
 pub record Made (bs : Backings) (vs : List Value) (c : Cell) (due : Option Value) : Type 0 where
   pub cell : IsCell bs vs c
   pub value : due ≡ Some (meaning bs vs c.content)
@@ -33,7 +33,7 @@ items_both vs (r ∷ rs) ss = ap (item (value_in vs r)) (items_both vs rs ss)
 pub if_made : (P : Value → Type 0) (o : Option Value) (v : Value) → o ≡ Some v → IfSome o P → P v
 if_made P o v e h = subst (λ (p : Option Value). IfSome p P) e h
 
--- what a list's cell stands for
+-- the list that a cell represents
 pub record ListFound (bs : Backings) (vs : List Value) (l b n deep : ℕ) : Type 0 where
   pub inside : l < length vs
   pub range : IsRange bs.lists l b n
@@ -50,18 +50,18 @@ list_found bs vs l b n c f e = grind (arith, items_length, taken_long)
 pub list_brackets : (bs : Backings) (vs : List Value) (l b n : ℕ) (c : Cell) → CellFound bs vs l c → c.content ≡ content.List b n → 2 ≤ c.json
 list_brackets bs vs l b n c f e = grind (arith, list_long)
 
--- a cell that stands for a list
+-- a cell that represents a list
 pub record ListCell (bs : Backings) (vs : List Value) (l b n : ℕ) : Type 0 where
   pub cell : Cell
   pub found : CellFound bs vs l cell
   pub is : cell.content ≡ content.List b n
 
--- a cell may be measured anew by equal numbers
+-- equal measures may replace each other in a cell
 pub made_by : {bs : Backings} {vs : List Value} {x : Content} {d e j k : ℕ} {due : Option Value} → d ≡ e → j ≡ k
     → Made bs vs (record { content = x; depth = e; json = k }) due → Made bs vs (record { content = x; depth = d; json = j }) due
 made_by deep long made = rw (deep, long) made
 
--- lists made of those at two places
+-- lists made from the lists at two places
 module _ (bs cs : Backings) (vs : List Value) where
   pub list_pushed : (l x b n c : ℕ) (xc : Cell) (list : ListCell bs vs l b n) → CellFound bs vs x xc → HoldsItems cs.lists c (n + 1) (refs_at bs.lists b n ++ x ∷ [])
       → Made cs vs (record { content = content.List c (n + 1); depth = max list.cell.depth (xc.depth + 1); json = saturated (list.cell.json + commas n 1 + xc.json) }) (push_of (value_in vs l) (value_in vs x))

@@ -1,4 +1,4 @@
--- What is seen of cells.
+-- Views of cells.
 use Rattle.value_table.proofs.Prelude.{◌≡◌, ℕ, zero, suc, ◌<◌, ◌≤◌, List, [], ◌∷◌, length, get_or, map, refl, sym, ap, ◌∙◌, arith, subst, Some, slice_get, IsSome, option_map, length-map, slice_get-map, slice_get-get_or, Value, parts_of, part_of, value_in, entries_at, refs_at, keys_at, meaning, grown, key_in, parts, texts_of, values_at, IsText, IsRange, IsContent, CellFound, Part, Content, Cell, Backings, outcome_view, sees_list, sees_map}
 use Rattle.value_store.specs.Value as kind
 use Rattle.value_table.specs.declared.content.Content.TheVariants as cell
@@ -14,7 +14,7 @@ meaning_parts bs vs i (cell.Map k b n) h =
     ∙ values_back (texts_of bs.bytes (keys_at bs.keys k n)) (values_at vs (refs_at bs.lists b n)) (map_fits bs vs i k b n h)
 meaning_parts bs vs i _ h = refl
 
--- the parts of a value are the values of its cell's parts
+-- the parts of a value are the values of the parts of its cell
 found_parts : (bs : Backings) (vs : List Value) (p : ℕ) (c : Cell) → CellFound bs vs p c → parts_of (value_in vs p) ≡ map (value_in vs) (parts bs c.content)
 found_parts bs vs p c f = ap parts_of f.is ∙ meaning_parts bs vs p c.content f.content
 

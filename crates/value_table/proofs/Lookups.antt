@@ -1,4 +1,4 @@
--- The place of a key that a search finds.
+-- Searching a key in a map.
 use Rattle.value_table.proofs.Prelude.{◌≡◌, ℕ, zero, suc, ◌<◌, List, [], ◌∷◌, inl, inr, length, get_or, Some, None, slice_get, false, true≢false, refl, sym, ap, ◌∙◌, subst, arith, bytes_eq, if◌then◌else◌, option_map, Less, nat_cmp, is_eq, slice_cmp, cases_lt, cond-false, cond-true, false_from_ne_true, is_eq-slice_cmp, bytes_eq-Decides, same_Some, get_or_from_slice_get, Ascend, IsOrdered, Value, Entries, no_entries, entry, keys_of, entries_part, place_of_key, value_in, entries_at, refs_at, keys_at, meaning, IsContent, CellFound, texts_of, Cell, Backings, IsKeyAt, IsInsertionPlace, place_among}
 use Rattle.std.specs.List.Sorted.{IsStrictlySortedBy}
 use Rattle.value_store.specs.Value.{map}
@@ -10,7 +10,7 @@ pub place_by_keys : (key : List ℕ) (es : Entries) → place_of_key key es ≡ 
 place_by_keys key no_entries = refl
 place_by_keys key (entry k v es) = ap (λ p. if bytes_eq k key then Some 0 else option_map suc p) (place_by_keys key es)
 
--- ---- keys that are not equal
+-- ---- keys that differ
 
 unequal : (a b : List ℕ) → (a ≡ b → ⊥) → bytes_eq a b ≡ false
 unequal a b f = false_from_ne_true _ (λ e. f ((bytes_eq-Decides a b).0 e))
@@ -18,7 +18,7 @@ unequal a b f = false_from_ne_true _ (λ e. f ((bytes_eq-Decides a b).0 e))
 ordered_apart : (a b : List ℕ) → is_eq (slice_cmp nat_cmp a b) ≡ false → a ≡ b → ⊥
 ordered_apart a b e s = true≢false (sym ((bytes_eq-Decides a b).1 s) ∙ sym (is_eq-slice_cmp a b) ∙ e)
 
--- ---- a key that is there
+-- ---- a key that is found
 
 at_place : (key : List ℕ) (ks : List (List ℕ)) (i : ℕ) → Ascend ks → i < length ks → slice_get ks i ≡ Some key → place_among key ks ≡ Some i
 unfolding IsStrictlySortedBy
@@ -33,7 +33,7 @@ at_place key (k ∷ ks) (suc i) a h e =
 pub found_place : (key : List ℕ) (ks : List (List ℕ)) (i : ℕ) → Ascend ks → IsKeyAt ks key i → place_among key ks ≡ Some i
 found_place key ks i a h = at_place key ks i a h.inside h.is
 
--- ---- a key that is not there
+-- ---- a key that is missing
 
 no_place : (key : List ℕ) (ks : List (List ℕ)) → ((j : ℕ) (d : List ℕ) → j < length ks → is_eq (slice_cmp nat_cmp key (get_or ks j d)) ≡ false) → place_among key ks ≡ None
 no_place key [] f = refl

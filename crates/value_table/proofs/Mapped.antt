@@ -8,7 +8,7 @@ use Rattle.value_table.proofs.Heads.{range_long}
 use Rattle.value_table.proofs.TextLengths.{put_long}
 use Rattle.value_table.proofs.Listed.{Made, below_le, if_made}
 
--- ---- an entry put at its gap
+-- ---- an entry inserted at its place
 
 inserted_at : (o : Ordering) (key : List ℕ) (v : Value) (k : List ℕ) (w : Value) (more : Entries) (rest : Option Entries) → slice_cmp nat_cmp key k ≡ o
     → inserted_by (slice_cmp nat_cmp key k) key v k w more rest ≡ inserted_by o key v k w more rest
@@ -29,7 +29,7 @@ entry_put bytes vs (p ∷ ks) (r ∷ rs) k x (suc i) e g =
     ∙ ap (option_map (entry (part_of bytes p) (value_in vs r))) (entry_put bytes vs ks rs k x i (omega arith) rest)
 entry_put bytes vs _ _ k x i e g = absurd (omega arith)
 
--- ---- what is put is below, readable and as deep
+-- ---- the new parts are below, readable, and as deep
 
 below_one : (i : ℕ) (rs : List ℕ) (x p : ℕ) → AreBelow i rs → x < i → AreBelow i (with_one p x rs)
 below_one i [] x zero b h = (h, tt)
@@ -52,7 +52,7 @@ depth_one bytes vs _ _ k x _ e l = absurd (omega arith)
 
 -- the cell of a map with one more entry
 module _ (bs : Backings) (vs : List Value) (m k x : ℕ) where
-  -- the map, the key and the value, each with its cell, and the gap where the key belongs
+  -- the map, the key and the value with their cells, and the place where the key belongs
   pub record IsPut (row b n i : ℕ) (key : Part) : Type 0 where
     pub map : Cell
     pub name : Cell
@@ -65,7 +65,7 @@ module _ (bs : Backings) (vs : List Value) (m k x : ℕ) where
     pub pairs : length (keys_at bs.keys row n) ≡ length (refs_at bs.lists b n)
     pub gap : IsInsertionPlace (texts_of bs.bytes (keys_at bs.keys row n)) (part_of bs.bytes key) i
 
-  -- backings that hold the map with the entry
+  -- backings that hold the map with the new entry
   pub record HoldsPut (cs : Backings) (row b n row' b' i : ℕ) (key : Part) : Type 0 where
     pub bytes : cs.bytes ≡ bs.bytes
     pub values : HoldsItems cs.lists b' (n + 1) (with_one i x (refs_at bs.lists b n))
@@ -113,7 +113,7 @@ pub map_new : (cs : Backings) (vs : List Value) (b n : ℕ) (rs : List ℕ) → 
 unfolding IsStrictlySortedBy
 map_new cs vs b n rs h = record { content = (record { inside = h.inside; long = omega arith; below = tt }, record { inside = omega arith; texts = tt }); depth = refl; shallow = omega arith; json = refl; ordered = (tt, tt) }
 
--- ---- a key that a map has cannot be put
+-- ---- a key that the map already has cannot be added
 
 there : (o : Option Entries) → IsSome (option_map kind.map o) → is_some o ≡ true
 there o h = grind arith

@@ -1,4 +1,4 @@
--- Lists that a function takes to the same list.
+-- Lists that have the same image under a function.
 use Rattle.value_table.proofs.Prelude.{◌≡◌, ℕ, ◌+◌, ◌<◌, List, [], ◌∷◌, length, take, map, get_or, refl, sym, ap, ◌∙◌, arith, take_more, get_or-map, map-append, length-map}
 
 module _ {A B : Type 0} (f : A → B) (xs ys : List A) where

@@ -1,4 +1,4 @@
--- Values by reference, as cells and references come.
+-- Values by reference, as cells and references are added.
 use Rattle.value_table.proofs.Prelude.{◌≡◌, ℕ, zero, suc, ◌+◌, ◌<◌, true, List, [], ◌∷◌, ◌++◌, length, get_or, refl, sym, ap, ap₂, ◌∙◌, arith, length-append, append_assoc, subst, Option, Some, None, Ok, slice_get, IfSome, IsSome, option_map, slice_get-get_or, get_or-append_seam, Value, ValueOrError, error, value, put_values, result_depth, IsOrdered, AreOrdered, place, placed, is_appended, Places, value_at, text_at, key_at, push_of, join_of, pushed, put_in, part_at, parts_of, value_in, grown, key_in, meaning, reference_of, AreBelow, AreCells, AddsValue, heap_values, IsHeap, Gains, named, place_at, reference_values, AreReferences, IsPlace, Content, Cell, Backings, Heap}
 use Rattle.value_store.specs.Value as kind
 use Rattle.value_store.specs.Calls.{joined}
@@ -76,12 +76,12 @@ pub name_values : (t : Heap) (qs : List ℕ) (places : List ℕ) (r : ℕ) → p
     → reference_values t places ≡ reference_values t qs ++ value (value_in (heap_values t) r) ∷ []
 name_values t qs places r e = ap (λ rs. named (heap_values t) rs) e ∙ ap (λ vs. error ∷ vs) (values_push (heap_values t) qs r)
 
--- ---- what the calls answer
+-- ---- the results of calls
 
 pub appended : (vs : List ValueOrError) (v : Value) → is_appended v ≡ true → (place vs v ≡ length vs) × (placed vs v ≡ vs ++ value v ∷ [])
 appended vs v e = grind arith
 
--- the value that a call is given is the one that is due, behind the last
+-- the value that a call adds is the one that is due, after the last one
 abbrev pub Appends : Option Value → Type 0
 Appends due = IfSome due (λ v. is_appended v ≡ true)
 
@@ -89,7 +89,7 @@ pub record Due (given due : Option Value) : Type 0 where
   pub same : given ≡ due
   pub appends : Appends due
 
--- ---- a call that makes room first
+-- ---- a call that reserves capacity first
 
 module _ {t h : Heap} {qs mid ps : List ℕ} where
   pub added_some : {v : Value} {i : ℕ} → AreReferences t qs → Gains t (Some v) (Ok i) h → mid ≡ qs → ps ≡ mid ++ i ∷ []
@@ -113,7 +113,7 @@ added_placed t h qs mid ps old v i j before a appends g still e at =
     let n = appended old v appends in
     grind (arith, count_named, name_values)
 
--- one more reference, to a value that has a cell
+-- one more reference, to an existing cell
 pub unplaced : (bs : Backings) (vs : List Value) (c : Content) → reference_of c ≡ None → is_appended (meaning bs vs c) ≡ true
 unplaced bs vs c e = grind arith
 
@@ -124,9 +124,9 @@ named_part t qs old ps given i r before is a at e =
     let n = appended old (value_in (heap_values t) i) a in
     grind (arith, count_named, name_values)
 
--- ---- the calls by reference are those by place
+-- ---- calls by reference agree with calls by place
 
--- what stands at a reference that has a place
+-- the value of a reference that has a place
 pub standing : (t : Heap) (qs : List ℕ) (old : List ValueOrError) (h p : ℕ) → reference_values t qs ≡ old → IsPlace t qs h p
     → slice_get old h ≡ Some (value (value_in (heap_values t) p))
 standing t qs old h p e a = ap (λ vs. slice_get vs h) (sym e) ∙ a.value_is
@@ -144,7 +144,7 @@ pub part_is : (t : Heap) (qs : List ℕ) (old : List ValueOrError) (h p i : ℕ)
     → slice_get (parts_of (value_in (heap_values t) p)) i ≡ part → part_at (slice_get old h) i ≡ part
 part_is t qs old h p i part e a k = ap (λ o. part_at o i) (standing t qs old h p e a) ∙ k
 
--- what stands at a reference that has no place
+-- the value of a reference that has no place
 pub none_at : (t : Heap) (qs : List ℕ) (h : ℕ) → (h ≡ 0 → ⊥) → place_at qs h ≡ None → slice_get (reference_values t qs) h ≡ None
 none_at t qs h n e = grind (arith, values_get)
 
@@ -156,7 +156,7 @@ within vs [] h l e = absurd (omega arith)
 within vs (r ∷ rs) zero l e = absurd (cc)
 within vs (r ∷ rs) (suc h) l e = within vs rs h (omega arith) e
 
--- a reference that has no place is that of the error
+-- a reference without a place is the error's
 pub no_place : (t : Heap) (qs : List ℕ) (h : ℕ) → h < length (reference_values t qs) → place_at qs h ≡ None → slice_get (reference_values t qs) h ≡ Some error
 no_place t qs h l e = grind (arith, within)
 

@@ -1,4 +1,4 @@
--- The members of an object that is read, by their keys.
+-- The members that are read of an object, by their keys.
 use Rattle.value_table.proofs.Prelude.{◌≡◌, ℕ, ◌+◌, List, [], ◌∷◌, ◌++◌, length, Option, Some, None, option_map, Ordering, Less, Greater, refl, sym, ap, ap₂, ◌∙◌, subst, arith, length-append, append_assoc, append-nil, length-map, nat_cmp, slice_cmp, AllByRecursion, Value, Entries, no_entries, entry, keys_of, AreEntriesOrdered, IsOrdered, Ascend, saturated, value_in, entries_at, part_of, IsText, AreTexts, AreBelow, HasGrown, ExtendsBackings, values_at, entries_of, heap_values, Gains, Ok, Heap, Part, Backings}
 use Rattle.std.specs.Prelude.{option_and_then}
 use Rattle.std.specs.declared.cmp.Ordering.TheVariants.{Equal}
@@ -33,7 +33,7 @@ put_at Less vs us bs cs ks ls ms f g h = f
 put_at Equal vs us bs cs ks ls ms f g h = g
 put_at Greater vs us bs cs ks ls ms f g h = h
 
--- one more member, or another value of one
+-- one more member, or a new value of one
 pub member_put : (vs : List Value) (es : List PlacedEntry) (ms : json.Members) (k : Bor (List ℕ)) (a : Option Placed) (d : json.Data) → AreMembers vs es ms
     → PlacesValue vs a (value_of d) → AreMembers vs (insert_entry str_cmp es k a) (json.put k.now d ms)
 member_put vs [] json.no_members k a d h s = (refl, s, tt)
@@ -110,7 +110,7 @@ unfolding IsStrictlySortedBy
 names_ascend [] h = tt
 names_ascend (e ∷ es) h = (all_above e.0 es h.0, names_ascend es h.1)
 
--- the keys and the places so far, and the members that are left
+-- the keys and the places so far, and the remaining members
 pub record Collects (all : List PlacedEntry) (vs : List Value) (bytes : List ℕ) (parts : List Part) (places : List ℕ) (n : ℕ) (rest : List PlacedEntry) : Type 0 where
   pub keys : List (List ℕ)
   pub stand : KeysStand keys bytes parts
@@ -175,7 +175,7 @@ pub collect_fails : (all : List PlacedEntry) (vs : List Value) (bytes : List ℕ
     → Collects all vs bytes parts places size ((key, None) ∷ rest) → None ≡ option_map kind.map (placed_entries vs all)
 collect_fails all vs bytes parts places size key rest h = sym (ap (option_map kind.map) h.is)
 
--- all of them
+-- all members are collected
 pub record Collected (all : List PlacedEntry) (vs : List Value) (bytes : List ℕ) (parts : List Part) (places : List ℕ) (n : ℕ) : Type 0 where
   pub texts : AreTexts bytes parts
   pub below : AreBelow (length vs) places
@@ -202,7 +202,7 @@ collect_ends all vs bytes parts places size rest h e o =
       size = h.size ∙ ap (λ es. saturated (size_of (kind.map es))) (sym built);
     }
 
--- the map as the code builds it
+-- the map that the code builds
 pub collected_map : (all : List PlacedEntry) (vs us : List Value) (bytes : List ℕ) (parts ks : List Part) (places ps : List ℕ) (n : ℕ) → Collected all vs bytes parts places n
     → us ≡ vs → ks ≡ parts → ps ≡ places → IsOrdered (kind.map (entries_at bytes us ks ps))
 collected_map all vs us bytes parts ks places ps n h e f g =

@@ -1,4 +1,4 @@
--- Values that were placed, and the items of a list.
+-- Values that were added, and the items of a list.
 use Rattle.value_table.proofs.Prelude.{◌≡◌, ℕ, ◌+◌, List, [], ◌∷◌, ◌++◌, true, false, Bool, Option, Some, None, option_map, if◌then◌else◌, Ok, refl, sym, ap, ◌∙◌, subst, arith, length-append, append-nil, Value, Items, no_items, item, items_push, AreItemsOrdered, IsOrdered, saturated, value_in, items_at, HasGrown, Enters, heap_values, Gains, IsHeap, Heap}
 use Rattle.std.specs.Prelude.{option_and_then}
 use Rattle.json.specs.Token.{Token}
@@ -14,7 +14,7 @@ use Rattle.value_table.proofs.Growth.{value_stable, items_stable}
 use Rattle.value_table.proofs.Listed.{below_le, below_append, items_more}
 use Rattle.value_table.proofs.Growing.{enters, grown_more}
 
--- what was placed stays
+-- a value that was added is unchanged
 placed_stays : (us vs : List Value) (p : Placed) → HasGrown us vs → IsPlacedValue us p → IsPlacedValue vs p
 placed_stays us vs p g h = grind (arith, value_stable, length-append)
 
@@ -23,7 +23,7 @@ answers_stay us vs None due g h = record { sound = tt; is = h.is }
 answers_stay us vs (Some p) due g h =
     record { sound = placed_stays us vs p g h.sound; is = ap (λ v. Some v) (ap (λ ws. value_in ws p.place) g.1 ∙ value_stable us g.0 p.place h.sound.inside) ∙ h.is }
 
--- a value that has entered
+-- a value that was added
 pub put_entered : (old new : Heap) (v : Value) (i n : ℕ) → Enters old v (Ok i) new → n ≡ saturated (size_of v) → IsOrdered v
     → AddsPlaced old new (Some (record { place = i; size = n })) (Some v)
 put_entered old new v i n e size o =
@@ -142,7 +142,7 @@ listed false is = refl
 pub row_ends : (vs : List Value) (pending : PendingList) (done : List json.Data) → RowStands vs pending done → pending_value vs pending ≡ value_of (json.array (document.items_of done))
 row_ends vs pending done h = sym (ap (option_map kind.list) h.is ∙ listed pending.whole (items_at vs pending.places.items))
 
--- the same reading, in other words
+-- the same result of reading, stated with other terms
 pub read_as : (old new : Heap) (p : Option Placed) (o q : Option (json.Data × List Token)) (rest : List Token) → q ≡ o → ReadsValue old new p o rest → ReadsValue old new p q rest
 read_as old new p o q rest e h = record { document = h.document; is = e ∙ h.is; puts = h.puts }
 

@@ -1,4 +1,4 @@
--- Rows stay as the pool grows, and what one more row holds.
+-- Rows are unchanged when the pool grows; the items of one more row.
 use Rattle.value_table.proofs.Prelude.{◌≡◌, ℕ, ◌+◌, ◌<◌, List, [], ◌∷◌, ◌++◌, length, get_or, slice_set, map, map-append, get_or-map, refl, sym, ap, ap₂, ◌∙◌, arith, length-append}
 use Rattle.std.proofs.lemmas.List.{map-set}
 use Rattle.value_table.specs.Pool.{row_items, rows_items, IsPoolRow, AreRows}
@@ -15,18 +15,18 @@ rows_kept : (pool more : List ℕ) (rows : List Row) → AreRows pool rows → r
 rows_kept pool more [] h = refl
 rows_kept pool more (r ∷ rs) h = ap₂ (λ x xs. x ∷ xs) (row_kept pool more r h.0) (rows_kept pool more rs h.1)
 
--- a row with items of its own behind the others
+-- a row with its own items is added
 pub rows_pushed : (pool : List ℕ) (rows : List Row) (items : List ℕ) → rows_items pool (rows ++ row.Own items ∷ []) ≡ rows_items pool rows ++ items ∷ []
 rows_pushed pool rows items = map-append (row_items pool) rows (row.Own items ∷ [])
 
--- a row of what comes behind the others of the pool
+-- a row with the items that are appended to the pool is added
 pub rows_put : (pool items : List ℕ) (rows : List Row) → AreRows pool rows
     → rows_items (pool ++ items) (rows ++ row.Pooled (length pool) (length items) ∷ []) ≡ rows_items pool rows ++ items ∷ []
 rows_put pool items rows h =
     let last = whole_behind pool items (length pool) (length pool + length items) refl (sym (length-append pool items)) in
     map-append (row_items (pool ++ items)) rows (row.Pooled (length pool) (length items) ∷ []) ∙ ap₂ (λ xs x. xs ++ x ∷ []) (rows_kept pool items rows h) last
 
--- a row with more items
+-- items are appended to a row
 pub rows_extended : (pool : List ℕ) (rows : List Row) (i : ℕ) (old new : Row) (items : List ℕ) → i < length rows → get_or rows i old ≡ old
     → row_items pool new ≡ row_items pool old ++ items
     → rows_items pool (slice_set rows i new) ≡ slice_set (rows_items pool rows) i (get_or (rows_items pool rows) i [] ++ items)

@@ -1,4 +1,4 @@
--- The names that these proofs cite of the library, of the crates below and of the definitions here. Declares nothing.
+-- The names of the library, of the crates below and of the definitions that these proofs use. Declares nothing.
 pub use Rattle.std.proofs.Common.{Bool, Decides, Err, Global, IfSome, IsSome, List, None, Ok, Option, Result, Some}
 pub use Rattle.std.proofs.Common.{Vec, ℕ, [], add-one, ap, append-nil, append_assoc, ap₂, arith, bytes_eq, cond}
 pub use Rattle.std.proofs.Common.{decimal, drop, drop-cons, false, get_or, if◌then◌else◌, inl, inr, is_some, length}

@@ -1,4 +1,4 @@
--- The loops that read lists and maps, a turn at a time.
+-- The loops that read lists and maps, one turn at a time.
 use Rattle.value_table.proofs.Prelude.{◌≡◌, ℕ, ◌-◌, ◌<◌, ◌≤◌, List, [], ◌∷◌, ◌++◌, length, true, refl, option_map, Option, Some, None, sym, ap, ◌∙◌, subst, arith, Value, HasGrown, heap_values, IsHeap, Heap}
 use Rattle.json.specs.Token.{Token}
 use Rattle.json.specs.Json.{parse_map, after_end_array, read_key, items, members, value}
@@ -18,7 +18,7 @@ use Rattle.value_table.proofs.PlacedMembers.{str_cmp, members_stay, member_put, 
 
 -- ---- lists
 
--- some of the items that begin at `first` have been read, and `now` is left
+-- some items have been read; they began at `first`, and `now` remains
 pub record ItemsRead (depth : ℕ) (first now : List Token) (vs : List Value) (pending : PendingList) : Type 0 where
   pub turns : ℕ
   pub enough : length now ≤ turns
@@ -70,7 +70,7 @@ items_read depth first now next begin old new p pending h over g put =
 
 -- ---- maps
 
--- some of the members that begin at `first` have been read, and `now` is left
+-- some members have been read; they began at `first`, and `now` remains
 pub record MembersRead (depth : ℕ) (first now : List Token) (vs : List Value) (entries : List PlacedEntry) : Type 0 where
   pub turns : ℕ
   pub enough : length now ≤ turns

@@ -1,4 +1,4 @@
--- The members of a request: looked up, removed, and made its parts.
+-- The members of a request are looked up, removed, and become its parts.
 use Rattle.value_table.proofs.Prelude.{◌≡◌, ◌<◌, ℕ, List, [], ◌∷◌, length, Bool, true, false, cond, Option, Some, None, option_map, unwrap_or, if◌then◌else◌, Ordering, Less, Greater, refl, sym, ap, ◌∙◌, subst, arith, bytes_eq, bytes_eq-Decides, is_eq, is_eq-slice_cmp, nat_cmp, slice_cmp, Value, value_in, heap_values, IsHeap, IsValueAt, same_Some, Heap}
 use Rattle.std.specs.Prelude.{codes}
 use Rattle.std.specs.declared.cmp.Ordering.TheVariants.{Equal}
@@ -107,7 +107,7 @@ pub uid_there : (vs : List Value) (p : Placed) (ms : json.Members) → IsFound v
     → IsUid vs p.place ms
 uid_there vs p ms h e = let s = text_there vs p (get_member (codes "uid") ms) h e in record { text = s.0; is = s.1; value = s.2 }
 
--- ---- a member that is taken
+-- ---- a member that is removed
 
 answer_some : (vs : List Value) (p : Option Placed) (g : Option json.Data) → IsFound vs (Some p) g → PlacesValue vs p (value_of (unwrap_or g json.null))
 answer_some vs p None h = absurd h
@@ -146,7 +146,7 @@ kept_by : (key other k : List ℕ) (d : json.Data) (ms : json.Members) (b : Bool
     → get_member other (if b then ms else json.member k d (without key ms)) ≡ get_member other (json.member k d ms)
 kept_by key other k d ms b is apart later = grind (arith, either, is_eq-slice_cmp, bytes_eq-Decides)
 
--- the other keys have what they had
+-- the other keys keep their values
 member_kept : (key other : List ℕ) (ms : json.Members) → bytes_eq other key ≡ false → get_member other (without key ms) ≡ get_member other ms
 member_kept key other json.no_members apart = refl
 member_kept key other (json.member k d ms) apart = kept_by key other k d ms (bytes_eq key k) refl apart (member_kept key other ms apart)
@@ -176,7 +176,7 @@ request_made h0 h1 h2 h3 ms es1 es2 es3 uid object old rest a b c u =
 pub request_none : (h : Heap) (ms : json.Members) → IsHeap h → is_text (get_member (codes "uid") ms) ≡ false → MakesRequest h h None ms
 request_none h ms ok e = record { heap = ok; grown = grown_none (heap_values h); request = subst (λ v. IsRequestOf (heap_values h) None (if v then Some ms else None)) (sym e) tt }
 
--- ---- answers
+-- ---- results
 
 pub copied_some : {A : Type 0} (r : Option (Bor A)) (x : Bor A) (o : Option A) → r ≡ Some x → option_map (λ y. y.now) r ≡ o → Some x.now ≡ o
 copied_some r x o e f = sym (ap (option_map (λ y. y.now)) e) ∙ f

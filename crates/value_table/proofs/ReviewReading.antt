@@ -1,4 +1,4 @@
--- The parts of a review, member by member.
+-- The parts of a review are read member by member.
 use Rattle.value_table.proofs.Prelude.{◌≡◌, ◌<◌, ◌≤◌, ℕ, zero, suc, ◌-◌, List, [], ◌∷◌, length, Bool, true, false, Option, Some, None, option_map, if◌then◌else◌, refl, sym, ap, ap₂, ◌∙◌, subst, arith, true≢false, bytes_eq, bytes_eq-Decides, Value, heap_values, IsHeap, Heap}
 use Rattle.std.specs.Prelude.{option_and_then, codes, ◌&&◌}
 use Rattle.std.specs.Borrow.{Bor}
@@ -24,7 +24,7 @@ use Rattle.value_table.specs.declared.review_fields.ReviewFields.{ReviewFields}
 use Rattle.value_table.proofs.Growing.{grown_more, grown_none}
 use Rattle.value_table.proofs.Conversion.{converted_array, converted_object, object_member, object_member_refused, object_key_refused, object_end, whole, document_read, document_and_more}
 
--- ---- the kind of what was read
+-- ---- the kind of the value that was read
 
 abbrev pub DataOf : Token → json.Data → Type 0
 DataOf token.begin_object d = (ms : json.Members) × (d ≡ json.object ms)
@@ -81,7 +81,7 @@ data_of depth (token.boolean b) ts d r e = same_data (json.boolean b) d ts r (ap
 data_of depth token.null ts d r e = same_data json.null d ts r (ap (converted of_json) (sym (value_is depth (token.null ∷ ts))) ∙ e)
 data_of depth token.bad ts d r e = let g = ap (converted of_json) (sym (value_is depth (token.bad ∷ ts))) ∙ e in absurd (cc)
 
--- ---- what is found of a review
+-- ---- the members of a review
 
 apart : (a b : List ℕ) → bytes_eq a b ≡ false → a ≡ b → ⊥
 apart a b e same = absurd (true≢false (sym ((bytes_eq-Decides a b).1 same) ∙ e))
@@ -153,7 +153,7 @@ other_text (token.boolean b) d text h n = rw h refl
 other_text token.null d text h n = rw h refl
 other_text token.bad d text h n = absurd h
 
--- ---- the members of a review, a turn at a time
+-- ---- the members of a review, one turn at a time
 
 pub record FoundSoFar (depth : ℕ) (first now : List Token) (vs : List Value) (state : ReviewFields) : Type 0 where
   pub turns : ℕ
@@ -286,7 +286,7 @@ review_read old h r ts t = record { document = t.document; is = document_read (v
 pub review_and_more : (old h : Heap) (r : Option PlacedRequest) (ts rest : List Token) (t : Token) → ReadsReviewValue old h r (converted of_json (value max_depth ts)) (t ∷ rest) → whole (value max_depth ts) ≡ None
 review_and_more old h r ts rest t d = document_and_more (value max_depth ts) d.document t rest d.is
 
--- ---- tokens that are another
+-- ---- tokens of other kinds
 
 pub not_string : (t : tokens.Token) → ((o : Bor (List ℕ)) → t ≡ variant.String o → ⊥) → (s : List ℕ) → token_of t ≡ token.string s → ⊥
 not_string (variant.String o) n s e = n o refl

@@ -1,4 +1,4 @@
--- The values of the roots that documents give.
+-- The values of the roots in documents.
 use Rattle.value_table.proofs.Prelude.{◌≡◌, ℕ, List, [], ◌∷◌, Option, Some, None, IsSome, Result, Ok, Err, inl, inr, refl, sym, ap, ◌∙◌, subst, arith, option_map, Value, value_in, HasGrown, IsHeap, IsValueAt, heap_values, Heap, Contents, start_contents}
 use Rattle.std.specs.Prelude.{option_and_then, codes}
 use Rattle.std.specs.Str.{IsUtf8}
@@ -35,13 +35,13 @@ pub text_refused : (bytes : List ℕ) → (IsUtf8 bytes → ⊥) → None ≡ do
 unfolding document_of
 text_refused bytes none = grind (arith, IsUtf8-from_is_utf8)
 
--- a place of a text has this text
+-- the text at the place of a text
 pub text_there : (vs : List Value) (place : ℕ) (o : Option (List ℕ)) (s : List ℕ) → o ≡ text_part (value_in vs place) → IsValueAt vs place (kind.text s) → o ≡ Some s
 text_there vs place o s e h = e ∙ ap text_part h.is
 
 -- ---- the review
 
--- the parts of a document are those of its request
+-- the parts of a review are those of its request
 parts_there : (o : Option json.Data) → option_and_then parts_in o ≡ option_map parts_of (option_and_then request_of o)
 parts_there None = refl
 parts_there (Some d) = refl
@@ -131,7 +131,7 @@ same_namespace o p e = ap (λ (v : OtherValues). v.namespace) (same_values o p e
 same_params : (o p : OtherValues) → Some o ≡ Some p → o.params ≡ p.params
 same_params o p e = ap (λ (v : OtherValues). v.params) (same_values o p e)
 
--- the values that are shared are those of two documents
+-- the shared values are those of two documents
 some_others : (vs : List Value) (o : OtherRoots) (namespace params : Option json.Data) → AreSoundOthers vs (Some o) → values_of_others vs (Some o) ≡ other_values namespace params
     → (n : json.Data) × (p : json.Data) × (namespace ≡ Some n) × (params ≡ Some p) × PlacesValue vs o.namespace (value_of n) × PlacesValue vs o.params (value_of p)
 some_others vs o (Some n) (Some p) s e =
@@ -183,7 +183,7 @@ roots_are_sound old h r o review a s =
 some_parts : (o : Option json.Data) (ms : json.Members) → option_and_then request_of o ≡ Some ms → IsSome (option_and_then parts_in o)
 some_parts o ms e = rw (parts_are o ms e) refl
 
--- the roots if no review is given
+-- the roots without a review
 pub others_are_placed : (old h : Heap) (null : Option Placed) (o : OtherRoots) (namespace params : Option json.Data) → AddsPlaced old h null (Some kind.null)
     → AreSoundOthers (heap_values old) (Some o) → values_of_others (heap_values old) (Some o) ≡ other_values namespace params
     → RootsArePlaced h (null ∷ null ∷ o.params ∷ o.namespace ∷ null ∷ []) (Some null_parts) namespace params
@@ -213,7 +213,7 @@ charged_as contents h places (RootRefused k) due g = g
 charged_as contents h places ChargeTooLarge due g = g
 charged_as contents h places Memory due g = tt
 
--- the refusal of roots that are placed
+-- the refusal of roots whose values were added
 pub charge_refused : {S : Type 0} (contents : S → Contents) (r : Result S ReviewError) (e : ReviewError) (h : Heap) (places : List ℕ) (due : Result Contents TableError) → r ≡ Err e
     → ChargeReturns h places (Err e) due → TableReturns contents r due
 charge_refused contents r e h places due same g = subst (λ q. TableReturns contents q due) (sym same) (charged_as contents h places e due g)
@@ -237,7 +237,7 @@ pub other_refused : (old new : Heap) (r : PlacedRequest) (review namespace param
     → None ≡ other_values namespace params → OtherIsRefused (option_and_then parts_in review) namespace params
 other_refused old new r review namespace params a e = no_others (option_and_then parts_in review) namespace params (some_parts review a.members a.is) e
 
--- the table of roots that are placed
+-- the table of roots whose values were added
 module _ {S T : Type 0} (contents : S → Contents) (seen : T → Contents) (h : Heap) (roots : List (Option Placed)) (parts : Option ReviewRoots) (namespace params : Option json.Data)
     (at : RootsArePlaced h roots parts namespace params) where
   refused_by : (e : ReviewError) → ((ds : List json.Data) → ArePlacedValues (heap_values h) roots ds → TableReturns contents (Err e) (start_contents ds)) → ReviewTableReturns seen (Err e) parts namespace params
@@ -255,7 +255,7 @@ module _ {S T : Type 0} (contents : S → Contents) (seen : T → Contents) (h :
       → ReviewTableReturns seen (Ok s) parts namespace params
   placed_given t s e g = (at.documents, at.is, g at.documents at.answer ∙ ap Ok e)
 
--- the same, whether or not there is one
+-- the table or its refusal
 pub placed_returns : {S : Type 0} (contents : S → Contents) (h : Heap) (roots : List (Option Placed)) (parts : Option ReviewRoots) (namespace params : Option json.Data) (r : Result S ReviewError)
     → RootsArePlaced h roots parts namespace params → ((ds : List json.Data) → ArePlacedValues (heap_values h) roots ds → TableReturns contents r (start_contents ds))
     → ReviewTableReturns contents r parts namespace params

@@ -1,4 +1,4 @@
--- Roots, one by one.
+-- Roots, one after the other.
 use Rattle.value_table.proofs.Prelude.{◌≡◌, ◌<◌, ◌≤◌, ℕ, suc, ◌+◌, List, [], ◌∷◌, ◌++◌, map, Option, Some, None, Result, Ok, Err, inl, inr, ◌⊎◌, refl, sym, ap, ◌∙◌, subst, arith, add-one, append-nil, append_assoc, map-append, Value, value, first_values, start_contents, saturated, TableError, heap_values, Heap, value_in, StartsWithValues, reference_values, AreReferences}
 use Rattle.std.proofs.Common.{le-leb}
 use Rattle.std.proofs.lemmas.Bool.Decides.{nat_tests}
@@ -13,7 +13,7 @@ use Rattle.value_table.specs.RootPlaces.{ArePlacedValues}
 use Rattle.value_table.specs.declared.placed.Placed.{Placed}
 use Rattle.value_table.proofs.Named.{name_sound, name_values}
 
--- values before those behind them, or their refusal
+-- values in front of the later ones, or the refusal of these
 abbrev pub befores : List Value → Result (List Value) TableError → Result (List Value) TableError
 befores [] r = r
 befores (v ∷ vs) r = before v (befores vs r)
@@ -40,7 +40,7 @@ charged a b c d e f = omega arith
 mapped_more : (vs : List Value) (v : Value) → (first_values ++ map value vs) ++ value v ∷ [] ≡ first_values ++ map value (vs ++ v ∷ [])
 mapped_more vs v = append_assoc first_values (map value vs) (value v ∷ []) ∙ ap (λ xs. first_values ++ xs) (sym (map-append value vs (v ∷ [])))
 
--- the roots so far, and the documents that are left
+-- the roots so far, and the remaining documents
 pub record Opening (h : Heap) (rest : List (Option Placed)) (places : List ℕ) (reference n : ℕ) (ds : List json.Data) : Type 0 where
   pub done : List Value
   pub left : List json.Data

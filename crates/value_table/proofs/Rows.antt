@@ -1,4 +1,4 @@
--- The tokens of a row of parts.
+-- The tokens of a list of parts.
 use Rattle.value_table.proofs.Prelude.{◌≡◌, ℕ, zero, suc, ◌<◌, List, [], ◌∷◌, ◌++◌, length, get_or, drop, refl, ap, arith, append_assoc, append-nil, drop-nil, length-map, nil_from_length, Token, Value, items_of, value_in, meaning, Head, head, parts, texts_of, values_at, entries_of, built, IsContent, value_tokens, items_tokens, entries_tokens, opening, closing, row_tokens, head_keys, name_tokens, Part, Content, Backings}
 use Rattle.json.specs.Token as json
 use Rattle.value_table.proofs.Heads.{Fits, fits, meaning_built}

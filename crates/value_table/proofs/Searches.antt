@@ -1,4 +1,4 @@
--- A step of a search among keys in byte order.
+-- One step of a binary search among keys in byte order.
 use Rattle.value_table.proofs.Prelude.{◌≡◌, ℕ, zero, suc, ◌+◌, ◌≤◌, ◌<◌, List, [], ◌∷◌, ◌⊎◌, inl, inr, length, get_or, ap, ◌∙◌, arith, AllByRecursion, Ordering, Less, Greater, nat_cmp, ordering_reverse, slice_cmp, cases_lt, get_or_default, nat_list_cmp_total, Ascend}
 use Rattle.std.specs.List.Sorted.{IsStrictlySortedBy}
 
@@ -23,16 +23,16 @@ reversed a b o e = nat_list_cmp_total.antisymm b a ∙ ap ordering_reverse e
 above_step : (ks : List (List ℕ)) (key : List ℕ) (m j : ℕ) (d e : List ℕ) → Ascend ks → m < length ks → order key (get_or ks m d) ≡ Greater → j < m → order key (get_or ks j e) ≡ Greater
 above_step ks key m j d e h l g k = grind (arith, ascend_at, nat_list_cmp_total, get_or, reversed)
 
--- below a place, or at it
+-- less than a place, or equal to it
 pub up_to : (m j : ℕ) → j < m + 1 → (j < m) ⊎ (m ≡ j)
 up_to m j k = elim (cases_lt j m) [ inl n ↦ inl n | inr n ↦ inr (omega arith) ]
 
--- a key above the one at m is above all up to it
+-- a key greater than the one at m is greater than all up to it
 pub above_all : (ks : List (List ℕ)) (key : List ℕ) (m j : ℕ) (d e : List ℕ) → Ascend ks → m < length ks → order key (get_or ks m d) ≡ Greater
     → j < m + 1 → order key (get_or ks j e) ≡ Greater
 above_all ks key m j d e h l g k = grind (arith, up_to, above_step, get_or, get_or_default)
 
--- a key below the one at m is below all from it on
+-- a key less than the one at m is less than all from it on
 pub below_all : (ks : List (List ℕ)) (key : List ℕ) (m j : ℕ) (d e : List ℕ) → Ascend ks → m < length ks → order key (get_or ks m d) ≡ Less → m ≤ j
     → j < length ks → order key (get_or ks j e) ≡ Less
 below_all ks key m j d e h l g k n = grind (arith, up_to, nat_list_cmp_total, get_or, ascend_at, get_or_default)

@@ -8,11 +8,11 @@ welcome_all : (ds : List json.Data) → AllWhole ds → AllByRecursion IsDocumen
 welcome_all [] w o = tt
 welcome_all (d ∷ ds) w o = ((w.0, value_ordered d o.0), welcome_all ds w.1 o.1)
 
--- documents that have a charge
+-- documents with a charge
 pub judged : (ds : List json.Data) (n : ℕ) → Ok n ≡ charge_in (start_contents ds) → AllByRecursion IsDocumentOrdered ds → AllByRecursion IsWelcome ds
 judged ds n e o = let start = started ds (charged_ok (start_contents ds) n e) in welcome_all ds start.welcome.whole o
 
--- roots that have no charge, and a table that the host has no memory for
+-- documents without a charge, or an allocation failed for their table
 pub refused_as : {S : Type 0} (contents : S → Contents) (ds : List json.Data) (x : TableError) (r : Result S TableError)
     → Err x ≡ charge_in (start_contents ds) → r ≡ Err x → StoreStarts contents (start_contents ds) r
 refused_as contents ds x r e is = rw is (refused contents ds x e)

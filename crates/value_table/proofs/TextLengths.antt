@@ -1,8 +1,8 @@
--- How long the JSON texts of lists and maps made of others are.
+-- Lengths of the JSON texts of lists and maps made from others.
 use Rattle.value_table.proofs.Prelude.{◌≡◌, ℕ, zero, suc, ◌+◌, ◌<◌, ◌≤◌, ◌/◌, ◌^◌, List, [], ◌∷◌, ◌++◌, length, decimal, ◌∙◌, arith, length-append, true, cases_lt, decimal_step, decimal_digit, quoted, Value, list, Items, no_items, item, no_entries, list_of, items_push, items_join, json_text, items_text, entries_text, part_of, value_in, entries_at, commas, with_one, Part}
 use Rattle.value_store.specs.Value.{map}
 
--- ---- sums that stop at the greatest number
+-- ---- capped sums
 
 -- ---- lists
 
@@ -62,7 +62,7 @@ put_long bytes vs _ _ k x i n e c h = absurd (omega (arith, e))
 
 -- ---- ints
 
--- how many digits a number has that is not 0
+-- the number of digits of a number; 0 has none
 abbrev pub rest_digits : ℕ → ℕ
 rest_digits zero = 0
 rest_digits (suc n) = length (decimal (suc n))
@@ -73,7 +73,7 @@ rest_is n h = grind arith
 pub decimal_long : (n : ℕ) → n < 2 ^ 64 → length (decimal n) ≡ 1 + rest_digits (n / 10)
 decimal_long n h = grind (arith, cases_lt, decimal_digit, rest_is, decimal_step, length-append, decimal)
 
--- the last digit is one, and each step of ten one more
+-- the number of digits is one more than that of the tenth
 pub rest_step : (n : ℕ) → 0 < n → n < 2 ^ 64 → rest_digits n ≡ 1 + rest_digits (n / 10)
 rest_step n some h = rest_is n some ∙ decimal_long n h
 

@@ -1,4 +1,4 @@
--- What a walk over the parts of two cells goes by.
+-- Facts for comparing the parts of two cells.
 use Rattle.value_table.proofs.Prelude.{◌≡◌, ℕ, zero, suc, ◌<◌, List, [], ◌∷◌, length, get_or, Some, slice_get, sym, ap, ◌∙◌, arith, unwrap_or, same_Some, slice_get-get_or, unwrap_or-slice_get, get_or_from_slice_get, Value, value_in, meaning, IsContent, AreBelow, AreTexts, IsText, head, parts, values_at, AreContents, AreMeanings, Part, Cell, Content, Backings}
 use Rattle.value_store.specs.Value as kind
 use Rattle.value_table.specs.declared.content.Content.TheVariants as cell
@@ -9,7 +9,7 @@ below_here i [] k d h l = absurd (omega arith)
 below_here i (r ∷ rs) zero d h l = h.0
 below_here i (r ∷ rs) (suc k) d h l = below_here i rs k d h.1 (omega arith)
 
--- a part stands before its cell
+-- a part is before its cell
 pub part_below : (bs : Backings) (i : ℕ) (c : Content) (k d : ℕ) → IsContent bs i c → k < length (parts bs c) → get_or (parts bs c) k d < i
 part_below bs i c k d h l = let b : AreBelow i (parts bs c) = grind arith in below_here i (parts bs c) k d b l
 
@@ -22,7 +22,7 @@ pub value_here : (bs : Backings) (vs : List Value) (cs : List Cell) (r : ℕ) (d
     → slice_get vs r ≡ Some (meaning bs vs (get_or cs r d).content)
 value_here bs vs cs r d h l = h r (get_or cs r d) (slice_get-get_or cs r d l)
 
--- ---- values at places, and what is read there
+-- ---- values at places, and reading them
 
 pub same_value : (vs : List Value) (r s : ℕ) → slice_get vs r ≡ slice_get vs s → value_in vs r ≡ value_in vs s
 same_value vs r s e = sym (unwrap_or-slice_get vs r kind.null) ∙ ap (λ o. unwrap_or o kind.null) e ∙ unwrap_or-slice_get vs s kind.null
@@ -51,19 +51,19 @@ module _ (bs : Backings) (vs : List Value) (cs : List Cell) (x y : ℕ) (c d : C
       let same : meaning bs vs c.content ≡ meaning bs vs d.content = same_Some _ _ (sym v ∙ e ∙ w) in
       meaning_apart bs vs x y c.content d.content (s x c h) (s y d k) same
 
-  -- equal values have one head
+  -- equal values have the same head
   pub same_heads : AreContents bs cs → AreMeanings bs vs cs → slice_get cs x ≡ Some c
       → slice_get cs y ≡ Some d → slice_get vs x ≡ slice_get vs y
       → head bs c.content ≡ head bs d.content
   same_heads s m h k e = (met s m h k e).heads
 
-  -- and their parts have equal values
+  -- and equal parts
   pub same_parts : (xs ys : List ℕ) → xs ≡ parts bs c.content → ys ≡ parts bs d.content
       → AreContents bs cs → AreMeanings bs vs cs → slice_get cs x ≡ Some c → slice_get cs y ≡ Some d → slice_get vs x ≡ slice_get vs y
       → values_at vs xs ≡ values_at vs ys
   same_parts xs ys p q s m h k e = ap (values_at vs) p ∙ (met s m h k e).values ∙ sym (ap (values_at vs) q)
 
-  -- with one head and equal parts two values are equal
+  -- two values with the same head and equal parts are equal
   pub same_cells : (xs ys : List ℕ) → xs ≡ parts bs c.content → ys ≡ parts bs d.content
       → AreMeanings bs vs cs → slice_get cs x ≡ Some c → slice_get cs y ≡ Some d → head bs c.content ≡ head bs d.content → values_at vs xs ≡ values_at vs ys
       → slice_get vs x ≡ slice_get vs y
@@ -73,12 +73,12 @@ module _ (bs : Backings) (vs : List Value) (cs : List Cell) (x y : ℕ) (c d : C
       v ∙ ap (λ u. Some u) (same_meaning bs vs c.content d.content e (sym (ap (values_at vs) p) ∙ f ∙ ap (values_at vs) q)) ∙ sym w
 
 module _ (bs : Backings) (cs : List Cell) (x : ℕ) where
-  -- one head has as many parts
+  -- the same head has the same number of parts
   pub same_long : (y : ℕ) (c d : Cell) (xs ys : List ℕ) → xs ≡ parts bs c.content → ys ≡ parts bs d.content
       → AreContents bs cs → slice_get cs x ≡ Some c → slice_get cs y ≡ Some d → head bs c.content ≡ head bs d.content → length xs ≡ length ys
   same_long y c d xs ys p q s h k e = grind (arith, parts_long)
 
-  -- a part stands before its cell
+  -- a part is before its cell
   pub part_before : (c : Cell) (xs : List ℕ) (k d : ℕ) → xs ≡ parts bs c.content → AreContents bs cs
       → slice_get cs x ≡ Some c → k < length xs → get_or xs k d < x
   part_before c xs k d p s h l = grind (arith, get_or, part_below)

@@ -7,7 +7,7 @@ abbrev pub joined : {A : Type 0} → List (List A) → List A
 joined [] = []
 joined (xs ∷ xss) = xs ++ joined xss
 
--- each has 256 items
+-- each chunk has 256 items
 abbrev pub AreFull : {A : Type 0} → List (List A) → Type 0
 AreFull xss = AllByRecursion (λ xs. length xs ≡ 256) xss
 

@@ -6,7 +6,7 @@ use Rattle.value_store.specs.Lookup.{text_part}
 use Rattle.value_table.specs.Meaning.{keys_at}
 use Rattle.value_table.specs.declared.part.Part.{Part}
 
--- the map m with the text k at x
+-- the map m with one more entry: the key is the text k, the value is x
 abbrev pub put_values : Value → Value → Value → Option Value
 put_values m k x = option_and_then (λ es. option_and_then (λ key. put_of es key x) (text_part k)) (entries_part m)
 
@@ -14,7 +14,7 @@ put_values m k x = option_and_then (λ es. option_and_then (λ key. put_of es ke
 abbrev pub with_one : {A : Type 0} → ℕ → A → List A → List A
 with_one at x xs = take at xs ++ x ∷ drop at xs
 
--- the keys from the place k on are these n
+-- n keys from place k on are these
 pub record HoldsKeys (keys : List Part) (k n : ℕ) (ks : List Part) : Type 0 where
   pub inside : k + n ≡ length keys
   pub are : keys_at keys k n ≡ ks

@@ -1,4 +1,4 @@
--- Values that come behind others, and where one stands.
+-- Values that are added after others, and the place of one.
 use Rattle.std.specs.Prelude.{◌≡◌, ◌<◌, ℕ, List, ◌++◌, length, Result, IfOk}
 use Rattle.std.specs.declared.alloc.AllocError.{AllocError}
 use Rattle.value_store.specs.Value.{Value}
@@ -13,7 +13,7 @@ pub record IsValueAt (vs : List Value) (r : ℕ) (v : Value) : Type 0 where
   pub inside : r < length vs
   pub is : value_in vs r ≡ v
 
--- more values, among which v stands; or the host had no memory for all of them
+-- values are added, and v is among them; or an allocation failed before all of them were added
 pub record Enters (old : Heap) (v : Value) (r : Result ℕ AllocError) (new : Heap) : Type 0 where
   pub heap : IsHeap new
   pub grown : HasGrown (heap_values old) (heap_values new)

@@ -1,4 +1,4 @@
--- A value's head, which is all of it but the values of its parts.
+-- The head of a value: everything but the values of its parts.
 use Rattle.std.specs.Prelude.{ℕ, List, [], ◌∷◌, map, ⊤}
 use Rattle.value_store.specs.Value as kind
 use Rattle.value_store.specs.Value.{Value, Entries, no_entries, entry, items_of}
@@ -9,7 +9,7 @@ use Rattle.value_table.specs.declared.content.Content.{Content}
 use Rattle.value_table.specs.declared.content.Content.TheVariants as cell
 use Rattle.value_table.specs.declared.backings.Backings.{Backings}
 
--- a value that has no parts, how many items a list has, or the keys of a map
+-- a value without parts, the number of items of a list, or the keys of a map
 pub data Head : Type 0 where
   simple : Value → Head
   items : ℕ → Head
@@ -26,7 +26,7 @@ head bs (cell.Text p) = simple (kind.text (part_of bs.bytes p))
 head bs (cell.List b n) = items n
 head bs (cell.Map k b n) = entries (texts_of bs.bytes (keys_at bs.keys k n))
 
--- the places of a value's parts: of a list's items, and of the values of a map's entries
+-- the places of a value's parts: the items of a list, or the values of a map
 abbrev pub parts : Backings → Content → List ℕ
 parts bs cell.Null = []
 parts bs (cell.Bool b) = []
@@ -43,13 +43,13 @@ entries_of [] vs = no_entries
 entries_of (k ∷ ks) [] = no_entries
 entries_of (k ∷ ks) (v ∷ vs) = entry k v (entries_of ks vs)
 
--- the value with a head and these values of its parts
+-- the value with this head and these values of its parts
 abbrev pub built : Head → List Value → Value
 built (simple v) vs = v
 built (items n) vs = kind.list (items_of vs)
 built (entries ks) vs = kind.map (entries_of ks vs)
 
--- the texts that a cell names can be read
+-- the texts that a cell refers to can be read
 abbrev pub IsReadable : Backings → Content → Type 0
 IsReadable bs cell.Null = ⊤
 IsReadable bs (cell.Bool b) = ⊤

@@ -17,18 +17,18 @@ heap_values h = grown h.backings [] h.cells
 pub record IsHeap (h : Heap) : Type 0 where
   pub cells : AreCells h.backings [] h.cells
   pub same : AreSame (heap_values h) h.same.items
-  -- a word of each cell has room, so that comparing takes no memory
+  -- there is capacity for a word of each cell, so that comparisons allocate nothing
   pub room : length h.cells ≤ vec_capacity h.same
   pub indexes : AreIndexes h.backings (heap_values h) h.indexes.all.items
 
--- the same cells, parts and words
+-- the heap has the same cells, backings and words
 pub record IsUnchangedHeap (old new : Heap) : Type 0 where
   pub cells : new.cells ≡ old.cells
   pub backings : new.backings ≡ old.backings
   pub words : new.same.items ≡ old.same.items
 
--- one more value, the one that is due, and the place of its cell; or the host had no memory for it, and all is as
--- before
+-- the value that is due is added, and the result is the place of its cell; or an allocation failed, and the heap is
+-- unchanged
 pub record Gains (old : Heap) (due : Option Value) (r : Result ℕ AllocError) (new : Heap) : Type 0 where
   pub heap : IsHeap new
   pub added : IfSome due (λ v. AddsValue (heap_values old) v r (heap_values new))
@@ -37,7 +37,7 @@ pub record Gains (old : Heap) (due : Option Value) (r : Result ℕ AllocError) (
 abbrev pub content_at : List Cell → ℕ → Option Content
 content_at cs i = option_map (λ c. c.content) (slice_get cs i)
 
--- where the list at l ends where its backing does, the longer list has the same backing, and there is no further one
+-- if the list at l ends where its backing ends, the longer list has the same backing, and no backing is added
 abbrev pub SharesBacking : Heap → ℕ → Result ℕ AllocError → Heap → Type 0
 SharesBacking old l r new =
     (b n : ℕ) → content_at old.cells l ≡ Some (cell.List b n) → n ≡ length (slice_index_or old.backings.lists b [])

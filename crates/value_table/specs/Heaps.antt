@@ -1,4 +1,4 @@
--- Cells whose parts stand before them.
+-- Cells whose parts are at earlier places.
 use Rattle.std.specs.Prelude.{◌≡◌, ◌≤◌, ◌<◌, ℕ, ◌+◌, List, [], ◌∷◌, ◌++◌, length, slice_index_or, slice_get, Result, Ok, Err, ⊤}
 use Rattle.std.specs.Str.{IsUtf8}
 use Rattle.std.specs.declared.alloc.AllocError.{AllocError}
@@ -15,7 +15,7 @@ use Rattle.value_table.specs.declared.content.Content.TheVariants as cell
 use Rattle.value_table.specs.declared.cell.Cell.{Cell}
 use Rattle.value_table.specs.declared.backings.Backings.{Backings}
 
--- a part of the bytes, and a text, with the length of its JSON
+-- the part is a range of the bytes, a text, and has the right length of its JSON
 abbrev pub IsText : List ℕ → Part → Type 0
 IsText bytes p = (p.from ≤ p.to) × (p.to ≤ length bytes) × IsUtf8 (part_of bytes p)
     × (p.json ≡ saturated (length (quoted (part_of bytes p))))
@@ -24,23 +24,23 @@ abbrev pub AreTexts : List ℕ → List Part → Type 0
 AreTexts bytes [] = ⊤
 AreTexts bytes (k ∷ ks) = IsText bytes k × AreTexts bytes ks
 
--- each is below i
+-- each place is below i
 abbrev pub AreBelow : ℕ → List ℕ → Type 0
 AreBelow i [] = ⊤
 AreBelow i (r ∷ rs) = (r < i) × AreBelow i rs
 
--- the first n items of the backing b stand before the place i
+-- the first n items of backing b are places below i
 pub record IsRange (lists : List (List ℕ)) (i b n : ℕ) : Type 0 where
   pub inside : b < length lists
   pub long : n ≤ length (slice_index_or lists b [])
   pub below : AreBelow i (refs_at lists b n)
 
--- n keys from the place k on
+-- n keys from place k on
 pub record AreKeys (bytes : List ℕ) (keys : List Part) (k n : ℕ) : Type 0 where
   pub inside : k + n ≤ length keys
   pub texts : AreTexts bytes (keys_at keys k n)
 
--- the parts of the cell at place i stand before it
+-- the parts of the cell at place i are at earlier places
 abbrev pub IsContent : Backings → ℕ → Content → Type 0
 IsContent bs i cell.Null = ⊤
 IsContent bs i (cell.Bool b) = ⊤
@@ -49,7 +49,7 @@ IsContent bs i (cell.Text p) = IsText bs.bytes p
 IsContent bs i (cell.List b n) = IsRange bs.lists i b n
 IsContent bs i (cell.Map k b n) = IsRange bs.lists i b n × AreKeys bs.bytes bs.keys k n
 
--- a cell behind these values
+-- a cell that can follow these values
 pub record IsCell (bs : Backings) (vs : List Value) (c : Cell) : Type 0 where
   pub content : IsContent bs (length vs) c.content
   pub depth : c.depth ≡ depth_of (meaning bs vs c.content)
@@ -61,7 +61,7 @@ abbrev pub AreCells : Backings → List Value → List Cell → Type 0
 AreCells bs vs [] = ⊤
 AreCells bs vs (c ∷ cs) = IsCell bs vs c × AreCells bs (vs ++ meaning bs vs c.content ∷ []) cs
 
--- what stands at a cell's place
+-- facts about the cell at a place
 pub record CellFound (bs : Backings) (vs : List Value) (r : ℕ) (c : Cell) : Type 0 where
   pub inside : r < length vs
   pub is : value_in vs r ≡ meaning bs vs c.content
@@ -71,26 +71,26 @@ pub record CellFound (bs : Backings) (vs : List Value) (r : ℕ) (c : Cell) : Ty
   pub json : c.json ≡ json_length (meaning bs vs c.content)
   pub ordered : IsOrdered (meaning bs vs c.content)
 
--- each place has the value of the place that represents it, which does not stand behind it
+-- each place has the same value as the place that represents it, which is itself or an earlier one
 pub record AreSame (vs : List Value) (same : List ℕ) : Type 0 where
   pub long : length same ≤ length vs
   pub below : (i d : ℕ) → i < length same → slice_index_or same i d ≤ i
   pub equal : (i d : ℕ) → i < length same → slice_get vs (slice_index_or same i d) ≡ slice_get vs i
 
--- backings that have grown: each part of the old ones is a part of the new ones
+-- the backings have grown: each part of the old ones is unchanged
 pub record ExtendsBackings (old new : Backings) : Type 0 where
   pub bytes : (rest : List ℕ) × (new.bytes ≡ old.bytes ++ rest)
   pub keys : (rest : List Part) × (new.keys ≡ old.keys ++ rest)
   pub lists : length old.lists ≤ length new.lists
   pub items : (b : ℕ) → b < length old.lists → (rest : List ℕ) × (slice_index_or new.lists b [] ≡ slice_index_or old.lists b [] ++ rest)
 
--- the backing b has n items, which are these
+-- backing b has exactly these n items
 pub record HoldsItems (lists : List (List ℕ)) (b n : ℕ) (rs : List ℕ) : Type 0 where
   pub inside : b < length lists
   pub long : length (slice_index_or lists b []) ≡ n
   pub items : refs_at lists b n ≡ rs
 
--- one more value, and the place of its cell; or the host had no memory for it, and the values stay
+-- one more value, and the place of its cell; or an allocation failed, and the values are unchanged
 abbrev pub AddsValue : List Value → Value → Result ℕ AllocError → List Value → Type 0
 AddsValue old v (Ok i) new = (i ≡ length old) × (new ≡ old ++ v ∷ [])
 AddsValue old v (Err e) new = new ≡ old

@@ -1,4 +1,4 @@
--- What the index of a backing knows.
+-- The index of a backing.
 use Rattle.std.specs.Prelude.{◌≡◌, ℕ, ◌≤◌, ◌<◌, List, [], map, length, take, Some, slice_get, slice_index_or, if◌then◌else◌, nat_le}
 use Rattle.std.specs.BTreeMap.{get_by_text}
 use Rattle.value_store.specs.Value.{Value}
@@ -12,29 +12,29 @@ use Rattle.value_table.specs.declared.cell.Cell.{Cell}
 use Rattle.value_table.specs.declared.backings.Backings.{Backings}
 use Rattle.value_table.specs.declared.index.Index.{Index}
 
--- the most bytes of a JSON text that the index keeps
+-- the longest JSON text, in bytes, that an index keeps
 abbrev pub index_text_limit : ℕ
 index_text_limit = 512
 
--- what a value is looked up by: its JSON text, if that has at most `index_text_limit` bytes
+-- the text by which a value is looked up: its JSON text, if that has at most `index_text_limit` bytes
 unfoldable pub looked_up_by : Value → List ℕ
 looked_up_by v = if nat_le (json_length v) index_text_limit then json_text v else []
 
 abbrev pub texts_at : List Value → List ℕ → List (List ℕ)
 texts_at vs rs = map (λ r. looked_up_by (value_in vs r)) rs
 
--- of each text the least place at which it stands among these, and nothing else
+-- the index gives the first place of each of these texts, and of no other
 pub record IsIndex (x : Index) (ts : List (List ℕ)) : Type 0 where
   pub count : x.count ≡ length ts
   pub least : (t : List ℕ) → get_by_text x.places t ≡ place_among t ts
 
--- an index of the first ones of these items
+-- the index covers the first of these items
 pub record Covers (vs : List Value) (rs : List ℕ) (x : Index) : Type 0 where
   pub long : x.count ≤ length rs
   pub below : AreBelow (length vs) (take x.count rs)
   pub index : IsIndex x (texts_at vs (take x.count rs))
 
--- an index of the first items of its backing
+-- the index covers the first items of its backing
 pub record IsIndexed (bs : Backings) (vs : List Value) (x : Index) : Type 0 where
   pub inside : x.backing < length bs.lists
   pub covers : Covers vs (slice_index_or bs.lists x.backing []) x
@@ -42,7 +42,7 @@ pub record IsIndexed (bs : Backings) (vs : List Value) (x : Index) : Type 0 wher
 pub record AreIndexes (bs : Backings) (vs : List Value) (xs : List Index) : Type 0 where
   pub each : (i : ℕ) (x : Index) → slice_get xs i ≡ Some x → IsIndexed bs vs x
 
--- cells with what is known of their values
+-- cells with the facts about their values
 pub record AreKnown (bs : Backings) (vs : List Value) (cs : List Cell) : Type 0 where
   pub meanings : AreMeanings bs vs cs
   pub lengths : (r : ℕ) (c : Cell) → slice_get cs r ≡ Some c → c.json ≡ json_length (value_in vs r)

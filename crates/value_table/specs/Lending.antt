@@ -1,4 +1,4 @@
--- What a vector that is lent leaves behind.
+-- Mutable borrows of vectors: what the owner holds when the borrow ends.
 use Rattle.std.specs.Prelude.{◌≡◌, ℕ, List, Result}
 use Rattle.std.specs.Borrow.{Fml, RattleType, MutBor, LendsIfOk, LendsSoOk}
 use Rattle.std.specs.contracts.alloc.Global as global
@@ -18,18 +18,18 @@ module _ (T : RattleType) where
   abbrev pub rc_row : RattleType
   rc_row = rc.the_row vec_row global.the_row ghosts
 
-  -- the backing ends with the last items of the vector, and after an error it is as it was
+  -- the backing ends with the items that the vector has at the end; after an error it is unchanged
   abbrev pub LendsItems : {E : Type 0} → MutBor (List T.Denot) → Result (MutBor vec_row.Denot) E → Fml
   LendsItems b r = LendsIfOk (the_row T) vec_row b r (λ v. v.items) b.now
 
-  -- the same of an `Rc`
+  -- an `Rc` ends with the items that the vector has at the end; after an error it is unchanged
   abbrev pub LendsOwned : {E : Type 0} → MutBor rc_row.Denot → Result (MutBor vec_row.Denot) E → Fml
   LendsOwned b r = LendsSoOk rc_row vec_row b r (λ n v. n.value ≡ v) (λ n. n.value.items ≡ b.now.value.items)
 
-  -- a sequence ends with the last items of its chunks, and after an error it is as it was
+  -- a sequence ends with the items that its chunks have at the end; after an error it is unchanged
   abbrev pub LendsChunks : {E : Type 0} → MutBor (List T.Denot) → Result (MutBor (List T.Denot × ℕ)) E → Fml
   LendsChunks b r = LendsIfOk (sequence.the_row T) (chunks.the_row T) b r (λ v. v.0) b.now
 
--- the same of the cells of a heap
+-- the cells of a heap end with the items that their chunks have at the end; after an error they are unchanged
 abbrev pub LendsCells : {E : Type 0} → MutBor (List Cell) → Result (MutBor (List Cell × ℕ)) E → Fml
 LendsCells b r = LendsChunks cell.the_row b r

@@ -1,3 +1,5 @@
+-- Definitions for the table of values: its cells, their values, and how they are read.
+
 pub mod Pool
 pub mod Meaning
 pub mod Measures

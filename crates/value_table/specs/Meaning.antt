@@ -1,4 +1,4 @@
--- What cells stand for. A cell names parts of backings, which may have grown since it was placed.
+-- The values that cells represent. A cell refers to parts of backings, which may have grown since it was added.
 use Rattle.std.specs.Prelude.{ℕ, ◌+◌, List, [], ◌∷◌, ◌++◌, take, slice_range, slice_index_or, Option, Some, None, true, false, option_and_then, slice_get}
 use Rattle.value_store.specs.Value as kind
 use Rattle.value_store.specs.Value.{Value, Items, no_items, item, Entries, no_entries, entry}
@@ -31,11 +31,11 @@ entries_at bytes vs (k ∷ ks) (r ∷ rs) = entry (part_of bytes k) (value_in vs
 abbrev pub refs_at : List (List ℕ) → ℕ → ℕ → List ℕ
 refs_at lists b n = take n (slice_index_or lists b [])
 
--- n keys in a row
+-- n adjacent keys
 abbrev pub keys_at : List Part → ℕ → ℕ → List Part
 keys_at keys k n = slice_range keys k (k + n)
 
--- what a cell stands for, once these values stand before it
+-- the value that a cell represents, given the values before it
 abbrev pub meaning : Backings → List Value → Content → Value
 meaning bs vs cell.Null = kind.null
 meaning bs vs (cell.Bool b) = kind.boolean b
@@ -44,7 +44,7 @@ meaning bs vs (cell.Text p) = kind.text (part_of bs.bytes p)
 meaning bs vs (cell.List b n) = kind.list (items_at vs (refs_at bs.lists b n))
 meaning bs vs (cell.Map k b n) = kind.map (entries_at bs.bytes vs (keys_at bs.keys k n) (refs_at bs.lists b n))
 
--- the values of cells, each standing on those before it
+-- the values of the cells; each may refer to those before it
 abbrev pub grown : Backings → List Value → List Cell → List Value
 grown bs vs [] = vs
 grown bs vs (c ∷ cs) = grown bs (vs ++ meaning bs vs c.content ∷ []) cs
@@ -58,7 +58,7 @@ list_part (kind.int n) = None
 list_part (kind.text s) = None
 list_part (kind.map es) = None
 
--- the reference of null, false and true
+-- the reference of null, false or true
 abbrev pub reference_of : Content → Option ℕ
 reference_of cell.Null = Some 1
 reference_of (cell.Bool false) = Some 2

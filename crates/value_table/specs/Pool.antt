@@ -1,4 +1,4 @@
--- The items of rows. A row has items of its own, or a part of the pool.
+-- The items of rows. A row has its own items or a range of the pool.
 use Rattle.std.specs.Prelude.{ℕ, ◌+◌, ◌≤◌, List, length, map, slice_range, ⊤}
 use Rattle.std.specs.List.{AllByRecursion}
 use Rattle.value_table.specs.declared.row.Row.{Row}
@@ -11,7 +11,7 @@ row_items pool (row.Pooled from count) = slice_range pool from (from + count)
 abbrev pub rows_items : List ℕ → List Row → List (List ℕ)
 rows_items pool rows = map (row_items pool) rows
 
--- what a row takes of the pool is there
+-- the row's range lies within the pool
 abbrev pub IsPoolRow : List ℕ → Row → Type 0
 IsPoolRow pool (row.Own items) = ⊤
 IsPoolRow pool (row.Pooled from count) = from + count ≤ length pool

@@ -1,4 +1,4 @@
--- What was read from tokens.
+-- The results of reading tokens.
 use Rattle.std.specs.Prelude.{◌≡◌, ◌<◌, ℕ, ◌+◌, List, [], ◌∷◌, ◌++◌, length, false, Option, Some, None, option_map, option_and_then, if◌then◌else◌, ⊤}
 use Rattle.std.specs.Borrow.{Bor}
 use Rattle.json.specs.Token.{Token}
@@ -27,22 +27,22 @@ abbrev pub IsSoundPlace : List Value → Option Placed → Type 0
 IsSoundPlace vs None = ⊤
 IsSoundPlace vs (Some p) = IsPlacedValue vs p
 
--- the value that was placed, if there is one
+-- the value that was added, if there is one
 abbrev pub placed_value : List Value → Option Placed → Option Value
 placed_value vs p = option_map (λ q. value_in vs q.place) p
 
--- the value that was placed is the one that is due
+-- the added value is the one that is due
 pub record PlacesValue (vs : List Value) (p : Option Placed) (due : Option Value) : Type 0 where
   pub sound : IsSoundPlace vs p
   pub is : placed_value vs p ≡ due
 
--- values were added, and the one that is due, if there is one, is among them
+-- values were added; the one that is due, if there is one, is among them
 pub record AddsPlaced (old new : Heap) (p : Option Placed) (due : Option Value) : Type 0 where
   pub heap : IsHeap new
   pub grown : HasGrown (heap_values old) (heap_values new)
   pub value : PlacesValue (heap_values new) p due
 
--- a document was read, up to the tokens that are left, and its value was added
+-- a document was read, the remaining tokens are `rest`, and its value was added
 pub record ReadsValue (old new : Heap) (p : Option Placed) (read : Option (json.Data × List Token)) (rest : List Token) : Type 0 where
   pub document : json.Data
   pub is : read ≡ Some (document, rest)
@@ -54,7 +54,7 @@ abbrev pub AddsItem : PendingList → Option Placed → PendingList → Type 0
 AddsItem old None new = (new.places.items ≡ old.places.items) × (new.size ≡ old.size) × (new.whole ≡ false)
 AddsItem old (Some p) new = (new.places.items ≡ old.places.items ++ p.place ∷ []) × (new.size ≡ saturated (old.size + p.size)) × (new.whole ≡ old.whole)
 
--- the items of a list that is being read, and its size
+-- the items read so far of a list, and its size
 pub record IsPendingList (vs : List Value) (pending : PendingList) : Type 0 where
   pub below : AreBelow (length vs) pending.places.items
   pub ordered : AreItemsOrdered (items_at vs pending.places.items)
@@ -65,7 +65,7 @@ pending_value vs pending = if pending.whole then Some (kind.list (items_at vs pe
 
 -- ---- maps
 
--- a member that was found, with its key
+-- a member that was read, with its key
 abbrev pub PlacedEntry : Type 0
 PlacedEntry = Bor (List ℕ) × Option Placed
 
@@ -82,7 +82,7 @@ abbrev pub placed_entries : List Value → List PlacedEntry → Option kind.Entr
 placed_entries vs [] = Some kind.no_entries
 placed_entries vs (e ∷ es) = option_and_then (λ v. option_map (kind.entry e.0.now v) (placed_entries vs es)) (placed_value vs e.1)
 
--- the members that were found are these
+-- these members were read
 abbrev pub AreMembers : List Value → List PlacedEntry → json.Members → Type 0
 AreMembers vs [] json.no_members = ⊤
 AreMembers vs [] (json.member k d ms) = ⊥
@@ -99,7 +99,7 @@ pub record ReadsDocument (old new : Heap) (p : Option Placed) (read : Option jso
 
 -- ---- values that are not kept
 
--- something was read, up to the tokens that are left
+-- something was read, and the remaining tokens are `rest`
 abbrev pub LeavesTokens : {A : Type 0} → Option (A × List Token) → List Token → Type 0
 LeavesTokens {A} read rest = (a : A) × (read ≡ Some (a, rest))
 
@@ -111,6 +111,6 @@ pub record ReadsEntries (old new : Heap) (entries : List PlacedEntry) (read : Op
   pub grown : HasGrown (heap_values old) (heap_values new)
   pub are : AreMembers (heap_values new) entries members
 
--- the members that were found are those of some object
+-- the members that were read are those of some object
 abbrev pub AreSomeMembers : List Value → List PlacedEntry → Type 0
 AreSomeMembers vs es = (ms : json.Members) × AreMembers vs es ms

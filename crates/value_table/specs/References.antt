@@ -12,7 +12,7 @@ abbrev pub values_at : List Value → List ℕ → List ValueOrError
 values_at vs [] = []
 values_at vs (r ∷ rs) = value (value_in vs r) ∷ values_at vs rs
 
--- the error stands at reference 0
+-- the values of the references: the error at 0, then the values at these places
 abbrev pub named : List Value → List ℕ → List ValueOrError
 named vs rs = error ∷ values_at vs rs
 
@@ -24,18 +24,18 @@ place_at rs (suc h) = slice_get rs h
 abbrev pub reference_values : Heap → List ℕ → List ValueOrError
 reference_values h ps = named (heap_values h) ps
 
--- the error, null, false and true stand first
+-- the first values are the error, null, false and true
 pub record BeginsWithConstants (vs : List ValueOrError) : Type 0 where
   pub more : List ValueOrError
   pub is : vs ≡ first_values ++ more
 
--- these are the places of references to values of the heap
+-- these places belong to references, and each has a value in the heap
 pub record AreReferences (h : Heap) (ps : List ℕ) : Type 0 where
   pub heap : IsHeap h
   pub places : AreBelow (length (heap_values h)) ps
   pub first : BeginsWithConstants (reference_values h ps)
 
--- a reference's cell, and the value there
+-- the place of a reference's cell, and the value there
 pub record IsPlace (h : Heap) (ps : List ℕ) (reference place : ℕ) : Type 0 where
   pub inside : place < length (heap_values h)
   pub value_is : slice_get (reference_values h ps) reference ≡ Some (value (value_in (heap_values h) place))

@@ -1,4 +1,4 @@
--- What was read of a review.
+-- The results of reading a review.
 use Rattle.std.specs.Prelude.{◌≡◌, ℕ, Bool, true, false, List, Option, Some, None, option_and_then, codes, ⊤}
 use Rattle.json.specs.Token.{Token}
 use Rattle.serde_json.specs.Data as json
@@ -18,13 +18,13 @@ use Rattle.value_table.specs.declared.review_fields.ReviewFields.{ReviewFields}
 
 -- ---- its request
 
--- the text of the uid among these members
+-- the place has the text of the member uid
 pub record IsUid (vs : List Value) (place : ℕ) (ms : json.Members) : Type 0 where
   pub text : List ℕ
   pub is : get_member (codes "uid") ms ≡ Some (json.string text)
   pub value : IsValueAt vs place (kind.text text)
 
--- the same, if the uid is a text
+-- the place, if the uid is a text
 abbrev pub IsUidOf : List Value → Option ℕ → json.Members → Type 0
 IsUidOf vs (Some place) ms = IsUid vs place ms
 IsUidOf vs None ms = is_text (get_member (codes "uid") ms) ≡ false
@@ -43,14 +43,14 @@ IsRequestOf vs None (Some ms) = ⊥
 IsRequestOf vs (Some r) None = ⊥
 IsRequestOf vs (Some r) (Some ms) = IsPlacedRequest vs r ms
 
--- a member was removed from those that were found, and is null if there was none
+-- a member was removed from those that were read; it is null if there was none
 pub record TakesMember (old new : Heap) (key : List ℕ) (before after : List PlacedEntry) (p : Option Placed) (ms : json.Members) : Type 0 where
   pub heap : IsHeap new
   pub grown : HasGrown (heap_values old) (heap_values new)
   pub value : PlacesValue (heap_values new) p (value_of (member_or_null key ms))
   pub rest : AreMembers (heap_values new) after (without key ms)
 
--- the request of these members
+-- the request with these members was built
 pub record MakesRequest (old new : Heap) (r : Option PlacedRequest) (ms : json.Members) : Type 0 where
   pub heap : IsHeap new
   pub grown : HasGrown (heap_values old) (heap_values new)
@@ -106,7 +106,7 @@ pub record ReadsReview (old new : Heap) (r : Option PlacedRequest) (read : Optio
   pub grown : HasGrown (heap_values old) (heap_values new)
   pub request : IsRequestOf (heap_values new) r (request_of document)
 
--- a value was read, up to the tokens that are left, with its request if it is a review
+-- a value was read with the remaining tokens, and its request too if it is a review
 pub record ReadsReviewValue (old new : Heap) (r : Option PlacedRequest) (read : Option (json.Data × List Token)) (rest : List Token) : Type 0 where
   pub document : json.Data
   pub is : read ≡ Some (document, rest)

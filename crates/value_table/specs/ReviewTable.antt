@@ -74,17 +74,17 @@ pub record RootsArePlaced (h : Heap) (roots : List (Option Placed)) (parts : Opt
   pub is : root_documents parts namespace params ≡ Some documents
   pub answer : ArePlacedValues (heap_values h) roots documents
 
--- the review has parts, and another document is not JSON
+-- the review has its parts, and another document is not JSON
 abbrev pub OtherIsRefused : Option ReviewRoots → Option json.Data → Option json.Data → Type 0
 OtherIsRefused parts namespace params = IsSome parts × ((namespace ≡ None) ⊎ (params ≡ None))
 
 -- ---- the table
 
--- the documents of the roots are all there, and this is due of the contents at the start
+-- the documents of the roots are all there, and P holds for the contents at the start
 abbrev pub HoldsForRoots : Option (List json.Data) → (Result Contents TableError → Type 0) → Type 0
 HoldsForRoots documents P = (ds : List json.Data) × (documents ≡ Some ds) × P (start_contents ds)
 
--- the table of the roots, or the first refusal: of the review's form, of another document, of a root, of the charge
+-- the table of the roots, or the first refusal: of the review's form, another document, a root, or the charge
 abbrev pub ReviewTableReturns : {S : Type 0} → (S → Contents) → Result S ReviewError → Option ReviewRoots → Option json.Data → Option json.Data → Type 0
 ReviewTableReturns contents (Ok t) parts namespace params =
     HoldsForRoots (root_documents parts namespace params) (λ due. due ≡ Ok (contents t))

@@ -14,7 +14,7 @@ is_root_value (kind.text s) = false
 is_root_value (kind.list is) = false
 is_root_value (kind.map es) = true
 
--- the value of the root, or that it is refused
+-- the value of the root, or its refusal
 abbrev pub IsRootOrRefused : List Value → ℕ → Option Placed → Result Value TableError → Type 0
 IsRootOrRefused vs place (Some p) due = due ≡ Ok (value_in vs p.place)
 IsRootOrRefused vs place None due = (due ≡ Err (NotAnObject place)) ⊎ (due ≡ Err (NumberOutOfInt64 place))

@@ -1,4 +1,4 @@
--- The roots at the references from 4 on.
+-- The roots at references 4 to 8.
 use Rattle.std.specs.Prelude.{◌≡◌, ◌≤◌, ℕ, List, [], ◌∷◌, Option, Result, Ok, Err, ◌⊎◌, ⊤}
 use Rattle.serde_json.specs.Data as json
 use Rattle.value_store.specs.Value.{Value}
@@ -23,7 +23,7 @@ abbrev pub AreSoundPlaces : List Value → List (Option Placed) → Type 0
 AreSoundPlaces vs [] = ⊤
 AreSoundPlaces vs (p ∷ ps) = IsSoundPlace vs p × AreSoundPlaces vs ps
 
--- references to the values that are due and the charge, or the refusal that is due
+-- the references to the values and the charge, or the refusal
 abbrev pub ChargeReturns : Heap → List ℕ → Result ℕ ReviewError → Result Contents TableError → Type 0
 ChargeReturns h ps (Ok n) due = due ≡ Ok (record { values = reference_values h ps; charge = n })
 ChargeReturns h ps (Err (RootRefused place)) due = (due ≡ Err (NotAnObject place)) ⊎ (due ≡ Err (NumberOutOfInt64 place))
@@ -32,12 +32,12 @@ ChargeReturns h ps (Err Memory) due = ⊤
 ChargeReturns h ps (Err InvalidReview) due = ⊥
 ChargeReturns h ps (Err InvalidDocument) due = ⊥
 
--- references, and a charge within the limit
+-- references with a charge within the limit
 pub record IsCharged (h : Heap) (ps : List ℕ) (n : ℕ) : Type 0 where
   pub references : AreReferences h ps
   pub limit : n ≤ charge_limit
 
--- the contents that are due, or the refusal that is due
+-- the contents or the refusal that is due
 abbrev pub TableReturns : {S : Type 0} → (S → Contents) → Result S ReviewError → Result Contents TableError → Type 0
 TableReturns contents (Ok t) due = due ≡ Ok (contents t)
 TableReturns contents (Err (RootRefused place)) due = (due ≡ Err (NotAnObject place)) ⊎ (due ≡ Err (NumberOutOfInt64 place))

@@ -1,4 +1,4 @@
--- Where a key stands among keys in byte order.
+-- The place of a key among keys in byte order.
 use Rattle.std.specs.Prelude.{◌≡◌, ℕ, ◌≤◌, ◌<◌, suc, List, [], ◌∷◌, length, Option, Some, None, slice_get, slice_index_or, Result, Ok, Err}
 use Rattle.std.specs.Prelude.{bytes_eq, if◌then◌else◌, option_map}
 use Rattle.std.specs.declared.cmp.Ordering.TheVariants.{Less, Greater}
@@ -9,13 +9,13 @@ pub record IsKeyAt (keys : List (List ℕ)) (key : List ℕ) (i : ℕ) : Type 0 
   pub inside : i < length keys
   pub is : slice_get keys i ≡ Some key
 
--- those before i are below the key, and those from i on are above it
+-- the keys before i are less than the key, and those from i on are greater
 pub record IsInsertionPlace (keys : List (List ℕ)) (key : List ℕ) (i : ℕ) : Type 0 where
   pub inside : i ≤ length keys
   pub before : (j : ℕ) (d : List ℕ) → j < i → slice_cmp nat_cmp key (slice_index_or keys j d) ≡ Greater
   pub behind : (j : ℕ) (d : List ℕ) → i ≤ j → j < length keys → slice_cmp nat_cmp key (slice_index_or keys j d) ≡ Less
 
--- the place of a key, or the place at which it is put
+-- the place of a key, or the place where it belongs
 abbrev pub SearchAnswer : List (List ℕ) → List ℕ → Result ℕ ℕ → Type 0
 SearchAnswer keys key (Ok i) = IsKeyAt keys key i
 SearchAnswer keys key (Err i) = IsInsertionPlace keys key i

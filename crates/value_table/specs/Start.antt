@@ -1,4 +1,4 @@
--- What a table starts with.
+-- The values that a table starts with.
 use Rattle.std.specs.Prelude.{◌≡◌, ℕ, List, false}
 use Rattle.serde_json.specs.Data as json
 use Rattle.value_store.specs.Value.{ValueOrError}
@@ -13,6 +13,6 @@ pub record StartsWithValues (h : Heap) (ps : List ℕ) (vs : List ValueOrError) 
   pub sound : AreReferences h ps
   pub values : reference_values h ps ≡ vs
 
--- a document whose numbers are integers of 64 bits signed, and whose objects have their keys in order
+-- a document whose numbers are 64-bit signed integers, and whose objects have their keys in order
 abbrev pub IsWelcome : json.Data → Type 0
 IsWelcome d = (has_other d ≡ false) × IsOrdered (plain_value d)

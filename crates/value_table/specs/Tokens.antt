@@ -23,7 +23,7 @@ abbrev mutual
   entries_tokens no_entries = []
   entries_tokens (entry k v more) = json.key k ∷ (value_tokens v ++ entries_tokens more)
 
--- the tokens before a value's parts, of its parts, and after them
+-- the tokens before a value's parts
 abbrev pub opening : Head → List Token
 opening (simple v) = value_tokens v
 opening (items n) = json.begin_array ∷ []
@@ -34,7 +34,7 @@ closing (simple v) = []
 closing (items n) = json.end_array ∷ []
 closing (entries ks) = json.end_object ∷ []
 
--- the parts one after another, those with a key behind it
+-- the tokens of the parts, each after its key if it has one
 abbrev pub row_tokens : List (List ℕ) → List Value → List Token
 row_tokens ks [] = []
 row_tokens [] (v ∷ vs) = value_tokens v ++ row_tokens [] vs
@@ -45,7 +45,7 @@ head_keys (simple v) = []
 head_keys (items n) = []
 head_keys (entries ks) = ks
 
--- the first of some keys
+-- the token of the first key, if there is one
 abbrev pub name_tokens : List (List ℕ) → List Token
 name_tokens [] = []
 name_tokens (k ∷ ks) = json.key k ∷ []

@@ -1,4 +1,4 @@
-//! A vector that copies share.
+//! A vector that copies share until one of them grows.
 
 ghost use Rattle.std.specs.Prelude.{◌≡◌, ◌≤◌, ◌<◌, ◌+◌, ◌^◌, [], ◌∷◌, ◌++◌, length, vec_len, vec_capacity, IfOk, OnOk, OnErr};
 ghost use Rattle.std.specs.Borrow.{sem};
@@ -32,7 +32,7 @@ impl<T: Copy> Backing<T> {
         Ok(Backing { items })
     }
 
-    /// Where its memory comes from.
+    /// The allocator.
     pub(crate) fn alloc(&self) -> Global {
         *self.items.allocator()
     }
@@ -51,7 +51,7 @@ impl<T: Copy> Backing<T> {
         self.items.len()
     }
 
-    // Makes this the sole owner of its vector. One that it has to make has room for `more` items.
+    // Makes this the sole owner of its vector. A new vector has capacity for `more` further items.
     fn own(&mut self, more: usize) -> Result<(), AllocError>
         ensures { self.new ≡ self.old }
     {
@@ -65,7 +65,7 @@ impl<T: Copy> Backing<T> {
         Ok(())
     }
 
-    /// The vector, with room for `more` items: as many can be put behind the last without memory.
+    /// The vector, with capacity for `more` items after its last.
     pub(crate) fn room(&mut self, more: usize) -> Result<&mut Vec<T>, AllocError>
         ensures* lent { sem 𝓛 (LendsItems T.row self.entry result) }
         ensures items { IfOk result (λ v. v.now.items ≡ self.old) }
@@ -75,7 +75,7 @@ impl<T: Copy> Backing<T> {
         owned(&mut self.items, more)
     }
 
-    /// A vector of its own with the items of a slice.
+    /// A new vector with the items of a slice.
     pub(crate) fn of(alloc: Global, items: &[T]) -> Result<Backing<T>, AllocError>
         ensures { IfOk result (λ b. b ≡ items.now) }
     {
@@ -84,7 +84,7 @@ impl<T: Copy> Backing<T> {
         Ok(Backing { items })
     }
 
-    /// A vector of its own with the items of one slice and then those of another.
+    /// A new vector with the items of one slice followed by those of another.
     pub(crate) fn joined(alloc: Global, first: &[T], second: &[T]) -> Result<Backing<T>, AllocError>
         ensures { IfOk result (λ b. b ≡ first.now ++ second.now) }
     {
@@ -94,7 +94,7 @@ impl<T: Copy> Backing<T> {
         Ok(Backing { items })
     }
 
-    /// A vector of its own with the items of a slice and one more at a place.
+    /// A new vector with the items of a slice and one more item at this place.
     pub(crate) fn with_item(
         alloc: Global,
         items: &[T],
@@ -130,7 +130,7 @@ impl<T: Copy> Backing<T> {
     }
 }
 
-// The vector of a sole owner, with room for `more` items.
+// The vector, if nobody else shares it, with capacity for `more` items.
 fn owned<T>(items: &mut Rc<Vec<T>>, more: usize) -> Result<&mut Vec<T>, AllocError>
     ensures* lent { sem 𝓛 (LendsOwned T.row items.entry result) }
     ensures items { IfOk result (λ v. v.now.items ≡ items.old.value.items) }

@@ -1,4 +1,4 @@
-//! The parts of texts, lists and maps.
+//! The storage of texts, lists and maps.
 
 ghost use Rattle.std.specs.Prelude.{◌≡◌, ◌≤◌, ◌<◌, ◌+◌, ◌^◌, ◌∷◌, ◌++◌, [], length, slice_index_or, IfOk, OnOk, OnErr};
 ghost use Rattle.std.specs.Str.{IsUtf8};
@@ -10,19 +10,19 @@ use crate::part::Part;
 use crate::room::repeat;
 use std::alloc::{AllocError, Global};
 
-/// What the cells of texts, lists and maps name parts of.
+/// The storage that the cells of texts, lists and maps refer to.
 #[derive(Drop)]
 pub(crate) struct Backings {
     /// The bytes of all texts.
     pub(crate) bytes: Backing<u8>,
-    /// The keys of all maps, those of one map in a row.
+    /// The keys of all maps. The keys of one map are adjacent.
     pub(crate) keys: Backing<Part>,
-    /// The items of lists and the values of maps, each by its cell's place.
+    /// The items of lists and the values of maps, as places of cells.
     pub(crate) lists: Lists,
 }
 
-// Each call lets the parts that stand stay as they are, and everything where memory is refused:
-// room is made for all that grows before anything does.
+// No call changes the parts that cells refer to. If an allocation fails, nothing is changed: the
+// capacity for all changes is reserved before the first.
 impl Backings {
     ghost use Rattle.value_table.specs.Meaning.{part_of, refs_at};
     ghost use Rattle.value_table.specs.Heaps.{IsText, ExtendsBackings, HoldsItems};
@@ -35,7 +35,7 @@ impl Backings {
         })
     }
 
-    /// The same backings, shared.
+    /// A copy that shares everything.
     pub(crate) fn copy(&self) -> Result<Backings, AllocError>
         ensures { IfOk result (λ b. b ≡ self.now) }
     {
@@ -46,7 +46,7 @@ impl Backings {
         })
     }
 
-    /// Puts a text behind all others.
+    /// Appends a text.
     pub(crate) fn add_text(&mut self, text: &[u8]) -> Result<Part, AllocError>
         requires { IsUtf8 text.now }
         ensures grown { ExtendsBackings self.old self.new }
@@ -60,7 +60,7 @@ impl Backings {
         Ok(Part { from, to, json })
     }
 
-    /// Puts two texts behind all others, as one.
+    /// Appends the concatenation of two texts.
     pub(crate) fn join_texts(&mut self, first: Part, second: Part) -> Result<Part, AllocError>
         requires first { IsText self.old.bytes first }
         requires second { IsText self.old.bytes second }
@@ -78,7 +78,7 @@ impl Backings {
         Ok(Part { from, to, json })
     }
 
-    /// A new backing with these items.
+    /// Adds a backing with these items.
     pub(crate) fn add_items(&mut self, items: Backing<u64>) -> Result<u64, AllocError>
         ensures grown { ExtendsBackings self.old self.new }
         ensures items { IfOk result (λ b. HoldsItems self.new.lists b (length items) items) }
@@ -89,7 +89,7 @@ impl Backings {
         Ok(place)
     }
 
-    /// A new backing with these items, in the pool.
+    /// Adds a backing with these items, stored in the pool.
     pub(crate) fn pool_items(&mut self, items: &[u64]) -> Result<u64, AllocError>
         ensures grown { ExtendsBackings self.old self.new }
         ensures items { IfOk result (λ b. HoldsItems self.new.lists b (length items.now) items.now) }
@@ -100,8 +100,8 @@ impl Backings {
         Ok(place)
     }
 
-    /// A backing that has the first `count` items of another and then `item`: the same one where it
-    /// ends there, and else a new one.
+    /// A backing with the first `count` items of another and then `item`. It is the same backing if
+    /// that has no further items, else a new one.
     pub(crate) fn push_item(
         &mut self,
         backing: u64,
@@ -125,8 +125,8 @@ impl Backings {
         self.add_items(copy)
     }
 
-    /// A backing that has the first items of one and then the first items of another: the first one
-    /// where it ends there, and else a new one.
+    /// A backing with the first items of one and then the first items of another. It is the first
+    /// of them if that has no further items, else a new one.
     pub(crate) fn join_items(
         &mut self,
         first: (u64, u64),

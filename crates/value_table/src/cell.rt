@@ -2,12 +2,12 @@
 
 use crate::content::Content;
 
-/// A value, with what is asked of it often.
+/// A value, with measures that are needed often.
 #[derive(Clone, Copy, Debug, PartialEq, Eq)]
 pub(crate) struct Cell {
     pub(crate) content: Content,
-    /// How deep it is.
+    /// The value's depth.
     pub(crate) depth: u64,
-    /// How many bytes its JSON text has, at most the greatest number of 64 bits.
+    /// The length of its JSON text in bytes, capped at 2^64 - 1.
     pub(crate) json: u64,
 }

@@ -1,4 +1,4 @@
-//! Values that are read and not kept.
+//! Parses values without keeping them.
 
 ghost use Rattle.std.specs.Prelude.{◌≡◌, ◌≤◌, ◌<◌, ◌∷◌, length, None, IfOk, OnOk, OnErr};
 ghost use Rattle.json.specs.Json.{value, items, members};
@@ -10,7 +10,7 @@ ghost use Rattle.value_table.specs.Reading.{LeavesTokens};
 use crate::numbers::number;
 use json::{Invalid, Reader, Token};
 
-/// Reads the next value of the reader and keeps nothing of it. It takes no memory.
+/// Reads the next value of the reader and drops it. Nothing is allocated.
 #[cycle(check_value)]
 pub(crate) fn check_value(reader: &mut Reader<'_>, depth: usize) -> Result<(), Invalid>
     ensures read { OnOk result (LeavesTokens (converted of_json (value depth reader.old)) reader.new) }
@@ -21,7 +21,7 @@ pub(crate) fn check_value(reader: &mut Reader<'_>, depth: usize) -> Result<(), I
     check_token(reader, token, depth)
 }
 
-/// Reads the rest of a value, whose first token has been taken.
+/// Reads the rest of a value after its first token.
 #[cycle(check_value)]
 pub(crate) fn check_token(
     reader: &mut Reader<'_>,

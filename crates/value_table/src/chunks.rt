@@ -8,18 +8,18 @@ use std::alloc::{AllocError, Global};
 use std::marker::Model;
 use std::rc::Rc;
 
-/// How many items a chunk has.
+/// The number of items in a chunk.
 const CHUNK: usize = 256;
-/// How many full chunks there are at most, so that a count of items never wraps. Items past them
-/// stay in one vector, which has a limit of its own.
+/// The largest number of full chunks; with it a count of items cannot overflow. Further items stay
+/// in one vector, which has its own limit.
 const MOST: usize = 1 << 50;
 
-/// Items, and for how many more there is room.
+/// Items, with reserved capacity.
 #[derive(Drop)]
 pub(crate) struct Chunks<T: Copy> {
-    /// Chunks of 256 items, which copies share. They never change.
+    /// Full chunks of 256 items, shared by copies. They never change.
     full: Rc<Vec<Backing<T>>>,
-    /// The items behind them.
+    /// The items after them.
     last: Vec<T>,
 }
 
@@ -65,7 +65,7 @@ impl<T: Copy> Chunks<T> {
         item(&self.full[..], &self.last[..], place)
     }
 
-    /// The same items, with the full chunks shared.
+    /// A copy that shares the full chunks.
     pub(crate) fn copy(&self) -> Result<Chunks<T>, AllocError>
         ensures { IfOk result (λ c. c.0 ≡ self.now.0) }
     {
@@ -75,7 +75,7 @@ impl<T: Copy> Chunks<T> {
         Ok(Chunks { full, last })
     }
 
-    /// Makes room for one more item.
+    /// Reserves capacity for one more item.
     pub(crate) fn reserve(&mut self) -> Result<(), AllocError>
         ensures items { self.new.0 ≡ self.old.0 }
         ensures room { OnOk result (0 < self.new.1) }
@@ -87,7 +87,7 @@ impl<T: Copy> Chunks<T> {
         Ok(())
     }
 
-    /// Puts an item behind the last, in room that is there.
+    /// Appends an item. Needs reserved capacity.
     pub(crate) fn push_reserved(&mut self, item: T)
         requires { 0 < self.old.1 }
         ensures items { self.new.0 ≡ self.old.0 ++ item ∷ [] }
@@ -95,7 +95,7 @@ impl<T: Copy> Chunks<T> {
         self.last.push_reserved(item);
     }
 
-    /// Puts an item behind the last, in room that is there, and answers its place.
+    /// Appends an item and returns its place. Needs reserved capacity.
     pub(crate) fn append(&mut self, item: T) -> u64
         requires { 0 < self.old.1 }
         ensures items { self.new.0 ≡ self.old.0 ++ item ∷ [] }
@@ -108,7 +108,7 @@ impl<T: Copy> Chunks<T> {
     }
 }
 
-// Puts the last items, as many as a chunk has, among the full chunks.
+// Moves the last items, which fill a chunk, to the full chunks.
 fn close<T: Copy>(full: &mut Rc<Vec<Backing<T>>>, last: &mut Vec<T>) -> Result<(), AllocError>
     requires whole { length last.old.items ≡ 256 }
     requires few { length full.old.value.items < 1125899906842624 }

@@ -1,4 +1,4 @@
-//! Lists and maps of values that have been read.
+//! Builds lists and maps from values that were read.
 
 ghost use Rattle.std.specs.Prelude.{◌≡◌, ◌+◌, length, IfOk, option_map};
 ghost use Rattle.value_store.specs.Plain.{saturated};
@@ -15,7 +15,7 @@ use std::alloc::AllocError;
 use std::collections::BTreeMap;
 use std::mem::replace;
 
-/// Adds the list of these items, if each has a value.
+/// Adds the list of these items; `None` if one of them has no value.
 pub(crate) fn add_pending(
     heap: &mut Heap,
     pending: &PendingList,
@@ -32,7 +32,7 @@ pub(crate) fn add_pending(
     Ok(Some(Placed { place, size }))
 }
 
-/// Adds the map of these members, if each has a value.
+/// Adds the map of these members; `None` if one of them has no value.
 pub(crate) fn add_members(
     heap: &mut Heap,
     found: &BTreeMap<&str, Option<Placed>>,
@@ -48,7 +48,7 @@ pub(crate) fn add_members(
     Ok(placed)
 }
 
-// The same, by vectors that are lent: what they hold is dropped first.
+// `add_members` with the two vectors to use. Their contents are dropped first.
 fn collect(
     heap: &mut Heap,
     found: &BTreeMap<&str, Option<Placed>>,

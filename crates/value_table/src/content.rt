@@ -1,17 +1,17 @@
-//! What a cell holds.
+//! The content of a cell.
 
 use crate::part::Part;
 
-/// A simple value, or where the parts of another stand.
+/// A simple value, or the location of a value's parts.
 #[derive(Clone, Copy, Debug, PartialEq, Eq)]
 pub(crate) enum Content {
     Null,
     Bool(bool),
     Int(i64),
     Text(Part),
-    /// A backing, and how many of its items the list has: the first ones.
+    /// The backing, and the number of its first items that are the list's.
     List(u64, u64),
-    /// The place of the first key, a backing, and how many entries the map has. The entries' values
-    /// are the first items of the backing.
+    /// The place of the first key, the backing, and the number of entries. The values are the first
+    /// items of the backing.
     Map(u64, u64, u64),
 }

@@ -1,4 +1,4 @@
-//! Documents as values of a heap.
+//! Adds documents to a heap.
 
 ghost use Rattle.std.specs.Prelude.{◌≡◌, false, length, map, string_bytes};
 ghost use Rattle.serde_json.specs.View.{view, items_view, members_view};
@@ -15,8 +15,8 @@ use crate::heap::Heap;
 use serde_json::{Map, Value};
 use std::alloc::AllocError;
 
-/// Puts the value of a document, whose numbers are integers of 64 bits signed, behind all others.
-/// The document is dropped as its values are made. It goes as deep as the document.
+/// Adds the value of a document whose numbers are 64-bit signed integers. The document is dropped
+/// piece by piece as its values are added. The recursion is as deep as the document.
 #[cycle(add_document)]
 pub(crate) fn add_document(heap: &mut Heap, document: Value) -> Result<u64, AllocError>
     requires heap { IsHeap heap.old }
@@ -27,7 +27,7 @@ pub(crate) fn add_document(heap: &mut Heap, document: Value) -> Result<u64, Allo
     match document {
         Value::Null => heap.add_null(),
         Value::Bool(truth) => heap.add_bool(truth),
-        // The document has no other numbers than integers of 64 bits.
+        // All numbers of the document are 64-bit signed integers.
         Value::Number(n) => heap.add_int(n.as_i64().unwrap_or(0)),
         Value::String(text) => heap.add_text(text.as_str()),
         Value::Array(items) => add_items(heap, items),
@@ -67,7 +67,7 @@ fn add_members(heap: &mut Heap, members: Map<String, Value>) -> Result<u64, Allo
     add_entries(heap, &keys, &places)
 }
 
-// Puts the map with these keys, and with the values at these places, behind all others.
+// Adds the map with these keys and the values at these places.
 fn add_entries(heap: &mut Heap, keys: &[String], places: &[u64]) -> Result<u64, AllocError>
     requires heap { IsHeap heap.old }
     requires values { AreBelow (length (heap_values heap.old)) places.now }

@@ -20,7 +20,7 @@ use crate::text::{keys, text};
 use std::alloc::AllocError;
 
 impl Heap {
-    /// One more map, without entries.
+    /// Adds an empty map.
     pub(crate) fn new_map(&mut self) -> Result<u64, AllocError>
         requires { IsHeap self.old }
         ensures { Gains self.old (Some (map no_entries)) result self.new }
@@ -35,7 +35,8 @@ impl Heap {
         }))
     }
 
-    /// The map at `m` with the text at `k`, which is none of its keys, at the value at `x`.
+    /// The map at `m` with one more entry: its key is the text at `k`, which the map does not have
+    /// yet, and its value is at `x`.
     pub(crate) fn put(&mut self, m: u64, k: u64, x: u64) -> Result<u64, AllocError>
         requires heap { IsHeap self.old }
         requires map { m < length (heap_values self.old) }
@@ -74,7 +75,7 @@ impl Heap {
 }
 
 impl Backings {
-    /// A new row of these keys, and a new backing with these values, in the pool.
+    /// Appends these keys, and adds a backing with these values, stored in the pool.
     pub(crate) fn add_entries(
         &mut self,
         keys: &[Part],
@@ -94,8 +95,9 @@ impl Backings {
         Ok((row, backing))
     }
 
-    // The keys in a row and the backing of a map with one more entry at a place: the same row where
-    // the key comes last and no other row follows, and else a new one behind all others.
+    // The keys and the backing of a map with one more entry at this place. The keys are extended
+    // where they are if the new key comes last and no other keys follow, else they are copied to
+    // the end.
     fn put_entry(
         &mut self,
         map: (u64, u64, u64),

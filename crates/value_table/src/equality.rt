@@ -1,4 +1,4 @@
-//! Deep equality that remembers what it found equal.
+//! Deep equality that remembers equal values.
 
 ghost use Rattle.std.specs.Prelude.{◌≡◌, ◌<◌, ◌≤◌, length, drop, true, Some, IsSome};
 ghost use Rattle.value_store.specs.Equality.{equal};
@@ -23,13 +23,14 @@ pub(crate) use crate::equality::walk::parts_of;
 use crate::heap::Heap;
 use crate::text::text;
 
-/// From so many items on a second search makes an index.
+/// From this number of items on, the second search builds an index.
 const FEW: u64 = 16;
 
-// No comparison wants memory: there is room for a word of each cell, and hints go without.
+// No comparison fails for memory: capacity for the words of all cells is reserved, and hints are
+// optional.
 impl Heap {
-    /// Whether the values of two cells are equal in depth. Those that are found equal are of one
-    /// class from then on, so that they are not compared again.
+    /// Whether the values of two cells are deeply equal. Equal values are put into one class, so
+    /// that they are not compared again.
     #[tactic(auto, using(crate::proofs::Comparisons::contents_of, crate::proofs::Growth::count_values, crate::proofs::Comparisons::meanings_of, std::proofs::lemmas::List::with_items_is))]
     pub(crate) fn equal(&mut self, a: u64, b: u64) -> bool
         requires heap { IsHeap self.old }
@@ -52,7 +53,7 @@ impl Heap {
         )
     }
 
-    /// Whether an item of the list at `c` is equal to the value at `x`, or the map at `c` has the
+    /// Whether the list at `c` has an item equal to the value at `x`, or the map at `c` has the
     /// text at `x` as a key.
     pub(crate) fn member(&mut self, x: u64, c: u64) -> bool
         requires heap { IsHeap self.old }
@@ -70,7 +71,7 @@ impl Heap {
         }
     }
 
-    // Whether one of the first items of a backing is equal to the value at `x`.
+    // Whether one of the first items of a backing equals the value at `x`.
     #[tactic(auto, using(crate::proofs::Comparisons::contents_of, crate::proofs::Growth::count_values, crate::proofs::Comparisons::meanings_of, crate::proofs::Indexed::below_drop, std::proofs::lemmas::List::take_rest, std::proofs::lemmas::List::with_items_is))]
     fn has_item(&mut self, x: u64, backing: u64, count: u64) -> bool
         requires heap { IsHeap self.old }
@@ -92,9 +93,8 @@ impl Heap {
         )
     }
 
-    // A place among the first items of a backing before which none is equal to the value at `x`. An
-    // index is made where that many items are searched a second time, and where there is memory for
-    // it.
+    // A place among the first items of a backing; no earlier item equals the value at `x`. The
+    // second search of many items builds an index, unless its allocation fails.
     #[tactic(auto, using(crate::proofs::Comparisons::contents_of, crate::proofs::Growth::count_values, crate::proofs::Indexed::known_of))]
     fn start(&mut self, x: u64, backing: u64, count: u64) -> u64
         requires heap { IsHeap self.old }
@@ -146,7 +146,7 @@ impl Heap {
             .is_some()
     }
 
-    // Gives each cell that has no word its own place.
+    // Gives each cell without a word its own place as its word.
     fn complete_words(&mut self)
         requires { IsHeap self.old }
         ensures heap { IsHeap self.new }

@@ -1,4 +1,4 @@
-//! Lists and maps of parts that stand.
+//! Adds lists and maps of existing values.
 
 ghost use Rattle.std.specs.Prelude.{◌≡◌, length, Some};
 ghost use Rattle.value_store.specs.Value.{list, map};
@@ -16,9 +16,9 @@ use crate::measure::Measure;
 use crate::part::Part;
 use std::alloc::AllocError;
 
-// A whole has one cell, and its parts are measured once.
+// The whole gets one cell, and each part is measured once.
 impl Heap {
-    /// One more list, whose items stand at these places.
+    /// Adds a list whose items are at these places.
     pub(crate) fn add_list(&mut self, places: &[u64]) -> Result<u64, AllocError>
         requires heap { IsHeap self.old }
         requires items { AreBelow (length (heap_values self.old)) places.now }
@@ -35,7 +35,7 @@ impl Heap {
         }))
     }
 
-    /// One more map, with these texts as its keys, and with the values that stand at these places.
+    /// Adds a map with these texts as keys and the values at these places.
     pub(crate) fn add_map(&mut self, keys: &[Part], places: &[u64]) -> Result<u64, AllocError>
         requires heap { IsHeap self.old }
         requires texts { AreTexts self.old.backings.bytes keys.now }

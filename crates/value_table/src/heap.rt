@@ -1,4 +1,4 @@
-//! Values as cells.
+//! Values as cells, each with a place.
 
 ghost use Rattle.std.specs.Prelude.{◌≡◌, ◌<◌, ◌≤◌, ◌+◌, ◌^◌, [], length, vec_capacity, slice_get, Some, IfOk};
 ghost use Rattle.std.specs.Borrow.{sem};
@@ -18,19 +18,19 @@ use crate::pending_map::PendingMap;
 use crate::sequence::Sequence;
 use std::alloc::{AllocError, Global};
 
-/// Values, each named by its cell's place. None ever changes.
+/// Values, each identified by the place of its cell. A value never changes.
 #[derive(Drop)]
 pub(crate) struct Heap {
     pub(crate) cells: Sequence<Cell>,
     pub(crate) backings: Backings,
-    /// For each cell one with an equal value, as far as was found: itself, or one before it. A cell
-    /// whose word is missing has itself. There is room for a word of each cell.
+    /// For each cell, the place of an equal value, as far as is known: itself or an earlier cell. A
+    /// cell without a word refers to itself. Capacity for the words of all cells is reserved.
     pub(crate) same: Vec<u64>,
-    /// What is known of the items of lists. A copy has to find it anew.
+    /// Indexes of the items of lists. A copy starts without them.
     pub(crate) indexes: Indexes,
-    /// Where values differ, as was found. A copy has to find it anew.
+    /// Where compared values differ. A copy starts without them.
     pub(crate) hints: Hints,
-    /// The vectors in which the entries of a map are gathered.
+    /// The vectors that collect the entries of a map.
     pub(crate) pending: PendingMap,
 }
 
@@ -51,8 +51,7 @@ impl Heap {
         })
     }
 
-    /// An equal heap of its own, which shares what has not changed. It has to find equal values
-    /// anew.
+    /// A copy that shares everything unchanged. Equal values have to be found again.
     pub(crate) fn copy(&self) -> Result<Heap, AllocError>
         requires { IsHeap self.now }
         ensures { IfOk result (λ h. IsHeap h × (heap_values h ≡ heap_values self.now)) }
@@ -79,7 +78,7 @@ impl Heap {
         self.cells.at(place as usize)
     }
 
-    /// One more cell.
+    /// Adds a cell.
     pub(crate) fn add(&mut self, cell: Cell) -> Result<u64, AllocError>
         requires heap { IsHeap self.old }
         requires cell { IsCell self.old.backings (heap_values self.old) cell }
@@ -90,7 +89,7 @@ impl Heap {
         Ok(cells.append(cell))
     }
 
-    /// One more null.
+    /// Adds a null.
     pub(crate) fn add_null(&mut self) -> Result<u64, AllocError>
         requires { IsHeap self.old }
         ensures { Gains self.old (Some null) result self.new }
@@ -102,7 +101,7 @@ impl Heap {
         })
     }
 
-    /// One more bool.
+    /// Adds a bool.
     pub(crate) fn add_bool(&mut self, truth: bool) -> Result<u64, AllocError>
         requires { IsHeap self.old }
         ensures { Gains self.old (Some (boolean truth)) result self.new }
@@ -114,7 +113,7 @@ impl Heap {
         })
     }
 
-    /// One more int.
+    /// Adds an int.
     pub(crate) fn add_int(&mut self, n: i64) -> Result<u64, AllocError>
         requires { IsHeap self.old }
         ensures { Gains self.old (Some (int n)) result self.new }
@@ -127,7 +126,7 @@ impl Heap {
     }
 }
 
-/// The cells, with room for one more, and for its word.
+/// The cells, with capacity for one more and for its word.
 pub(crate) fn room_for_cell<'a>(
     cells: &'a mut Sequence<Cell>,
     words: &mut Vec<u64>,

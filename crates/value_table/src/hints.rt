@@ -1,12 +1,12 @@
-//! Where lists and maps were found to differ.
+//! Remembers where compared lists and maps differ.
 
 use std::alloc::Global;
 
-/// How many places are kept.
+/// The number of hints that are kept.
 const COUNT: usize = 4096;
 
-/// Places at which two lists or maps that were compared differ, each under a hash of the two. A
-/// comparison begins there, and decides by what it finds, whatever place that is.
+/// Places at which two compared lists or maps differ, stored by a hash of the two. A hint only says
+/// where a comparison begins; the result does not depend on it.
 #[derive(Drop)]
 pub(crate) struct Hints {
     places: Vec<u64>,
@@ -19,7 +19,7 @@ impl Hints {
         }
     }
 
-    /// Where to begin a comparison of the values of two cells.
+    /// The place at which to begin comparing the values of two cells.
     pub(crate) fn start(&self, a: u64, b: u64) -> usize {
         match self.places.get(slot(a, b)) {
             Some(place) => *place as usize,
@@ -27,7 +27,7 @@ impl Hints {
         }
     }
 
-    /// Notes that they differ at a place, where there is memory for it.
+    /// Stores the place at which they differ, unless the allocation fails.
     pub(crate) fn note(&mut self, a: u64, b: u64, place: usize) {
         if self.places.is_empty() {
             let _ = self.places.resize(COUNT, 0);
@@ -38,7 +38,7 @@ impl Hints {
     }
 }
 
-// The upper twelve bits of a product with the golden ratio's fraction, which spreads.
+// The upper twelve bits of a product with the fraction of the golden ratio, which spreads well.
 fn slot(a: u64, b: u64) -> usize {
     let spread = 0x9e37_79b9_7f4a_7c15u64;
     let mixed = a.wrapping_mul(spread).wrapping_add(b);

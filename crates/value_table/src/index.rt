@@ -1,15 +1,15 @@
-//! Where texts stand.
+//! An index of texts by their first place.
 
 ghost use Rattle.std.specs.Prelude.{◌≡◌, ◌<◌, ◌+◌, ◌^◌, [], ◌∷◌, ◌++◌, ℕ, List, OnOk, OnErr, string_bytes};
 
 use std::alloc::{AllocError, Global};
 use std::collections::BTreeMap;
 
-/// Of each text among those of a backing's first items the least place at which it stands.
+/// For each text among the first items of a backing, the first place with this text.
 #[derive(Drop)]
 pub(crate) struct Index {
     pub(crate) backing: u64,
-    /// How many of its items have been entered.
+    /// The number of items that the index covers.
     pub(crate) count: u64,
     pub(crate) places: BTreeMap<String, u64>,
 }
@@ -18,7 +18,7 @@ impl Index {
     ghost use Rattle.value_table.specs.Search.{place_among};
     ghost use Rattle.value_table.specs.Index.{IsIndex};
 
-    /// One without items.
+    /// An index that covers no item.
     pub(crate) fn new(alloc: Global, backing: u64) -> Index
         ensures backing { result.backing ≡ backing }
         ensures empty { IsIndex result [] }
@@ -30,7 +30,7 @@ impl Index {
         }
     }
 
-    /// Enters one more text behind the others.
+    /// Adds the text of the next item.
     pub(crate) fn add(&mut self, text: String) -> Result<(), AllocError>
         requires { self.old.count < 2 ^ 63 }
         ensures backing { self.new.backing ≡ self.old.backing }
@@ -47,7 +47,7 @@ impl Index {
         Ok(())
     }
 
-    /// The least place of a text.
+    /// The first place with this text.
     pub(crate) fn place(&self, text: &str) -> Option<u64>
         ensures { (ts : List (List ℕ)) → IsIndex self.now ts → result ≡ place_among text.now ts }
     {

@@ -8,10 +8,10 @@ use crate::index::Index;
 use std::alloc::{AllocError, Global};
 use std::collections::BTreeMap;
 
-/// The indexes of the backings in which an item has been searched.
+/// The indexes of the backings that were searched.
 #[derive(Drop)]
 pub(crate) struct Indexes {
-    /// Where a backing's index stands.
+    /// The slot of each backing's index.
     slots: BTreeMap<u64, u64>,
     pub(crate) all: Vec<Index>,
 }
@@ -28,8 +28,8 @@ impl Indexes {
         }
     }
 
-    /// Where the index of a backing stands, if it has one. Else it has one from then on, without
-    /// items, where there is memory.
+    /// The slot of a backing's index, if it has one. Otherwise it gets an empty index, unless the
+    /// allocation fails.
     pub(crate) fn slot(&mut self, alloc: Global, backing: u64) -> Option<usize>
         ensures found { IfSome result (λ s. option_map (λ x. x.backing) (slice_get self.new.all.items s) ≡ Some backing) }
         ensures kept { (bs : Backings) (vs : List Value) → backing < length bs.lists → AreIndexes bs vs self.old.all.items → AreIndexes bs vs self.new.all.items }

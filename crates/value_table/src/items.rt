@@ -14,7 +14,7 @@ use crate::lengths::{joined_length, pushed_length};
 use std::alloc::AllocError;
 
 impl Heap {
-    /// One more list, without items.
+    /// Adds an empty list.
     pub(crate) fn new_list(&mut self) -> Result<u64, AllocError>
         requires { IsHeap self.old }
         ensures { Gains self.old (Some (list no_items)) result self.new }
@@ -29,7 +29,7 @@ impl Heap {
         }))
     }
 
-    /// The list at `l` with the value at `x` behind its last item.
+    /// The list at `l` with the value at `x` appended.
     pub(crate) fn push(&mut self, l: u64, x: u64) -> Result<u64, AllocError>
         requires heap { IsHeap self.old }
         requires list { l < length (heap_values self.old) }
@@ -55,7 +55,7 @@ impl Heap {
         Ok(cells.append(cell))
     }
 
-    /// The items of the list at `a` and then those of the list at `b`.
+    /// The items of the list at `a` followed by those of the list at `b`.
     pub(crate) fn join_lists(&mut self, a: u64, b: u64) -> Result<u64, AllocError>
         requires heap { IsHeap self.old }
         requires first { a < length (heap_values self.old) }

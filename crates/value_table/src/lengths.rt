@@ -1,4 +1,4 @@
-//! Lengths of JSON texts, each at most the greatest number of 64 bits.
+//! Lengths of JSON texts in bytes, each capped at 2^64 - 1.
 
 ghost use Rattle.std.specs.Prelude.{◌≡◌, ◌≤◌, ◌+◌, ◌-◌, length, decimal};
 ghost use Rattle.std.specs.Fmt.{signed_decimal};
@@ -6,22 +6,22 @@ ghost use Rattle.json.specs.Print.{quoted, escape_byte};
 ghost use Rattle.value_store.specs.Plain.{saturated};
 ghost use Rattle.value_table.specs.Lengths.{commas};
 
-// How many commas stand between `count` things and `more` others behind them.
+// The number of commas between `count` items and `more` items that follow them.
 fn commas(count: u64, more: u64) -> u64
     ensures { result ≡ commas count more }
 {
     if count == 0 || more == 0 { 0 } else { 1 }
 }
 
-/// The length of a list's text with one more item behind `count` others.
+/// The length of a list's text after an item is appended to `count` others.
 pub(crate) fn pushed_length(list: u64, count: u64, item: u64) -> u64
     ensures { result ≡ saturated (list + commas count 1 + item) }
 {
     list.saturating_add(commas(count, 1)).saturating_add(item)
 }
 
-/// The length of the text of two lists' items, `count` and `more`, as one list: a closing and an
-/// opening bracket fall away.
+/// The length of the text of two joined lists with `count` and `more` items. Two brackets are
+/// dropped.
 pub(crate) fn joined_length(first: u64, count: u64, second: u64, more: u64) -> u64
     requires { 2 ≤ second }
     ensures { result ≡ saturated (first + commas count more + (second - 2)) }
@@ -31,7 +31,7 @@ pub(crate) fn joined_length(first: u64, count: u64, second: u64, more: u64) -> u
         .saturating_add(second - 2)
 }
 
-/// The length of a map's text with one more entry beside `count` others.
+/// The length of a map's text after an entry is added to `count` others.
 pub(crate) fn put_length(map: u64, count: u64, key: u64, value: u64) -> u64
     ensures { result ≡ saturated (map + (1 + commas count 1) + key + value) }
 {
@@ -40,7 +40,7 @@ pub(crate) fn put_length(map: u64, count: u64, key: u64, value: u64) -> u64
         .saturating_add(value)
 }
 
-/// How many bytes an int has in decimal, with its sign.
+/// The length of an int in decimal, with its sign.
 pub(crate) fn int_length(n: i64) -> u64
     ensures { result ≡ length (signed_decimal n) }
 {
@@ -63,7 +63,7 @@ fn digits(n: u64) -> u64
     count
 }
 
-/// How many bytes a text has in JSON, with its quotes and escapes.
+/// The length of a text in JSON, with its quotes and escapes.
 pub(crate) fn quoted_length(text: &[u8]) -> u64
     ensures { result ≡ saturated (length (quoted text.now)) }
 {
@@ -74,7 +74,7 @@ pub(crate) fn quoted_length(text: &[u8]) -> u64
     length
 }
 
-// How many bytes each byte has in a JSON text. A branch at each byte would cost more than the table.
+// The length of each byte in a JSON text. A table is faster than a branch for each byte.
 static ESCAPED: [u8; 256] = [
     6, 6, 6, 6, 6, 6, 6, 6, 2, 2, 2, 6, 2, 2, 6, 6, 6, 6, 6, 6, 6, 6, 6, 6, 6, 6, 6, 6, 6, 6, 6, 6,
     1, 1, 2, 1, 1, 1, 1, 1, 1, 1, 1, 1, 1, 1, 1, 1, 1, 1, 1, 1, 1, 1, 1, 1, 1, 1, 1, 1, 1, 1, 1, 1,

@@ -1,5 +1,5 @@
-//! The values that a program on the machine names: those of a review's five roots at first, and
-//! then those that the program places.
+//! The values that a program uses: at first those of a review's five roots, then those that the
+//! program creates.
 #![tactic(auto)]
 
 mod backing;

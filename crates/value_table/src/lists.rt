@@ -18,7 +18,7 @@ use std::rc::Rc;
 #[derive(Drop)]
 pub(crate) struct Lists {
     rows: Rc<Vec<Row>>,
-    /// The items of the rows that have no vector: those that documents gave.
+    /// The items of the rows without a vector: those that came from documents.
     pool: Backing<u64>,
 }
 
@@ -46,7 +46,7 @@ impl Lists {
         *self.rows.allocator()
     }
 
-    /// How many rows there are.
+    /// The number of rows.
     pub(crate) fn len(&self) -> usize
         ensures { result ≡ length self.now }
     {
@@ -71,7 +71,7 @@ impl Lists {
         shared_at(self.alloc(), self.pool.items(), &self.rows[..], place)
     }
 
-    /// One more row, with a vector.
+    /// Adds a row with a vector.
     pub(crate) fn push(&mut self, backing: Backing<u64>) -> Result<(), AllocError>
         ensures ok { OnOk result (self.new ≡ self.old ++ backing ∷ []) }
         ensures err { OnErr result (self.new ≡ self.old) }
@@ -79,7 +79,7 @@ impl Lists {
         add_row(&mut self.rows, Row::Own(backing))
     }
 
-    /// One more row, whose items come behind the last of the pool.
+    /// Adds a row whose items are appended to the pool.
     pub(crate) fn add(&mut self, items: &[u64]) -> Result<(), AllocError>
         ensures ok { OnOk result (self.new ≡ self.old ++ items.now ∷ []) }
         ensures err { OnErr result (self.new ≡ self.old) }
@@ -87,7 +87,7 @@ impl Lists {
         put(&mut self.pool, &mut self.rows, items)
     }
 
-    /// One more item behind a row's last.
+    /// Appends an item to a row.
     pub(crate) fn push_item(&mut self, row: usize, item: u64) -> Result<(), AllocError>
         requires { row < length self.old }
         ensures ok { OnOk result (self.new ≡ slice_set self.old row (slice_index_or self.old row [] ++ item ∷ [])) }
@@ -96,7 +96,7 @@ impl Lists {
         self.push_items(row, &[item])
     }
 
-    /// More items behind a row's last.
+    /// Appends items to a row.
     pub(crate) fn push_items(&mut self, row: usize, items: &[u64]) -> Result<(), AllocError>
         requires { row < length self.old }
         ensures ok { OnOk result (self.new ≡ slice_set self.old row (slice_index_or self.old row [] ++ items.now)) }
@@ -106,8 +106,8 @@ impl Lists {
         extend_at(alloc, self.pool.items(), &mut self.rows, row, items)
     }
 
-    /// A row that has the first items of another, and one more at a place: the same one where
-    /// it ends there, and else a new one.
+    /// A row with the first items of another and one more item at this place. It is the same row if
+    /// that has no further items, else a new one.
     pub(crate) fn put_item(
         &mut self,
         row: u64,
@@ -159,7 +159,7 @@ fn shared_at(
     shared(alloc, pool, &rows[place])
 }
 
-// Puts items behind the last of the pool, and a row that has them behind the last row.
+// Appends items to the pool, and adds the row that holds them.
 fn put(pool: &mut Backing<u64>, rows: &mut Rc<Vec<Row>>, items: &[u64]) -> Result<(), AllocError>
     requires { AreRows pool.old rows.old.value.items }
     ensures rows { AreRows pool.new rows.new.value.items }

@@ -17,7 +17,7 @@ use crate::search::search;
 use crate::text::keys;
 
 impl Heap {
-    /// The place of a key in a map, if the map has it, by halving.
+    /// The place of a key in a map, if the map has it (binary search).
     pub(crate) fn find(&self, map: u64, key: &[u8]) -> Option<u64>
         requires heap { IsHeap self.now }
         requires inside { map < length (heap_values self.now) }

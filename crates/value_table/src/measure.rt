@@ -1,7 +1,6 @@
-//! What is known of a value.
+//! The measure of a value.
 
-/// How deep a value is, and how many bytes its JSON text has, at most the greatest number of 64
-/// bits.
+/// The depth of a value, and the length of its JSON text in bytes, capped at 2^64 - 1.
 #[derive(Clone, Copy, Debug, PartialEq, Eq)]
 pub(crate) struct Measure {
     pub(crate) depth: u64,

@@ -6,8 +6,8 @@ ghost use Rattle.serde_json.specs.Read.{number_of, number_from, float_of};
 
 use fast_float::Numeral;
 
-/// The number of a token: `Some(Some(n))` if it is an integer of 64 bits signed, `None` if it is too
-/// large for a float, and otherwise `Some(None)` (`-0` is a float).
+/// The number in a token: `Some(Some(n))` if it is a 64-bit signed integer, `None` if it is too
+/// large for a float, and otherwise `Some(None)`. `-0` is a float.
 pub(crate) fn number(text: &str) -> Option<Option<i64>>
     ensures { result ≡ option_map as_i64 (number_of text.now) }
 {

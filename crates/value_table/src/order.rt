@@ -10,7 +10,7 @@ use crate::heap::Heap;
 use crate::text::text;
 
 impl Heap {
-    /// Whether the first of two ints, texts or bools is below the second.
+    /// Whether the first of two ints, texts or bools is less than the second.
     pub(crate) fn less(&self, a: u64, b: u64) -> bool
         requires heap { IsHeap self.now }
         requires left { a < length (heap_values self.now) }

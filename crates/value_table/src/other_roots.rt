@@ -3,8 +3,8 @@
 use crate::heap::Heap;
 use crate::placed::Placed;
 
-/// Where the values of a namespace and params are. One that contains a number which is not an
-/// integer of 64 bits signed has none.
+/// Where the values of a namespace and params are. A document with a number that is not a 64-bit
+/// signed integer has no value.
 #[derive(Clone, Copy, Debug, Drop)]
 pub(crate) struct OtherRoots {
     pub(crate) namespace: Option<Placed>,
@@ -15,6 +15,6 @@ pub(crate) struct OtherRoots {
 #[derive(Drop)]
 pub(crate) struct PlacedOthers {
     pub(crate) heap: Heap,
-    /// Where they are. None if one of the documents is not JSON.
+    /// Where they are. `None` if one of the documents is not JSON.
     pub(crate) places: Option<OtherRoots>,
 }

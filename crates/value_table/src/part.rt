@@ -1,10 +1,10 @@
-//! Where a text stands.
+//! Where a text is stored.
 
-/// A part of the bytes of all texts, from one place up to another, and its measure.
+/// A range of the bytes of all texts, and its measure.
 #[derive(Clone, Copy, Debug, PartialEq, Eq)]
 pub(crate) struct Part {
     pub(crate) from: u64,
     pub(crate) to: u64,
-    /// How many bytes its JSON text has, at most the greatest number of 64 bits.
+    /// The length of its JSON text in bytes, capped at 2^64 - 1.
     pub(crate) json: u64,
 }

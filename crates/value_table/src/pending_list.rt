@@ -6,7 +6,7 @@ ghost use Rattle.value_table.specs.Reading.{AddsItem};
 use crate::placed::Placed;
 use std::alloc::AllocError;
 
-/// The items so far, and the size of the list. The list has no value if one of them has none.
+/// The items so far, and the size of the list. The list has no value if one of the items has none.
 #[derive(Drop)]
 pub(crate) struct PendingList {
     pub(crate) places: Vec<u64>,

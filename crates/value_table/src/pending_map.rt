@@ -3,7 +3,7 @@
 use crate::part::Part;
 use std::alloc::Global;
 
-/// The keys of a map, and the places of its values. The vectors are kept for the next map.
+/// The keys of a map, and the places of its values. The vectors are reused for the next map.
 #[derive(Drop)]
 pub(crate) struct PendingMap {
     pub(crate) keys: Vec<Part>,

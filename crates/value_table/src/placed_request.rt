@@ -2,7 +2,7 @@
 
 use crate::placed::Placed;
 
-/// Where the values of a request's `uid`, `object`, `oldObject` and of the rest of it are.
+/// Where the values of a request's `uid`, `object` and `oldObject` are, and that of the rest of it.
 #[derive(Clone, Copy, Debug, Drop)]
 pub(crate) struct PlacedRequest {
     pub(crate) uid: u64,

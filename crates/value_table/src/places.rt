@@ -1,4 +1,4 @@
-//! The places of the values that a program names. The error stands at reference 0 and has no place.
+//! The places of the values that a program refers to. Reference 0 is the error and has no place.
 
 ghost use Rattle.std.specs.Prelude.{◌≡◌, ◌+◌, length, slice_get, IsSome};
 ghost use Rattle.value_store.specs.Calls.{value_at};

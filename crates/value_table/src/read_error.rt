@@ -1,11 +1,11 @@
-//! Why no value was read.
+//! Why reading a value failed.
 
 use std::alloc::{AllocError, AllocFailed};
 
-/// Why no value was read.
+/// Why reading a value failed.
 #[derive(Clone, Copy, Debug, Drop, PartialEq, Eq)]
 pub(crate) enum ReadError {
-    /// The text is no JSON, as `serde_json` reads it.
+    /// The text is not JSON as `serde_json` reads it.
     Invalid,
     /// An allocation failed.
     Memory,

@@ -1,4 +1,4 @@
-//! Values of JSON texts, read token by token.
+//! Reads values of JSON texts token by token.
 
 ghost use Rattle.std.specs.Prelude.{◌≡◌, ◌<◌, length, OnOk, IfOk, Err, option_map, Some, None};
 ghost use Rattle.json.specs.Json.{value, items, members, parse_map};
@@ -20,11 +20,10 @@ use json::{Reader, Scratch, Token};
 use std::alloc::AllocError;
 use std::collections::BTreeMap;
 
-/// How deep lists and maps may nest, as `serde_json` reads them.
+/// How deep lists and maps may nest, as in `serde_json`.
 pub(crate) const MAX_DEPTH: usize = 127;
 
-/// Adds the value of a text, if it has one. `None` means that the text has a number that is no integer
-/// of 64 bits signed.
+/// Adds the value of a text. `None` if a number in the text is not a 64-bit signed integer.
 pub(crate) fn read_text(
     heap: &mut Heap,
     text: &str,
@@ -42,8 +41,8 @@ pub(crate) fn read_text(
     Ok(value)
 }
 
-/// Adds the next value of the reader, if it is one. `None` means that it has a number that is no
-/// integer of 64 bits signed. Lists and maps may nest `depth` deep.
+/// Adds the next value of the reader. `None` if a number in it is not a 64-bit signed integer.
+/// Lists and maps may nest `depth` deep.
 #[cycle(read_value)]
 pub(crate) fn read_value(
     heap: &mut Heap,
@@ -120,8 +119,8 @@ fn read_members(
     Ok(add_members(heap, &found)?)
 }
 
-/// Adds the values of the next members of the reader. They are found by their keys, and the last
-/// member with a key counts.
+/// Adds the values of the members that the reader reads next, and finds them by their keys. If a
+/// key is repeated, the last member counts.
 #[cycle(read_value)]
 pub(crate) fn gather_members<'a>(
     heap: &mut Heap,

@@ -1,4 +1,4 @@
-//! Requests, from their members.
+//! Builds requests from their members.
 
 ghost use Rattle.std.specs.Prelude.{◌≡◌, ◌<◌, length, IfOk};
 ghost use Rattle.serde_json.specs.Data.{Members};
@@ -16,8 +16,8 @@ use crate::reading::add_null;
 use std::alloc::AllocError;
 use std::collections::BTreeMap;
 
-/// The parts of a request with these members, if its `uid` is a text. What is left of the members
-/// after `object` and `oldObject` becomes a map.
+/// The parts of a request with these members, if its `uid` is a text. The members other than
+/// `object` and `oldObject` become a map.
 pub(crate) fn request_of(
     heap: &mut Heap,
     found: BTreeMap<&str, Option<Placed>>,
@@ -41,7 +41,7 @@ pub(crate) fn request_of(
     }))
 }
 
-// The place of the `uid` among these members, if it is a text.
+// The place of the member `uid`, if it is a text.
 fn find_uid(heap: &Heap, found: &BTreeMap<&str, Option<Placed>>) -> Option<u64>
     requires heap { IsHeap heap.now }
     requires found { AreSomeMembers (heap_values heap.now) found.now.entries }
@@ -69,7 +69,7 @@ fn is_text_at(heap: &Heap, place: u64) -> bool
     matches!(heap.cell(place).content, Content::Text(_))
 }
 
-// Removes the member with a key. It is null if there is none.
+// Removes the member with this key; null if there is none.
 fn take(
     heap: &mut Heap,
     found: &mut BTreeMap<&str, Option<Placed>>,

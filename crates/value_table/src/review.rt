@@ -1,4 +1,4 @@
-//! Reviews (AdmissionReview, `admission.k8s.io/v1`), read token by token.
+//! Reads reviews (AdmissionReview, `admission.k8s.io/v1`) token by token.
 
 ghost use Rattle.std.specs.Prelude.{◌≡◌, ◌<◌, ◌&&◌, length, None, Err, IfOk, OnOk, if◌then◌else◌};
 ghost use Rattle.json.specs.Json.{value, members};
@@ -19,8 +19,7 @@ use json::{Reader, Scratch, Token};
 /// How deep lists and maps may nest in a member of a review.
 const MEMBER_DEPTH: usize = MAX_DEPTH - 1;
 
-/// Reads a review. If the text is one, the heap then has the values of its request behind those
-/// that it had.
+/// Reads a review. If the text is a review, the values of its request are added to the heap.
 pub(crate) fn read_review(
     heap: &mut Heap,
     text: &str,
@@ -38,7 +37,7 @@ pub(crate) fn read_review(
     Ok(request)
 }
 
-// The request of the next value of the reader, if it is a review.
+// The request in the next value of the reader, if that is a review.
 fn read_whole(heap: &mut Heap, reader: &mut Reader<'_>) -> Result<Option<PlacedRequest>, ReadError>
     requires { IsHeap heap.old }
     ensures read { IfOk result (λ r. ReadsReviewValue heap.old heap.new r (converted of_json (value max_depth reader.old)) reader.new) }
@@ -88,7 +87,7 @@ fn read_members(heap: &mut Heap, reader: &mut Reader<'_>) -> Result<ReviewFields
     Ok(found)
 }
 
-// Reads one member of a review. The last member with a key counts.
+// Reads one member of a review. If a key is repeated, the last member counts.
 fn read_member(
     heap: &mut Heap,
     reader: &mut Reader<'_>,
@@ -132,7 +131,7 @@ fn read_is(reader: &mut Reader<'_>, text: &str) -> Result<bool, ReadError>
     }
 }
 
-// Reads a request. The values of an earlier request stay in the heap, and are not charged.
+// Reads a request. The values of an earlier request stay in the heap and are not charged.
 fn read_request(
     heap: &mut Heap,
     reader: &mut Reader<'_>,

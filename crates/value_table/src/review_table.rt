@@ -1,4 +1,4 @@
-//! Tables of reviews, read from the bytes of their documents.
+//! Tables of reviews, read from the texts of their documents.
 
 ghost use Rattle.std.specs.Prelude.{◌≡◌, ◌<◌, ℕ, List, length, Option, Some, option_map, option_and_then, string_bytes, IfOk};
 ghost use Rattle.serde_json.specs.Data.{null, Data};
@@ -26,11 +26,12 @@ use std::alloc::{AllocError, Global};
 
 impl Table {
     /// The table of the roots of a review (AdmissionReview, `admission.k8s.io/v1`), a namespace and
-    /// params, read in one pass, and the uid of the review's request. A namespace or params that are
-    /// not given are null.
+    /// params, read in one pass, and the uid of the review's request. A missing namespace or params
+    /// is null.
     ///
-    /// The first refusal counts: of the review's form, of the namespace and the params, of the roots
-    /// by their references, of the charge. An allocation may fail first.
+    /// The first refusal is returned. The review's form is checked first, then the namespace and
+    /// the params, then the roots by their references, then the charge. An allocation may fail
+    /// before.
     pub fn of_review(
         alloc: Global,
         review: &[u8],
@@ -47,7 +48,7 @@ impl Table {
         opened(others, review)
     }
 
-    /// The same without a review: the roots of the review are null.
+    /// The table without a review: the roots of the review are null.
     pub fn without_review(
         alloc: Global,
         namespace: Option<&[u8]>,
@@ -68,7 +69,7 @@ impl Table {
     }
 }
 
-/// The table of a review and of these values, and the uid of the review's request.
+/// The table of a review with these values, and the uid of the review's request.
 pub(crate) fn opened(others: PlacedOthers, review: &[u8]) -> Result<(Table, String), ReviewError>
     requires { ArePlaced others }
     ensures table { (namespace params : Option Data) → ArePlacedOthers others namespace params
@@ -95,7 +96,7 @@ pub(crate) fn opened(others: PlacedOthers, review: &[u8]) -> Result<(Table, Stri
 }
 
 impl PlacedOthers {
-    /// Equal values, which share what does not change.
+    /// A copy that shares everything unchanged.
     pub(crate) fn copy(&self) -> Result<PlacedOthers, AllocError>
         requires { ArePlaced self.now }
         ensures placed { IfOk result (λ o. ArePlaced o) }
@@ -108,7 +109,7 @@ impl PlacedOthers {
     }
 }
 
-/// Reads a namespace and params. One that is not given is null.
+/// Reads a namespace and params. A missing one is null.
 pub(crate) fn read_others(
     alloc: Global,
     namespace: Option<&[u8]>,
@@ -146,7 +147,7 @@ fn other_roots(
     Ok(OtherRoots { namespace, params })
 }
 
-// Reads a review, and returns where the values of its request are.
+// Reads a review and returns where the values of its request are.
 #[tactic(auto, using(crate::proofs::ReviewTables::review_is_read, crate::proofs::ReviewTables::no_review, crate::proofs::ReviewTables::no_document))]
 fn review_values(
     heap: &mut Heap,
@@ -167,7 +168,7 @@ fn review_values(
     }
 }
 
-// The value of a document, null if none is given.
+// The value of a document; null if it is missing.
 fn optional_value(
     heap: &mut Heap,
     scratch: &mut Scratch,
@@ -211,7 +212,7 @@ fn null_value(heap: &mut Heap) -> Result<Option<Placed>, ReviewError>
     }
 }
 
-// The text of these bytes, if they are UTF-8.
+// The bytes as a text, if they are UTF-8.
 #[tactic(auto, using(crate::proofs::ReviewTables::text_read, crate::proofs::ReviewTables::text_refused))]
 fn utf8(bytes: &[u8]) -> Option<&str>
     ensures { option_and_then read_text (option_map (λ s. s.now) result) ≡ document_of bytes.now }
@@ -222,7 +223,7 @@ fn utf8(bytes: &[u8]) -> Option<&str>
     }
 }
 
-// The text at the place of a text.
+// The text at this place.
 #[tactic(auto, using(crate::proofs::ReviewTables::text_there))]
 fn text_at(heap: &Heap, place: u64) -> &str
     requires heap { IsHeap heap.now }

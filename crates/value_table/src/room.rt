@@ -1,8 +1,8 @@
-//! Growing in room that is there.
+//! Appends to vectors within their reserved capacity.
 
 ghost use Rattle.std.specs.Prelude.{◌≡◌, ◌≤◌, ◌+◌, ◌-◌, ◌++◌, length, vec_len, vec_capacity, slice_range};
 
-/// Puts items behind the last.
+/// Appends these items.
 pub(crate) fn fill<T: Copy>(items: &mut Vec<T>, more: &[T])
     requires { vec_len items.old + length more.now ≤ vec_capacity items.old }
     ensures { items.new.items ≡ items.old.items ++ more.now }
@@ -12,7 +12,7 @@ pub(crate) fn fill<T: Copy>(items: &mut Vec<T>, more: &[T])
     };
 }
 
-/// Repeats the items of a part behind the last.
+/// Appends a copy of the items in this range.
 pub(crate) fn repeat<T: Copy>(items: &mut Vec<T>, from: usize, to: usize)
     requires order { from ≤ to }
     requires inside { to ≤ length items.old.items }

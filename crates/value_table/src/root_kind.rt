@@ -12,7 +12,7 @@ use crate::content::Content;
 use crate::heap::Heap;
 use crate::placed::Placed;
 
-/// The value, if it may be a root: an object or null, whose numbers are integers of 64 bits signed.
+/// The value, if it may be a root: an object or null whose numbers are 64-bit signed integers.
 #[tactic(auto, using(crate::proofs::RootKinds::gives_none, crate::proofs::RootKinds::gives_some, crate::proofs::RootKinds::gives_other))]
 pub(crate) fn root(heap: &Heap, root: Option<Placed>) -> Option<Placed>
     requires heap { IsHeap heap.now }

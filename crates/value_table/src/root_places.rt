@@ -1,4 +1,4 @@
-//! The roots at the references from 4 on.
+//! The roots at references 4 to 8.
 
 ghost use Rattle.std.specs.Prelude.{List, IfOk};
 ghost use Rattle.serde_json.specs.Data.{Data};
@@ -16,7 +16,7 @@ use crate::sequence::Sequence;
 use value_store::CHARGE_LIMIT;
 
 /// Appends the places of the roots to those of null, false and true, and returns the charge of the
-/// roots. The first refusal counts: of a root, by its reference, then of the charge.
+/// roots. The first refusal is returned: of a root, by its reference, then of the charge.
 pub(crate) fn place_roots(
     heap: &Heap,
     places: &mut Sequence<u64>,

@@ -16,7 +16,7 @@ use crate::sequence::Sequence;
 use serde_json::Value;
 use std::alloc::AllocError;
 
-/// The places of null, false, true and the roots, which are dropped as their values are made.
+/// The places of null, false, true and the roots. The roots are dropped as their values are added.
 pub(crate) fn start_places(heap: &mut Heap, roots: [Value; 5]) -> Result<Sequence<u64>, AllocError>
     requires heap { IsHeap heap.old }
     requires welcome { AllByRecursion IsWelcome (map view roots) }
@@ -30,7 +30,7 @@ pub(crate) fn start_places(heap: &mut Heap, roots: [Value; 5]) -> Result<Sequenc
     Ok(places)
 }
 
-/// Equal documents.
+/// Copies of the documents.
 pub(crate) fn copies(roots: &[Value; 5]) -> Result<[Value; 5], AllocError>
     ensures { IfOk result (λ copies. map view copies ≡ map view roots.now) }
 {

@@ -1,4 +1,4 @@
-//! Where the items of a list are.
+//! Where the items of a list are stored.
 
 ghost use Rattle.std.specs.Prelude.{◌≡◌, ◌++◌, IfOk, OnOk, OnErr};
 ghost use Rattle.value_table.specs.Pool.{row_items, IsPoolRow};
@@ -9,9 +9,9 @@ use std::alloc::{AllocError, Global};
 /// The items of a list, or the values of a map's entries.
 #[derive(Drop)]
 pub(crate) enum Row {
-    /// They have a vector, which can grow.
+    /// They are in their own vector, which can grow.
     Own(Backing<u64>),
-    /// They are a part of the pool: from a place on, and how many.
+    /// They are a range of the pool: the first place, and the number.
     Pooled(u64, u64),
 }
 
@@ -27,7 +27,7 @@ pub(crate) fn items<'a>(pool: &'a [u64], row: &'a Row) -> &'a [u64]
     }
 }
 
-/// The items of a row as a vector: its own one, shared, or a copy of its part of the pool.
+/// The items of a row as a vector: its own one, shared, or a copy of its range of the pool.
 pub(crate) fn shared(alloc: Global, pool: &[u64], row: &Row) -> Result<Backing<u64>, AllocError>
     requires { IsPoolRow pool.now row.now }
     ensures { IfOk result (λ b. b ≡ row_items pool.now row.now) }
@@ -38,7 +38,7 @@ pub(crate) fn shared(alloc: Global, pool: &[u64], row: &Row) -> Result<Backing<u
     }
 }
 
-/// Puts more items behind a row's last. A row of the pool gets a vector first, with room for them.
+/// Appends items to a row. A row in the pool gets its own vector first.
 pub(crate) fn extend(
     alloc: Global,
     pool: &[u64],

@@ -1,4 +1,4 @@
-//! Search among keys in byte order.
+//! Binary search among keys in byte order.
 
 ghost use Rattle.value_store.specs.Keys.{Ascend};
 ghost use Rattle.value_table.specs.Heaps.{AreTexts};
@@ -9,7 +9,7 @@ use crate::part::Part;
 use crate::text::text;
 use std::cmp::Ordering;
 
-/// The place of a key among the texts of the parts, or the place at which it is put.
+/// The place of a key among the texts of the parts, or the place where it belongs.
 pub(crate) fn search(bytes: &[u8], keys: &[Part], key: &[u8]) -> Result<usize, usize>
     requires texts { AreTexts bytes.now keys.now }
     requires ordered { Ascend (texts_of bytes.now keys.now) }

@@ -1,4 +1,4 @@
-//! What is seen of a heap's values.
+//! Views of a heap's values.
 
 ghost use Rattle.std.specs.Prelude.{◌≡◌, ◌<◌, ◌^◌, length, slice_get, Some, IsSome, option_map};
 ghost use Rattle.value_store.specs.Value.{value, text};
@@ -18,7 +18,7 @@ use std::str::from_utf8_unchecked;
 use value_store::Shape;
 
 impl Heap {
-    /// What is seen of a value at first.
+    /// The kind of a value, with its simple value or its number of parts.
     pub(crate) fn shape(&self, place: u64) -> Shape<'_>
         requires heap { IsHeap self.now }
         requires inside { place < length (heap_values self.now) }
@@ -35,7 +35,7 @@ impl Heap {
         }
     }
 
-    /// The text at a place, if one stands there.
+    /// The text at this place, if there is one.
     pub(crate) fn text(&self, place: u64) -> Option<&str>
         requires heap { IsHeap self.now }
         requires inside { place < length (heap_values self.now) }
@@ -54,11 +54,11 @@ impl Heap {
         ensures short { length result.now < 2 ^ 63 }
     {
         let bytes = text(self.backings.bytes.items(), part);
-        // Each text's part of the bytes is UTF-8.
+        // The bytes of each text are UTF-8.
         unsafe { from_utf8_unchecked(bytes) }
     }
 
-    // How many the first `count` items of a backing are.
+    // `count`, taken as the length of a slice, which is below 2^63.
     fn count(&self, backing: u64, count: u64) -> u64
         requires { IsRange self.now.backings.lists (length self.now.cells) backing count }
         ensures count { result ≡ count }
@@ -81,7 +81,7 @@ impl Heap {
         parts_of(&self.backings, content)[i as usize]
     }
 
-    /// Where the i-th key of a map stands.
+    /// Where the i-th key of a map is stored.
     #[tactic(auto, using(crate::proofs::Looked::key_inside, crate::proofs::Looked::key_value))]
     pub(crate) fn key(&self, place: u64, i: u64) -> Part
         requires heap { IsHeap self.now }
@@ -96,7 +96,7 @@ impl Heap {
         }
     }
 
-    // Where `count` keys stand, from a place among all keys on.
+    // The parts of `count` keys, from this key on.
     fn keys(&self, keys: u64, count: u64) -> &[Part]
         requires { AreKeys self.now.backings.bytes self.now.backings.keys keys count }
         ensures { result.now ≡ keys_at self.now.backings.keys keys count }

@@ -8,7 +8,7 @@ use crate::chunks::Chunks;
 use std::alloc::{AllocError, Global};
 use std::marker::Model;
 
-/// Items that come one behind another. A copy shares all full chunks of them.
+/// A sequence of items. A copy shares all full chunks.
 #[derive(Drop)]
 pub(crate) struct Sequence<T: Copy> {
     chunks: Chunks<T>,
@@ -30,7 +30,7 @@ impl<T: Copy> Sequence<T> {
         Ok(Sequence { chunks })
     }
 
-    /// Where its memory comes from.
+    /// The allocator.
     pub(crate) fn alloc(&self) -> Global {
         self.chunks.alloc()
     }
@@ -52,7 +52,7 @@ impl<T: Copy> Sequence<T> {
         self.chunks.at(place)
     }
 
-    /// The item at a place, if one stands there.
+    /// The item at a place, if there is one.
     pub(crate) fn get(&self, place: usize) -> Option<T>
         ensures { result ≡ slice_get self.now place }
     {
@@ -62,7 +62,7 @@ impl<T: Copy> Sequence<T> {
         None
     }
 
-    /// The chunks, with room for one more item.
+    /// The chunks, with capacity for one more item.
     pub(crate) fn room(&mut self) -> Result<&mut Chunks<T>, AllocError>
         ensures* lent { sem 𝓛 (LendsChunks T.row self.entry result) }
         ensures items { IfOk result (λ c. c.now.0 ≡ self.old) }

@@ -1,4 +1,4 @@
-//! A namespace and params that are read once for any number of reviews.
+//! A namespace and params that are parsed once for any number of reviews.
 
 ghost use Rattle.std.specs.Prelude.{◌≡◌, option_map, option_and_then, string_bytes, IfOk};
 ghost use Rattle.value_store.specs.Documents.{document_given, document_of};
@@ -19,7 +19,7 @@ pub struct SharedDocuments {
     alloc: Global,
     namespace: Option<Vec<u8>>,
     params: Option<Vec<u8>>,
-    /// None if an allocation failed: then they are read for each review.
+    /// `None` if an allocation failed; then they are parsed for each review.
     values: Option<PlacedOthers>,
 }
 
@@ -35,7 +35,7 @@ impl Model for SharedDocuments {
 }
 
 impl SharedDocuments {
-    /// Reads these documents. One that is not given is null.
+    /// Parses these documents. A missing one is null.
     pub fn new(
         alloc: Global,
         namespace: Option<Vec<u8>>,
@@ -54,7 +54,8 @@ impl SharedDocuments {
     }
 
     /// The table of the roots of a review (AdmissionReview, `admission.k8s.io/v1`) with these
-    /// documents, and the uid of the review's request. It returns what `Table::of_review` does.
+    /// documents, and the uid of the review's request. The result is the same as that of
+    /// `Table::of_review`.
     pub fn table_of(&self, review: &[u8]) -> Result<(Table, String), ReviewError>
         ensures table { ReviewTableReturns (λ r. held_contents r.0) result (option_and_then parts_in (document_of review.now)) (document_given self.now.namespace) (document_given self.now.params) }
         ensures uid { IfOk result (λ r. string_bytes r.1 ≡ uid_in review.now) }

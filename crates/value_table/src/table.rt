@@ -1,4 +1,4 @@
-//! The table of values.
+//! The table of a program's values.
 
 ghost use Rattle.std.specs.Prelude.{◌≡◌, ◌≤◌, ◌++◌, map, List, IfOk};
 ghost use Rattle.std.specs.List.{AllByRecursion};
@@ -32,7 +32,7 @@ use value_store::{Shape, TableError, ValueStore, start_charge};
 #[derive(Drop)]
 pub struct Table {
     heap: Heap,
-    /// The places of the references' cells, from reference 1 on.
+    /// The places of the cells, for the references from 1 on.
     places: Sequence<u64>,
     charge: u64,
 }
@@ -56,14 +56,14 @@ impl Model for Table {
 }
 
 impl Table {
-    /// The table of the five roots of a review, in the order object, oldObject, params,
-    /// namespaceObject and request, at the references 4 to 8, charged with their sizes. It goes as
-    /// deep as the documents.
+    /// The table of the five roots of a review. The roots object, oldObject, params,
+    /// namespaceObject and request have the references 4 to 8. Their sizes are charged. The
+    /// recursion is as deep as the documents.
     ///
-    /// The first root that is refused counts: `NotAnObject` if it is neither an object nor null,
-    /// `NumberOutOfInt64` if it holds a number that is no integer of 64 bits signed (`-0` is none).
-    /// Then `RootsTooLarge` if the charge is above 16,777,216. All this is tested before any memory
-    /// is taken.
+    /// The first refusal of a root is returned: `NotAnObject` if it is neither an object nor null,
+    /// `NumberOutOfInt64` if it has a number that is not a 64-bit signed integer (`-0` is not).
+    /// Then `RootsTooLarge` if the charge exceeds 16,777,216. All this is checked before anything
+    /// is allocated.
     #[tactic(auto, using(crate::proofs::Starting::refused_as, crate::proofs::Starting::no_memory_for, crate::proofs::Starting::judged))]
     pub fn of_roots(alloc: Global, roots: &[Value; 5]) -> Result<Table, TableError>
         ensures { StoreStarts held_contents (start_contents (map view roots.now)) result }
@@ -73,8 +73,8 @@ impl Table {
         Ok(table)
     }
 
-    /// The table of roots that are given, as `of_roots` makes it. They are dropped as their values
-    /// are made, so that no document is held twice.
+    /// The table of these roots, as in `of_roots`. The roots are dropped as their values are added,
+    /// so that no document is in memory twice.
     #[tactic(auto, using(crate::proofs::Starting::refused_as, crate::proofs::Starting::no_memory_for, crate::proofs::Starting::judged))]
     pub fn of_documents(alloc: Global, roots: [Value; 5]) -> Result<Table, TableError>
         ensures { StoreStarts held_contents (start_contents (map view roots)) result }
@@ -84,8 +84,8 @@ impl Table {
         Ok(table)
     }
 
-    /// The table of five roots whose values are in a heap. The first refusal counts: of a root, by its
-    /// reference, then of the charge.
+    /// The table of five roots whose values are in a heap. The first refusal is returned: of a
+    /// root, by its reference, then of the charge.
     pub(crate) fn placed(heap: Heap, roots: &[Option<Placed>; 5]) -> Result<Table, ReviewError>
         requires heap { IsHeap heap }
         requires sound { AreSoundPlaces (heap_values heap) roots.now }
@@ -101,7 +101,7 @@ impl Table {
         })
     }
 
-    // The table of documents that are charged with their sizes.
+    // The table of documents whose sizes are charged.
     fn charged(alloc: Global, roots: [Value; 5], charge: u64) -> Result<Table, AllocError>
         requires welcome { AllByRecursion IsWelcome (map view roots) }
         requires limit { charge ≤ charge_limit }
@@ -269,7 +269,7 @@ impl ValueStore for Table {
     }
 }
 
-// The reference of null, false and true, which are placed nowhere else.
+// The reference of null, false or true. These values are stored only once.
 fn first_reference(content: Content) -> Option<u64>
     ensures { result ≡ reference_of content }
 {

@@ -1,4 +1,4 @@
-//! Texts and keys, lent from their backings.
+//! Texts and keys, borrowed from their backings.
 
 ghost use Rattle.std.specs.Prelude.{◌≡◌, ◌+◌, ◌≤◌, length};
 ghost use Rattle.value_table.specs.Meaning.{part_of, keys_at};
@@ -14,7 +14,7 @@ pub(crate) fn text(bytes: &[u8], part: Part) -> &[u8]
     &bytes[part.from as usize..part.to as usize]
 }
 
-/// Keys in a row.
+/// The parts of adjacent keys.
 pub(crate) fn keys(keys: &[Part], from: u64, count: u64) -> &[Part]
     requires { from + count ≤ length keys.now }
     ensures { result.now ≡ keys_at keys.now from count }

@@ -16,7 +16,7 @@ use crate::part::Part;
 use std::alloc::AllocError;
 
 impl Heap {
-    /// One more text.
+    /// Adds a text.
     pub(crate) fn add_text(&mut self, s: &str) -> Result<u64, AllocError>
         requires { IsHeap self.old }
         ensures { Gains self.old (Some (text s.now)) result self.new }
@@ -26,7 +26,7 @@ impl Heap {
         Ok(cells.append(text_cell(part)))
     }
 
-    /// Puts the text of a key behind all others. It is no value.
+    /// Appends the text of a key. It does not become a value.
     pub(crate) fn add_key(&mut self, key: &str) -> Result<Part, AllocError>
         requires { IsHeap self.old }
         ensures heap { IsHeap self.new }
@@ -37,7 +37,7 @@ impl Heap {
         self.backings.add_text(key.as_bytes())
     }
 
-    /// One more text, which is one behind another.
+    /// Adds the concatenation of two texts.
     pub(crate) fn join_texts(&mut self, first: Part, second: Part) -> Result<u64, AllocError>
         requires heap { IsHeap self.old }
         requires first { IsText self.old.backings.bytes first }
@@ -49,7 +49,7 @@ impl Heap {
         Ok(cells.append(text_cell(part)))
     }
 
-    /// The text at `a`, or the list, and that at `b` behind it.
+    /// The text or list at `a` followed by the one at `b`.
     pub(crate) fn join(&mut self, a: u64, b: u64) -> Result<u64, AllocError>
         requires heap { IsHeap self.old }
         requires first { a < length (heap_values self.old) }
@@ -68,7 +68,7 @@ impl Heap {
         self.join_texts(text, more)
     }
 
-    /// One more text, which stands among the bytes already.
+    /// Adds a text whose bytes are already stored.
     pub(crate) fn add_part(&mut self, part: Part) -> Result<u64, AllocError>
         requires heap { IsHeap self.old }
         requires part { IsText self.old.backings.bytes part }

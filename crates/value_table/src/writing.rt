@@ -1,4 +1,4 @@
-//! Values as JSON.
+//! Writes values as JSON.
 
 ghost use Rattle.std.specs.Prelude.{◌≡◌, ◌<◌, ◌++◌, List, length, drop, IfOk, OnOk, string_bytes};
 ghost use Rattle.std.specs.Str.{IsUtf8};
@@ -24,7 +24,8 @@ use std::alloc::{AllocError, Global};
 use std::str::from_utf8_unchecked;
 
 impl Heap {
-    /// What stands at a place as JSON. Its whole room is asked at once, before a byte is written.
+    /// The value at a place as JSON. The memory is allocated at once, before the first byte is
+    /// written.
     #[tactic(auto, using(crate::proofs::Comparisons::contents_of, crate::proofs::Growth::count_values, crate::proofs::Comparisons::meanings_of))]
     pub(crate) fn json(&self, alloc: Global, place: u64) -> Result<String, AllocError>
         requires heap { IsHeap self.now }
@@ -35,7 +36,7 @@ impl Heap {
     }
 }
 
-/// What stands at a place as JSON.
+/// The value at a place as JSON.
 pub(crate) fn json_at(
     alloc: Global,
     cells: &Sequence<Cell>,
@@ -56,7 +57,7 @@ pub(crate) fn json_at(
     Ok(text)
 }
 
-// Writes what stands at a place. It goes as deep as the value.
+// Writes the value at a place. The recursion is as deep as the value.
 #[tactic(auto, using(crate::proofs::Walks::part_before))]
 fn write(
     cells: &Sequence<Cell>,
@@ -82,7 +83,7 @@ fn write(
     Ok(())
 }
 
-// Writes the key at a place, if one stands there.
+// Writes the key at this place, if there is one.
 fn write_name(
     backings: &Backings,
     writer: &mut Writer,
@@ -141,6 +142,6 @@ fn read(bytes: &[u8]) -> &str
     requires { IsUtf8 bytes.now }
     ensures { result.now ≡ bytes.now }
 {
-    // Each text's part of the bytes is UTF-8.
+    // The bytes of each text are UTF-8.
     unsafe { from_utf8_unchecked(bytes) }
 }

@@ -1,4 +1,4 @@
-//! Whether two cells are the same but for the values of their parts.
+//! Whether two cells agree in everything but the values of their parts.
 
 ghost use Rattle.std.specs.Prelude.{◌≡◌, Decides};
 ghost use Rattle.value_table.specs.Meaning.{part_of};
@@ -10,7 +10,7 @@ use crate::content::Content;
 use crate::part::Part;
 use crate::text::{keys, text};
 
-/// Whether two cells are of one kind, with one simple value, the same number of items or the same
+/// Whether two cells are of one kind and have the same simple value, number of items, or keys.
 /// keys.
 pub(crate) fn alike(backings: &Backings, left: Content, right: Content) -> bool
     requires left { IsReadable backings.now left }

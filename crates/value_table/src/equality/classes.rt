@@ -1,11 +1,11 @@
-//! Classes of places that are known to hold the same value.
+//! Classes of places that are known to hold equal values (union-find).
 
 ghost use Rattle.std.specs.Prelude.{◌≡◌, ◌≤◌, List, nat_lt, slice_get, slice_set, if◌then◌else◌};
 ghost use Rattle.value_store.specs.Value.{Value};
 ghost use Rattle.value_table.specs.Equality.{Finds, LeadDown, way_down};
 ghost use Rattle.value_table.specs.Heaps.{AreSame};
 
-/// The next place on the way down to the representative, or the place itself.
+/// The parent of a place, or the place itself at a root.
 fn below(same: &[u64], place: u64) -> u64
     ensures not_above { result ≤ place }
     ensures value { (vs : List Value) → AreSame vs same.now → slice_get vs result ≡ slice_get vs place }
@@ -17,7 +17,7 @@ fn below(same: &[u64], place: u64) -> u64
     }
 }
 
-/// The representative of a place's class. Each place on the way is pointed further down.
+/// The representative of a place's class. Shortens the path to it.
 pub(crate) fn representative(same: &mut [u64], place: u64) -> u64
     ensures not_above { result ≤ place }
     ensures value { (vs : List Value) → AreSame vs same.old → AreSame vs same.new × (slice_get vs result ≡ slice_get vs place) }
@@ -34,7 +34,7 @@ pub(crate) fn representative(same: &mut [u64], place: u64) -> u64
     here
 }
 
-// Notes that a place has the value of another, which does not stand behind it.
+// Sets the parent of a place, to an earlier place with an equal value.
 fn point(same: &mut [u64], place: u64, target: u64)
     requires { target ≤ place }
     ensures value { (vs : List Value) → AreSame vs same.old → slice_get vs target ≡ slice_get vs place → AreSame vs same.new }
@@ -45,7 +45,7 @@ fn point(same: &mut [u64], place: u64, target: u64)
     }
 }
 
-/// Makes the classes of two representatives one.
+/// Joins the classes of two representatives.
 pub(crate) fn unite(same: &mut [u64], a: u64, b: u64)
     ensures value { (vs : List Value) → AreSame vs same.old → slice_get vs a ≡ slice_get vs b → AreSame vs same.new }
     ensures word { same.new ≡ (if nat_lt a b then slice_set same.old b a else slice_set same.old a b) }

@@ -13,7 +13,7 @@ use crate::equality::walk::equal;
 use crate::hints::Hints;
 use crate::sequence::Sequence;
 
-/// Whether one of the cells at `places` has the value of the cell `x`.
+/// Whether one of the cells at `places` has a value equal to that of the cell at `x`.
 #[tactic(auto, using(crate::proofs::Walks::below_here))]
 pub(crate) fn is_among(
     cells: &Sequence<Cell>,

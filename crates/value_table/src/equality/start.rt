@@ -16,10 +16,10 @@ use crate::sequence::Sequence;
 use crate::writing::json_at;
 use std::alloc::AllocError;
 
-/// How many bytes the JSON text may have by which a value is looked up.
+/// The longest JSON text, in bytes, that is used to look up a value.
 const INDEX_TEXT_LIMIT: u64 = 512;
 
-// What a value is looked up by: its JSON text. A long one is not written.
+// The text by which a value is looked up: its JSON text, or nothing if that is too long.
 #[tactic(auto, using(crate::proofs::Indexed::by_none, crate::proofs::Indexed::by_text))]
 fn text_of(cells: &Sequence<Cell>, backings: &Backings, place: u64) -> Result<String, AllocError>
     requires contents { AreContents backings.now cells.now }
@@ -34,7 +34,7 @@ fn text_of(cells: &Sequence<Cell>, backings: &Backings, place: u64) -> Result<St
     json_at(alloc, cells, backings, place)
 }
 
-// Enters the first `count` items of a backing in its index.
+// Adds the first `count` items of a backing to its index.
 fn enter(
     index: &mut Index,
     cells: &Sequence<Cell>,
@@ -57,8 +57,8 @@ fn enter(
     Ok(())
 }
 
-// A place among the first `count` items of a backing before which none is equal to the value at
-// `x`: the first one that has its JSON text, or the end.
+// A place among the first `count` items of a backing; no earlier item equals the value at `x`. It
+// is the first item with the same JSON text, or the end.
 fn start_in(
     index: &mut Index,
     cells: &Sequence<Cell>,
@@ -85,7 +85,7 @@ fn start_in(
     }
 }
 
-/// The same by the index that stands at a slot.
+/// `start_in` with the index in this slot.
 pub(crate) fn start_at(
     indexes: &mut Vec<Index>,
     slot: usize,

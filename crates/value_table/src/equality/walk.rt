@@ -15,9 +15,9 @@ use crate::equality::classes::{representative, unite};
 use crate::hints::Hints;
 use crate::sequence::Sequence;
 
-/// Whether the values of two cells are equal. Each two that are found equal are remembered, so that
-/// values with shared parts take about as many steps as they have cells; of those that differ the
-/// place is kept, where the next comparison begins. It goes as deep as the values.
+/// Whether the values of two cells are equal. Each equal pair is remembered, so that values with
+/// shared parts take about as many steps as they have cells. Where two values differ is remembered
+/// too, and the next comparison begins there. The recursion is as deep as the values.
 #[tactic(auto, using(crate::proofs::Classes::both_found, crate::proofs::Walks::same_heads, crate::proofs::Walks::same_long))]
 pub(crate) fn equal(
     cells: &Sequence<Cell>,

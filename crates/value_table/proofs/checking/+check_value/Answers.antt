@@ -1,3 +1,5 @@
+-- Proofs of `checking::check_value`: the result meets the contract; the loop invariant holds at first and is kept.
+
 use Rattle.std.proofs.Common.{◌≡◌, ◌-◌, ◌<◌, [], ◌∷◌, length, Some, None, option_map, sym, ap, ap₂, ◌∙◌, arith}
 use Rattle.json.specs.Json.{parse_map, after_end_array, read_key, items, members, value}
 use Rattle.json.specs.Reads.{token_of}

@@ -1,3 +1,5 @@
+-- Loop invariants and the termination measures of `checking::check_value`.
+
 use Rattle.value_table.proofs.Prelude.{◌+◌, length}
 use Rattle.std.proofs.Common.{◌*◌}
 use Rattle.value_table.proofs.CheckLoops.{ItemsChecked, MembersChecked}

@@ -1,3 +1,5 @@
+-- Proofs of `chunks::close`: the result meets the contract.
+
 use Rattle.value_table.proofs.Prelude.{◌≡◌, ◌∷◌, [], ◌++◌, ◌∙◌, ap, arith}
 use Rattle.value_table.proofs.Chunked.{closed, chunks_closed}
 use Rattle.value_table.proofs.chunks.close.Goals as goal

@@ -1,3 +1,5 @@
+-- Proofs of `chunks::item`: the result meets the contract.
+
 use Rattle.value_table.proofs.Prelude.{◌*◌, ◌/◌, ◌%◌, length, arith, get_or-append_right, slice_get-get_or, joined}
 use Rattle.value_table.proofs.Chunked.{length_joined, item_at}
 use Rattle.value_table.proofs.chunks.item.Goals as goal

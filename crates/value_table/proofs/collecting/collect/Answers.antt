@@ -1,3 +1,6 @@
+-- Proofs of `collecting::collect`: the result meets the contract; each turn of the loop keeps the invariant; its
+-- calls meet what they require.
+
 use Rattle.value_table.proofs.Prelude.{◌≡◌, ◌++◌, ◌∷◌, [], ◌∙◌, Some, option_map, sym, ap, subst, arith, rules, heap_values}
 use Rattle.std.specs.List.Sorted.{IsStrictlySortedBy}
 use Rattle.std.specs.Map.{keys_of}

@@ -1,3 +1,5 @@
+-- Loop invariant of `collecting::collect`.
+
 use Rattle.value_table.proofs.Prelude.{◌≡◌, heap_values, IsHeap}
 use Rattle.value_table.proofs.PlacedMembers.{Collects}
 use Rattle.value_table.proofs.collecting.collect.Given as goal

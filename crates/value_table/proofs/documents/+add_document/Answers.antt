@@ -1,3 +1,5 @@
+-- Proofs of `documents::add_document`: the result meets the contract; each turn of the loop keeps the invariant.
+
 use Rattle.value_table.proofs.Prelude.{◌≡◌, [], ◌∷◌, ◌++◌, length, map, string_bytes, ap, ap₂, ◌∙◌, subst, arith, rules, into_iter_items, map-append, nil_from_length, the_lemmas, view, items_view, members_view, plain_items, plain_entries, items_at, entries_of, values_at, heap_values}
 use Rattle.value_store.specs.Value as kind
 use Rattle.value_table.proofs.Growing.{ItemsStand, MembersStand, grown_more, enters, enters_on, items_step, items_end, members_step, members_end}

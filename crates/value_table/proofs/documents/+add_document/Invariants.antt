@@ -1,3 +1,5 @@
+-- Loop invariants of `documents::add_document`.
+
 use Rattle.value_table.proofs.Prelude.{◌≡◌, length, map, string_bytes, into_iter_items, into_iter_len, items_view, members_view, plain_items, plain_entries, heap_values, IsHeap, HasGrown}
 use Rattle.value_table.proofs.Growing.{ItemsStand, MembersStand}
 use Rattle.value_table.proofs.documents.+add_document.Given as goal

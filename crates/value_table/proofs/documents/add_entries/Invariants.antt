@@ -1,3 +1,5 @@
+-- Loop invariant of `documents::add_entries`.
+
 use Rattle.value_table.proofs.Prelude.{◌≡◌, map, string_bytes, take, heap_values, IsHeap}
 use Rattle.value_table.proofs.Growing.{KeysStand}
 use Rattle.value_table.proofs.documents.add_entries.Given as goal

@@ -1,3 +1,5 @@
+-- Proofs of `lengths::digits`: the result meets the contract; the loop invariant holds at first and is kept.
+
 use Rattle.value_table.proofs.Prelude.{arith, length-decimal-le}
 use Rattle.value_table.proofs.TextLengths.{decimal_long, rest_step}
 use Rattle.value_table.proofs.lengths.digits.Goals as goal

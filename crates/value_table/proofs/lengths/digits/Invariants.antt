@@ -1,3 +1,5 @@
+-- Loop invariants and the termination measures of `lengths::digits`.
+
 use Rattle.value_table.proofs.Prelude.{◌≡◌, ◌<◌, ◌+◌, ◌^◌, length, decimal}
 use Rattle.value_table.proofs.TextLengths.{rest_digits}
 use Rattle.value_table.proofs.lengths.digits.Given as goal

@@ -1,4 +1,4 @@
--- The table is compared with the definition at each of the 256 bytes, by computation.
+-- Proofs of `lengths::escaped_length`: the table agrees with the definition at each of the 256 bytes, by computation.
 use Rattle.value_table.proofs.Prelude.{◌≡◌, ℕ, ◌<◌, List, true, get_or, length, refl, arith}
 use Rattle.std.proofs.lemmas.Bool.{agree_below, agree_below_at, eqb-true}
 use Rattle.std.proofs.Math.Dec.{eqb}

@@ -1,3 +1,5 @@
+-- Loop invariant of `lengths::quoted_length`.
+
 use Rattle.value_table.proofs.Prelude.{◌≡◌, ◌≤◌, ◌+◌, length, take, escape, saturated}
 use Rattle.value_table.proofs.lengths.quoted_length.Given as goal
 

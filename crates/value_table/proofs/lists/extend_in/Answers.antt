@@ -1,3 +1,5 @@
+-- Proofs of `lists::extend_in`: the result meets the contract.
+
 use Rattle.std.proofs.lemmas.Result.{on_ok_weaker}
 use Rattle.value_table.proofs.Prelude.{sym}
 use Rattle.value_table.proofs.Pooled.{rows_extended}

@@ -1,3 +1,5 @@
+-- Proofs of `lists::put`: the result meets the contract.
+
 use Rattle.value_table.proofs.Prelude.{◌≡◌, ◌++◌, ◌∷◌, [], ◌∙◌, ap, ap₂, length, rules}
 use Rattle.value_table.specs.Pool.{rows_items}
 use Rattle.value_table.specs.declared.row.Row.TheVariants as row

@@ -1,3 +1,5 @@
+-- Proofs of `lookup::place`: the result meets the contract.
+
 use Rattle.value_table.proofs.Prelude.{sym, texts_of}
 use Rattle.value_table.proofs.Lookups.{found_place, missing_place}
 use Rattle.value_table.proofs.lookup.place.Goals as goal

@@ -1,3 +1,5 @@
+-- Proofs of `places::place`: the result meets the contract; its calls meet what they require.
+
 use Rattle.value_table.proofs.Prelude.{◌∙◌, sym, subst, Option, ℕ, IsSome}
 use Rattle.value_table.proofs.Named.{at_place, value_has_place}
 use Rattle.value_table.proofs.places.place.Goals as goal

@@ -1,3 +1,5 @@
+-- Loop invariants and the termination measures of `reading::read_value`.
+
 use Rattle.value_table.proofs.Prelude.{◌+◌, length, HasGrown, heap_values, IsHeap}
 use Rattle.std.proofs.Common.{◌*◌}
 use Rattle.value_table.proofs.ReadLoops.{ItemsRead, MembersRead}

@@ -1,3 +1,5 @@
+-- Proofs of `requests::find_uid`: the result meets the contract; its calls meet what they require.
+
 use Rattle.value_table.proofs.Prelude.{Some, sym, ap, ◌∙◌, heap_values}
 use Rattle.std.specs.Prelude.{codes}
 use Rattle.serde_json.specs.Find.{get_member}

@@ -1,3 +1,5 @@
+-- Proofs of `requests::request_of`: the result meets the contract; its calls meet what they require.
+
 use Rattle.value_table.proofs.Prelude.{subst, heap_values}
 use Rattle.std.specs.Prelude.{codes}
 use Rattle.value_store.specs.Reviews.{without}

@@ -1,3 +1,5 @@
+-- Proofs of `requests::take`: the result meets the contract.
+
 use Rattle.value_table.proofs.Prelude.{Some, sym, ◌∙◌}
 use Rattle.value_table.proofs.RequestReading.{take_some, take_none}
 use Rattle.value_table.proofs.requests.take.Goals as goal

@@ -1,3 +1,5 @@
+-- Proofs of `review::read_is`: the result meets the contract.
+
 use Rattle.std.proofs.Common.{◌≡◌, [], ◌∷◌, sym, ap, subst, ◌∙◌, arith, rules}
 use Rattle.json.specs.Token.{Token}
 use Rattle.json.specs.Json.{value}

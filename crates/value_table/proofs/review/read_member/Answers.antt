@@ -1,3 +1,5 @@
+-- Proofs of `review::read_member`: the result meets the contract.
+
 use Rattle.value_table.proofs.Prelude.{◌≡◌, arith, rules, bytes_eq-Decides}
 use Rattle.std.specs.Prelude.{codes}
 use Rattle.value_table.proofs.ReviewReading.{reads_request, reads_version, reads_kind, reads_other}

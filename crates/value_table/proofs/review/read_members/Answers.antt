@@ -1,3 +1,5 @@
+-- Proofs of `review::read_members`: the result meets the contract; the loop invariant holds at first and is kept.
+
 use Rattle.value_table.proofs.Prelude.{◌≡◌, Some, None, arith, heap_values}
 use Rattle.json.specs.Json.{read_key}
 use Rattle.value_table.proofs.Growing.{grown_more, grown_none}

@@ -1,3 +1,5 @@
+-- Loop invariants and the termination measures of `review::read_members`.
+
 use Rattle.value_table.proofs.Prelude.{length, HasGrown, heap_values, IsHeap}
 use Rattle.value_table.proofs.ReviewReading.{FoundSoFar}
 use Rattle.value_table.proofs.review.read_members.Given as goal

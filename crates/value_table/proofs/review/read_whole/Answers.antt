@@ -1,3 +1,5 @@
+-- Proofs of `review::read_whole`: the result meets the contract.
+
 use Rattle.std.proofs.Common.{◌≡◌, [], ◌∷◌, length, None, sym, ap, subst, ◌∙◌, lit<, arith}
 use Rattle.json.specs.Token.{Token}
 use Rattle.json.specs.Json.{members, parse_map, value}

@@ -1,3 +1,5 @@
+-- Proofs of `review_table::opened`: the result meets the contract; its calls meet what they require.
+
 use Rattle.value_table.proofs.Prelude.{◌∙◌, arith, heap_values}
 use Rattle.value_store.specs.Documents.{document_of}
 use Rattle.value_table.specs.declared.table.Table.{Table}

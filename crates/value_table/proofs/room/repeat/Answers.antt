@@ -1,3 +1,5 @@
+-- Proofs of `room::repeat`: each turn of the loop keeps the invariant.
+
 use Rattle.value_table.proofs.Prelude.{◌≡◌, ℕ, ◌+◌, ◌-◌, ◌<◌, ◌≤◌, List, ◌++◌, ◌∷◌, [], slice_range, arith, append_assoc, length-drop, length, get_or, get_or_append_left, take_more, get_or-drop}
 use Rattle.value_table.proofs.room.repeat.Goals as goal
 

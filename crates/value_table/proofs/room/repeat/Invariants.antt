@@ -1,3 +1,5 @@
+-- Loop invariant of `room::repeat`.
+
 use Rattle.value_table.proofs.Prelude.{◌≡◌, ◌+◌, ◌-◌, ◌++◌, vec_len, vec_capacity, slice_range}
 use Rattle.value_table.proofs.room.repeat.Given as goal
 

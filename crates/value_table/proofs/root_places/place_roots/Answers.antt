@@ -1,3 +1,5 @@
+-- Proofs of `root_places::place_roots`: the result meets the contract; the loop invariant holds at first and is kept.
+
 use Rattle.value_table.proofs.Prelude.{◌≡◌, ◌<◌, ◌+◌, [], Option, None, length, get_or, drop, drop_all, subst, refl, arith, heap_values}
 use Rattle.std.proofs.lemmas.List.{drop_more}
 use Rattle.value_store.specs.Roots.{root_of}

@@ -1,3 +1,5 @@
+-- Loop invariant of `root_places::place_roots`.
+
 use Rattle.value_table.proofs.Prelude.{◌≡◌, ◌+◌, List, drop, heap_values}
 use Rattle.serde_json.specs.Data as json
 use Rattle.value_table.specs.References.{AreReferences}

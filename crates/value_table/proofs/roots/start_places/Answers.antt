@@ -1,3 +1,5 @@
+-- Proofs of `roots::start_places`: the result meets the contract; each turn of the loop keeps the invariant.
+
 use Rattle.value_table.proofs.Prelude.{◌∷◌, ◌++◌, [], map, refl, sym, ap, ◌∙◌, subst, append_assoc, append-nil, array_into_iter_items, AllByRecursion, nil_from_length, view, value, first_values, plain_value, StartsWithValues, IsWelcome}
 use Rattle.value_table.proofs.Named.{grows_by, name_sound, name_values}
 use Rattle.value_table.proofs.Starting.{root_step}

@@ -1,3 +1,5 @@
+-- Loop invariant of `roots::start_places`.
+
 use Rattle.value_table.proofs.Prelude.{◌≡◌, ◌++◌, map, array_into_iter_items, AllByRecursion, view, value, first_values, plain_value, StartsWithValues, IsWelcome}
 use Rattle.value_table.proofs.roots.start_places.Given as goal
 

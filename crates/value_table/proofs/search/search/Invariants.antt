@@ -1,3 +1,5 @@
+-- Loop invariants and the termination measures of `search::search`.
+
 use Rattle.value_table.proofs.Prelude.{◌≡◌, ℕ, ◌≤◌, ◌<◌, ◌-◌, List, length, slice_index_or, Less, Greater, nat_cmp, slice_cmp, texts_of}
 use Rattle.value_table.proofs.search.search.Given as goal
 

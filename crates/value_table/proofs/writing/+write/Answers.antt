@@ -1,3 +1,5 @@
+-- Proofs of `writing::write`: the result meets the contract; each turn of the loop keeps the invariant.
+
 use Rattle.value_table.proofs.Prelude.{◌≡◌, ◌++◌, add-one, sym, ap, ap₂, ◌∙◌, arith, drop_all, get_or_from_slice_get, head, parts, texts_of, values_at, value_tokens, opening, closing, row_tokens, head_keys}
 use Rattle.value_store.specs.Value as kind
 use Rattle.value_table.proofs.Rows.{row_step, meaning_tokens, step_tokens, end_tokens}

@@ -1,3 +1,5 @@
+-- Loop invariants and the termination measures of `writing::write`.
+
 use Rattle.value_table.proofs.Prelude.{◌≡◌, ◌++◌, List, drop, Value, head, texts_of, values_at, AreMeanings, opening, row_tokens}
 use Rattle.value_table.proofs.writing.+write.Given as goal
 

@@ -1,3 +1,5 @@
+-- Proofs of `writing::json_at`: the result meets the contract.
+
 use Rattle.value_table.proofs.Prelude.{ℕ, Vec, Global, ap, ◌∙◌, value_in}
 use Rattle.value_table.proofs.Printing.{written}
 use Rattle.value_table.proofs.writing.json_at.Goals as goal

@@ -1,3 +1,5 @@
+-- Proofs of `writing::write_name`: its calls meet what they require.
+
 use Rattle.value_table.proofs.Prelude.{arith}
 use Rattle.value_table.proofs.Walks.{text_here}
 use Rattle.value_table.proofs.writing.write_name.Goals as goal

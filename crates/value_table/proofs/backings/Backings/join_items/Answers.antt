@@ -1,3 +1,5 @@
+-- Proofs of `backings::Backings::join_items`: the result meets the contract.
+
 use Rattle.value_table.proofs.Backed.{items_pushed}
 use Rattle.value_table.proofs.backings.Backings.join_items.Goals as goal
 

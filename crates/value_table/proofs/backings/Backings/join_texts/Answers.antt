@@ -1,3 +1,5 @@
+-- Proofs of `backings::Backings::join_texts`: the result meets the contract.
+
 use Rattle.value_table.proofs.Prelude.{◌∙◌, ◌++◌, ap, append_assoc, slice_range, length, quoted, saturated, part_of}
 use Rattle.value_table.proofs.Backed.{bytes_more, texts_joined}
 use Rattle.value_table.proofs.backings.Backings.join_texts.Goals as goal

@@ -1,3 +1,5 @@
+-- Proofs of `backings::Backings::push_item`: the result meets the contract.
+
 use Rattle.value_table.proofs.Prelude.{[], ◌∷◌}
 use Rattle.value_table.proofs.Backed.{items_pushed}
 use Rattle.value_table.proofs.backings.Backings.push_item.Goals as goal

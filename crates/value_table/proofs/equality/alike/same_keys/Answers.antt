@@ -1,3 +1,5 @@
+-- Proofs of `equality::alike::same_keys`: its calls meet what they require.
+
 use Rattle.value_table.proofs.Prelude.{arith}
 use Rattle.value_table.proofs.Walks.{text_here}
 use Rattle.value_table.proofs.equality.alike.same_keys.Goals as goal

@@ -1,3 +1,5 @@
+-- Loop invariant of `equality::alike::same_keys`.
+
 use Rattle.value_table.proofs.Prelude.{◌≡◌, take, texts_of}
 use Rattle.value_table.proofs.equality.alike.same_keys.Given as goal
 

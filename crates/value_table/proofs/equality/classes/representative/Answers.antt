@@ -1,3 +1,6 @@
+-- Proofs of `equality::classes::representative`: the result meets the contract; each turn of the loop keeps the
+-- invariant.
+
 use Rattle.value_table.proofs.Prelude.{◌<◌, List, ℕ, slice_get, sym, ◌∙◌, subst, arith, Shortens}
 use Rattle.value_table.proofs.Classes.{ends_at, shortens_more}
 use Rattle.value_table.proofs.equality.classes.representative.Goals as goal

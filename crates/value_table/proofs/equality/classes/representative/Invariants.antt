@@ -1,3 +1,5 @@
+-- Loop invariants and the termination measures of `equality::classes::representative`.
+
 use Rattle.value_table.proofs.Prelude.{◌≡◌, ◌≤◌, List, slice_get, Value, LeadDown, Shortens, way_down, AreSame}
 use Rattle.value_table.proofs.equality.classes.representative.Given as goal
 

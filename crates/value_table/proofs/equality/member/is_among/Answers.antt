@@ -1,3 +1,5 @@
+-- Proofs of `equality::member::is_among`: the result meets the contract; each turn of the loop keeps the invariant.
+
 use Rattle.value_table.proofs.Prelude.{length, sym, ◌∙◌, arith, value_in}
 use Rattle.value_table.proofs.Walks.{below_here}
 use Rattle.value_table.proofs.Comparisons.{answer_is, item_step}

@@ -1,3 +1,5 @@
+-- Loop invariant of `equality::member::is_among`.
+
 use Rattle.value_table.proofs.Prelude.{◌≡◌, List, drop, Value, has_item, value_in, items_at, AreSame, AreMeanings}
 use Rattle.value_table.proofs.equality.member.is_among.Given as goal
 

@@ -1,3 +1,5 @@
+-- Loop invariants and the termination measures of `equality::start::enter`.
+
 use Rattle.value_table.proofs.Prelude.{◌≡◌, ◌-◌, List, Value, AreKnown, IsIndexed}
 use Rattle.value_table.proofs.equality.start.enter.Given as goal
 

@@ -1,3 +1,5 @@
+-- Proofs of `equality::start::start_at`: the result meets the contract.
+
 use Rattle.value_table.proofs.Prelude.{rules, subst, sym, IsIndexed}
 use Rattle.value_table.proofs.Indexed.{indexes_set, at_slot, slot_inside}
 use Rattle.value_table.proofs.equality.start.start_at.Goals as goal

@@ -1,3 +1,6 @@
+-- Proofs of `equality::walk::equal`: the result meets the contract; the loop invariant holds at first and is kept;
+-- its calls meet what they require.
+
 use Rattle.value_table.proofs.Prelude.{◌≡◌, ◌<◌, ℕ, List, length, get_or, true≢false, refl, subst, sym, ap, ◌∙◌, arith, take_all, value_in, values_at}
 use Rattle.value_table.proofs.Maps.{map_more, map_part}
 use Rattle.value_table.proofs.Classes.{Unites, both_found, root_stays, unites}
@@ -5,11 +8,11 @@ use Rattle.value_table.proofs.Walks.{same_value, same_place, same_parts, same_ce
 use Rattle.value_table.proofs.equality.walk.+equal.Goals as goal
 use Rattle.value_table.proofs.equality.walk.+equal.Goals.{After-parts_of-ys, else-start-xs-via-then-start-xs+else-not-equal, else-start-xs-via-else-start-xs}
 
--- two cells with one head have as many parts
+-- two cells with the same head have the same number of parts
 parts_long : {t : ℕ} (c : After-parts_of-ys t) → length c.parts_of-xs.result.now ≡ length c.parts_of-ys.result.now
 parts_long c = grind (arith, same_long)
 
--- and these stand before them
+-- and the parts are before them
 parts_low : {t : ℕ} (c : After-parts_of-ys t) (k : ℕ) → k < length c.parts_of-xs.result.now
     → (get_or c.parts_of-xs.result.now k 0 < c.representative-x.result) × (get_or c.parts_of-ys.result.now k 0 < c.representative-y.result)
 parts_low c k h = (

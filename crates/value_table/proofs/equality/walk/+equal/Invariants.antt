@@ -1,3 +1,5 @@
+-- Loop invariants and the termination measures of `equality::walk::equal`.
+
 use Rattle.value_table.proofs.Prelude.{List, take, Value, AreSame, AreMeanings}
 use Rattle.value_table.proofs.Classes.{Matches}
 use Rattle.value_table.proofs.equality.walk.+equal.Given as goal

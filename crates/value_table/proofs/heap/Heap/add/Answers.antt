@@ -1,3 +1,5 @@
+-- Proofs of `heap::Heap::add`: the result meets the contract.
+
 use Rattle.value_table.proofs.Prelude.{refl}
 use Rattle.value_table.proofs.Adding.{extends_same, gained}
 use Rattle.value_table.proofs.heap.Heap.add.Goals as goal

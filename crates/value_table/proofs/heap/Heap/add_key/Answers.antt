@@ -1,3 +1,5 @@
+-- Proofs of `heap::Heap::add_key`: the result meets the contract.
+
 use Rattle.value_table.proofs.Prelude.{refl}
 use Rattle.value_table.proofs.Adding.{heap_grown, values_grown}
 use Rattle.value_table.proofs.heap.Heap.add_key.Goals as goal

@@ -1,3 +1,5 @@
+-- Proofs of `heap::Heap::add_list`: the result meets the contract.
+
 use Rattle.value_table.proofs.Prelude.{refl}
 use Rattle.value_table.proofs.Adding.{gained}
 use Rattle.value_table.proofs.Gathered.{list_gathered}

@@ -1,3 +1,5 @@
+-- Proofs of `heap::Heap::add_text`: the result meets the contract.
+
 use Rattle.value_table.proofs.Prelude.{refl, sym, Some, ◌∙◌, ap, text, meaning, heap_values}
 use Rattle.value_table.proofs.Adding.{gained}
 use Rattle.value_table.proofs.heap.Heap.add_text.Goals as goal

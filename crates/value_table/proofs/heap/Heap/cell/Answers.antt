@@ -1,3 +1,5 @@
+-- Proofs of `heap::Heap::cell`: the result meets the contract.
+
 use Rattle.value_table.proofs.Growth.{found}
 use Rattle.value_table.proofs.heap.Heap.cell.Goals as goal
 

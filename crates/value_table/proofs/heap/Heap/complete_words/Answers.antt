@@ -1,3 +1,5 @@
+-- Proofs of `heap::Heap::complete_words`: each turn of the loop keeps the invariant.
+
 use Rattle.value_table.proofs.Prelude.{length-append, arith}
 use Rattle.value_table.proofs.Growth.{count_values}
 use Rattle.value_table.proofs.Classes.{words_before}

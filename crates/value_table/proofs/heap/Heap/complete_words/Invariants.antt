@@ -1,3 +1,5 @@
+-- Loop invariant of `heap::Heap::complete_words`.
+
 use Rattle.value_table.proofs.Prelude.{◌≡◌, length, ClassesStay, IsHeap}
 use Rattle.value_table.proofs.heap.Heap.complete_words.Given as goal
 

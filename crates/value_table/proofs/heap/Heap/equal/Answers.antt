@@ -1,3 +1,5 @@
+-- Proofs of `heap::Heap::equal`: the result meets the contract.
+
 use Rattle.value_table.proofs.Prelude.{◌≡◌, length, refl, ap, arith, heap_values, Compares}
 use Rattle.value_table.proofs.Growth.{count_values}
 use Rattle.value_table.proofs.Comparisons.{answer_is, meanings_of}

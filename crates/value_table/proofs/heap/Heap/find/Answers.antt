@@ -1,3 +1,5 @@
+-- Proofs of `heap::Heap::find`: the result meets the contract; its calls meet what they require.
+
 use Rattle.value_table.proofs.Prelude.{◌≡◌, ap, sym, ◌∙◌, Some, keys_at, texts_of, place_among}
 use Rattle.value_table.proofs.Lookups.{map_here, find_here}
 use Rattle.value_table.proofs.heap.Heap.find.Goals as goal

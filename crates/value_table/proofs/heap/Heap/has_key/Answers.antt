@@ -1,3 +1,5 @@
+-- Proofs of `heap::Heap::has_key`: the result meets the contract.
+
 use Rattle.value_table.proofs.Prelude.{Some, sym, ap, ◌∙◌, part_of, value_in, meaning, heap_values}
 use Rattle.value_store.specs.Value as kind
 use Rattle.value_table.proofs.Comparisons.{key_member}

@@ -1,3 +1,5 @@
+-- Proofs of `heap::Heap::join_lists`: the result meets the contract; its calls meet what they require.
+
 use Rattle.value_table.proofs.Prelude.{refl}
 use Rattle.value_table.proofs.Adding.{gained}
 use Rattle.value_table.proofs.Listed.{list_brackets, lists_joined, made_by}

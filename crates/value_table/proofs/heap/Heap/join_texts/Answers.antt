@@ -1,3 +1,5 @@
+-- Proofs of `heap::Heap::join_texts`: the result meets the contract.
+
 use Rattle.value_table.proofs.Prelude.{refl, sym, Some, ◌∙◌, ap, text, meaning, heap_values}
 use Rattle.value_table.proofs.Adding.{gained}
 use Rattle.value_table.proofs.heap.Heap.join_texts.Goals as goal

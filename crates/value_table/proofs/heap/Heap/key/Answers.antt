@@ -1,3 +1,5 @@
+-- Proofs of `heap::Heap::key`: the result meets the contract.
+
 use Rattle.value_table.proofs.Prelude.{heap_values}
 use Rattle.value_table.proofs.Looked.{key_inside, key_text}
 use Rattle.value_table.proofs.heap.Heap.key.Goals as goal

@@ -1,3 +1,5 @@
+-- Proofs of `heap::Heap::list_measure`: each turn of the loop keeps the invariant.
+
 use Rattle.value_table.proofs.Prelude.{◌≡◌, ◌+◌, ◌<◌, length, get_or, max, take, sym, ap, subst, ◌∙◌, arith, saturated, commas, take_more, length-take-le, list, items_at, heap_values, IsMeasure}
 use Rattle.value_table.proofs.Gathered.{list_measured}
 use Rattle.value_table.proofs.heap.Heap.list_measure.Goals as goal

@@ -1,3 +1,5 @@
+-- Loop invariant of `heap::Heap::list_measure`.
+
 use Rattle.value_table.proofs.Prelude.{◌≡◌, length, take, list, items_at, heap_values, IsMeasure}
 use Rattle.value_table.proofs.heap.Heap.list_measure.Given as goal
 

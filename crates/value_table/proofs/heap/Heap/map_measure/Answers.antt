@@ -1,10 +1,12 @@
+-- Proofs of `heap::Heap::map_measure`: each turn of the loop keeps the invariant.
+
 use Rattle.value_table.proofs.Prelude.{◌≡◌, ◌+◌, ◌<◌, [], ◌∷◌, ◌++◌, length, get_or, max, take, sym, ap, ◌∙◌, subst, arith, commas, take_more, length-take-le, quoted, saturated, part_of, entries_at, heap_values, IsMeasure, Part, Measure}
 use Rattle.value_store.specs.Value.{map}
 use Rattle.value_table.proofs.Walks.{text_here}
 use Rattle.value_table.proofs.Gathered.{map_measured}
 use Rattle.value_table.proofs.heap.Heap.map_measure.Goals as goal
 
--- what an index past the end would give
+-- the default for an index past the end
 abbrev none : Part
 none = record { from = 0; to = 0; json = 0 }
 

@@ -1,3 +1,5 @@
+-- Loop invariant of `heap::Heap::map_measure`.
+
 use Rattle.value_table.proofs.Prelude.{length, take, entries_at, heap_values, IsMeasure}
 use Rattle.value_store.specs.Value.{map}
 use Rattle.value_table.proofs.heap.Heap.map_measure.Given as goal

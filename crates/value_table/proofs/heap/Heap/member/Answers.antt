@@ -1,3 +1,5 @@
+-- Proofs of `heap::Heap::member`: its calls meet what they require.
+
 use Rattle.value_table.proofs.Prelude.{subst, arith, IsContent}
 use Rattle.value_table.proofs.Looked.{widen}
 use Rattle.value_table.proofs.heap.Heap.member.Goals as goal

@@ -1,3 +1,5 @@
+-- Proofs of `heap::Heap::new_map`: the result meets the contract.
+
 use Rattle.value_table.proofs.Prelude.{refl}
 use Rattle.value_table.proofs.Adding.{gained}
 use Rattle.value_table.proofs.Mapped.{map_new}

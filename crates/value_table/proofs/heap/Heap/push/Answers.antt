@@ -1,3 +1,5 @@
+-- Proofs of `heap::Heap::push`: the result meets the contract.
+
 use Rattle.value_table.proofs.Prelude.{◌≡◌, ◌+◌, arith, max, refl, heap_values}
 use Rattle.value_table.proofs.Adding.{content_is, content_last, gained, shared_put}
 use Rattle.value_table.proofs.Listed.{ListCell, list_pushed, made_by}

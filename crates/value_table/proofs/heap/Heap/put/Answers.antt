@@ -1,3 +1,5 @@
+-- Proofs of `heap::Heap::put`: the result meets the contract; its calls meet what they require.
+
 use Rattle.value_table.proofs.Prelude.{rules, refl, ◌≡◌, ◌+◌, ◌∙◌, sym, ap, ap₂, subst, arith, max, IsSome, keys_of, Ascend, part_of, value_in, keys_at, meaning, IsContent, heap_values, texts_of, IsKeyAt, IsInsertionPlace, put_values}
 use Rattle.value_store.specs.Value as kind
 use Rattle.value_table.proofs.Adding.{heap_before, gained}
@@ -8,7 +10,7 @@ use Rattle.value_table.proofs.Mapped.{IsPut, map_put, taken}
 use Rattle.value_table.proofs.heap.Heap.put.Goals as goal
 use Rattle.value_table.proofs.heap.Heap.put.Goals.{After-keys, After-text}
 
--- ---- what the search goes by
+-- ---- facts for the search
 
 keys_searched : (c : After-keys) → texts_of c.items-bytes.result.now c.keys.result.now ≡ texts_of c.args.self.now.backings.bytes (keys_at c.args.self.now.backings.keys c.in-Map.row c.in-Map.count)
 keys_searched c = ap₂ texts_of c.items-bytes.ensures.value (c.keys.ensures ∙ ap (λ xs. keys_at xs c.in-Map.row c.in-Map.count) c.items.ensures.value)

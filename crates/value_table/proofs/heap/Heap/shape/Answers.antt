@@ -1,3 +1,5 @@
+-- Proofs of `heap::Heap::shape`: the result meets the contract; its calls meet what they require.
+
 use Rattle.value_table.proofs.Prelude.{heap_values}
 use Rattle.value_table.proofs.Looked.{range_here, map_here, seen_list, seen_map}
 use Rattle.value_table.proofs.heap.Heap.shape.Goals as goal

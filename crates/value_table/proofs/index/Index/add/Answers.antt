@@ -1,3 +1,5 @@
+-- Proofs of `index::Index::add`: the result meets the contract.
+
 use Rattle.value_table.proofs.Prelude.{string_bytes, is_some, sym, ap, ◌∙◌, refl, get_by_text, btree_map_updates_text}
 use Rattle.value_table.proofs.Indexed.{index_kept, index_more}
 use Rattle.value_table.proofs.index.Index.add.Goals as goal

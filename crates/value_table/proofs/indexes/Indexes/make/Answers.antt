@@ -1,3 +1,5 @@
+-- Proofs of `indexes::Indexes::make`: the result meets the contract.
+
 use Rattle.value_table.proofs.Prelude.{[], ◌∷◌, ◌++◌, ap, ◌∙◌}
 use Rattle.value_table.proofs.Indexed.{indexes_push, new_indexed}
 use Rattle.value_table.proofs.indexes.Indexes.make.Goals as goal

@@ -1,3 +1,5 @@
+-- Proofs of `lists::Lists::push`: the result meets the contract.
+
 use Rattle.std.proofs.lemmas.Result.{on_ok_weaker}
 use Rattle.value_table.proofs.Prelude.{◌∙◌, ap, ◌++◌, ◌∷◌, []}
 use Rattle.value_table.specs.Pool.{rows_items}

@@ -1,3 +1,5 @@
+-- Proofs of `table::Table::of_documents`: the result meets the contract.
+
 use Rattle.value_table.proofs.Prelude.{map, refl, view}
 use Rattle.value_table.proofs.Starting.{due_with}
 use Rattle.value_table.proofs.table.Table.of_documents.Goals as goal

@@ -1,3 +1,5 @@
+-- Proofs of `table::Table::of_roots`: the result meets the contract.
+
 use Rattle.value_table.proofs.Prelude.{map, view}
 use Rattle.value_table.proofs.Starting.{due_with}
 use Rattle.value_table.proofs.table.Table.of_roots.Goals as goal

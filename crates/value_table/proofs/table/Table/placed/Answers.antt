@@ -1,3 +1,6 @@
+-- Proofs of `table::Table::placed`: the result meets the contract; its calls meet what they require; it terminates;
+-- its values keep their invariants.
+
 use Rattle.value_table.proofs.Prelude.{arith, heap_values}
 use Rattle.value_table.proofs.ReviewTables.{all_sound_stay, all_stay, charge_refused}
 use Rattle.value_table.proofs.table.Table.placed.Goals as goal

@@ -1,3 +1,5 @@
+-- Proofs of `table::Table::without_review`: the result meets the contract; its calls meet what they require.
+
 use Rattle.value_table.proofs.Prelude.{Some, refl, heap_values}
 use Rattle.value_store.specs.Reviews.{null_parts}
 use Rattle.value_table.proofs.ReviewTables.{no_others, none_given, others_are_placed, others_are_sound, placed_returns, some_given, some_sound}

@@ -1,3 +1,6 @@
+-- Proofs of `table::TableValueStore::alias`: the result meets the contract; it terminates; its values keep their
+-- invariants.
+
 use Rattle.value_table.proofs.Prelude.{◌∙◌, sym, ap, is_appended}
 use Rattle.value_table.proofs.Named.{name_sound, named_part, part_is, unplaced}
 use Rattle.value_table.proofs.table.TableValueStore.alias.Goals as goal

@@ -1,3 +1,6 @@
+-- Proofs of `table::TableValueStore::alias_key`: the result meets the contract; it terminates; its values keep their
+-- invariants.
+
 use Rattle.value_table.proofs.Prelude.{◌+◌, refl, ap, sym, subst, Ok, Option, IfSome, Value, text, Places, reference_values}
 use Rattle.value_table.proofs.Named.{added_placed, added_some, key_due}
 use Rattle.value_table.proofs.table.TableValueStore.alias_key.Goals as goal

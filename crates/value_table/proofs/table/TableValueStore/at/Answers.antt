@@ -1,3 +1,5 @@
+-- Proofs of `table::TableValueStore::at`: the result meets the contract; its calls meet what they require.
+
 use Rattle.value_table.proofs.Prelude.{◌∙◌, sym, ap, refl, Some, option_map, outcome_view}
 use Rattle.value_table.proofs.Named.{at_place, none_at}
 use Rattle.value_table.proofs.table.TableValueStore.at.Goals as goal

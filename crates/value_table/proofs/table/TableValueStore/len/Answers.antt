@@ -1,3 +1,5 @@
+-- Proofs of `table::TableValueStore::len`: the result meets the contract.
+
 use Rattle.value_table.proofs.Prelude.{◌∙◌, sym, heap_values}
 use Rattle.value_table.proofs.Named.{count_named, references_ordered}
 use Rattle.value_table.proofs.table.TableValueStore.len.Goals as goal

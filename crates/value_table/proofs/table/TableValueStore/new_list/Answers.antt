@@ -1,3 +1,6 @@
+-- Proofs of `table::TableValueStore::new_list`: the result meets the contract; it terminates; its values keep their
+-- invariants.
+
 use Rattle.value_table.proofs.Prelude.{refl, ap, list, no_items}
 use Rattle.value_table.proofs.Named.{added_placed, added_some}
 use Rattle.value_table.proofs.table.TableValueStore.new_list.Goals as goal

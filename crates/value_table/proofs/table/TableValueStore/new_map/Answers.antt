@@ -1,3 +1,6 @@
+-- Proofs of `table::TableValueStore::new_map`: the result meets the contract; it terminates; its values keep their
+-- invariants.
+
 use Rattle.value_table.proofs.Prelude.{refl, ap, no_entries}
 use Rattle.value_store.specs.Value.{map}
 use Rattle.value_table.proofs.Named.{added_placed, added_some}

@@ -1,3 +1,6 @@
+-- Proofs of `table::TableValueStore::place_int`: the result meets the contract; it terminates; its values keep their
+-- invariants.
+
 use Rattle.value_table.proofs.Prelude.{◌+◌, refl, ap, w64, subst, Ok, to_z-of_z, int, Places, reference_values}
 use Rattle.value_table.proofs.Named.{added_placed, added_some}
 use Rattle.value_table.proofs.table.TableValueStore.place_int.Goals as goal

@@ -1,3 +1,6 @@
+-- Proofs of `table::TableValueStore::place_text`: the result meets the contract; it terminates; its values keep their
+-- invariants.
+
 use Rattle.value_table.proofs.Prelude.{refl, ap, text}
 use Rattle.value_table.proofs.Named.{added_placed, added_some}
 use Rattle.value_table.proofs.table.TableValueStore.place_text.Goals as goal

@@ -1,3 +1,5 @@
+-- Proofs of `table::TableValueStore::put`: it terminates; its values keep their invariants.
+
 use Rattle.value_table.proofs.Prelude.{ap}
 use Rattle.value_table.proofs.Named.{added_sound, put_due}
 use Rattle.value_table.proofs.table.TableValueStore.put.Goals as goal

@@ -1,3 +1,5 @@
+-- Proofs of `table::TableValueStore::text`: the result meets the contract; its calls meet what they require.
+
 use Rattle.value_table.proofs.Prelude.{◌∙◌, sym, ap, text_at}
 use Rattle.value_table.proofs.Named.{at_place, no_text}
 use Rattle.value_table.proofs.table.TableValueStore.text.Goals as goal
