@@ -1,4 +1,5 @@
--- What the type checker takes has code: its calls are known ones, and its variables are those of the scope.
+-- Each expression that the type checker accepts has code: its calls are of known functions, and its variables are in
+-- the scope.
 use Rattle.codegen.proofs.Prelude.{Size, ◌≡◌, ℕ, Bool, true, false, ◌||◌, List, [], ◌∷◌, Option, Some, sym, ap, ◌∙◌, subst, arith, if◌then◌else◌, refl, map-map, bytes_eq, IsSome, map as each, list_any, Core, Cores, CoreEntries, no_cores, more_cores, no_core_entries, more_core_entries, plain_tree, name, variable, select, has, index, call, method, unary, binary, ternary, list, fold, fold_map, plain_trees, plain_entries, expanded, expanded_trees, expanded_entries, expanded_operand, selection, call_or_has, method_or_fold, one_core, literal, lookup, is_variables, macro_name, macro_named, is_map, field_name, CelType, core_typing, core_typings, core_entry_typings, Declaration, depths_of, scope_of, Scope, name_type, type_or_fault, variable_type, within, field_row, has_row, index_row, unary_row, binary_row, ternary_row, test_row, macro_row, map_row, Typing, typed, refused, with_type, with_types, Variable, IsAccepted, AreAccepted, AreEntriesAccepted, names, nestings, TypedIsAccepted, Macro, Callee, callee_name, Function, function_again, function_in, not_has, test_again, test_in, is_has}
 use Rattle.cel_macros.specs.CoreTree.{map}
 
@@ -6,7 +7,7 @@ abbrev pub IsTyped : Typing → Type 0
 IsTyped (typed t) = Unit {0}
 IsTyped (refused y) = ⊥
 
--- where a node has a type its parts have
+-- if a node has a type, its parts have types
 first_typed : (x : Typing) (f : CelType → Typing) → IsTyped (with_type x f) → IsTyped x
 first_typed x f h = grind arith
 
@@ -19,7 +20,7 @@ third_typed x y z f h = grind arith
 rest_typed : (x : Typing) (xs : List Typing) (last : Typing) → IsTyped (with_types (x ∷ xs) last) → IsTyped (with_types xs last)
 rest_typed x xs last h = grind arith
 
--- parts that no row takes have no type
+-- operands without an overload have no type
 none_typed : (xs : List Typing) (y : _) → IsTyped (with_types xs (refused y)) → ⊥
 none_typed [] y h = h
 none_typed (x ∷ xs) y h = none_typed xs y (rest_typed x xs (refused y) h)
@@ -28,7 +29,7 @@ known_by : (here : Bool) (t : CelType) (rest : Option CelType) (more : Bool) →
     → IsTyped (type_or_fault (if here then Some t else rest)) → (here || more) ≡ true
 known_by here t rest more later h = grind arith
 
--- a variable with a type has one of the names
+-- a variable with a type has one of the declared names
 known_variable : (v : List ℕ) (variables : List (List ℕ × CelType)) → IsTyped (variable_type v variables)
     → list_any (λ m. bytes_eq m v) (each (λ x. x.0) variables) ≡ true
 unfolding variable_type
@@ -98,15 +99,15 @@ pub typed_accepted : TypedIsAccepted
 typed_accepted e ds t h =
     accepted e (scope_of ds) (each (λ d. d.name) ds) (map-map (λ (x : List ℕ × CelType). x.0) (λ (d : Declaration). (d.name, d.cel_type)) ds) (subst IsTyped (sym h) tt)
 
--- the variables of a scope with the declared depths have the declared names
+-- if the depths of a scope's variables are the declared ones, so are their names
 pub names_declared : (scope : List Variable) (ds : List Declaration) → nestings scope ≡ depths_of ds → names scope ≡ each (λ d. d.name) ds
 names_declared scope ds e =
     let first : List ℕ × ℕ → List ℕ = λ x. x.0 in
     sym (map-map first (λ (v : Variable). (v.name, v.nesting)) scope) ∙ ap (each first) e ∙ map-map first (λ (d : Declaration). (d.name, d.depth)) ds
 
--- ---- what the type checker takes is what its plain tree expands to
+-- ---- an accepted expression is the expansion of its plain tree
 
--- the name of each macro is its own
+-- the name of a macro names that macro
 macro_again : (m : Macro) → macro_named (macro_name m) ≡ Some m
 unfolding macro_named
 macro_again m = grind arith

@@ -1,10 +1,10 @@
--- Emitters with something behind what they had.
+-- Emitters with something added at the end.
 use Rattle.codegen.proofs.Prelude.{◌≡◌, ℕ, ◌||◌, List, [], ◌∷◌, ◌++◌, map, take, string_bytes, string_eq, bytes_eq, refl, sym, ap, if◌then◌else◌, length, arith, map-append, take-map, length-map, take_all, take_at, Global, list_any, with_text, IsUtf8-string_bytes}
 use Rattle.std.specs.Prelude.{String}
 
--- ---- texts among others
+-- ---- a text among texts
 
--- a text is among texts where its bytes are among theirs
+-- a text is among texts if its bytes are among theirs
 among : (t : String Global) (texts : List (String Global)) → list_any (string_eq t) texts ≡ list_any (bytes_eq (string_bytes t)) (map string_bytes texts)
 among t [] = refl
 among t (s ∷ more) = ap (λ b. bytes_eq (string_bytes t) (string_bytes s) || b) (among t more)
@@ -20,7 +20,7 @@ texts_cut n texts = sym (take-map string_bytes n texts)
 
 -- ---- lists that begin with others
 
--- where b begins with a, and c with b, c begins with a
+-- if b begins with a, and c begins with b, then c begins with a
 pub front_later : {X : Type 0} (a b c : List X) → take (length a) b ≡ a → take (length b) c ≡ b → take (length a) c ≡ a
 front_later [] b c h g = refl
 front_later (x ∷ a) (y ∷ b) (z ∷ c) h g = grind (arith, front_later a b c (cc) (cc))

@@ -1,10 +1,10 @@
--- The code of an expression that an image has room for can be spelled: the numbers of its instructions are in range.
+-- The code of an expression that fits an image can be encoded: the numbers in its instructions are in range.
 use Rattle.codegen.proofs.Prelude.{◌≡◌, ℕ, ◌+◌, ◌*◌, ◌^◌, ◌<◌, ◌≤◌, List, [], ◌∷◌, ◌++◌, length, Option, Some, arith, unwrap_or, option_map, AllByRecursion, Insn, Register, R1, IsWellFormedLiteral, BinaryOperator, UnaryOperator, Core, Cores, CoreEntries, no_cores, more_cores, no_core_entries, more_core_entries, plain_entries, plain_tree, plain_trees, lookup, Function, TextTest, nodes, nodes_of, entries_nodes, need, needs, entries_need, saturated, Declaration, AreInsns, size, kept_size, operand_code, operands_code, FrameUse, RootField, with_name, SimpleOperand, MayBeNear, absorbing_insns, difference_insns, divided_insns, entry_insns, equal_insns, field_insns, has_insns, index_insns, insns_append, item_insns, less_insns, list_insns, macro_insns, map_insns, map_where_insns, member_insns, name_insns, name_near, negation_insns, not_insns, not_less_insns, operand_insns, operands_insns, product_insns, size_insns, string_insns, sum_insns, ternary_insns, test_insns, unequal_insns, binary_code, binary_tail, code_of, entries_code, function_code, items_code, leaf_of, left_size, method_function_code, no_code, routine_named, test_code, unary_code, variable_code, field_leaf, kept_or, address_of, literal_code, literal_leaf, place_of, EntriesHaveLiterals, HasLiterals, HaveLiterals, routines_of, frame_words, word_limit, branch_limit, slot_reach, memo_limit, call_reach, part_slots_per_node, node_limit, function_in}
 use Rattle.cel_reader.specs.Tree as tree
 use Rattle.cel_macros.specs.CoreTree as core
 use Rattle.codegen.proofs.Lengths.{short_code}
 
--- iteration names stand in words of the frame
+-- the words of iteration names are in the frame
 abbrev pub AreWithin : FrameUse → Type 0
 AreWithin words = (n : List ℕ) (k : ℕ) → lookup n words.items ≡ Some k → k < frame_words
 
@@ -62,11 +62,11 @@ module _ (l : Option SimpleOperand) (left : List Insn) (m : Option SimpleOperand
 
 -- ---- variables
 
--- calls reach each routine, and each memo stands in the scratch region
+-- calls reach each routine, and each memo is in the scratch region
 abbrev pub AreNear : List (List ℕ × ℕ) → Type 0
 AreNear routines = (n : List ℕ) (found : ℕ × ℕ) → routine_named n routines ≡ Some found → (found.0 < memo_limit) × (found.1 ≤ slot_reach)
 
--- so many slots that calls reach what begins there
+-- slots that a call can reach
 abbrev pub AreLow : List ℕ → Type 0
 AreLow slots = AllByRecursion (λ slot. slot ≤ slot_reach) slots
 
@@ -79,14 +79,14 @@ near_named (d ∷ ds) (s ∷ slots) low n found e = grind (arith, near_named ds 
 variable_insns : (found : Option (ℕ × ℕ)) (p : ℕ) → p + 6 ≤ call_reach → ((at : ℕ × ℕ) → found ≡ Some at → (at.0 < memo_limit) × (at.1 ≤ slot_reach)) → AreInsns (variable_code found p)
 variable_insns found p low near = grind arith
 
--- a right operand begins close behind the left one's code
+-- the number of slots before a right operand is at most that of the left one's code and one more
 kept_at_most : (l : Option SimpleOperand) (left : List Insn) → kept_size l left ≤ size left + 1
 kept_at_most l left = grind arith
 
 left_at_most : (op : BinaryOperator) (l : Option SimpleOperand) (left : List Insn) → left_size op l left ≤ size left + 2
 left_at_most op l left = grind arith
 
--- what the numbers of a construct's instructions follow from, beside those of its parts
+-- the facts that bound the numbers in a construct's instructions, besides those of its parts
 ruleset parts = (kept_at_most, left_at_most, short_code, leaf_near)
 
 module _ (ts : List (List ℕ)) (rs : List (List ℕ × ℕ)) (near : AreNear rs) where

@@ -1,4 +1,4 @@
--- The code of an expression gives its meaning within its budgets, by induction on its tree.
+-- The code of an expression gives its value within its budget, by induction on its tree.
 use Rattle.codegen.proofs.Prelude.{append-nil, ◌≡◌, ℕ, ◌+◌, ◌<◌, ◌≤◌, Bool, true, false, List, [], Option, Some, None, IfSome, refl, arith, suc, ◌||◌, ◌∷◌, length, ap, ◌∙◌, ◌++◌, IsSome, slice_get, bytes_eq, ◌&&◌, if◌then◌else◌, Insn, ValueOrError, Value, Core, call_or_has, no_cores, one_core, selection, expanded, expanded_entries, expanded_operand, expanded_trees, plain_tree, variable_value, Roots, lookup, name_value, Environment, bind, Function, Size, TextTest, function_named, function_of, method_of, test_named, text_test_of, called, selected, entry_meanings, meaning, meanings, operand_meaning, deepest, need, depth_or_none, kept_size, Context, Evaluates, RunContext, IsLeafOf, IsLeafIn, Variable, IsScope, place_named, scope_setting, SimpleOperand, code_of, function_code, leaf_of, method_function_code, test_code, texts_of, routine_named, field_leaf, ComputesPart, names, nestings, routines, scope_context, Computes, Ready, environment_in, Cost, ◌and◌, call_cost, node, nothing, selection_cost, cost, costs, entry_costs, operand_cost, IsAccepted, ints, list_any, Image, FrameUse, RootField, with_name, scope_gives, bytes_decides, field_of, CpuState, Word, leaves_name, paths_give, Tree, Trees, TreeEntries, no_trees, more_trees, no_entries, more_entries, field_name, is_has, is_map, is_variables, macro_named, name_of, later_gives, EntriesHaveLiterals, HasLiterals, HaveLiterals, gives_within, CodeGives, word_limit, record_limit, memo_limit, frame_words, Callee, callee_named, function_in, function_stays, test_in, test_stays, subst}
 use Rattle.codegen.proofs.Subexpressions.{Subexpression, subexpression, in_macro}
 use Rattle.cel_macros.specs.CoreTree as core
@@ -7,10 +7,11 @@ use Rattle.cel_reader.specs.Tree as tree
 use Rattle.codegen.proofs.Accepted.{expanded_again}
 use Rattle.codegen.proofs.Folds.{fold_map_part, fold_part}
 
--- ---- selections, calls and methods as they are written, where the code of their parts gives theirs within their budgets
+-- ---- selections, calls and methods of the grammar, given that the code of their parts gives their values within
+-- their budgets
 
 module _ (s : RunContext) (scope : List Variable) (rs : List (List ℕ × ℕ)) (texts : List (List ℕ)) (depth : ℕ) (c : Context) (k : ℕ) where
-  -- the code of this variable, where the expression is ready, gives what its name stands for, with 5 steps of its own
+  -- if the expression is ready, the code of this variable gives the value of its name; 5 steps are its own
   abbrev pub UseGives : List ℕ → Type 0
   UseGives v = (k ≤ word_limit → IsAccepted (core.variable v) (names scope) → depth + deepest (core.variable v) (nestings scope) ≤ record_limit → (p : ℕ) → Evaluates s p (code_of (core.variable v) texts rs c.words k p) c depth k (variable_value v c.environment.variables) 5 0)
 
@@ -76,7 +77,7 @@ module _ (s : RunContext) (scope : List Variable) (rs : List (List ℕ × ℕ)) 
 
 -- ---- a use of a scope's variable, found by its name
 
--- the first variable of a name, with its number
+-- the first variable with a name, and its number
 record Found (n : List ℕ) (scope : List Variable) : Type 0 where
   pub number : ℕ
   pub variable : Variable
@@ -95,7 +96,7 @@ found : (n : List ℕ) (scope : List Variable) → list_any (λ m. bytes_eq m n)
 found n [] h = absurd (cc)
 found n (u ∷ more) h = found_by n u more (bytes_eq u.name n) refl (found n more) h
 
--- for each name of a variable of the scope the first routine of that name among these is the variable's
+-- for each name of a variable in the scope, the first routine with that name is the variable's
 abbrev pub AreRoutines : List (List ℕ × ℕ) → List Variable → Type 0
 AreRoutines rs scope = (n : List ℕ) → list_any (λ m. bytes_eq m n) (names scope) ≡ true → routine_named n rs ≡ routine_named n (routines scope)
 
@@ -109,7 +110,7 @@ module _ (image : Image) (deep : Bool) (roots : Roots) (constants : List ℕ) (s
       let routine = same n accepted ∙ f.routine_is in
       rw routine (scope_gives image deep roots constants scope words items n f.number f.variable p depth k _ is few low f.place_is f.stands (omega arith) (omega (arith, ints)))
 
--- ---- the word that keeps a path names what a field means that is the same path
+-- ---- the word that keeps a path holds the value of each field with the same path
 
 and_front : (a b : Bool) → (a && b) ≡ true → a ≡ true
 and_front a b h = grind arith
@@ -117,7 +118,7 @@ and_front a b h = grind arith
 and_back : (a b : Bool) → (a && b) ≡ true → b ≡ true
 and_back a b h = grind arith
 
--- a simple operand names one value
+-- a simple operand has one value
 named_once : (l : SimpleOperand) (depth : ℕ) (b : CpuState) (x y : ValueOrError) → IsLeafIn l depth b x → IsLeafIn l depth b y → x ≡ y
 named_once l depth b x y h g = grind arith
 
@@ -142,7 +143,7 @@ pub visited : (e : Tree) (env : Environment) → 1 ≤ (cost e env).visits
 unfolding cost
 visited e env = grind arith
 
--- in each scope the code gives what the expression means
+-- in each scope the code gives the value of the expression
 module _ (image : Image) (deep : Bool) (roots : Roots) (constants : List ℕ) (scope : List Variable) (is : IsScope image deep roots constants scope) (few : length scope ≤ memo_limit) (rs : List (List ℕ × ℕ)) (same : AreRoutines rs scope) (texts : List (List ℕ)) (depth : ℕ) where
   abbrev s : RunContext
   s = scope_setting image deep scope
@@ -153,7 +154,7 @@ module _ (image : Image) (deep : Bool) (roots : Roots) (constants : List ℕ) (s
   abbrev around : List (List ℕ × Value) → Environment
   around xs = environment_in roots xs scope
 
-  -- a simple operand names what the expression means
+  -- a simple operand holds the value of the expression
   leaf_named : (e : Tree) (xs : List (List ℕ × Value)) (ws : FrameUse) (k : ℕ) → LeafPart depth (here xs ws) k (expanded e) (meaning e (around xs))
   unfolding expanded meaning
   leaf_named (tree.literal tree.null) xs ws k low = leaves_name.null (here xs ws) depth k
@@ -217,7 +218,7 @@ module _ (image : Image) (deep : Bool) (roots : Roots) (constants : List ℕ) (s
     entries_compute (more_entries key v more) xs ws k h =
         entries_more s scope rs texts depth (here xs ws) k (subexpression (expanded key) (meaning key (around xs)) (cost key (around xs))) (subexpression (expanded v) (meaning v (around xs)) (cost v (around xs))) (expanded_entries more) (entry_meanings more (around xs)) (entry_costs more (around xs)) (visited key (around xs)) (visited v (around xs)) (computes key xs ws (k + 1) h.0) (computes v xs ws (k + 2) h.1) (entries_compute more xs ws k h.2)
 
--- also where later variables stand behind the scope
+-- the same with later variables after the scope
 module _ (image : Image) (deep : Bool) (roots : Roots) (constants : List ℕ) (scope later : List Variable) (rs : List (List ℕ × ℕ))
     (same : AreRoutines rs scope) (texts : List (List ℕ)) (items : List (List ℕ × Value)) (words : FrameUse) (depth k p : ℕ) (e : Core)
     (is : IsScope image deep roots constants scope) (few : length scope ≤ memo_limit) (literals : HasLiterals (plain_tree e)) where

@@ -1,4 +1,4 @@
--- Code of macros within the budgets of their parts.
+-- The code of macros, within the budgets of their parts.
 use Rattle.codegen.proofs.Prelude.{◌≡◌, ℕ, zero, suc, ◌+◌, ◌<◌, Bool, true, List, [], ◌∷◌, Option, Some, refl, ap, ◌∙◌, arith, subst, slice_get, Insn, Value, ValueOrError, Macro, folded, folded_map, Truth, Yes, chosen, truth, range_of, map_over_range, over_range, ComputesPart, Cost, ◌and◌, each_item, items_cost, kept, kept_by, node, nothing, one_item, spent_by, macro_cost, map_cost, macro_code, map_where_code, Context, RunContext, IsItem, each_spent, each_visits, items_spent, items_visits, with_item, size, macro_gives, gives_within, map_where_gives, Core, method_or_fold, method_or_fold_map, fold_maps_mean, folds_mean, deepest, need, with_name, Variable, code_of, texts_of, IsAccepted, fold_limit}
 use Rattle.codegen.proofs.Subexpressions.{Subexpression, Valued, PerItem, InMacro, valued, per_item}
 use Rattle.expression_code.proofs.Sites.{Site, site_at, in_frame}
@@ -8,7 +8,7 @@ use Rattle.codegen.proofs.Parts.{Part, result_size_least, or_left, or_right, tex
 pub right_deep : (a b : Cost) → b.is_deep ≡ true → (a and b).is_deep ≡ true
 right_deep a b e = or_right a.is_deep b.is_deep e
 
--- ---- what the items of a range cost
+-- ---- the cost of a range's items
 
 module _ (f : Value → Cost) where
   each_visits_are : (vs : List Value) → (each_item f vs).visits ≡ each_visits (λ v. (f v).visits) vs
@@ -25,7 +25,7 @@ module _ (f : Value → Cost) where
   pub spent_is : (o : Option (List Value)) → spent_by (items_cost f o) ≡ items_spent (λ v. spent_by (f v)) o
   spent_is o = grind (arith, each_spent_is)
 
-  -- what is deep at an item is so in the whole
+  -- if an item has a value that is too deep, so has the whole range
   each_deep : (vs : List Value) (i : ℕ) (v : Value) → slice_get vs i ≡ Some v → (f v).is_deep ≡ true → (each_item f vs).is_deep ≡ true
   each_deep [] i v at deep = absurd (cc)
   each_deep (w ∷ vs) zero v at deep = let same : w ≡ v = cc in or_left (f w).is_deep (each_item f vs).is_deep (ap (λ (u : Value). (f u).is_deep) same ∙ deep)
@@ -36,7 +36,7 @@ module _ (f : Value → Cost) where
 
 -- ---- macros with one part
 
--- what each item costs, when its part costs this
+-- the cost of each item, given the cost of its part
 abbrev pub item_cost : Macro → (Value → ValueOrError) → (Value → Cost) → Value → Cost
 item_cost m f part v = part v and kept_by m v (f v)
 
@@ -58,7 +58,7 @@ macro_computes m site range part n low gives_range gives_part may =
 
 -- ---- `map` with a predicate
 
--- what each item costs, when its predicate gives t and costs first, and its transform gives f and costs second
+-- the cost of each item: its predicate gives t and costs first, its transform gives f and costs second
 abbrev pub where_cost : (Value → ValueOrError) → (Value → ValueOrError) → (Value → Cost) → (Value → Cost) → Value → Cost
 where_cost t f first second v = first v and chosen (truth (t v)) (second v and kept (f v)) nothing nothing
 
@@ -68,7 +68,7 @@ chosen_visits t a b = grind arith
 chosen_spent : (t : Truth) (a b : Cost) → spent_by a + chosen t (spent_by b) 0 0 ≡ spent_by (a and chosen t b nothing nothing)
 chosen_spent t a b = grind arith
 
--- what is deep where the predicate is true
+-- a value that is too deep counts if the predicate is true
 pub chosen_deep : (t : Truth) (a b : Cost) → t ≡ Yes → b.is_deep ≡ true → (a and chosen t b nothing nothing).is_deep ≡ true
 chosen_deep t a b is deep = right_deep a (chosen t b nothing nothing) (ap (λ (u : Truth). (chosen u b nothing nothing).is_deep) is ∙ deep)
 
@@ -92,10 +92,10 @@ map_where_computes site range predicate transform n low gives_range gives_predic
     (λ v inside is. gives_within site.setting (site.slot + size range.code + 17 + size predicate.code + 2) transform.code (with_item site.frame.context site.frame.base n v) site.frame.depth (site.frame.base + 5) (transform.value v) _ _ _ _ (omega arith) (omega arith) (gives_transform v inside is))
     (λ v inside is deep. may (item_deep g range.value v inside (chosen_deep (truth (predicate.value v)) (predicate.cost v) (more v) is (right_deep (transform.cost v) (kept (transform.value v)) deep)))))
 
--- ---- macros as they are written, where the code of their parts gives theirs within their budgets
+-- ---- macros of the grammar, given that the code of their parts gives their values within their budgets
 
 module _ (s : RunContext) (scope : List Variable) (rs : List (List ℕ × ℕ)) (texts : List (List ℕ)) (depth : ℕ) (c : Context) (k : ℕ) where
-  -- the code of a range, and of a part that runs for each item, at a slot
+  -- the code at a slot of a range, and of a part that runs for each item
   abbrev range_code : Core → ℕ → List Insn
   range_code e p = code_of e texts rs c.words k p
 
@@ -103,7 +103,7 @@ module _ (s : RunContext) (scope : List Variable) (rs : List (List ℕ × ℕ)) 
   part_code i e p = code_of e texts rs (with_name i (k + 4) c.words) (k + 5) p
 
   module _ (m : Macro) (i : List ℕ) (a p : Core) (r : ValueOrError) (t : Cost) (f : Value → ValueOrError) (each : Value → Cost) where
-    -- what an item costs, beside the item's own
+    -- the cost of an item, without the visit of the item itself
     abbrev costs_of : Value → Cost
     costs_of v = each v and kept_by m v (f v)
 

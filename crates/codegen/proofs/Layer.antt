@@ -1,4 +1,4 @@
--- The code of expressions as an emitter makes it.
+-- The code of expressions, as an emitter makes it.
 use Rattle.codegen.proofs.Prelude.{◌≡◌, ℕ, ◌+◌, ◌≤◌, Bool, true, List, [], ◌∷◌, ◌++◌, length, append-nil, refl, sym, ap, ◌∙◌, arith, ◌*◌, false, length-append, suc, subst, and_from, le-leb, nat_le, saturated, if◌then◌else◌, map as each, pos, All, zip, length-map, map-append, Image, Core, Cores, CoreEntries, no_cores, more_cores, no_core_entries, more_core_entries, variable, select, has, index, call, method, unary, binary, ternary, list, fold, fold_map, plain_tree, Roots, lookup, meaning, deepest, deepest_of, depth_or_none, entries_deepest, need, depth, nodes, Declaration, depths_of, declared, nothing_kept, FrameUse, IsScope, Variable, scope_setting, Returns, first_use, wider_gives, scope_begins, scope_grows, routine_named, texts_of, whole_code, routine_code, Computes, Ready, TextsStand, environment_in, names, nestings, routines, scope_context, variable_of, with_texts, IsDeep, cost, spent_by, AreShallow, AreTaken, EmitsRoutine, ExpressionGives, FramesAreEnough, HasConstants, IsEmittable, VariableIsTaken, VariableJoins, RoutineGives, RoutineIsPassed, Emitted, with_piece, HasLiterals, routines_of, ints, Insn, ja, size, AreInsns, IsCodeAt, slots, size-append, size-cons, stands_first, stands_rest, done, looser, to_place, jump, passed, code_at, has_room, with_counted, with_expression, with_variable, Value, memo_tail, insns_append, memo_insns, routine_returns, EmitsExpression, EmitsVariable, HasRoutines, Running, Suits, caller_context, context, cost_in, meaning_in, next_routine, next_variable, setting, variable_depth_limit, record_limit, memo_limit, word_limit, slot_reach, code_limit, node_limit, call_reach, part_slots_per_node, steps_per_visit, charge_per_unit}
 use Rattle.cel_macros.specs.CoreTree.{map}
 use Rattle.codegen.proofs.Accepted.{names_declared, typed_accepted}
@@ -14,7 +14,7 @@ zip_behind : (scope : List Variable) (ns : List (List ℕ)) (more : List ℕ)
 zip_behind [] ns more = refl
 zip_behind (v ∷ scope) ns more = ap (λ (rs : List (List ℕ × ℕ)). (v.name, v.routine) ∷ rs) (zip_behind scope ns more)
 
--- they are the first among those of all declarations
+-- they come first among the routines of all declarations
 routines_first : (slots : List ℕ) (first rest : List Declaration) (scope later : List Variable) → AreTaken slots first scope later
     → routines_of (first ++ rest) slots ≡ routines scope ++ zip (each (λ d. d.name) rest) (each (λ v. v.routine) later)
 routines_first slots first rest scope later taken =
@@ -25,7 +25,7 @@ pub routines_are : (slots : List ℕ) (ds : List Declaration) (scope later : Lis
     → routines_of ds slots ≡ routines scope
 routines_are slots ds scope later taken = simp append-nil at (routines_first slots ds [] scope later taken)
 
--- so each is found by its name
+-- each is found by its name
 named_first : (behind : List (List ℕ × ℕ)) (scope : List Variable) → AreRoutines (routines scope ++ behind) scope
 named_first behind [] n h = absurd (cc)
 named_first behind (u ∷ scope) n h = grind (arith, named_first behind scope n)
@@ -37,7 +37,7 @@ routines_found slots ds first rest scope later whole taken n h =
     ∙ ap (routine_named n) (routines_first slots first rest scope later taken)
     ∙ named_first (zip (each (λ d. d.name) rest) (each (λ v. v.routine) later)) scope n h
 
--- ---- no expression names a deeper variable than there is
+-- ---- no expression uses a variable that is deeper than all declared ones
 
 shallow_named : (n : List ℕ) (ds : List Declaration) → AreShallow ds → depth_or_none (lookup n (depths_of ds)) ≤ variable_depth_limit
 shallow_named n [] h = omega arith
@@ -71,14 +71,14 @@ module _ (ds : List Declaration) (shallow : AreShallow ds) where
     entries_within no_core_entries = omega arith
     entries_within (more_core_entries k v more) = let first = deepest_within k in let second = deepest_within v in let rest = entries_within more in omega arith
 
--- ---- what is ready
+-- ---- readiness
 
 module _ (image : Image) (deep : Bool) (roots : Roots) (constants : List ℕ) (ds : List Declaration) (scope later : List Variable) (e : Core) (is : IsEmittable ds e) (depths : nestings scope ≡ depths_of ds) (may : IsDeep (plain_tree e) (environment_in roots [] scope) → deep ≡ true) (paid : List Variable) where
   pub ready : (known : List (List ℕ)) → TextsStand constants known (texts_of e) → (frame : ℕ) → frame + deepest e (depths_of ds) ≤ record_limit
       → Ready (scope_setting image deep paid) scope known (scope_context roots [] nothing_kept constants (scope ++ later)) frame 0 e (cost (plain_tree e) (environment_in roots [] scope)).is_deep
   ready known stand frame near = grind (arith, names_declared, typed_accepted, texts_stand)
 
--- the texts that were taken stand among the constants
+-- the texts that were added are among the constants
 pub known_stand : (constants : List ℕ) (texts : List (List ℕ)) (e : Core) → HasConstants constants texts e
     → TextsStand constants (with_texts texts (texts_of e)) (texts_of e)
 known_stand constants texts e holds = rw holds.constants_are (texts_stand texts (texts_of e) holds.more (rw holds.constants_are at holds.few))
@@ -87,7 +87,7 @@ pub frames_are_enough : FramesAreEnough
 frames_are_enough ds e shallow = deepest_within ds shallow e
 
 module _ (texts : List (List ℕ)) (slots : List ℕ) (ds : List Declaration) (rs : List (List ℕ × ℕ)) (e : Core) (p : ℕ) (is : IsEmittable ds e) (image : Image) (deep : Bool) (roots : Roots) (constants : List ℕ) (scope later : List Variable) (frame : ℕ) where
-  -- where code finds the routines of the scope's variables among these
+  -- the code finds the routines of the scope's variables in this list
   pub gives_among : AreRoutines rs scope → AreTaken slots ds scope later → frame + deepest e (depths_of ds) ≤ record_limit → length scope ≤ memo_limit → HasConstants constants texts e
       → IsScope image deep roots constants scope → let env = environment_in roots [] scope in (IsDeep (plain_tree e) env → deep ≡ true)
       → Computes (scope_setting image deep scope) p (whole_code e (with_texts texts (texts_of e)) rs p)
@@ -101,7 +101,7 @@ pub expression_gives : ExpressionGives
 expression_gives texts slots ds e p is image deep roots constants scope later frame taken =
     gives_among texts slots ds (routines_of ds slots) e p is image deep roots constants scope later frame (λ n h. ap (routine_named n) (routines_are slots ds scope later taken)) taken
 
--- a variable's routine makes a scope grow
+-- the routine of a variable extends the scope
 pub routine_gives : RoutineGives
 routine_gives image deep roots constants scope later texts name p e is few literals ready stands =
     scope_grows image deep roots constants (scope ++ later) (variable_of roots scope texts name e p) is (record {
@@ -128,9 +128,9 @@ emits_routine old ds e fits literals t typed =
       variable_is_taken old.constants old.routines ds e slot,
     )
 
--- ---- what an emitter's code does once an expression or a variable is added
+-- ---- the code of an emitter after an expression or a variable is added
 
--- ---- a routine among other code, which jumps over it
+-- ---- a routine inside other code, after a jump over it
 
 pub routine_is_passed : RoutineIsPassed
 routine_is_passed s p piece b stands =
@@ -141,7 +141,7 @@ pub low_each : (slots : List ℕ) → All (λ slot. slot ≤ slot_reach) slots �
 low_each [] h = tt
 low_each (s ∷ slots) h = (h 0 0 (omega arith), low_each slots (λ k d inside. h (suc k) d (omega arith)))
 
--- where there is room
+-- there is room
 room_is : (e : Emitted) → e.nodes ≤ node_limit → length e.code ≤ code_limit → has_room e ≡ true
 room_is e few near = and_from (nat_le e.nodes node_limit) (nat_le (length e.code) code_limit) (le-leb e.nodes node_limit few) (le-leb (length e.code) code_limit near)
 
@@ -173,7 +173,7 @@ module _ (old : Emitted) (ds : List Declaration) (e : Core) (few : 2 * length ol
   piece_spells : (p : ℕ) → p + 6 + part_slots_per_node * nodes e ≤ call_reach → nodes e ≤ node_limit → old.nodes ≤ node_limit → AreInsns (whole_code e known table p)
   piece_spells p here short most = whole_insns known table (near most) e p fits short here literals
 
-  -- the code with all declarations, where the type checker takes the expression with the first of them
+  -- the code with all declarations, if the type checker accepts the expression with the first ones
   computed : (first rest : List Declaration) (r : Running) (p frame : ℕ) → old.nodes ≤ node_limit → ds ≡ first ++ rest → Suits old.routines known first e r
       → HasRoutines r r.scope → frame + deepest e (depths_of first) ≤ record_limit
       → Computes (setting r) p (whole_code e known table p) (context r) frame 0 (meaning_in r e) (cost_in r e)
@@ -207,7 +207,7 @@ module _ (old : Emitted) (ds : List Declaration) (e : Core) (few : 2 * length ol
         subst (λ (rs : List (List ℕ × ℕ)). HasRoutines r ((r.scope ++ r.later) ++ next_variable old (whole_code e known rs slot) r.roots r.scope name e ∷ [])) (sym (routines_are old.routines ds r.scope r.later suits.taken))
         (variable_joins old.constants old.routines ds e slot (is_expression ds r suits) r.image r.is_deep r.roots r.constants r.scope r.later name suits.taken shallow (scope_few ds r suits most) (has_constants ds r suits) scoped suits.may (stands_rest r.image.code (length old.code) (ja (size routine)) routine stands))
 
-    -- the routine's steps are within 128 a visit
+    -- the routine takes at most 128 steps a visit
     returned : (first rest : List Declaration) (r : Running) (name : List ℕ) (items : List (List ℕ × Value)) (words : FrameUse) (frame base : ℕ) → old.nodes ≤ node_limit
         → ds ≡ first ++ rest → Suits old.routines known first e r → HasRoutines r r.scope → frame + depth e (depths_of first) ≤ record_limit → base ≤ word_limit
         → IsCodeAt r.image.code (length old.code) (passed routine)

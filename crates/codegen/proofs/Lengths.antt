@@ -1,14 +1,14 @@
--- Code takes at most 63 slots for each node, and 8 less.
+-- Code has at most 63 slots for each node, less 8.
 use Rattle.codegen.proofs.Prelude.{◌≡◌, ℕ, ◌+◌, ◌*◌, ◌≤◌, List, [], ◌∷◌, ◌++◌, length, arith, Option, Some, None, append_assoc, to_z-of_z, slot_count, Insn, size, size-append, size-cons, map_where_turn, macro_code, exists_one_turn, filter_turn, map_where_code, Register, R0, R1, R2, R6, ℤ, BinaryOperator, UnaryOperator, Core, Cores, CoreEntries, no_cores, more_cores, no_core_entries, more_core_entries, Macro, Function, Size, String, TextTest, nodes, nodes_of, entries_nodes, FrameUse, with_name, product_tail, negation_tail, kept_size, operand_code, operands_code, leaf_code, code_of, items_code, entries_code, binary_code, binary_tail, leaf_of, unary_code, function_code, method_function_code, routine_named, test_code, variable_code, kept_or, fold_code, SimpleOperand, leaf_size, fold_size, loop_size, address_of, literal_code, false_ref, not_tail, true_ref, absorbing_code, name_leaf, field_tail, has_tail, index_tail, size_tail, string_tail, test_tail, turn_slot_limit, part_slots_per_node, function_in, test_in}
 use Rattle.cel_reader.specs.Tree as tree
 use Rattle.cel_reader.specs.declared.operator.BinaryOperator.TheVariants as binary
 use Rattle.cel_reader.specs.declared.operator.UnaryOperator.TheVariants as unary
 use Rattle.cel_macros.specs.CoreTree as core
 
--- pieces put together from left to right, with immediates of 32 bits
+-- pieces joined from left to right, with 32-bit immediates
 pub ruleset put_together = (append_assoc, to_z-of_z)
 
--- ---- how many slots pieces take
+-- ---- the number of slots of pieces
 
 pub size_cons : (i : Insn) (piece : List Insn) → size (i ∷ piece) ≡ slot_count i + size piece
 size_cons i piece = size-cons i piece
@@ -19,7 +19,7 @@ size_append a b = size-append a b
 two_at_most : (i : Insn) → slot_count i ≤ 2
 two_at_most i = grind arith
 
--- at most two slots for each instruction
+-- each instruction takes at most two slots
 pub size_by_length : (piece : List Insn) → size piece ≤ 2 * length piece
 size_by_length [] = omega arith
 size_by_length (i ∷ piece) = let e = size-cons i piece in let h = two_at_most i in let more = size_by_length piece in omega (arith, e, h, more)
@@ -30,14 +30,14 @@ turn_near part tail h = let e = size-append part tail in omega (arith, e, h)
 pub size_map_where : (transform : List Insn) (k : ℕ) → size (map_where_turn transform k) ≡ size transform + 8
 size_map_where t k = grind (arith, size-cons, size-append)
 
--- an operand takes at most a slot more than its code, and two operands three more than theirs
+-- an operand takes at most one slot more than its code, and two operands at most three more
 size_operand : (l : Option SimpleOperand) (a : List Insn) (r : Register) → size (operand_code l a r) ≤ size a + 1
 size_operand l a r = grind (arith, leaf_size, size_append)
 
 size_operands : (l : Option SimpleOperand) (a : List Insn) (m : Option SimpleOperand) (b : List Insn) (k : ℕ) (r q : Register) → size (operands_code l a m b k r q) ≤ size a + size b + 3
 size_operands l a m b k r q = grind (arith, size-append, size-cons, leaf_size)
 
--- a part in a register, and a tail
+-- a part in a register, followed by a tail
 one_short : (l : Option SimpleOperand) (a : List Insn) (r : Register) (tail : List Insn) (n : ℕ) → size a + 8 ≤ part_slots_per_node * n → size tail ≤ 40 → size (operand_code l a r ++ tail) + 8 ≤ part_slots_per_node * (1 + n)
 one_short l a r tail n ha ht = grind (arith, size_append, size_operand)
 
@@ -137,6 +137,6 @@ module _ (ts : List (List ℕ)) (rs : List (List ℕ × ℕ)) where
     entries_short (more_core_entries key v more) ws k p =
         grind (arith, size-append, size-cons, code_short key ws (k + 1) p, code_short v ws (k + 2), entries_short more ws k)
 
--- so code of what an image has room for is near enough for jumps
+-- the code of an expression that fits an image is short enough for jumps
 pub short_code : (e : Core) (ts : List (List ℕ)) (rs : List (List ℕ × ℕ)) (ws : FrameUse) (k p : ℕ) → size (code_of e ts rs ws k p) + 8 ≤ part_slots_per_node * nodes e
 short_code e ts rs ws k p = code_short ts rs e ws k p

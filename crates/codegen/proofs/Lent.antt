@@ -1,7 +1,7 @@
--- A text among the constants is lent by its address and length.
+-- A text among the constants is found by its address and length.
 use Rattle.codegen.proofs.Prelude.{◌≡◌, ℕ, ◌+◌, Bool, true, false, ◌||◌, List, [], ◌∷◌, ◌++◌, length, Option, Some, bytes_eq, refl, sym, ap, ◌∙◌, append_assoc, append-nil, if◌then◌else◌, ◌≤◌, take, drop, arith, length-append, option_map, list_any, AllByRecursion, bytes_decides, joined, place_of, with_text, with_texts, drop-drop, drop_at, take_at, list_any-append, constants_of, start_memory, bytes_at, HasText, address_of, TextsStand, TextsStay, constants_limit}
 
--- ---- the texts that were taken are among the texts, whatever is taken later
+-- ---- texts that were added stay when more are added
 
 -- the text is one of these
 abbrev pub IsAmong : List (List ℕ) → List ℕ → Type 0
@@ -25,14 +25,14 @@ pub each_among : (texts used : List (List ℕ)) → AllByRecursion (IsAmong (wit
 each_among texts [] = tt
 each_among texts (t ∷ used) = (among_later t (with_text texts t) used (grind (arith, list_any-append, own)), each_among (with_text texts t) used)
 
--- the bytes of some texts are the first of those of more
+-- the joined texts begin with the first ones, joined
 joined-append : (xs ys : List (List ℕ)) → joined (xs ++ ys) ≡ joined xs ++ joined ys
 joined-append [] ys = refl
 joined-append (x ∷ xs) ys = ap (λ (bs : List ℕ). x ++ bs) (joined-append xs ys) ∙ sym (append_assoc x (joined xs) (joined ys))
 
--- ---- where they stand
+-- ---- their places
 
--- the text has a place among some, and there it stands in their bytes, whatever stands behind them
+-- the text has a place among some texts; its bytes are at this place, and anything may follow them
 record Placed (t : List ℕ) (place : Option ℕ) (bytes rest : List ℕ) : Type 0 where
   pub n : ℕ
   pub place_is : place ≡ Some n
@@ -56,7 +56,7 @@ lent_by : (t constants : List ℕ) (n : ℕ) → take (length t) (drop n constan
 unfolding constants_of start_memory
 lent_by t constants n is within = grind arith
 
--- where the constants begin with all texts, each of them stands where code looks for it
+-- if the constants begin with all texts, each text is at the address that code uses
 has_text : (t : List ℕ) (texts : List (List ℕ)) (rest : List ℕ) → IsAmong texts t → length (joined texts) ≤ constants_limit
     → HasText (joined texts ++ rest) (address_of texts t) t
 has_text t texts rest among small =
@@ -68,7 +68,7 @@ all_stand : (texts : List (List ℕ)) (rest : List ℕ) → length (joined texts
 all_stand texts rest small [] among = tt
 all_stand texts rest small (t ∷ used) among = (has_text t texts rest among.0 small, all_stand texts rest small used among.1)
 
--- so do the texts of an expression once they are taken, whatever is taken later
+-- so are the texts of an expression once they are added, even if more are added later
 pub texts_stand : TextsStay
 texts_stand texts used later small =
     let more = begins_with (with_texts texts used) later in

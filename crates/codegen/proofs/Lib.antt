@@ -1,3 +1,5 @@
+-- The proofs of `codegen`.
+
 pub mod Behind
 pub mod Lengths
 pub mod Lent

@@ -1,4 +1,4 @@
--- The code of each construct, where the code of its parts gives theirs within their budgets.
+-- The code of each construct, given that the code of its parts gives their values within their budgets.
 use Rattle.codegen.proofs.Prelude.{◌≡◌, ℕ, ◌+◌, ◌-◌, ◌*◌, ◌<◌, ◌≤◌, false, List, ◌++◌, Option, arith, Bool, true, ◌||◌, [], ◌∷◌, length, Some, None, refl, ℤ, Insn, Register, is_frame_pointer, result_size, items_size, size_of as value_size, ValueOrError, value, null, Value, boolean, int, text, Items, no_items, item, list_of, Truth, Yes, No, chosen, truth, ternary_of, and_of, not_of, or_of, ComputesPart, Ready, TextsStand, nestings, names, Cost, ◌and◌, node, nothing, spent_by, literal_cost, name_or_text, kept, kept_size, operand_code, operands_code, absorbing_code, ternary_code, false_ref, true_ref, Context, Evaluates, RunContext, AbsorbingGives, text_length, HasText, AreApart, Combines, Converts, IsLeafOf, size, SimpleOperand, logic_gives, one_gives, two_gives, gives_within, is_utf8-from_IsUtf8, IsWellFormedLiteral, R1, R2, R6, R7, sum_of, difference_of, negation_of, product_of, quotient_of, remainder_of, Core, Cores, CoreEntries, more_cores, no_cores, more_core_entries, no_core_entries, name_value, Function, Size, String, Dyn, TextTest, function_of, string_of, text_test_of, literal_of, list_literal, map_literal, field_of, has_of, index_of, deepest, need, deepest_of, entries_deepest, entries_need, needs, joined_length, Variable, leaf_gives, leaves_give, selection_gives, code_of, function_code, leaf_of, test_code, texts_of, kept_or, binary_tail, entries_code, items_code, texts_of_each, texts_of_entries, address_of, IsAccepted, AreAccepted, AreEntriesAccepted, BinaryOperator, UnaryOperator, equal_of, greater_equal_of, greater_of, less_equal_of, less_of, member_of, unequal_of, binary_of, unary_of, difference_gives, sum_gives, comparison_gives, products_give, negation_gives, Builds, EntriesGive, ItemsGive, list_gives, map_gives, looser, part_charge_per_unit, word_limit, frame_words, record_limit, part_steps_per_visit}
 use Rattle.codegen.proofs.Subexpressions.{Subexpression, Valued, valued}
 use Rattle.expression_code.proofs.Sites.{Site, Budget, site_at, in_frame, budget, BuildsAt}
@@ -9,7 +9,7 @@ use Rattle.cel_macros.specs.Functions.{size_of}
 use Rattle.cel_reader.specs.declared.operator.BinaryOperator.TheVariants as op
 use Rattle.cel_reader.specs.declared.operator.UnaryOperator.TheVariants as one_operand
 
--- ---- code of constructs within the budgets of their parts
+-- ---- the code of constructs, within the budgets of their parts
 
 -- ---- numbers
 
@@ -26,17 +26,17 @@ module _ (s : RunContext) (c : Context) (depth k : ℕ) where
       → Evaluates s p piece c depth k x n m → ComputesPart s p piece c depth k x t
   leaf p piece x n m t hn hv hm g = gives_within s p piece c depth k x n m _ _ (omega arith) (omega arith) g
 
-  -- a part in a register, and a piece behind it
+  -- a part in a register, followed by a piece
   pub one : (p : ℕ) (l : Option SimpleOperand) (operand piece : List Insn) (r : Register) (x z : ValueOrError) (n m : ℕ) (part t : Cost) → is_frame_pointer r ≡ false → n ≤ 111 → m ≤ 112 + part_charge_per_unit * result_size z → 1 + part.visits ≤ t.visits → result_size z + part.sizes ≤ t.sizes → IsLeafOf c depth k l x → ComputesPart s p operand c depth k x part → Converts s (p + size (operand_code l operand r)) piece r c depth k x z n m → ComputesPart s p (operand_code l operand r ++ piece) c depth k z t
   one p l operand piece r x z n m part t free hn hm hv hs leaf g h =
       gives_within s p (operand_code l operand r ++ piece) c depth k z _ _ _ _ (omega arith) (omega arith) (one_gives s p l operand piece r c depth k x z _ _ n m free leaf g h)
 
-  -- two parts in registers, and a piece behind them
+  -- two parts in registers, followed by a piece
   pub two : (p : ℕ) (l : Option SimpleOperand) (left : List Insn) (m : Option SimpleOperand) (right piece : List Insn) (r q : Register) (x y z : ValueOrError) (n w : ℕ) (first second : Cost) → k < word_limit → AreApart r q → n ≤ 109 → w ≤ 112 + part_charge_per_unit * result_size z → IsLeafOf c depth k l x → ComputesPart s p left c depth k x first → IsLeafOf c depth (k + 1) m y → ComputesPart s (p + kept_size l left) right c depth (k + 1) y second → Combines s (p + size (operands_code l left m right k r q)) piece r q c depth k x y z n w → ComputesPart s p (operands_code l left m right k r q ++ piece) c depth k z (node z and first and second)
   two p l left m right piece r q x y z n w first second low apart hn hw leaf g leaf_right h t =
       gives_within s p (operands_code l left m right k r q ++ piece) c depth k z _ _ _ _ (omega arith) (omega arith) (two_gives s p k l left m right piece r q c depth x y z _ _ _ _ n w low apart leaf g leaf_right h t)
 
-  -- two parts, of which the left one may decide
+  -- two parts; the left one may decide
   pub absorbing : (p : ℕ) (decides other : ℤ) (f : ValueOrError → ValueOrError → ValueOrError) (law : AbsorbingGives decides other f) (left right : Valued) → k < word_limit → ComputesPart s p left.code c depth k left.value left.cost → ComputesPart s (p + size left.code + 2) right.code c depth (k + 1) right.value right.cost → ComputesPart s p (absorbing_code decides other left.code right.code k) c depth k (f left.value right.value) (node (f left.value right.value) and left.cost and right.cost)
   absorbing p decides other f law left right low g h =
       gives_within s p (absorbing_code decides other left.code right.code k) c depth k (f left.value right.value) _ _ _ _ (omega arith) (omega arith) (law s p k left.code right.code c depth left.value right.value _ _ _ _ low g h)
@@ -64,7 +64,7 @@ pub texts_back : (constants : List ℕ) (texts xs ys : List (List ℕ)) → Text
 texts_back constants texts [] ys h = h
 texts_back constants texts (x ∷ xs) ys h = texts_back constants texts xs ys h.1
 
--- ---- what is joined is no larger than its result
+-- ---- what is concatenated is not larger than the result
 
 item_size : (v : Value) → 1 ≤ value_size v
 item_size null = omega arith
@@ -77,11 +77,11 @@ items_many (item v more) = let h = item_size v in let rest = items_many more in 
 pub joined_within : (x y : ValueOrError) → joined_length (joined (Some x) (Some y)) ≤ result_size (sum_of x y)
 joined_within x y = grind (arith, items_many)
 
--- where all is ready, the code gives the value within the budgets, wherever it stands
+-- if all is ready, the code gives the value within its budget, at any slot
 abbrev pub Part : RunContext → List Variable → List (List ℕ × ℕ) → List (List ℕ) → ℕ → Context → ℕ → Core → ValueOrError → Cost → Type 0
 Part s scope rs texts depth c k e x t = Ready s scope texts c depth k e t.is_deep → (p : ℕ) → ComputesPart s p (code_of e texts rs c.words k p) c depth k x t
 
--- where the expression is a simple operand, that names the value
+-- if the expression is a simple operand, that holds the value
 abbrev pub LeafPart : ℕ → Context → ℕ → Core → ValueOrError → Type 0
 LeafPart depth c k e x = k ≤ word_limit → IsLeafOf c depth k (leaf_of e c.words) x
 
@@ -89,7 +89,7 @@ LeafPart depth c k e x = k ≤ word_limit → IsLeafOf c depth k (leaf_of e c.wo
 pub first_two : AreApart R1 R2
 first_two = record { first = refl; second = refl; apart = refl; back = refl }
 
--- the registers of exchanged operands, and of those that helpers keep
+-- the registers of exchanged operands, and of operands that helpers do not change
 exchanged : AreApart R2 R1
 exchanged = record { first = refl; second = refl; apart = refl; back = refl }
 
@@ -100,8 +100,8 @@ builds_within : (site : Site) (piece : List Insn) (f : ValueOrError → ValueOrE
     → t.charge ≤ u.charge → BuildsAt site piece f t → BuildsAt site piece f u
 builds_within site piece f t u hn hm g = record { runs = λ b x has made named. looser site.setting u.steps u.charge hn hm (g.runs b x has made named) }
 
--- what is ready for the items of a list, or the entries of a map: they are accepted, open so many frames, need so many
--- words and use these texts
+-- what the items of a list or the entries of a map need: they are accepted, and their frames, words and texts are
+-- available
 pub record AllReady (s : RunContext) (texts : List (List ℕ)) (c : Context) (depth k : ℕ)
     (Accepted : Type 0) (opened needed : ℕ) (used : List (List ℕ)) (deep : Bool) : Type 0 where
   pub accepted : Accepted
@@ -111,7 +111,7 @@ pub record AllReady (s : RunContext) (texts : List (List ℕ)) (c : Context) (de
   pub texts_stand : TextsStand c.constants texts used
   pub may : deep ≡ true → s.is_deep ≡ true
 
--- where all is ready, the items are pushed, and the entries put, within 120 steps a visit and 15 times what is spent
+-- if all is ready, the items are appended and the entries put within 120 steps a visit and 15 times the cost
 abbrev pub ItemsPart : RunContext → List Variable → List (List ℕ × ℕ) → List (List ℕ) → ℕ → Context → ℕ → Cores → List ValueOrError → Cost → Type 0
 ItemsPart s scope rs texts depth c k es xs t =
     AllReady s texts c depth k (AreAccepted es (names scope)) (deepest_of es (nestings scope)) (1 + needs es) (texts_of_each es) t.is_deep
@@ -123,11 +123,11 @@ EntriesPart s scope rs texts depth c k es xs t =
     → (p : ℕ) → EntriesGive s p (entries_code es texts rs c.words k p) c depth k xs (part_steps_per_visit * t.visits) (part_charge_per_unit * spent_by t)
 
 module _ (s : RunContext) (scope : List Variable) (rs : List (List ℕ × ℕ)) (texts : List (List ℕ)) (depth : ℕ) (c : Context) (k : ℕ) where
-  -- the code at a slot, with words from another one on
+  -- the code at a slot, with the words from k on
   abbrev code : Core → ℕ → ℕ → List Insn
   code e j p = code_of e texts rs c.words j p
 
-  -- how many frames the variables that it names open
+  -- the number of frames that the variables in it open
   abbrev opened : Core → ℕ
   opened e = deepest e (nestings scope)
 
@@ -149,7 +149,7 @@ module _ (s : RunContext) (scope : List Variable) (rs : List (List ℕ × ℕ)) 
   key_stands : (a : Core) (f : List ℕ) → TextsStand c.constants texts (texts_of a ++ f ∷ []) → HasText c.constants (address_of texts f) f
   key_stands a f h = let last = texts_back c.constants texts (texts_of a) (f ∷ []) h in last.0
 
-  -- a path that is kept is a simple operand
+  -- a kept path is a simple operand
   kept_part : (l : Option SimpleOperand) (piece : List Insn) (x : ValueOrError) (t : Cost) (p : ℕ) → 1 ≤ t.visits → IsLeafOf c depth k l x
       → ComputesPart s p piece c depth k x t → ComputesPart s p (kept_or l piece) c depth k x t
   kept_part (Some l) piece x t p some named given = leaf s c depth k p _ x 1 0 t (omega arith) some (omega arith) (leaf_gives s p c depth k l x named)
@@ -171,7 +171,7 @@ module _ (s : RunContext) (scope : List Variable) (rs : List (List ℕ × ℕ)) 
       (omega arith) (omega arith) (omega arith) (named (omega arith)) (part (grind (arith, texts_front, or_left)) p)
       (selection_gives.has s _ c depth k x (address_of texts f) f (omega arith) (key_stands a f ready.texts_stand))
 
-  -- a function of what a piece gives
+  -- a function of the value of a piece
   pub function_part : (g : Function) (l : Option SimpleOperand) (piece : List Insn) (x : ValueOrError) (t : Cost) (p : ℕ) → k ≤ word_limit → IsLeafOf c depth k l x → ComputesPart s p piece c depth k x t → ComputesPart s p (function_code (Some g) l piece) c depth k (function_of (Some g) x) (node (function_of (Some g) x) and t)
   function_part Size l piece x t p low named part =
       one s c depth k p l piece _ R1 x (size_of x) 1 1 t (node (size_of x) and t) refl (omega arith) (omega arith) (omega arith) (omega arith) named part (selection_gives.size s _ c depth k x (omega arith))
@@ -192,7 +192,7 @@ module _ (s : RunContext) (scope : List Variable) (rs : List (List ℕ × ℕ)) 
   test_part g l left m right x y t u p low named first named_right second =
       two s c depth k p l left m right _ R1 R2 x y (text_test_of (Some g) x y) 1 1 t u low first_two (omega arith) (omega arith) named first named_right second (selection_gives.test g s _ k c depth x y (omega arith))
 
-  -- ---- three parts, of which the condition chooses one
+  -- ---- three parts; the condition chooses one of two
 
   pub ternary_part : (condition on_yes on_no : Subexpression) → Part s scope rs texts depth c k condition.core condition.value condition.cost → Part s scope rs texts depth c k on_yes.core on_yes.value on_yes.cost → Part s scope rs texts depth c k on_no.core on_no.value on_no.cost → Part s scope rs texts depth c k (core.ternary condition.core on_yes.core on_no.core) (ternary_of condition.value on_yes.value on_no.value) (node (ternary_of condition.value on_yes.value on_no.value) and condition.cost and chosen (truth condition.value) on_yes.cost on_no.cost nothing)
   unfolding code_of need deepest texts_of IsAccepted
@@ -215,7 +215,7 @@ module _ (s : RunContext) (scope : List Variable) (rs : List (List ℕ × ℕ)) 
       (omega arith) (omega arith) (named (omega arith)) (part (grind arith) p) (negation_gives s _ c depth k x (omega arith))
 
   module _ (a b : Core) (x y : ValueOrError) (t u : Cost) (named : LeafPart depth c k a x) (named_right : LeafPart depth c (k + 1) b y) (first : Part s scope rs texts depth c k a x t) (second : Part s scope rs texts depth c (k + 1) b y u) where
-    -- both are ready where the whole is
+    -- both are ready if the whole is
     pub record Sides : Type 0 where
       pub low : k < word_limit
       pub left : (p : ℕ) → ComputesPart s p (code a k p) c depth k x t
@@ -225,13 +225,13 @@ module _ (s : RunContext) (scope : List Variable) (rs : List (List ℕ × ℕ)) 
     unfolding need deepest texts_of IsAccepted
     sides o z ready = record { low = omega arith; left = first (grind (arith, texts_front, or_left)); right = second (grind (arith, texts_back, or_right)) }
 
-    -- an operator by the piece behind its operands
+    -- an operator, by the code after its operands
     by_tail : (tail : List Insn) (r q : Register) (z : ValueOrError) (n m : ℕ) → AreApart r q → n ≤ 109 → m ≤ 112 + part_charge_per_unit * result_size z → Sides
         → (p : ℕ) → ((i : ℕ) → k < frame_words → Combines s i tail r q c depth k x y z n m)
         → ComputesPart s p (operands_code (leaf_of a c.words) (code a k p) (leaf_of b c.words) (code b (k + 1) (p + kept_size (leaf_of a c.words) (code a k p))) k r q ++ tail) c depth k z (node z and t and u)
     by_tail tail r q z n m apart hn hm both p combines = let low = both.low in two s c depth k p (leaf_of a c.words) (code a k p) (leaf_of b c.words) _ tail r q x y z n m t u low apart hn hm (named (omega arith)) (both.left p) (named_right (omega arith)) (both.right _) (combines _ (omega arith))
 
-    -- the right side of an operator that may leave it out
+    -- the right side of an operator that may skip it
     abbrev right_code : ℕ → List Insn
     right_code p = code b (k + 1) (p + (size (code a k p) + 2))
 

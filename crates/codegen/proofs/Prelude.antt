@@ -1,4 +1,4 @@
--- The names that these proofs cite of the library, of the crates below and of the definitions here. Declares nothing.
+-- The names of the library, of the crates below and of the definitions that these proofs use. Declares nothing.
 pub use Rattle.std.proofs.Common.{All, Bool, IfOk, IfSome, IsSome, List, None, Option, Result, Some, le-leb, nat_le}
 pub use Rattle.std.proofs.Common.{ℕ, ℤ, [], add-one, ap, append-nil, append_assoc, arith, bytes_eq, codes, drop}
 pub use Rattle.std.proofs.Common.{drop-cons, false, get_or, if◌then◌else◌, leb-false, leb-true, length, length-append}

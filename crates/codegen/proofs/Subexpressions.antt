@@ -1,8 +1,8 @@
--- What is known of a part of an expression: its tree or its code, its value, and what it costs.
+-- The facts about a part of an expression: its tree or code, its value and its cost.
 use Rattle.codegen.proofs.Prelude.{List, ℕ, Cost, Insn, Value, ValueOrError}
 use Rattle.cel_macros.specs.CoreTree.{Core}
 
--- a part by its tree
+-- a part, given by its tree
 pub record Subexpression : Type 0 where
   pub core : Core
   pub value : ValueOrError
@@ -11,7 +11,7 @@ pub record Subexpression : Type 0 where
 abbrev pub subexpression : Core → ValueOrError → Cost → Subexpression
 subexpression e x t = record { core = e; value = x; cost = t }
 
--- a part by its code
+-- a part, given by its code
 pub record Valued : Type 0 where
   pub code : List Insn
   pub value : ValueOrError
@@ -20,7 +20,7 @@ pub record Valued : Type 0 where
 abbrev pub valued : List Insn → ValueOrError → Cost → Valued
 valued piece x t = record { code = piece; value = x; cost = t }
 
--- the part of a macro that runs for each item, by its code
+-- the part of a macro that runs for each item, given by its code
 pub record PerItem : Type 0 where
   pub code : List Insn
   pub value : Value → ValueOrError
@@ -29,7 +29,7 @@ pub record PerItem : Type 0 where
 abbrev pub per_item : List Insn → (Value → ValueOrError) → (Value → Cost) → PerItem
 per_item piece f each = record { code = piece; value = f; cost = each }
 
--- the same by its tree, for each name that an item may have
+-- the part of a macro, given by its tree, for each name that an item may have
 pub record InMacro : Type 0 where
   pub core : Core
   pub value : List ℕ → Value → ValueOrError

@@ -1,23 +1,23 @@
--- The code of an expression from the code of its parts, as the walk finds them.
+-- The code of an expression, from the code of its parts, as the recursion finds them.
 use Rattle.codegen.proofs.Prelude.{◌≡◌, ℕ, suc, ◌+◌, ◌*◌, ◌<◌, ◌≤◌, List, [], ◌∷◌, ◌++◌, length, map, drop, get_or, Result, IfOk, refl, sym, ap, ◌∙◌, append_assoc, add-one, drop-cons, arith, zero, min, true, false, Option, Some, None, option_map, string_bytes, bytes_eq, Bor, AllocError, Global, Vec, Insn, Core, core_view, cores, core_entries, core_pair, CodeCore, nodes, item_code, entry_code, kept_size, map_where_code, FrameUse, with_name, size, code_of, items_code, entries_code, function_code, leaf_of, method_function_code, test_code, no_code, routine_named, words_of, words_step, FrameWords, fold-roll-FrameWords, rolls-Within, declaration, routines_of, part_slots_per_node, Callee, function_in, test_in}
 use Rattle.cel_macros.specs.CoreTree as core
 use Rattle.codegen.specs.declared.frame_words.FrameWords as frame
 use Rattle.codegen.proofs.Lengths.{short_code}
 use Rattle.cel_types.specs.declared.variable.Variable.{Variable}
 
--- code of few nodes is so short that jumps over it fit 16 bits
+-- the code of few nodes is short enough for 16-bit jumps over it
 pub near_code : (e : Core) (ts : List (List ℕ)) (rs : List (List ℕ × ℕ)) (ws : FrameUse) (k p : ℕ) (code : List Insn) → code ≡ code_of e ts rs ws k p → size code + 8 ≤ part_slots_per_node * nodes e
 near_code e ts rs ws k p code h = rw h (short_code e ts rs ws k p)
 
--- a call that gives this code gives what is equal to it
+-- a call that gives this code gives each equal code
 pub same_code : (r : Result (Vec Insn Global) AllocError) (a b : List Insn) → a ≡ b → IfOk r (λ v. v.items ≡ a) → IfOk r (λ v. v.items ≡ b)
 same_code r a b e h = grind arith
 
--- the words within one macro more
+-- the words inside one more macro
 pub words_within : (name : Bor (List ℕ)) (k : ℕ) (outer : Bor FrameWords) → words_of (frame.Within name k outer) ≡ with_name name.now k (words_of outer.now)
 words_within name k outer = ap words_of (sym (rolls-Within name k outer)) ∙ fold-roll-FrameWords FrameUse words_step _
 
--- what is left from a place on
+-- the rest of a list from a place on
 pub here : {A : Type 0} (xs : List A) (i : ℕ) (x : A) → i < length xs → x ≡ get_or xs i x → drop i xs ≡ x ∷ drop (i + 1) xs
 here xs i x lt is = rw (add-one, drop-cons xs i x) (ap (λ y. y ∷ drop (suc i) xs) (sym is))
 
@@ -54,26 +54,26 @@ module _ (ts : List (List ℕ)) (rs : List (List ℕ × ℕ)) (ws : FrameUse) (k
   unfolding code_of
   fold_map_of n r e t range predicate transform i j hr hi he hj ht = grind arith
 
-  -- one item more of a list
+  -- one more item of a list
   pub item_more : (parts : List CodeCore) (i : ℕ) (x : CodeCore) (before after item whole : List Insn) (n : ℕ) → i < length parts → x ≡ get_or parts i x → item ≡ code_of (core_view x) ts rs ws (k + 1) p → n ≡ size item → after ≡ before ++ item_code item k → before ++ items_code (cores (map core_view (drop i parts))) ts rs ws k p ≡ whole → after ++ items_code (cores (map core_view (drop (i + 1) parts))) ts rs ws k (p + (n + 4)) ≡ whole
   unfolding code_of
   item_more parts i x before after item whole n lt is code count grown h = grind (arith, append_assoc, here)
 
-  -- one entry more of a map
+  -- one more entry of a map
   pub entry_more : (pairs : List (CodeCore × CodeCore)) (i : ℕ) (x : CodeCore × CodeCore) (before after key entry whole : List Insn) (n m : ℕ) → i < length pairs → x ≡ get_or pairs i x → key ≡ code_of (core_view x.0) ts rs ws (k + 1) p → n ≡ size key → entry ≡ code_of (core_view x.1) ts rs ws (k + 2) (p + n + 1) → m ≡ size entry → after ≡ before ++ entry_code key entry k → before ++ entries_code (core_entries (map core_pair (drop i pairs))) ts rs ws k p ≡ whole → after ++ entries_code (core_entries (map core_pair (drop (i + 1) pairs))) ts rs ws k (p + n + 1 + m + 5) ≡ whole
   unfolding code_of
   entry_more pairs i x before after key entry whole n m lt is first first_count second second_count grown h = grind (arith, append_assoc, here)
 
--- ---- the first variable of a name among those with a routine
+-- ---- the first variable with a name that has a routine
 
--- what is found among those from a place on, counted from the first
+-- what is found from a place on, counted from the first
 abbrev pub counted : ℕ → Option (ℕ × ℕ) → Option (ℕ × ℕ)
 counted i found = option_map (λ f. (i + f.0, f.1)) found
 
 later : (i : ℕ) (found : Option (ℕ × ℕ)) → counted i (option_map (λ f. (suc f.0, f.1)) found) ≡ counted (i + 1) found
 later i found = grind arith
 
--- what is left from a place on begins with the variable there and its routine
+-- the rest from a place on begins with the variable there and its routine
 routine_here : (variables : List Variable) (slots : List ℕ) (i : ℕ) (v : Variable) → i < length variables → i < length slots → v ≡ get_or variables i v → drop i (routines_of (map declaration variables) slots) ≡ (string_bytes v.name, get_or slots i 0) ∷ drop (suc i) (routines_of (map declaration variables) slots)
 routine_here (w ∷ variables) (s ∷ slots) zero v lt in_slots is = grind arith
 routine_here (w ∷ variables) (s ∷ slots) (suc i) v lt in_slots is = routine_here variables slots i v (omega arith) (omega arith) is
@@ -87,7 +87,7 @@ found_here n variables slots i v lt in_slots is same = grind (arith, routine_her
 pub found_later : (n : List ℕ) (variables : List Variable) (slots : List ℕ) (i : ℕ) (v : Variable) → i < length variables → i < length slots → v ≡ get_or variables i v → bytes_eq (string_bytes v.name) n ≡ false → counted (i + 1) (routine_named n (drop (i + 1) (routines_of (map declaration variables) slots))) ≡ counted i (routine_named n (drop i (routines_of (map declaration variables) slots)))
 found_later n variables slots i v lt in_slots is other = grind (arith, routine_here, later)
 
--- behind the last of them none is left
+-- after the last one nothing is left
 none_left : (variables : List Variable) (slots : List ℕ) (i : ℕ) → min (length variables) (length slots) ≤ i
     → drop i (routines_of (map declaration variables) slots) ≡ []
 none_left [] slots zero h = refl

@@ -1,4 +1,4 @@
--- The code of a whole expression gives what the expression means, whether a path is kept or not.
+-- The code of a whole expression gives its value, with or without a kept path.
 use Rattle.codegen.proofs.Prelude.{◌≡◌, ℕ, ◌+◌, ◌*◌, ◌^◌, ◌<◌, ◌≤◌, Bool, List, [], ◌∷◌, ◌++◌, length, Option, Some, None, refl, ap, arith, Insn, R0, R1, Image, Core, plain_tree, Environment, Roots, meaning, need, nodes, name_leaf, field_tail, Context, RunContext, kept_path_code, HasText, store, RootField, nothing_kept, with_path, AreInsns, size, IsScope, Variable, scope_setting, field_insns, insns_append, leaf_insns, name_near, paths_give, texts_of, texts_of_each, address_of, code_with, first_path, front_of, keeping_code, path_or, plain_code, shorter, whole_code, Computes, Ready, TextsStand, environment_in, scope_context, cost, HasLiterals, gives_within, word_limit, part_slots_per_node, call_reach, node_limit, memo_limit}
 use Rattle.cel_macros.specs.CoreTree as core
 use Rattle.codegen.proofs.Parts.{texts_back, texts_front}
@@ -31,12 +31,12 @@ module _ (constants : List ℕ) (texts : List (List ℕ)) (path : RootField) whe
   first_stands (core.fold_map n r e t) is stand = first_stands r is (texts_front constants texts (texts_of r) (texts_of e ++ texts_of t) stand)
   first_stands _ is stand = absurd (cc)
 
--- ---- the frame has a word more for it
+-- ---- the frame has a further word for it
 
 front_is : (e : Core) (path : RootField) → front_of e ≡ Some path → (1 + need e ≤ word_limit) × (first_path e ≡ Some path)
 front_is e path is = grind arith
 
--- ---- which of both codes it is
+-- ---- which of the two pieces of code it is
 
 module _ (e : Core) (ts : List (List ℕ)) (rs : List (List ℕ × ℕ)) (p : ℕ) where
   pub whole_plain : None ≡ front_of e → plain_code e ts rs p ≡ whole_code e ts rs p
@@ -47,7 +47,7 @@ module _ (e : Core) (ts : List (List ℕ)) (rs : List (List ℕ × ℕ)) (p : �
   unfolding whole_code
   whole_keeping path front = ap (λ (o : Option RootField). code_with o e ts rs p) front
 
--- what holds of both holds of the shorter one
+-- a fact that holds for both pieces holds for the shorter one
 shorter_has : (P : List Insn → Type 0) (first second : List Insn) → P first → P second → P (shorter first second)
 shorter_has P first second h g = grind arith
 
@@ -57,12 +57,12 @@ module _ (e : Core) (ts : List (List ℕ)) (rs : List (List ℕ × ℕ)) (p : �
   with_short : (o : Option RootField) → size (code_with o e ts rs p) ≤ size (plain_code e ts rs p)
   with_short o = grind arith
 
-  -- code of a whole expression has at most the slots of the code that keeps nothing
+  -- the code of a whole expression is not longer than the code without a kept path
   pub whole_less : size (whole_code e ts rs p) ≤ size (plain_code e ts rs p)
   unfolding whole_code
   whole_less = with_short (front_of e)
 
-  -- code of a whole expression takes at most 63 slots for each node, and 8 less
+  -- the code of a whole expression has at most 63 slots for each node, less 8
   pub whole_short : size (whole_code e ts rs p) + 8 ≤ part_slots_per_node * nodes e
   unfolding whole_code
   whole_short = let plain = short_code e ts rs nothing_kept 0 p in let less = with_short (front_of e) in omega (arith, plain, less)
@@ -80,12 +80,12 @@ module _ (ts : List (List ℕ)) (rs : List (List ℕ × ℕ)) (near : AreNear rs
   plain_insns : AreInsns (plain_code e ts rs p)
   plain_insns = code_insns ts rs near e nothing_kept 0 p (λ n k is. absurd (cc)) (omega (arith, fits)) few (omega (arith, inside)) literals
 
-  -- it can be spelled, where a frame has words enough for it, it is of few nodes, and calls from it reach the routines
+  -- it can be encoded if a frame has enough words for it, its nodes are few, and calls from it reach the routines
   pub whole_insns : AreInsns (whole_code e ts rs p)
   unfolding whole_code
   whole_insns = grind (arith, plain_insns, front_is, code_insns, shorter_has, path_insns, address_small)
 
--- ---- what it gives
+-- ---- its value
 
 module _ (image : Image) (deep : Bool) (roots : Roots) (constants : List ℕ) (scope later : List Variable) (rs : List (List ℕ × ℕ))
     (same : AreRoutines rs scope) (texts : List (List ℕ)) (depth p : ℕ) (e : Core) (is : IsScope image deep roots constants scope) (few : length scope ≤ memo_limit) (literals : HasLiterals (plain_tree e)) where
@@ -115,8 +115,8 @@ module _ (image : Image) (deep : Bool) (roots : Roots) (constants : List ℕ) (s
         (gives_within s p (keeping_code path e texts rs p) c depth 0 _ _ _ _ _ (omega (arith, some)) (omega (arith, some))
         (paths_give.kept s p depth (address_of texts path.field) path _ c.environment constants _ _ _ (first_stands constants texts path e parts.1 ready.texts_stand) rest))
 
-    -- it gives what the expression means, within 128 steps a visit and 16 times what is spent: of these the parts of an
-    -- expression take 120 and 15, and the path 6 steps and 1 of charge
+    -- It gives the expression's value within 128 steps a visit and 16 times the cost. The parts of an expression take
+    -- 120 and 15 of these, the path takes 6 steps and 1 of charge.
     pub whole_gives : Meant (whole_code e texts rs p)
     unfolding whole_code
     whole_gives = with_gives (front_of e) refl

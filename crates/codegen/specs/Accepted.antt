@@ -1,4 +1,4 @@
--- The forms of the expressions that have code: those that the type checker takes.
+-- The form of the expressions that have code: those that the type checker accepts.
 use Rattle.std.specs.Prelude.{◌≡◌, ℕ, true, false, List, Some, IsSome, bytes_eq}
 use Rattle.std.specs.List.{list_any}
 use Rattle.cel_macros.specs.CoreTree.{Core, Cores, CoreEntries, no_cores, more_cores, no_core_entries, more_core_entries, map, fold, fold_map}
@@ -8,7 +8,8 @@ use Rattle.cel_macros.specs.declared.function.Function.{TheVariants.Size}
 use Rattle.cel_macros.specs.Macros.{is_variables}
 
 unfoldable mutual
-  -- calls are of the functions, methods are sizes and tests of texts, variables have these names, and nothing is selected from `variables`
+  -- calls are of the known functions, methods are sizes and tests of texts, variables have these names, and nothing
+  -- is selected from `variables`
   pub IsAccepted : Core → List (List ℕ) → Type 0
   IsAccepted (literal l) vs = Unit {0}
   IsAccepted (name n) vs = Unit {0}
@@ -29,12 +30,12 @@ unfoldable mutual
   IsAccepted (fold m n r p) vs = IsAccepted r vs × IsAccepted p vs
   IsAccepted (fold_map n r p t) vs = IsAccepted r vs × IsAccepted p vs × IsAccepted t vs
 
-  -- each of the expressions is so
+  -- each of the expressions has this form
   pub AreAccepted : Cores → List (List ℕ) → Type 0
   AreAccepted no_cores vs = Unit {0}
   AreAccepted (more_cores a more) vs = IsAccepted a vs × AreAccepted more vs
 
-  -- each key and each value is so
+  -- each key and each value has this form
   pub AreEntriesAccepted : CoreEntries → List (List ℕ) → Type 0
   AreEntriesAccepted no_core_entries vs = Unit {0}
   AreEntriesAccepted (more_core_entries k v more) vs = IsAccepted k vs × IsAccepted v vs × AreEntriesAccepted more vs

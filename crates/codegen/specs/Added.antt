@@ -1,4 +1,4 @@
--- What an emitter has taken once an expression or a variable is added to it.
+-- The state of an emitter after an expression or a variable is added.
 use Rattle.std.specs.Prelude.{◌≡◌, ℕ, ◌+◌, Bool, ◌&&◌, nat_le, if◌then◌else◌, List, [], ◌∷◌, ◌++◌, length, take}
 use Rattle.expression_code.specs.Limits.{code_limit, node_limit}
 use Rattle.insn_codec.specs.declared.insn.Insn.{Insn}
@@ -15,8 +15,8 @@ use Rattle.codegen.specs.Emitted.{Emitted, with_nodes, with_piece}
 use Rattle.codegen.specs.NameTable.{routines_of}
 use Rattle.codegen.specs.declared.emitter.Addition.{Addition, TheVariants.Expression, TheVariants.Variable}
 
--- there is room for code: an image has slots for 512 nodes, 128 for each, and calls in a piece behind the code reach
--- all routines in it by offsets of 32 bits
+-- there is room for code: an image has slots for 512 nodes, 128 for each, and calls in the new code reach all
+-- routines by offsets of 32 bits
 abbrev pub has_room : Emitted → Bool
 has_room e = nat_le e.nodes node_limit && nat_le (length e.code) code_limit
 
@@ -24,23 +24,24 @@ has_room e = nat_le e.nodes node_limit && nat_le (length e.code) code_limit
 abbrev pub code_at : Emitted → List Declaration → Core → ℕ → List Insn
 code_at e scope tree p = whole_code tree e.constants (routines_of scope e.routines) p
 
--- a piece among other code, which jumps over it
+-- a routine inside other code, after a jump over it
 abbrev pub passed : List Insn → List Insn
 passed piece = ja (size piece) ∷ piece
 
--- its texts, each once, and so many nodes are added
+-- the expression's texts, each once, and n nodes are added
 abbrev pub with_counted : Emitted → Core → ℕ → Emitted
 with_counted e tree n = record (with_nodes e n) { constants = with_texts e.constants (texts_of tree) }
 
--- the emitter, its texts and nodes counted, with the expression's code behind its own, where there is room
+-- the expression's code is appended if there is room; its texts and nodes are already counted
 abbrev pub with_code : Emitted → List Declaration → Core → Emitted
 with_code e scope tree = if has_room e then with_piece e (code_at e scope tree (length e.code)) else e
 
--- the same with the expression's texts and nodes counted first
+-- an expression is added: its texts and nodes, then its code
 abbrev pub with_expression : Emitted → List Declaration → Core → Emitted
 with_expression e scope tree = with_code (with_counted e tree (nodes tree)) scope tree
 
--- the same with the code as the routine of the next variable, which straight code passes
+-- the routine of the next variable is appended after a jump over it, if there is room; texts and nodes are already
+-- counted
 abbrev pub with_routine : Emitted → List Declaration → Core → Emitted
 with_routine e scope tree =
     if has_room e
@@ -48,16 +49,16 @@ with_routine e scope tree =
     { routines = e.routines ++ (length e.code + 1) ∷ [] }
     else e
 
--- the same with the expression's texts, its nodes and one more counted first
+-- a variable is added: its texts, its nodes and one more, then its routine
 abbrev pub with_variable : Emitted → List Declaration → Core → Emitted
 with_variable e scope tree = with_routine (with_counted e tree (1 + nodes tree)) scope tree
 
--- the emitter once the expression is added as this
+-- an expression is added in this way
 abbrev pub with_addition : Addition → Emitted → List Declaration → Core → Emitted
 with_addition Expression = with_expression
 with_addition Variable = with_variable
 
--- the old emitter, with nothing but texts and slots of routines behind its own, and its nodes counted otherwise
+-- the old emitter with further texts and routine slots, and with another number of nodes
 abbrev pub IsBehind : Emitted → Emitted → Type 0
 IsBehind old new =
     record new

@@ -1,4 +1,4 @@
--- The code of literals whose texts stand among the constants, and of whole expressions.
+-- The code of literals and of whole expressions.
 pub mod Literals
 pub mod Expressions
 pub mod Whole

@@ -1,5 +1,5 @@
--- What the evaluation of an expression visits, and what the bounds on steps and charge of its code are made of: both
--- sides of a logical operator, of a ternary the branch that is chosen, and every item of a macro's range.
+-- The cost of an evaluation, which bounds the steps and the charge of its code. Both sides of a logical operator
+-- count, the chosen branch of a conditional, and every item of a macro's range.
 use Rattle.std.specs.Prelude.{ℕ, ◌+◌, ◌*◌, length, nat_le, Bool, true, false, ◌||◌, List, [], ◌∷◌, Option, Some, None, ◌≡◌}
 use Rattle.cel_reader.specs.Tree as tree
 use Rattle.cel_reader.specs.Tree.{Tree, Trees, TreeEntries, no_trees, more_trees, no_entries, more_entries}
@@ -12,15 +12,15 @@ use Rattle.cel_macros.specs.Logic.{Truth, truth, chosen}
 use Rattle.cel_macros.specs.Macros.{macro_named, is_map, is_has, is_variables, name_of, field_name, range_of}
 use Rattle.cel_macros.specs.Meaning.{meaning}
 
--- how many nodes and items are visited; the sizes of the nodes' results and of the texts and field names; and whether a
--- list or map is to hold a value that is too deep for it
+-- the number of visited nodes and items; the sizes of the nodes' results and of the texts and field names; and
+-- whether a list or map would hold a value that is too deep for it
 pub record Cost : Type 0 where
   pub visits : ℕ
   pub sizes : ℕ
   pub is_deep : Bool
 
 infixl 30 ◌and◌
--- both costs, added
+-- the sum of two costs
 abbrev pub ◌and◌ : Cost → Cost → Cost
 a and b = record { visits = a.visits + b.visits; sizes = a.sizes + b.sizes; is_deep = a.is_deep || b.is_deep }
 
@@ -28,7 +28,7 @@ a and b = record { visits = a.visits + b.visits; sizes = a.sizes + b.sizes; is_d
 abbrev pub nothing : Cost
 nothing = record { visits = 0; sizes = 0; is_deep = false }
 
--- a visited node, by its result; the error has size 1
+-- a visited node with its result; the error has size 1
 abbrev pub node : ValueOrError → Cost
 node x = record { visits = 1; sizes = result_size x; is_deep = false }
 
@@ -40,37 +40,37 @@ name_or_text s = record { visits = 0; sizes = 1 + length s; is_deep = false }
 abbrev pub one_item : Cost
 one_item = record { visits = 1; sizes = 0; is_deep = false }
 
--- what a list or map is to hold: a list or map has a depth of at most 255, and is deeper than all that it holds
+-- the value is put into a list or map: these have a depth of at most 255, and are deeper than all that they hold
 abbrev pub kept : ValueOrError → Cost
 kept x = record { visits = 0; sizes = 0; is_deep = nat_le depth_limit (result_depth x) }
 
--- what a literal costs beside its node: a text its text
+-- the cost of a literal besides its node: the text of a text literal
 abbrev pub literal_cost : tree.Literal → Cost
 literal_cost (tree.text s) = name_or_text s
 literal_cost _ = nothing
 
--- `variables.f` is one node, whose name is no field name; in `e.f` e is visited too
+-- `variables.f` is one node and `f` is not a field name; in `e.f`, e is visited too
 abbrev pub selection_cost : Bool → List ℕ → Cost → Cost
 selection_cost true f a = nothing
 selection_cost false f a = a and name_or_text f
 
--- of `has(e.f)`, where e costs x, the field's name beside e; of another function of y what y costs
+-- for `has(e.f)`, where e costs x: the field name and e; for another function of y: the cost of y
 abbrev pub call_cost : Bool → Option (List ℕ) → Cost → Cost → Cost
 call_cost true (Some f) x y = x and name_or_text f
 call_cost true None x y = y
 call_cost false f x y = y
 
--- the items, one after another, each with what it costs
+-- the items in order, each with its cost
 abbrev pub each_item : (Value → Cost) → List Value → Cost
 each_item f [] = nothing
 each_item f (v ∷ vs) = one_item and f v and each_item f vs
 
--- no item of what is neither a list nor a map
+-- the items; none if the value is neither a list nor a map
 abbrev pub items_cost : (Value → Cost) → Option (List Value) → Cost
 items_cost f (Some vs) = each_item f vs
 items_cost f None = nothing
 
--- what a macro keeps of the item v, for which its part gives x
+-- what a macro keeps of item v if its part gives x
 abbrev pub kept_by : Macro → Value → ValueOrError → Cost
 kept_by All v x = nothing
 kept_by Exists v x = nothing
@@ -78,19 +78,19 @@ kept_by ExistsOne v x = nothing
 kept_by Filter v x = chosen (truth x) (kept (value v)) nothing nothing
 kept_by Map v x = kept x
 
--- the items of a macro, whose part costs c and gives x for an item under a name
+-- the items of a macro; for each name and item its part has this cost and this value
 abbrev pub macro_cost : Option Macro → Option (List ℕ) → (List ℕ → Value → Cost) → (List ℕ → Value → ValueOrError) → Option (List Value)
     → Cost
 macro_cost (Some m) (Some n) c x items = items_cost (λ v. c n v and kept_by m v (x n v)) items
 macro_cost _ _ c x items = nothing
 
--- the items of a `map` with a predicate, whose transform is visited where that is true
+-- the items of a `map` with a predicate; the transform is visited if the predicate is true
 abbrev pub map_cost : Bool → Option (List ℕ) → (List ℕ → Value → Cost) → (List ℕ → Value → Truth) → (List ℕ → Value → Cost)
     → Option (List Value) → Cost
 map_cost true (Some n) c p t items = items_cost (λ v. c n v and chosen (p n v) (t n v) nothing nothing) items
 map_cost _ _ c p t items = nothing
 
--- each node with its result, beside what its parts cost
+-- each node with its result, and the cost of its parts
 unfoldable mutual
   pub cost : Tree → Environment → Cost
   cost (tree.literal l) env = node (meaning (tree.literal l) env) and literal_cost l
@@ -118,7 +118,7 @@ unfoldable mutual
       (λ i v. cost t (bind i v env) and kept (meaning t (bind i v env))) (range_of (meaning a env))
   cost (tree.method a n _) env = node error
 
-  -- of `e.f` what e costs
+  -- for `e.f`, the cost of e
   pub operand_cost : Tree → Environment → Cost
   operand_cost (tree.select a f) env = cost a env
   operand_cost _ env = nothing
@@ -133,18 +133,18 @@ unfoldable mutual
   entry_costs no_entries env = nothing
   entry_costs (more_entries k v more) env = cost k env and cost v env and kept (meaning v env) and entry_costs more env
 
--- how many nodes and items an evaluation visits
+-- the number of nodes and items that an evaluation visits
 abbrev pub work_of : Tree → Environment → ℕ
 work_of e env = (cost e env).visits
 
--- eight for each visit, and the sizes
+-- 8 for each visit, plus the sizes
 abbrev pub spent_by : Cost → ℕ
 spent_by c = 8 * c.visits + c.sizes
 
--- eight for each visit, and the sizes
+-- 8 for each visit, plus the sizes
 abbrev pub spent_of : Tree → Environment → ℕ
 spent_of e env = spent_by (cost e env)
 
--- a list or map is to hold a value whose depth is 255 or more
+-- the evaluation would build a list or map around a value of depth 255 or more
 abbrev pub IsDeep : Tree → Environment → Type 0
 IsDeep e env = (cost e env).is_deep ≡ true

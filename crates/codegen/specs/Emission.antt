@@ -1,5 +1,5 @@
--- What the code does that an emitter has got for an expression or a variable. It is said of the piece that stands
--- behind the emitter's old code, in every image in which that piece stands at its slot, and whatever is taken later.
+-- What the code does that an emitter adds for an expression or a variable. The statements are about the piece after
+-- the emitter's old code, in every image that has the piece at its slot, even if more is added later.
 use Rattle.std.specs.Prelude.{◌≡◌, ℕ, ◌+◌, ◌*◌, ◌≤◌, Bool, true, List, [], ◌∷◌, ◌++◌, length}
 use Rattle.bpf_machine.specs.Limits.{record_limit}
 use Rattle.expression_code.specs.Limits.{code_limit, slots_per_node, node_limit, word_limit, steps_per_visit, charge_per_unit}
@@ -28,9 +28,9 @@ use Rattle.codegen.specs.Cost.{Cost, IsDeep, cost, spent_by}
 use Rattle.codegen.specs.Emitted.{Emitted}
 use Rattle.codegen.specs.Layer.{AreTaken}
 
--- ---- what runs the code
+-- ---- the machine that runs the code
 
--- an image with its constants, whether a value may be too deep for it, the roots, and the variables: those that the
+-- an image with its constants, whether a value may be too deep, the roots, and the variables: those that the
 -- expression may use, and later ones
 pub record Running : Type 0 where
   pub image : Image
@@ -40,34 +40,34 @@ pub record Running : Type 0 where
   pub scope : List Variable
   pub later : List Variable
 
--- it runs in the run context of the variables that the expression may use: the first uses of no others count
+-- the run context of the variables that the expression may use; first uses of other variables do not count
 abbrev pub setting : Running → RunContext
 setting r = scope_setting r.image r.is_deep r.scope
 
--- outside of every macro no iteration name is in force
+-- the context outside all macros, where no iteration name is defined
 abbrev pub context : Running → Context
 context r = scope_context r.roots [] nothing_kept r.constants (r.scope ++ r.later)
 
--- what the expression means there
+-- the value of the expression there
 abbrev pub meaning_in : Running → Core → ValueOrError
 meaning_in r e = meaning (plain_tree e) (environment_in r.roots [] r.scope)
 
--- what its evaluation costs there
+-- the cost of its evaluation there
 abbrev pub cost_in : Running → Core → Cost
 cost_in r e = cost (plain_tree e) (environment_in r.roots [] r.scope)
 
--- the routines of these variables stand in the image
+-- the routines of these variables are in the image
 abbrev pub HasRoutines : Running → List Variable → Type 0
 HasRoutines r variables = IsScope r.image r.is_deep r.roots r.constants variables
 
--- the constants of an image are the texts that were taken, each once, and later ones
+-- the constants of an image are these texts, each once, and later ones
 pub record AreConstants (constants : List ℕ) (texts : List (List ℕ)) : Type 0 where
   pub later : List (List ℕ)
   pub are : constants ≡ joined (with_texts texts later)
   pub few : length constants ≤ constants_limit
 
--- it suits an expression that the type checker takes with these declarations: its variables are those that were taken,
--- its constants the texts that were taken, and where a value becomes too deep one may
+-- It suits an expression that the type checker accepts with these declarations: its variables are the declared ones,
+-- its constants hold these texts, and if a value becomes too deep, the machine may stop for it.
 pub record Suits (slots : List ℕ) (texts : List (List ℕ)) (declarations : List Declaration) (e : Core) (r : Running) : Type 0 where
   pub cel_type : CelType
   pub has_type : core_typing e (scope_of declarations) ≡ typed cel_type
@@ -75,16 +75,16 @@ pub record Suits (slots : List ℕ) (texts : List (List ℕ)) (declarations : Li
   pub texts_are : AreConstants r.constants texts
   pub may : IsDeep (plain_tree e) (environment_in r.roots [] r.scope) → r.is_deep ≡ true
 
--- the code is so short that calls in a piece behind it reach all routines in it: in an image it always is
+-- the code is short enough that calls after it reach all routines; in an image it always is
 abbrev pub IsNear : Emitted → Type 0
 IsNear e = length e.code ≤ code_limit
 
 -- ---- an expression
 
--- behind the old code stands a piece of at most 128 slots for each node, which can be spelled; from the start of each
--- frame above which there are frames enough for its variables it gives what the expression means, within 128 steps a
--- visit and 16 times what is spent, beside what those variables take that are first used in it, of the first ones with
--- which the type checker takes it; the nodes are counted, and no routine is added
+-- A piece of at most 128 slots for each node is appended, and it can be encoded. From the start of each frame with
+-- enough frames above it for its variables, it gives the expression's value within 128 steps a visit and 16 times the
+-- cost, plus the first uses of variables in it. The variables are the first ones with which the type checker accepts
+-- it. The nodes are counted, and no routine is added.
 pub record EmitsPiece (old new : Emitted) (declarations : List Declaration) (e : Core) : Type 0 where
   pub piece : List Insn
   pub behind : new.code ≡ old.code ++ slots piece
@@ -96,30 +96,30 @@ pub record EmitsPiece (old new : Emitted) (declarations : List Declaration) (e :
   pub counted : new.nodes ≡ old.nodes + nodes e
   pub kept : new.routines ≡ old.routines
 
--- of at most 512 nodes in all
+-- the same, if there are at most 512 nodes in all
 abbrev pub EmitsExpression : Emitted → Emitted → List Declaration → Core → Type 0
 EmitsExpression old new declarations e = old.nodes + nodes e ≤ node_limit → IsNear old → EmitsPiece old new declarations e
 
 -- ---- a variable
 
--- where the next routine begins: behind a jump over it
+-- the slot of the next routine, after the jump over it
 abbrev pub next_routine : Emitted → ℕ
 next_routine e = length e.code + 1
 
--- what a caller sees that may use the earlier variables and this one, whatever iteration names are in force
+-- the context of a caller that may use the earlier variables and this one, with any iteration names
 abbrev pub caller_context : Running → List (List ℕ × Value) → FrameUse → List ℕ → Core → Context
 caller_context r items words name e =
     used_context r.roots items words r.constants (bindings (r.scope ++ r.later) ++ (name, meaning_in r e) ∷ [])
 
--- the variable of this name, whose routine has this code for its value
+-- the variable with this name whose routine has this code for the expression
 abbrev pub next_variable : Emitted → List Insn → Roots → List Variable → List ℕ → Core → Variable
 next_variable old body roots scope name e = variable_with body roots scope name e (next_routine old)
 
--- behind the old code stands a piece of at most 128 slots for each node of the expression, and for 1 more, which can be
--- spelled, and which straight code passes in one step; from its second slot on it is the routine of the next variable:
--- called where there are frames enough, it returns what the expression means, within 128 steps a visit and 16 times
--- what is spent, beside what those variables take that are first used in it, of the first ones with which the type
--- checker takes it; and with it the variables are a scope with this one more; the nodes are counted, and 1 more
+-- A piece of at most 128 slots for each node and one more is appended. It can be encoded, and code before it passes
+-- it in one step. From its second slot on it is the routine of the next variable: called with enough frames, it
+-- returns the expression's value within 128 steps a visit and 16 times the cost, plus the first uses of variables in
+-- it. The variables are the first ones with which the type checker accepts it. With this one more they are again a
+-- scope. The nodes and one more are counted.
 pub record EmitsPassedRoutine (old new : Emitted) (declarations : List Declaration) (e : Core) : Type 0 where
   pub piece : List Insn
   pub body : List Insn
@@ -142,6 +142,6 @@ pub record EmitsPassedRoutine (old new : Emitted) (declarations : List Declarati
       (scope ++ next_variable old body roots scope name e ∷ []) []
   pub counted : new.nodes ≡ old.nodes + (1 + nodes e)
 
--- of at most 512 nodes in all
+-- the same, if there are at most 512 nodes in all
 abbrev pub EmitsVariable : Emitted → Emitted → List Declaration → Core → Type 0
 EmitsVariable old new declarations e = old.nodes + (1 + nodes e) ≤ node_limit → IsNear old → EmitsPassedRoutine old new declarations e

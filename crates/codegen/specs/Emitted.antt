@@ -1,4 +1,4 @@
--- What an emitter has taken.
+-- The contents of an emitter.
 use Rattle.std.specs.Prelude.{ℕ, ◌+◌, List, [], ◌∷◌, ◌++◌, length, Option, Some, None, ◌*◌, ◌<◌, slice_set}
 use Rattle.expression_code.specs.Limits.{slots_per_node}
 use Rattle.insn_codec.specs.Spelling.{spelling}
@@ -9,40 +9,40 @@ use Rattle.loader.specs.Limits.{constants_limit}
 use Rattle.codegen.specs.Constants.{joined}
 use Rattle.expression_code.specs.Pieces.{slots}
 
--- the instruction that begins at each slot of the code; the texts that the code names; the nodes for which it stands;
--- and the slots at which the variables' routines begin, in their order
+-- the instruction that begins at each slot of the code, the texts that the code uses, the number of nodes it comes
+-- from, and the slots of the variables' routines, in order
 pub record Emitted : Type 0 where
   pub code : List (Option Insn)
   pub constants : List (List ℕ)
   pub nodes : ℕ
   pub routines : List ℕ
 
--- nothing was taken yet
+-- an empty emitter
 abbrev pub no_code : Emitted
 no_code = record { code = []; constants = []; nodes = 0; routines = [] }
 
--- a piece put behind the code
+-- a piece is appended
 abbrev pub with_piece : Emitted → List Insn → Emitted
 with_piece e piece = record e { code = e.code ++ slots piece }
 
--- an instruction put in the place of another
+-- an instruction is replaced
 abbrev pub with_insn_at : Emitted → ℕ → Insn → Emitted
 with_insn_at e slot i = record e { code = slice_set e.code slot (Some i) }
 
--- so many more nodes; 64 bits hold their number, or the greatest that they hold stands for it
+-- n more nodes; the number is capped at 2^64 - 1
 abbrev pub with_nodes : Emitted → ℕ → Emitted
 with_nodes e n = record e { nodes = saturated (e.nodes + n) }
 
--- the bytes of what begins at these slots
+-- the bytes of the instructions at these slots
 abbrev pub slot_spellings : List (Option Insn) → List ℕ
 slot_spellings [] = []
 slot_spellings (Some i ∷ more) = spelling i ++ slot_spellings more
 slot_spellings (None ∷ more) = slot_spellings more
 
--- so many nodes that their code may pass the slots of an image: 128 for each, above 65,536
+-- the nodes may have more code than an image has slots: 128 for each, above 65,536
 abbrev pub IsTooLong : Emitted → Type 0
 IsTooLong e = slot_limit < slots_per_node * e.nodes
 
--- more bytes of texts than an image's constants
+-- the texts have more bytes than the constants of an image may have
 abbrev pub HasTooManyTexts : Emitted → Type 0
 HasTooManyTexts e = constants_limit < length (joined e.constants)

@@ -1,9 +1,9 @@
--- The codes of the errors.
+-- The codes of this crate's errors.
 use Rattle.std.specs.Prelude.{ℕ, List, codes}
 use Rattle.codegen.specs.declared.code_error.CodeError.{CodeError}
 use Rattle.codegen.specs.declared.code_error.CodeError.TheVariants.{NeedsTooManyWords, VariableTooDeep, TooManyNodes, TooManyTextBytes, Memory}
 
--- the code of an expression, or of expressions, without code: G1 to G4, or memory
+-- the code of a code error: G1 to G4 or memory
 abbrev pub code_error_code : CodeError → List ℕ
 code_error_code NeedsTooManyWords = codes "G1"
 code_error_code VariableTooDeep = codes "G2"

@@ -1,4 +1,4 @@
--- Expressions whose literals are values: ints of 64 bits signed, texts in UTF-8.
+-- Expressions whose literals are values: 64-bit signed ints, and texts in UTF-8.
 use Rattle.cel_reader.specs.Tree as tree
 use Rattle.cel_reader.specs.Tree.{Tree, Trees, TreeEntries, no_trees, more_trees, no_entries, more_entries}
 use Rattle.cel_reader.specs.WellFormed.{IsWellFormedLiteral}
@@ -18,12 +18,12 @@ abbrev mutual
   HasLiterals (tree.list items) = HaveLiterals items
   HasLiterals (tree.map pairs) = EntriesHaveLiterals pairs
 
-  -- those of each of the expressions are
+  -- the literals of each of the expressions are values
   pub HaveLiterals : Trees → Type 0
   HaveLiterals no_trees = Unit {0}
   HaveLiterals (more_trees a more) = HasLiterals a × HaveLiterals more
 
-  -- those of each key and each value are
+  -- the literals of each key and each value are values
   pub EntriesHaveLiterals : TreeEntries → Type 0
   EntriesHaveLiterals no_entries = Unit {0}
   EntriesHaveLiterals (more_entries k v more) = HasLiterals k × HasLiterals v × EntriesHaveLiterals more

@@ -28,25 +28,25 @@ use Rattle.codegen.specs.HasLiterals.{HasLiterals}
 use Rattle.codegen.specs.Code.Expressions.{code_of}
 use Rattle.codegen.specs.Code.Whole.{plain_code, routine_code, whole_code}
 
--- the code of a part takes at most 63 slots for each node, and 8 less, so that jumps in the code of 512 nodes fit 16 bits
+-- the code of a part has at most 63 slots for each node, less 8; so jumps in the code of 512 nodes fit 16 bits
 abbrev pub CodeIsShort : Type 0
 CodeIsShort = (e : Core) (texts : List (List ℕ)) (routines : List (List ℕ × ℕ)) (words : FrameUse) (k p : ℕ)
     → size (code_of e texts routines words k p) + budget_reserve ≤ part_slots_per_node * nodes e
 
--- the code of a whole expression has at most the slots of the code that keeps nothing
+-- the code of a whole expression is not longer than the code without a kept path
 abbrev pub WholeIsShort : Type 0
 WholeIsShort = (e : Core) (texts : List (List ℕ)) (routines : List (List ℕ × ℕ)) (p : ℕ)
     → size (whole_code e texts routines p) ≤ size (plain_code e texts routines p)
 
--- what the type checker takes has code, in the scope that it is given
+-- each expression that the type checker accepts in a scope has code there
 abbrev pub TypedIsAccepted : Type 0
 TypedIsAccepted = (e : Core) (declared : List Declaration) (t : CelType) → core_typing e (scope_of declared) ≡ typed t
     → IsAccepted e (each (λ d. d.name) declared)
 
--- wherever it stands, the code of an expression, which may use the variables of a scope, leaves what the expression
--- means, within 128 steps a visit and 16 times what is spent, beside what the first uses of variables take, or is
--- stopped where its charge would pass the limit or a value may be too deep; later variables may stand behind the scope,
--- whose first uses do not count
+-- At any slot, the code of an expression that may use the variables of a scope gives the expression's value. It takes
+-- at most 128 steps a visit and 16 times the cost, plus the first uses of variables; or it is stopped because the
+-- charge would pass the limit or a value may be too deep. Variables after the scope may exist; their first uses do
+-- not count.
 abbrev pub CodeGives : Type 0
 CodeGives =
     (image : Image) (deep : Bool) (roots : Roots) (constants : List ℕ) (scope later : List Variable) (texts : List (List ℕ))
@@ -57,7 +57,8 @@ CodeGives =
     Ready s scope texts c depth k e (cost (plain_tree e) env).is_deep
     → Computes s p (code_of e texts (routines scope) words k p) c depth k (meaning (plain_tree e) env) (cost (plain_tree e) env)
 
--- where the routine of an expression stands, which may use the first variables of a scope, the scope grows by the expression's variable
+-- if the image has the routine of an expression that may use the first variables of a scope, the scope with its
+-- variable added is a scope
 abbrev pub RoutineGives : Type 0
 RoutineGives =
     (image : Image) (deep : Bool) (roots : Roots) (constants : List ℕ) (scope later : List Variable) (texts : List (List ℕ))
@@ -68,12 +69,12 @@ RoutineGives =
     → IsCodeAt image.code p (routine_code e texts (routines scope) (length (scope ++ later)) p)
     → IsScope image deep roots constants ((scope ++ later) ++ variable_of roots scope texts name e p ∷ [])
 
--- the texts that an expression names, once they are taken, stand among the constants where its code looks for them, whatever is taken later
+-- the texts that an expression uses, once added, stay at the addresses that its code uses, even if more are added later
 abbrev pub TextsStay : Type 0
 TextsStay = (texts used later : List (List ℕ)) → length (joined (with_texts (with_texts texts used) later)) ≤ constants_limit
     → TextsStand (joined (with_texts (with_texts texts used) later)) (with_texts texts used) used
 
--- from the jump before a routine the machine comes to the slot behind it, in one step that changes nothing else
+-- from the jump before a routine the machine reaches the slot after the routine in one step that changes nothing else
 abbrev pub RoutineIsPassed : Type 0
 RoutineIsPassed = (s : RunContext) (p : ℕ) (piece : List Insn) (b : CpuState) → IsCodeAt s.image.code p (passed piece)
     → RunsTo s 1 0 p b (p + size (passed piece)) (λ new. new ≡ b)

@@ -1,5 +1,5 @@
--- What code gives as an emitter makes it: for each expression that the type checker takes in a scope of the variables
--- that were taken first.
+-- The value that code gives as an emitter makes it, for each expression that the type checker accepts in a scope of
+-- the emitter's first variables.
 use Rattle.std.specs.Prelude.{◌≡◌, ℕ, ◌+◌, ◌≤◌, Bool, true, List, [], ◌∷◌, ◌++◌, length}
 use Rattle.std.specs.Prelude.{map as each}
 use Rattle.std.specs.List.{AllByRecursion}
@@ -27,33 +27,32 @@ use Rattle.codegen.specs.Emitted.{Emitted}
 use Rattle.codegen.specs.HasLiterals.{HasLiterals}
 use Rattle.codegen.specs.NameTable.{routines_of}
 
--- the variables that were taken: those of a scope, with their declarations, and later ones; the routine of each begins
--- at its slot
+-- the emitter's variables: those of a scope with their declarations, and later ones; each routine begins at its slot
 pub record AreTaken (slots : List ℕ) (declarations : List Declaration) (scope later : List Variable) : Type 0 where
   pub slots_are : each (λ v. v.routine) (scope ++ later) ≡ slots
   pub depths_are : nestings scope ≡ depths_of declarations
 
--- no variable that was taken is deeper than 6
+-- no declared variable is deeper than 6
 abbrev pub AreShallow : List Declaration → Type 0
 AreShallow declarations = AllByRecursion (λ d. d.depth ≤ variable_depth_limit) declarations
 
--- the type checker takes the expression with these declarations, its literals are values, and a frame has words enough
--- for it
+-- the type checker accepts the expression with these declarations, its literals are values, and a frame has enough
+-- words for it
 pub record IsEmittable (declarations : List Declaration) (e : Core) : Type 0 where
   pub cel_type : CelType
   pub has_type : core_typing e (scope_of declarations) ≡ typed cel_type
   pub literals : HasLiterals (plain_tree e)
   pub fits : need e ≤ word_limit
 
--- the texts of the expression are taken, and more of them later; all are the constants
+-- the constants are the texts, then those of the expression, then later ones, each once
 pub record HasConstants (constants : List ℕ) (texts : List (List ℕ)) (e : Core) : Type 0 where
   pub more : List (List ℕ)
   pub constants_are : constants ≡ joined (with_texts (with_texts texts (texts_of e)) more)
   pub few : length constants ≤ constants_limit
 
--- in each image in which it stands at slot p, and in each frame above which there are frames enough for its variables,
--- the code of the expression gives what the expression means, within 128 steps a visit and 16 times what is spent,
--- beside what those variables of its scope take that are first used in it
+-- In each image that has it at slot p, and in each frame with enough frames above it for its variables, the code
+-- gives the expression's value within 128 steps a visit and 16 times the cost, plus the first uses of variables in
+-- it.
 abbrev pub GivesMeaning : List (List ℕ) → List ℕ → List Declaration → Core → ℕ → Type 0
 GivesMeaning texts slots declarations e p =
     (image : Image) (deep : Bool) (roots : Roots) (constants : List ℕ) (scope later : List Variable) (frame : ℕ)
@@ -64,8 +63,8 @@ GivesMeaning texts slots declarations e p =
     → Computes (scope_setting image deep scope) p (whole_code e (with_texts texts (texts_of e)) (routines_of declarations slots) p)
     (scope_context roots [] nothing_kept constants (scope ++ later)) frame 0 (meaning tree env) (cost tree env)
 
--- in each image in which the expression's routine stands at slot p, as that of a variable that is no deeper than 6, the
--- variables that were taken are a scope with this one more
+-- If an image has the expression's routine at slot p, as that of a variable of depth at most 6, the variables with
+-- this one added are again a scope.
 abbrev pub JoinsScope : List (List ℕ) → List ℕ → List Declaration → Core → ℕ → Type 0
 JoinsScope texts slots declarations e p =
     (image : Image) (deep : Bool) (roots : Roots) (constants : List ℕ) (scope later : List Variable) (name : List ℕ)
@@ -76,40 +75,41 @@ JoinsScope texts slots declarations e p =
     → IsCodeAt image.code p (routine_code e (with_texts texts (texts_of e)) (routines_of declarations slots) (length slots) p)
     → IsScope image deep roots constants ((scope ++ later) ++ variable_of roots scope (with_texts texts (texts_of e)) name e p ∷ [])
 
--- so it is one of those that were taken, with its declaration
+-- the variable with its declaration is one of the emitter's variables
 abbrev pub IsTakenBehind : List (List ℕ) → List ℕ → List Declaration → Core → ℕ → Type 0
 IsTakenBehind texts slots declarations e p = (roots : Roots) (scope : List Variable) (name : List ℕ) (t : CelType)
     → AreTaken slots declarations scope []
     → AreTaken (slots ++ p ∷ []) (declarations ++ declared name t (depth e (depths_of declarations)) ∷ [])
     (scope ++ variable_of roots scope (with_texts texts (texts_of e)) name e p ∷ []) []
 
--- so it is with each expression that the type checker takes
+-- each expression that the type checker accepts gives its value
 abbrev pub ExpressionGives : Type 0
 ExpressionGives = (texts : List (List ℕ)) (slots : List ℕ) (declarations : List Declaration) (e : Core) (p : ℕ)
     → IsEmittable declarations e → GivesMeaning texts slots declarations e p
 
--- where no variable is deeper than 6, the frames of a machine are enough for an expression in the first or second one
+-- if no variable is deeper than 6, the machine has enough frames for an expression in the first or second frame
 abbrev pub FramesAreEnough : Type 0
 FramesAreEnough = (declarations : List Declaration) (e : Core) → AreShallow declarations
     → deepest e (depths_of declarations) ≤ variable_depth_limit
 
--- so it is with the routine of each such expression
+-- the routine of each such expression extends the scope
 abbrev pub VariableJoins : Type 0
 VariableJoins = (texts : List (List ℕ)) (slots : List ℕ) (declarations : List Declaration) (e : Core) (p : ℕ)
     → IsEmittable declarations e → JoinsScope texts slots declarations e p
 
--- and so it is with each expression and each name
+-- each expression with each name becomes one of the emitter's variables
 abbrev pub VariableIsTaken : Type 0
 VariableIsTaken = (texts : List (List ℕ)) (slots : List ℕ) (declarations : List Declaration) (e : Core) (p : ℕ)
     → IsTakenBehind texts slots declarations e p
 
--- the expression's code, put behind the emitter's, gives its meaning, where the type checker takes it in the scope
+-- if the type checker accepts the expression in the scope, its code gives its value when it is appended to the
+-- emitter's code
 abbrev pub EmitsMeaning : Emitted → List Declaration → Core → Type 0
 EmitsMeaning emitter declarations e =
     (t : CelType) → core_typing e (scope_of declarations) ≡ typed t
     → GivesMeaning emitter.constants emitter.routines declarations e (length emitter.code)
 
--- the expression's routine, put behind the emitter's code and a jump over it, is that of the next variable
+-- the expression's routine, appended after a jump over it, is that of the next variable
 abbrev pub EmitsRoutine : Emitted → List Declaration → Core → Type 0
 EmitsRoutine emitter declarations e = (t : CelType) → core_typing e (scope_of declarations) ≡ typed t
     → JoinsScope emitter.constants emitter.routines declarations e (length emitter.code + 1)

@@ -1,3 +1,5 @@
+-- Definitions for the code of expressions: what it is, what it costs, and what an emitter adds.
+
 pub mod Cost
 pub mod CostRows
 pub mod Constants

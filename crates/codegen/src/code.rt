@@ -1,5 +1,5 @@
-//! The code of each construct, from the code of its parts. Each function's error says that there is
-//! no memory for the code.
+//! The code of each construct, built from the code of its parts. Each function fails only if an
+//! allocation fails.
 
 pub(crate) mod aggregates;
 pub(crate) mod arithmetic;
@@ -17,5 +17,5 @@ pub(crate) mod variables;
 use insn_codec::Insn;
 use std::alloc::AllocError;
 
-/// The code of an expression or of a part of it, or that there is no memory for it.
+/// The code of an expression or of a part of it.
 pub(crate) type Code = Result<Vec<Insn>, AllocError>;

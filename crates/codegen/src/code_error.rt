@@ -1,4 +1,4 @@
-//! Why there is no code.
+//! Why code generation fails.
 
 ghost use Rattle.std.specs.Prelude.{◌≡◌};
 ghost use Rattle.codegen.specs.declared.code_error.CodeError.TheVariants.{Memory};
@@ -6,22 +6,22 @@ ghost use Rattle.codegen.specs.declared.code_error.CodeError.TheVariants.{Memory
 use std::alloc::AllocError;
 use thiserror::Error;
 
-/// Why an expression, or all the expressions of an emitter together, have no code.
+/// Why code generation fails for an expression, or for all expressions of an emitter together.
 #[derive(Clone, Copy, Debug, PartialEq, Eq, Error)]
 pub enum CodeError {
     /// The expression needs more than 60 words of the stack.
     #[error("the expression needs more than 60 words of the stack")]
     NeedsTooManyWords,
-    /// The variable's depth is above 6. (1 more than the greatest depth of the variables that it
-    /// names)
+    /// The variable's depth is above 6. The depth is 1 more than the greatest depth of the
+    /// variables that it uses.
     #[error("the variables that a variable names are nested more than six deep")]
     VariableTooDeep,
-    /// The expressions have more than 512 nodes, for each of which an image of 65,536 slots has
-    /// 128.
+    /// The expressions have more than 512 nodes. An image has 65,536 slots, which is 128 for each
+    /// node.
     #[error("the expressions have more than 512 nodes")]
     TooManyNodes,
-    /// The distinct texts have more than 1,048,576 bytes together, the most that the constants of
-    /// an image can have.
+    /// The texts, each counted once, have more than 1,048,576 bytes together, which is the limit
+    /// for the constants of an image.
     #[error("the expressions have more than 1048576 bytes of texts")]
     TooManyTextBytes,
     /// An allocation failed.

@@ -1,4 +1,4 @@
-//! The texts that code names.
+//! The texts that code uses.
 
 ghost use Rattle.std.specs.Prelude.{◌≡◌, map, option_map, length, string_bytes, take, IfOk, OnOk};
 ghost use Rattle.cel_macros.specs.CoreTree.{plain_tree};
@@ -13,8 +13,7 @@ use cel_macros::Core;
 use indexmap::IndexSet;
 use std::alloc::{AllocError, Global};
 
-/// Takes the text among the others, if it is not there. The error says that there is no memory for
-/// it.
+/// Adds the text if it is new.
 #[tactic(auto, using(crate::proofs::Behind::text_taken))]
 fn take_text(alloc: Global, texts: &mut IndexSet<String>, text: &str) -> Result<(), AllocError>
     ensures ok { OnOk result (map string_bytes texts.new.keys ≡ specs.with_text (map string_bytes texts.old.keys) text.now) }
@@ -25,8 +24,8 @@ fn take_text(alloc: Global, texts: &mut IndexSet<String>, text: &str) -> Result<
     Ok(())
 }
 
-/// Takes these texts among the others, each if it is not there. The error says that there is no
-/// memory for all of them; those that were there are still in front.
+/// Adds each of these texts that is new. If an allocation fails, the earlier texts are unchanged
+/// and come first.
 #[tactic(auto, using(crate::proofs::Behind::front_later))]
 fn take_each(alloc: Global, texts: &mut IndexSet<String>, used: &[String]) -> Result<(), AllocError>
     ensures ok { OnOk result (map string_bytes texts.new.keys ≡ specs.with_texts (map string_bytes texts.old.keys) (map string_bytes used.now)) }
@@ -38,9 +37,8 @@ fn take_each(alloc: Global, texts: &mut IndexSet<String>, used: &[String]) -> Re
     Ok(())
 }
 
-/// Takes the texts of the expression among the others, each if it is not there, in order of first
-/// use; its literals are values. The error says that there is no memory for all of them; those that
-/// were there are still in front.
+/// Adds the texts of the expression that are new, in order of first use. The expression's literals
+/// are values. If an allocation fails, the earlier texts are unchanged and come first.
 pub(crate) fn take_texts(
     alloc: Global,
     texts: &mut IndexSet<String>,
@@ -55,7 +53,7 @@ pub(crate) fn take_texts(
     take_each(alloc, texts, &used)
 }
 
-/// Where the text begins among the bytes of all; the greatest number of 64 bits where that is more.
+/// The place of the text among the bytes of all texts, capped at 2^64 - 1.
 pub(crate) fn place_of(texts: &[String], text: &str) -> Option<u64>
     ensures { result ≡ option_map saturated (specs.place_of text.now (map string_bytes texts.now)) }
 {
@@ -69,7 +67,7 @@ pub(crate) fn place_of(texts: &[String], text: &str) -> Option<u64>
     None
 }
 
-/// How many bytes the texts have; the greatest number of 64 bits where they have more.
+/// The number of bytes of the texts, capped at 2^64 - 1.
 pub(crate) fn byte_count(texts: &[String]) -> u64
     ensures { result ≡ saturated (length (specs.joined (map string_bytes texts.now))) }
 {
@@ -80,7 +78,7 @@ pub(crate) fn byte_count(texts: &[String]) -> u64
     total
 }
 
-/// The bytes of all. The error says that there is no memory for them.
+/// The bytes of all texts, joined.
 pub(crate) fn joined(alloc: Global, texts: &[String]) -> Result<Vec<u8>, AllocError>
     ensures { IfOk result (λ bytes. bytes.items ≡ specs.joined (map string_bytes texts.now)) }
 {

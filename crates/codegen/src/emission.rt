@@ -1,4 +1,4 @@
-//! Code for expressions and variables.
+//! Adds expressions and variables to an emitter.
 
 ghost use Rattle.std.specs.Prelude.{◌≡◌, ◌≢◌, ◌<◌, ◌≤◌, ◌↔◌, OnOk, OnErr, IsErrOf};
 ghost use Rattle.cel_macros.specs.CoreView.{core_view};
@@ -17,15 +17,15 @@ use cel_types::Scope;
 use expression_code::limits::{VARIABLE_DEPTH_LIMIT, WORD_LIMIT};
 use std::alloc::Global;
 
-/// Adds the expression's code to the emitter, its texts and its nodes. The variables of the scope
-/// are the first that the emitter took, in their order. Beyond 512 nodes, where `finish` answers
-/// `TooManyNodes`, and behind 0x7fff_0000 slots, for which no image has room, texts and nodes alone
-/// are added.
+/// Adds the expression's code, its texts and its nodes to the emitter. The variables of the scope
+/// are the first ones of the emitter, in order. Beyond 512 nodes, where `finish` returns
+/// `TooManyNodes`, and after 0x7fff_0000 slots, which is more than an image has, only texts and
+/// nodes are added.
 ///
 /// # Errors
 ///
-/// `NeedsTooManyWords` if it needs more than 60 words of the stack, and `Memory`; the emitter is
-/// then as before.
+/// `NeedsTooManyWords` if the expression needs more than 60 words of the stack, `Memory` if an
+/// allocation fails. After an error the emitter is unchanged.
 #[tactic(auto, using(crate::proofs::Layer::expression_gives, crate::proofs::Layer::emits_expression, crate::proofs::Layer::low_each))]
 pub fn expression(
     alloc: Global,
@@ -51,15 +51,15 @@ pub fn expression(
 }
 
 /// Adds the next variable to the emitter: the routine of its expression with its memo, its texts,
-/// and 1 more than its nodes. The variables of the scope are the first that the emitter took, in
-/// their order. Beyond 512 nodes, where `finish` answers `TooManyNodes`, and behind 0x7fff_0000
-/// slots, for which no image has room, texts and nodes alone are added.
+/// and 1 more than its nodes. The variables of the scope are the first ones of the emitter, in
+/// order. Beyond 512 nodes, where `finish` returns `TooManyNodes`, and after 0x7fff_0000 slots,
+/// which is more than an image has, only texts and nodes are added.
 ///
 /// # Errors
 ///
 /// `NeedsTooManyWords` if the expression needs more than 60 words of the stack, then
-/// `VariableTooDeep` if the variable's depth is above 6, and `Memory`; the emitter is then as
-/// before.
+/// `VariableTooDeep` if the variable's depth is above 6. `Memory` if an allocation fails. After an
+/// error the emitter is unchanged.
 #[tactic(auto, using(crate::proofs::Layer::emits_variable, crate::proofs::Layer::low_each))]
 pub fn variable(
     alloc: Global,

@@ -1,4 +1,4 @@
-//! Code as it grows.
+//! Collects code.
 
 ghost use Rattle.std.specs.Prelude.{◌≡◌, ◌≢◌, ◌+◌, ◌*◌, ◌<◌, ◌≤◌, ◌++◌, ◌∷◌, [], ◌↔◌, ◌&&◌, length, map, take, Some, nat_le, slice_get, All, IfOk, OnOk, OnErr, IsErrOf};
 ghost use Rattle.std.specs.Bool.{OnTrue};
@@ -32,28 +32,29 @@ use loader::CONSTANTS_LIMIT;
 use std::alloc::{AllocError, Global};
 use std::marker::Model;
 
-/// The most slots behind which the code of an expression is put: a call in it still reaches every
-/// routine by an offset of 32 bits. No image has room for so many.
+/// The largest number of slots after which the code of an expression is added. With it, a call
+/// reaches every routine by an offset of 32 bits. An image has fewer slots.
 const CODE_LIMIT: usize = 0x7fff_0000;
 
-/// What an expression is added as.
+/// How an expression is added.
 #[derive(Clone, Copy)]
 pub(crate) enum Addition {
-    /// Itself: its code comes behind the code.
+    /// As itself: its code is appended.
     Expression,
-    /// The next variable: its code is the routine of that, which the code passes.
+    /// As the next variable: its code becomes a routine, with a jump over it.
     Variable,
 }
 
-/// Code as it grows: its instructions, the texts that they name, and the nodes that they stand for.
+/// Collects code: its instructions, the texts that they use, and the number of nodes that they come
+/// from.
 #[derive(Drop)]
 pub struct Emitter {
     /// The instruction that begins at each slot.
     code: Vec<Option<Insn>>,
-    /// The texts in order of first use.
+    /// The texts, in order of first use.
     constants: IndexSet<String>,
     nodes: u64,
-    /// The slots at which the routines of the variables begin, in the order of the variables.
+    /// The slots of the variables' routines, in order of the variables.
     routines: Vec<u32>,
 }
 
@@ -70,7 +71,7 @@ impl Model for Emitter {
 }
 
 impl Emitter {
-    /// An emitter of no code. It takes no memory.
+    /// An empty emitter. Nothing is allocated.
     pub fn new(alloc: Global) -> Emitter
         ensures { result ≡ no_code }
     {
@@ -82,8 +83,7 @@ impl Emitter {
         }
     }
 
-    /// Puts the instruction behind the code and answers its slot. The error says that there is no
-    /// memory for it.
+    /// Appends the instruction and returns its slot.
     pub fn put(&mut self, insn: &Insn) -> Result<u64, AllocError>
         ensures ok { IfOk result (λ slot. slot ≡ length self.old.code) }
         ensures code { OnOk result (self.new ≡ with_piece self.old (insn.now ∷ [])) }
@@ -98,7 +98,7 @@ impl Emitter {
         Ok(slot)
     }
 
-    /// Puts the instruction in the place of the one that begins at the slot. It takes no memory.
+    /// Replaces the instruction at the slot. Nothing is allocated.
     pub fn patch(&mut self, slot: u64, insn: &Insn)
         requires { (i : Insn) × (slice_get self.old.code slot ≡ Some (Some i)) × (slot_count i ≡ slot_count insn.now) }
         ensures { self.new ≡ with_insn_at self.old slot insn.now }
@@ -106,15 +106,15 @@ impl Emitter {
         self.code[slot as usize] = Some(*insn);
     }
 
-    /// Adds so many nodes. It takes no memory.
+    /// Adds `n` nodes. Nothing is allocated.
     pub fn count(&mut self, n: u64)
         ensures { self.new ≡ with_nodes self.old n }
     {
         self.nodes = self.nodes.saturating_add(n);
     }
 
-    /// Takes what is added: its texts and nodes, and its code behind the code where there is room.
-    /// Its literals are values. The error says that there is no memory for it.
+    /// Adds the texts, the nodes and, if there is room, the code of an expression. Its literals are
+    /// values.
     pub(crate) fn add(
         &mut self,
         alloc: Global,
@@ -137,8 +137,7 @@ impl Emitter {
         added
     }
 
-    /// Takes what is added. After an error texts, and a routine's slot, may be left behind those
-    /// that were there, and the nodes counted.
+    /// Adds an expression. After an error, the new texts, nodes and routine slot may remain.
     #[tactic(auto, using(crate::proofs::Behind::texts_front, crate::proofs::Behind::kept, crate::proofs::Behind::longer))]
     fn grow(
         &mut self,
@@ -175,7 +174,7 @@ impl Emitter {
         Ok(())
     }
 
-    /// The expression's code at this slot. The error says that there is no memory for it.
+    /// The expression's code at this slot.
     fn code_at(&self, alloc: Global, core: &Core, scope: &[Variable], slot: usize) -> Code
         requires need { need (core_view core.now) ≤ word_limit }
         requires nodes { nodes (core_view core.now) ≤ node_limit }
@@ -192,7 +191,7 @@ impl Emitter {
         whole_code(alloc, core, &around, slot)
     }
 
-    /// Puts the piece behind the code. The error says that there is no memory for it.
+    /// Appends the piece.
     fn append(&mut self, alloc: Global, piece: &[Insn]) -> Result<(), AllocError>
         ensures ok { OnOk result (self.new ≡ with_piece self.old piece.now) }
         ensures err { OnErr result (self.new ≡ self.old) }
@@ -201,7 +200,7 @@ impl Emitter {
         self.extend(&begins)
     }
 
-    /// Puts these slots behind the code. The error says that there is no memory for them.
+    /// Appends these slots.
     fn extend(&mut self, slots: &[Option<Insn>]) -> Result<(), AllocError>
         ensures ok { OnOk result (self.new ≡ record self.old { code = self.old.code ++ slots.now }) }
         ensures err { OnErr result (self.new ≡ self.old) }
@@ -209,7 +208,7 @@ impl Emitter {
         self.code.extend_from_slice(slots)
     }
 
-    /// Keeps so many texts, routines and nodes.
+    /// Goes back to these numbers of texts, routines and nodes.
     #[tactic(auto, using(crate::proofs::Behind::texts_cut))]
     fn cut(&mut self, texts: usize, routines: usize, nodes: u64)
         requires { 2 * routines ≤ nodes }
@@ -220,8 +219,8 @@ impl Emitter {
         self.nodes = nodes;
     }
 
-    /// The code, ended by an exit, and the constants that it names, in bytes. `TooManyNodes` if
-    /// there are too many nodes, else `TooManyTextBytes` if there are too many bytes of texts.
+    /// The code, ended by an exit, and its constants, as bytes. `TooManyNodes` if there are too
+    /// many nodes, else `TooManyTextBytes` if the texts have too many bytes.
     pub fn finish(self) -> Result<(Vec<u8>, Vec<u8>), CodeError>
         ensures code { IfOk result (λ r. r.0.items ≡ slot_spellings self.code ++ spelling Exit) }
         ensures constants { IfOk result (λ r. r.1.items ≡ joined_texts self.constants) }
@@ -245,7 +244,7 @@ impl Emitter {
     }
 }
 
-/// Whether an image has room for the code of so many nodes, behind so many slots.
+/// Whether an image has room for code of this number of nodes, after this number of slots.
 fn has_room(nodes: u64, slots: usize) -> bool
     ensures room { result ≡ (nat_le nodes node_limit && nat_le slots code_limit) }
     ensures few { OnTrue result ((nodes ≤ node_limit) × (slots ≤ code_limit)) }
@@ -253,7 +252,7 @@ fn has_room(nodes: u64, slots: usize) -> bool
     nodes <= NODE_LIMIT && slots <= CODE_LIMIT
 }
 
-/// What begins at each slot of the piece. The error says that there is no memory for it.
+/// What begins at each slot of the piece.
 fn slots_of(alloc: Global, piece: &[Insn]) -> Result<Vec<Option<Insn>>, AllocError>
     ensures { IfOk result (λ begins. begins.items ≡ slots piece.now) }
 {
@@ -267,7 +266,7 @@ fn slots_of(alloc: Global, piece: &[Insn]) -> Result<Vec<Option<Insn>>, AllocErr
     Ok(begins)
 }
 
-/// The bytes of what begins at these slots. The error says that there is no memory for them.
+/// The bytes of the instructions at these slots.
 fn spelled(alloc: Global, slots: &[Option<Insn>]) -> Result<Vec<u8>, AllocError>
     ensures { IfOk result (λ bytes. bytes.items ≡ slot_spellings slots.now) }
 {
@@ -280,7 +279,7 @@ fn spelled(alloc: Global, slots: &[Option<Insn>]) -> Result<Vec<u8>, AllocError>
     Ok(bytes)
 }
 
-/// Puts the instruction's bytes behind the others.
+/// Appends the instruction's bytes.
 fn push_spelling(bytes: &mut Vec<u8>, insn: &Insn) -> Result<(), AllocError>
     ensures { OnOk result (bytes.new.items ≡ bytes.old.items ++ spelling insn.now) }
 {

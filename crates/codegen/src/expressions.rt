@@ -32,7 +32,7 @@ use expression_code::simple_operand::SimpleOperand;
 use insn_codec::{Insn, Register};
 use std::alloc::{AllocError, Global};
 
-/// The simple operand that an expression is.
+/// The simple operand for an expression, if there is one.
 fn leaf_of(core: &Core, words: &FrameWords) -> Option<SimpleOperand>
     requires { AreWords (words_of words.now) }
     ensures leaf { result ≡ specs.leaf_of (core_view core.now) (words_of words.now) }
@@ -46,7 +46,7 @@ fn leaf_of(core: &Core, words: &FrameWords) -> Option<SimpleOperand>
     }
 }
 
-/// A part, and how many slots it takes.
+/// A part, and its number of slots.
 #[cycle(code)]
 #[tactic(auto, using(crate::proofs::Walks::near_code))]
 fn part(
@@ -64,7 +64,7 @@ fn part(
     Ok((code, slots))
 }
 
-/// An operand, which may be a simple operand.
+/// An operand, which may be simple.
 #[cycle(code)]
 fn operand(alloc: Global, core: &Core, position: EmitPosition) -> Result<Part, AllocError>
     requires { HasFrameRoom (core_view core.now) position }
@@ -77,7 +77,7 @@ fn operand(alloc: Global, core: &Core, position: EmitPosition) -> Result<Part, A
     Ok(Part { leaf, code })
 }
 
-/// Two operands, of which the left one is kept while the right one is evaluated.
+/// Two operands. The left one is kept while the right one is evaluated.
 #[cycle(code)]
 fn operands(
     alloc: Global,
@@ -101,7 +101,7 @@ fn operands(
     Ok((first, second))
 }
 
-/// A field: a simple operand where it is kept.
+/// A field. It is a simple operand if its value is kept.
 #[cycle(code)]
 fn select(alloc: Global, of: &Core, field: &str, position: EmitPosition) -> Code
     requires { HasFrameRoom (core.select (core_view of.now) field.now) position }
@@ -116,7 +116,7 @@ fn select(alloc: Global, of: &Core, field: &str, position: EmitPosition) -> Code
     }
 }
 
-/// An index.
+/// An index expression.
 #[cycle(code)]
 fn index(alloc: Global, of: &Core, at: &Core, position: EmitPosition) -> Code
     requires { HasFrameRoom (core.index (core_view of.now) (core_view at.now)) position }
@@ -134,7 +134,7 @@ fn index(alloc: Global, of: &Core, at: &Core, position: EmitPosition) -> Code
     Ok(code)
 }
 
-/// An operator of two operands.
+/// A binary operator.
 #[cycle(code)]
 fn binary(
     alloc: Global,
@@ -204,7 +204,7 @@ fn map(alloc: Global, pairs: &[(Core, Core)], position: EmitPosition) -> Code
     aggregates::map(alloc, &entries, position.word)
 }
 
-/// A call.
+/// A function call.
 #[cycle(code)]
 fn call(alloc: Global, callee: &Callee, arguments: &[Core], position: EmitPosition) -> Code
     requires { HasFrameRoom (core.call (callee_view callee.now) (cores (list.map core_view arguments.now))) position }
@@ -219,7 +219,7 @@ fn call(alloc: Global, callee: &Callee, arguments: &[Core], position: EmitPositi
     }
 }
 
-/// A method.
+/// A method call.
 #[cycle(code)]
 fn method(
     alloc: Global,
@@ -311,8 +311,8 @@ fn fold_map(
     folds::map_where(alloc, &items, &first, &turn, position.word)
 }
 
-/// The code of the expression at the position. Within the macros around it the words of the frame
-/// hold their items. The error says that there is no memory for it.
+/// The code of the expression at the position. The words of the frame hold the items of the macros
+/// around it.
 #[cycle(code)]
 pub(crate) fn code_of(alloc: Global, core: &Core, position: EmitPosition) -> Code
     requires { HasFrameRoom (core_view core.now) position }

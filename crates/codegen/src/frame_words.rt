@@ -1,15 +1,16 @@
-//! The words of the frame that hold items and a path's value.
+//! The words of the frame that hold items and the value of a path.
 
 use crate::path::Path;
 
 /// The words of the frame that hold the items of the macros around an expression, the innermost
-/// first, or outside of every macro the value of a field of a root.
+/// first, or the value of a root's field outside all macros.
 #[derive(Drop)]
 pub(crate) enum FrameWords<'a> {
-    /// Outside of every macro.
+    /// Outside all macros.
     Outside,
-    /// Outside of every macro, where word 0 keeps the value of this path.
+    /// Outside all macros, and word 0 keeps the value of this path.
     Keeping(Path<'a>),
-    /// Within a macro of this iteration name, whose item the word holds, and those around it.
+    /// Inside a macro: the iteration name, the word that holds its item, and the words of the
+    /// macros around it.
     Within(&'a str, usize, &'a FrameWords<'a>),
 }

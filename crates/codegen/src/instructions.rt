@@ -1,4 +1,4 @@
-//! Instructions in short words.
+//! Short names for instructions.
 
 ghost use Rattle.std.specs.Prelude.{◌≡◌, ◌<◌, ◌≤◌, ◌+◌};
 ghost use Rattle.expression_code.specs.Instructions as specs;
@@ -12,7 +12,7 @@ use expression_code::instructions::mov_imm;
 use expression_code::simple_operand::SimpleOperand;
 use insn_codec::{AluOp, Comparison, Insn, Operand, Register, Size, Width};
 
-/// How many slots the instructions take.
+/// The number of slots of the instructions.
 #[tactic(auto, using(crate::proofs::Lengths::size_cons))]
 pub(crate) fn size(piece: &[Insn]) -> usize
     requires { size_of_piece piece.now < slot_limit }
@@ -25,7 +25,7 @@ pub(crate) fn size(piece: &[Insn]) -> usize
     total
 }
 
-/// Where word k of the frame begins, counted from the frame pointer.
+/// The offset of word k of the frame from the frame pointer.
 fn word_offset(k: usize) -> i16
     requires { k < frame_words }
     ensures { result ≡ offset_of_word k }
@@ -33,7 +33,7 @@ fn word_offset(k: usize) -> i16
     -1 - (8 * k + 7) as i16
 }
 
-/// The register gets word k of the frame.
+/// Loads word k of the frame into the register.
 pub(crate) fn load(register: Register, k: usize) -> Insn
     requires { k < frame_words }
     ensures { result ≡ specs.load register k }
@@ -46,7 +46,7 @@ pub(crate) fn load(register: Register, k: usize) -> Insn
     }
 }
 
-/// The register gets what the simple operand names.
+/// Loads the simple operand into the register.
 pub(crate) fn leaf_into(leaf: SimpleOperand, register: Register) -> Insn
     requires { IsFrameWord leaf }
     ensures { result ≡ leaf_insn leaf register }
@@ -57,7 +57,7 @@ pub(crate) fn leaf_into(leaf: SimpleOperand, register: Register) -> Insn
     }
 }
 
-/// Word k of the frame gets the register.
+/// Stores the register in word k of the frame.
 pub(crate) fn store(k: usize, register: Register) -> Insn
     requires { k < frame_words }
     ensures { result ≡ specs.store k register }
@@ -70,7 +70,7 @@ pub(crate) fn store(k: usize, register: Register) -> Insn
     }
 }
 
-/// The first register gets what the operation makes of both.
+/// Applies the operation to both registers; the result is in the first.
 pub(crate) fn compute(op: AluOp, dst: Register, src: Register) -> Insn
     ensures { result ≡ specs.compute op dst src }
 {
@@ -82,7 +82,7 @@ pub(crate) fn compute(op: AluOp, dst: Register, src: Register) -> Insn
     }
 }
 
-/// A jump over so many slots where the registers compare so.
+/// Jumps over this number of slots if the comparison of the registers holds.
 pub(crate) fn jump_if_reg(
     comparison: Comparison,
     dst: Register,
@@ -101,7 +101,7 @@ pub(crate) fn jump_if_reg(
     }
 }
 
-/// A jump over so many slots.
+/// Jumps over this number of slots.
 pub(crate) fn ja(slots: usize) -> Insn
     requires { slots < jump_limit }
     ensures { result ≡ specs.ja slots }
@@ -111,7 +111,7 @@ pub(crate) fn ja(slots: usize) -> Insn
     }
 }
 
-/// A jump to the instruction so many slots before this one where the registers compare so.
+/// Jumps back by this number of slots if the comparison of the registers holds.
 pub(crate) fn back_where(comparison: Comparison, dst: Register, src: Register, slots: usize) -> Insn
     requires { slots < jump_limit }
     ensures { result ≡ specs.back_where comparison dst src slots }

@@ -1,8 +1,8 @@
-//! What macros go over.
+//! The range and the name of a macro.
 
 use cel_macros::Core;
 
-/// The range of a macro, and the name that its items have in the macro's parts.
+/// The range of a macro, and the name of the current item.
 #[derive(Clone, Copy)]
 pub(crate) struct Iteration<'a> {
     pub(crate) name: &'a str,

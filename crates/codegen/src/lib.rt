@@ -1,4 +1,4 @@
-//! CEL expressions as code of the machine.
+//! Compiles CEL expressions to code of the machine.
 #![tactic(auto)]
 
 mod code;

@@ -1,11 +1,11 @@
-//! What the names in an expression stand for.
+//! The meaning of the names in an expression.
 
 ghost use Rattle.std.specs.Prelude.{◌≤◌, length, All};
 ghost use Rattle.expression_code.specs.Limits.{memo_limit, slot_reach};
 
 use cel_types::Variable;
 
-/// What the names in an expression stand for, wherever in it they stand.
+/// The meaning of the names in a whole expression.
 #[derive(Drop)]
 pub(crate) struct NameTable<'a> {
     /// The texts among the constants, in order.

@@ -1,6 +1,6 @@
 //! Fields of roots.
 
-/// A field of a root, as `object.spec`.
+/// A field of a root, such as `object.spec`.
 #[derive(Clone, Copy)]
 pub(crate) struct Path<'a> {
     pub(crate) root: &'a str,

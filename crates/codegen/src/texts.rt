@@ -1,4 +1,4 @@
-//! The texts that the code of an expression names, and that its literals are values.
+//! The texts that the code of an expression uses; and a check that its literals are values.
 
 ghost use Rattle.std.specs.Int.{w64};
 ghost use Rattle.std.specs.Prelude.{◌≡◌, ◌++◌, ◌∷◌, [], FitsSigned, OnOk, string_bytes};
@@ -15,7 +15,7 @@ use cel_macros::Core;
 use cel_reader::Literal;
 use std::alloc::{AllocError, Global};
 
-/// Puts a text behind the others.
+/// Appends a text.
 fn add(alloc: Global, text: &str, texts: &mut Vec<String>) -> Result<(), AllocError>
     ensures { OnOk result (list.map string_bytes texts.new.items ≡ list.map string_bytes texts.old.items ++ text.now ∷ []) }
 {
@@ -24,15 +24,15 @@ fn add(alloc: Global, text: &str, texts: &mut Vec<String>) -> Result<(), AllocEr
     Ok(())
 }
 
-/// An int is of 64 bits signed.
+/// An int fits 64 bits signed.
 fn int_fits(n: i64)
     ensures { FitsSigned w64 n }
 {
     let _ = n;
 }
 
-/// Puts the literal, where it is a text, behind the others. An int is of 64 bits, and a text is
-/// UTF-8, as their types have it.
+/// Appends the text of a literal, if it is a text. By their types, an int fits 64 bits signed and a
+/// text is UTF-8.
 #[tactic(auto, using(crate::proofs::Behind::texts_fit))]
 fn add_literal(alloc: Global, literal: &Literal, texts: &mut Vec<String>) -> Result<(), AllocError>
     ensures texts { OnOk result (list.map string_bytes texts.new.items ≡ list.map string_bytes texts.old.items ++ literal_texts (literal_view literal.now)) }
@@ -46,7 +46,7 @@ fn add_literal(alloc: Global, literal: &Literal, texts: &mut Vec<String>) -> Res
     Ok(())
 }
 
-/// Puts the texts of these behind the others; their literals are values.
+/// Appends the texts of these expressions. Their literals are values.
 #[cycle(texts)]
 #[tactic(auto, unfolding(crate::specs::Code::Expressions::texts_of, cel_macros::specs::CoreTree::plain_tree))]
 fn add_parts(alloc: Global, parts: &[Core], texts: &mut Vec<String>) -> Result<(), AllocError>
@@ -59,7 +59,7 @@ fn add_parts(alloc: Global, parts: &[Core], texts: &mut Vec<String>) -> Result<(
     Ok(())
 }
 
-/// Puts the texts of these keys and values behind the others; their literals are values.
+/// Appends the texts of these keys and values. Their literals are values.
 #[cycle(texts)]
 #[tactic(auto, unfolding(crate::specs::Code::Expressions::texts_of, cel_macros::specs::CoreTree::plain_tree))]
 fn add_entries(
@@ -77,8 +77,8 @@ fn add_entries(
     Ok(())
 }
 
-/// Puts the texts that the code of the expression names behind the others, in order of first use;
-/// its literals are values. The error says that there is no memory for the texts.
+/// Appends the texts that the code of the expression uses, in order of first use. The expression's
+/// literals are values.
 #[cycle(texts)]
 #[tactic(auto, unfolding(crate::specs::Code::Expressions::texts_of, cel_macros::specs::CoreTree::plain_tree))]
 pub(crate) fn add_texts(

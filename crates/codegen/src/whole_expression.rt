@@ -24,10 +24,10 @@ use expression_code::limits::WORD_LIMIT;
 use insn_codec::{Insn, Register};
 use std::alloc::Global;
 
-/// The slots of the code of a path and of the store that keeps it.
+/// The number of slots of the code of a path and of the store that keeps it.
 const KEPT_PATH_SLOTS: usize = 6;
 
-/// The path that the expression may keep: there is a word of the frame more for it.
+/// The path that the expression may keep, if the frame has a word for it.
 fn front_of(core: &Core) -> Option<Path<'_>>
     requires { measures.need (core_view core.now) ≤ word_limit }
     ensures { option_map path_view result ≡ specs.front_of (core_view core.now) }
@@ -38,7 +38,7 @@ fn front_of(core: &Core) -> Option<Path<'_>>
     }
 }
 
-/// The expression's code at this slot that keeps nothing.
+/// The expression's code at this slot without a kept path.
 #[tactic(auto, using(crate::proofs::Lengths::short_code))]
 fn plain_code(alloc: Global, core: &Core, around: &NameTable, slot: usize) -> Code
     requires need { measures.need (core_view core.now) ≤ word_limit }
@@ -56,7 +56,8 @@ fn plain_code(alloc: Global, core: &Core, around: &NameTable, slot: usize) -> Co
     code_of(alloc, core, position)
 }
 
-/// The expression's code at this slot, behind the path's and a store that keeps it in word 0.
+/// The expression's code at this slot, after the code of the path and a store that keeps it in word
+/// 0.
 #[tactic(auto, using(crate::proofs::Lengths::short_code))]
 fn keeping_code(alloc: Global, path: Path, core: &Core, around: &NameTable, slot: usize) -> Code
     requires need { 1 + measures.need (core_view core.now) ≤ word_limit }
@@ -79,7 +80,7 @@ fn keeping_code(alloc: Global, path: Path, core: &Core, around: &NameTable, slot
     Ok(code)
 }
 
-/// The shorter of two pieces, the first one where both are as long.
+/// The shorter of two pieces; the first one if they have the same length.
 fn shorter(first: Vec<Insn>, second: Vec<Insn>) -> Vec<Insn>
     requires first { size_of_piece first.items < slot_limit }
     requires second { size_of_piece second.items < slot_limit }
@@ -92,8 +93,8 @@ fn shorter(first: Vec<Insn>, second: Vec<Insn>) -> Vec<Insn>
     }
 }
 
-/// The code of a whole expression at this slot, from the start of a frame: it keeps a path where
-/// that is shorter. The error says that there is no memory for it.
+/// The code of a whole expression at this slot, from the start of a frame. It keeps a path if that
+/// is shorter.
 pub(crate) fn whole_code(alloc: Global, core: &Core, around: &NameTable, slot: usize) -> Code
     requires need { measures.need (core_view core.now) ≤ word_limit }
     requires nodes { measures.nodes (core_view core.now) ≤ node_limit }

@@ -1,6 +1,6 @@
--- The code of an expression: of each construct the code of its parts, put together. It names texts by their places
--- among the constants, iteration names by the words of the frame that hold their items, and variables by the slots at
--- which their routines begin, relative to its own place.
+-- The code of an expression, built from the code of its parts. It refers to texts by their places among the
+-- constants, to iteration names by the words of the frame that hold their items, and to variables by the slots of
+-- their routines, relative to its own slot.
 use Rattle.std.specs.Prelude.{ℕ, suc, ◌+◌, pos, ◌-ℤ◌, ◌&&◌, List, [], ◌∷◌, ◌++◌, length, Option, Some, None, bytes_eq, option_map, if◌then◌else◌}
 use Rattle.expression_code.specs.Loops.{item_word, slots_before_turn, turn_word}
 use Rattle.insn_codec.specs.declared.alu_op.AluOp.TheVariants.{Sdiv, Smod}
@@ -31,7 +31,7 @@ use Rattle.expression_code.specs.Pieces.{size}
 use Rattle.expression_code.specs.Variables.{use_code, use_slots}
 use Rattle.expression_code.specs.declared.simple_operand.SimpleOperand.{SimpleOperand, TheVariants.Reference, TheVariants.Word}
 
--- word 0, where it keeps this field of the expression
+-- word 0, if it keeps this field of the expression
 abbrev pub field_leaf : Option RootField → Core → List ℕ → Option SimpleOperand
 field_leaf None a f = None
 field_leaf (Some path) (core.name n) f = if bytes_eq n path.root && bytes_eq f path.field then Some (Word 0) else None
@@ -44,22 +44,22 @@ leaf_of (core.name n) ws = Some (name_leaf n ws.items)
 leaf_of (core.select a f) ws = field_leaf ws.path a f
 leaf_of _ ws = None
 
--- no expression that the type checker takes has such a part
+-- expressions that the type checker accepts have no such part
 abbrev pub no_code : List Insn
 no_code = leaf_code (Reference (pos 0))
 
--- a path that is kept, or its code
+-- a kept path, or else the code
 abbrev pub kept_or : Option SimpleOperand → List Insn → List Insn
 kept_or (Some l) code = leaf_code l
 kept_or None code = code
 
--- an operator before its operand
+-- a unary operator with its operand
 abbrev pub unary_code : UnaryOperator → Option SimpleOperand → List Insn → List Insn
 unary_code unary.Not l of = operand_code l of R1 ++ not_tail
 unary_code unary.Negate l of = operand_code l of R6 ++ negation_tail
 
--- the registers of an operator's operands: arithmetic has them where helpers keep them, and `>` and `<=` exchange the
--- sides
+-- the registers for the operands. Arithmetic uses registers that helpers do not change; `>` and `<=` exchange the
+-- sides.
 abbrev pub registers : BinaryOperator → Register × Register
 registers binary.LessEqual = (R2, R1)
 registers binary.Greater = (R2, R1)
@@ -70,7 +70,7 @@ registers binary.Divide = (R6, R7)
 registers binary.Remainder = (R6, R7)
 registers _ = (R1, R2)
 
--- what is made of both operands
+-- the code after both operands
 unfoldable pub binary_tail : BinaryOperator → List Insn
 binary_tail binary.Or = []
 binary_tail binary.And = []
@@ -87,20 +87,20 @@ binary_tail binary.Multiply = product_code
 binary_tail binary.Divide = divided_code Sdiv
 binary_tail binary.Remainder = divided_code Smod
 
--- an operator between two operands, which may use the words from k on
+-- a binary operator with its operands; it may use the words from k on
 abbrev pub binary_code : BinaryOperator → Option SimpleOperand → List Insn → Option SimpleOperand → List Insn → ℕ → List Insn
 binary_code binary.Or l left m right k = or_code left right k
 binary_code binary.And l left m right k = and_code left right k
 binary_code op l left m right k = operands_code l left m right k (registers op).0 (registers op).1 ++ binary_tail op
 
--- a function of an operand
+-- a function of one operand
 abbrev pub function_code : Option Function → Option SimpleOperand → List Insn → List Insn
 function_code (Some Size) l of = operand_code l of R1 ++ size_tail
 function_code (Some String) l of = operand_code l of R6 ++ string_tail
 function_code (Some Dyn) l of = of
 function_code None l of = no_code
 
--- of the functions only `size` is a method too
+-- of the functions, only `size` is also a method
 abbrev pub method_function_code : Option Function → Option SimpleOperand → List Insn → List Insn
 method_function_code (Some Size) l of = function_code (Some Size) l of
 method_function_code (Some String) l of = no_code
@@ -112,25 +112,26 @@ abbrev pub test_code : Option TextTest → Option SimpleOperand → List Insn �
 test_code (Some t) l left m right k = operands_code l left m right k R1 R2 ++ test_tail t
 test_code None l left m right k = no_code
 
--- of the first variable of a name among these, its number and the slot of its routine
+-- the number and the routine's slot of the first variable with this name
 abbrev pub routine_named : List ℕ → List (List ℕ × ℕ) → Option (ℕ × ℕ)
 routine_named n [] = None
 routine_named n (r ∷ more) = if bytes_eq r.0 n then Some (0, r.1) else option_map (λ found. (suc found.0, found.1)) (routine_named n more)
 
--- the use, at slot p, of the variable of this number and routine: the call, in its last slot, counts from the slot
--- behind
+-- the use, at slot p, of the variable with this number and routine; the call is in its last slot and counts from the
+-- slot after it
 abbrev pub variable_code : Option (ℕ × ℕ) → ℕ → List Insn
 variable_code (Some found) p = use_code found.0 (pos found.1 -ℤ pos (p + use_slots))
 variable_code None p = no_code
 
--- how many slots stand before an operator's right operand
+-- the number of slots before an operator's right operand
 abbrev pub left_size : BinaryOperator → Option SimpleOperand → List Insn → ℕ
 left_size binary.Or l left = size left + left_slots
 left_size binary.And l left = size left + left_slots
 left_size _ l left = kept_size l left
 
--- the code of an expression whose texts stand among ts, whose variables have the routines rs, in order of declaration,
--- and whose iteration names and paths have the words ws: it keeps the words below k of its frame, and stands at slot p
+-- The code of an expression at slot p. Its texts are among ts, the routines of its variables are rs, in order of
+-- declaration, and ws are the words of its iteration names and path. It does not change the words below k of its
+-- frame.
 unfoldable mutual
   pub code_of : Core → List (List ℕ) → List (List ℕ × ℕ) → FrameUse → ℕ → ℕ → List Insn
   code_of (core.literal l) ts rs ws k p = literal_code ts l
@@ -187,12 +188,12 @@ unfoldable mutual
       let entry = code_of b ts rs ws (k + 2) (p + size key + key_slots) in
       entry_code key entry k ++ entries_code more ts rs ws k (p + size key + key_slots + size entry + put_slots)
 
--- the text of a literal, where it is one
+-- the text of a text literal
 abbrev pub literal_texts : tree.Literal → List (List ℕ)
 literal_texts (tree.text s) = s ∷ []
 literal_texts _ = []
 
--- the texts that the code names, in order of first use
+-- the texts that the code uses, in order of first use
 unfoldable mutual
   pub texts_of : Core → List (List ℕ)
   texts_of (core.literal l) = literal_texts l
@@ -211,12 +212,12 @@ unfoldable mutual
   texts_of (core.fold m n r p) = texts_of r ++ texts_of p
   texts_of (core.fold_map n r p t) = texts_of r ++ (texts_of p ++ texts_of t)
 
-  -- those of each expression, one after another
+  -- the texts of each expression, in order
   pub texts_of_each : Cores → List (List ℕ)
   texts_of_each no_cores = []
   texts_of_each (more_cores a more) = texts_of a ++ texts_of_each more
 
-  -- those of each key and each value, one after another
+  -- the texts of each key and each value, in order
   pub texts_of_entries : CoreEntries → List (List ℕ)
   texts_of_entries no_core_entries = []
   texts_of_entries (more_core_entries k v more) = texts_of k ++ (texts_of v ++ texts_of_entries more)

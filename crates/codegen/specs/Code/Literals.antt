@@ -1,4 +1,4 @@
--- Literals without parts. A text stands among the constants of the image.
+-- The code of literals. The bytes of a text are among the constants of the image.
 use Rattle.std.specs.Prelude.{ℕ, ℤ, ◌+◌, ◌∷◌, List, length, Option, Some, None, unwrap_or, option_map}
 use Rattle.insn_codec.specs.declared.insn.Insn.{Insn}
 use Rattle.insn_codec.specs.declared.register.Register.TheVariants.{R1}
@@ -12,23 +12,23 @@ use Rattle.expression_code.specs.Paths.{RootField}
 use Rattle.expression_code.specs.declared.simple_operand.SimpleOperand.{SimpleOperand, TheVariants.Reference}
 use Rattle.codegen.specs.Constants.{place_of}
 
--- where the constants begin in memory
+-- the address of the constants
 abbrev pub constants_base : ℕ
 constants_base = 0x4_0000_0000
 
--- where a text among these begins in memory
+-- the address of a text, which is one of these
 abbrev pub address_of : List (List ℕ) → List ℕ → ℕ
 address_of texts t = saturated (constants_base + unwrap_or (option_map saturated (place_of t texts)) 0)
 
--- a helper's call on what R1 names and a text among these
+-- calls a helper with the value in R1 and one of these texts
 abbrev pub call_on_text : ℤ → List (List ℕ) → List ℕ → List Insn
 call_on_text helper texts t = call_with_text helper (address_of texts t) (length t)
 
--- the code that walks a path: its root, and the field, whose text is among these
+-- the code of a path: its root, then the field, whose name is one of these texts
 abbrev pub path_code : List (List ℕ) → RootField → List Insn
 path_code texts path = leaf_insn (Reference (root_reference path.root)) R1 ∷ field_tail (address_of texts path.field) (length path.field)
 
--- a literal: null and a truth by its reference, an int by its word, a text by its address and its length in bytes
+-- a literal: null and a truth by reference, an int by its word, a text by its address and its length in bytes
 abbrev pub literal_code : List (List ℕ) → tree.Literal → List Insn
 literal_code texts tree.null = null_code
 literal_code texts (tree.truth b) = truth_code b

@@ -1,4 +1,5 @@
--- The code of a whole expression: the field of a root with which it begins is kept where that makes the code shorter.
+-- The code of a whole expression. It keeps the value of the root's field that it evaluates first, if that makes the
+-- code shorter.
 use Rattle.std.specs.Prelude.{ℕ, ◌+◌, List, ◌++◌, Option, Some, None, nat_le, if◌then◌else◌}
 use Rattle.expression_code.specs.Limits.{word_limit}
 use Rattle.insn_codec.specs.declared.insn.Insn.{Insn}
@@ -12,12 +13,13 @@ use Rattle.expression_code.specs.Variables.{memo_tail}
 use Rattle.codegen.specs.Code.Expressions.{code_of}
 use Rattle.codegen.specs.Code.Literals.{address_of}
 
--- a field of a root, and else another path
+-- a field of a root, or else the other path
 abbrev pub path_or : Core → List ℕ → Option RootField → Option RootField
 path_or (core.name n) f other = Some (record { root = n; field = f })
 path_or _ f other = other
 
--- the field of a root with which an expression begins; calls, and lists and maps as literals, begin with none
+-- the field of a root that an expression evaluates first; an expression that begins with a call, a list or a map has
+-- none
 unfoldable pub first_path : Core → Option RootField
 first_path (core.select a f) = path_or a f (first_path a)
 first_path (core.has a f) = first_path a
@@ -30,32 +32,32 @@ first_path (core.fold m n r e) = first_path r
 first_path (core.fold_map n r e t) = first_path r
 first_path _ = None
 
--- a path for which there are so many words of the frame
+-- the path, if this number of words fits a frame
 abbrev pub path_within : ℕ → Option RootField → Option RootField
 path_within words None = None
 path_within words (Some path) = if nat_le words word_limit then Some path else None
 
--- the path that an expression may keep: there is a word of the frame more for it
+-- the path that an expression may keep: the frame has a further word for it
 abbrev pub front_of : Core → Option RootField
 front_of e = path_within (1 + need e) (first_path e)
 
--- the shorter of two pieces, the first one where both are as long
+-- the shorter of two pieces; the first one if they have the same length
 abbrev pub shorter : List Insn → List Insn → List Insn
 shorter a b = if nat_le (size a) (size b) then a else b
 
--- the code that keeps nothing
+-- the code without a kept path
 abbrev pub plain_code : Core → List (List ℕ) → List (List ℕ × ℕ) → ℕ → List Insn
 plain_code e ts rs p = code_of e ts rs nothing_kept 0 p
 
--- the slots of the code of a path and of the store that keeps it
+-- the number of slots of the code of a path and of the store that keeps it
 abbrev pub kept_path_slots : ℕ
 kept_path_slots = 6
 
--- the code that keeps the path in word 0: behind the path's own code and a store it begins with word 1
+-- the code that keeps the path in word 0: after the path's code and a store, the expression uses the words from 1 on
 abbrev pub keeping_code : RootField → Core → List (List ℕ) → List (List ℕ × ℕ) → ℕ → List Insn
 keeping_code path e ts rs p = kept_path_code path (address_of ts path.field) (code_of e ts rs (with_path path) 1 (p + kept_path_slots))
 
--- the code that keeps the path, where that is shorter
+-- the code that keeps the path if that is shorter
 abbrev pub code_with : Option RootField → Core → List (List ℕ) → List (List ℕ × ℕ) → ℕ → List Insn
 code_with None e ts rs p = plain_code e ts rs p
 code_with (Some path) e ts rs p = shorter (plain_code e ts rs p) (keeping_code path e ts rs p)
@@ -64,6 +66,6 @@ code_with (Some path) e ts rs p = shorter (plain_code e ts rs p) (keeping_code p
 unfoldable pub whole_code : Core → List (List ℕ) → List (List ℕ × ℕ) → ℕ → List Insn
 whole_code e ts rs p = code_with (front_of e) e ts rs p
 
--- the routine of variable n, at slot p: its expression, from word 0 of a frame of its own, and its memo
+-- the routine of variable n at slot p: its expression, from word 0 of its own frame, and its memo
 abbrev pub routine_code : Core → List (List ℕ) → List (List ℕ × ℕ) → ℕ → ℕ → List Insn
 routine_code e ts rs n p = whole_code e ts rs p ++ memo_tail n

@@ -1,4 +1,4 @@
-//! Lists and maps of parts.
+//! List and map literals.
 //! Listed in `Code/Aggregates` of `expression_code/specs`, with laws in `Gives/Aggregates`.
 
 ghost use Rattle.std.specs.Prelude.{◌≡◌, ◌<◌, ◌+◌, ◌++◌, IfOk, OnOk};
@@ -13,19 +13,19 @@ use expression_code::instructions::{call, mov_reg};
 use insn_codec::{Insn, Register};
 use std::alloc::{AllocError, Global};
 
-/// The slots of an empty list or map before its parts.
+/// The number of slots that create an empty list or map, before its parts.
 pub(crate) const HEAD_SLOTS: usize = 2;
 
-/// The slots after an item that add it to its list.
+/// The number of slots after an item that append it to the list.
 pub(crate) const PUSH_SLOTS: usize = 4;
 
-/// The slot of the store between a key and its value.
+/// The number of slots between a key and its value, for a store.
 pub(crate) const KEY_SLOTS: usize = 1;
 
-/// The slots after the value of a key that put it into its map.
+/// The number of slots after a value that put the entry into the map.
 pub(crate) const PUT_SLOTS: usize = 5;
 
-/// Adds the code of one more item to that of the items of the list in word k.
+/// Appends the code of one more item of the list in word k.
 pub(crate) fn add_item(items: &mut Vec<Insn>, item: &[Insn], k: usize) -> Result<(), AllocError>
     requires { k < frame_words }
     ensures { OnOk result (items.new.items ≡ items.old.items ++ specs.item_code item.now k) }
@@ -40,7 +40,7 @@ pub(crate) fn add_item(items: &mut Vec<Insn>, item: &[Insn], k: usize) -> Result
     Ok(())
 }
 
-/// A list of the items that this code adds to the one in word k.
+/// The code of a list, given the code that appends its items to word k.
 pub(crate) fn list(alloc: Global, items: &[Insn], k: usize) -> Code
     requires { k < frame_words }
     ensures { IfOk result (λ code. code.items ≡ specs.list_code items.now k) }
@@ -50,7 +50,7 @@ pub(crate) fn list(alloc: Global, items: &[Insn], k: usize) -> Code
     Ok(code)
 }
 
-/// Adds the code of one more key and of its value to that of the entries of the map in word k.
+/// Appends the code of one more key and its value, for the map in word k.
 pub(crate) fn add_entry(
     entries: &mut Vec<Insn>,
     key: &[Insn],
@@ -73,7 +73,7 @@ pub(crate) fn add_entry(
     Ok(())
 }
 
-/// A map of the entries that this code puts into the one in word k.
+/// The code of a map, given the code that puts its entries into word k.
 pub(crate) fn map(alloc: Global, entries: &[Insn], k: usize) -> Code
     requires { k < frame_words }
     ensures { IfOk result (λ code. code.items ≡ specs.map_code entries.now k) }

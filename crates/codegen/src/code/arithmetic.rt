@@ -1,4 +1,4 @@
-//! Arithmetic on ints of 64 bits, and the joining of texts and lists.
+//! Arithmetic on 64-bit ints, and concatenation of texts and lists.
 //! Listed in `Code/Arithmetic` of `expression_code/specs`, with laws in `Gives/Arithmetic`.
 
 ghost use Rattle.std.specs.Prelude.{◌≡◌, ◌<◌, ◌≤◌, IfOk};
@@ -13,29 +13,29 @@ use expression_code::references::ERROR;
 use insn_codec::{AluOp, Comparison, Insn, Register, Width};
 use std::alloc::Global;
 
-/// The word of the least int.
+/// The word of the smallest int.
 const LEAST: u64 = 1 << 63;
 
-/// The slots of `int_operands` after its test of R6.
+/// The number of slots of `int_operands` after its test of R6.
 const AFTER_LEFT_KIND: usize = 9;
 
-/// The slots of `int_operands` after its test of R7.
+/// The number of slots of `int_operands` after its test of R7.
 const AFTER_RIGHT_KIND: usize = 6;
 
-/// The slot after the operands of a sum at which operands that are no ints are joined.
+/// The slot after the operands of a sum where operands that are not ints are concatenated.
 const SUM_JOIN_SLOT: usize = 10;
 
-/// The slot after the operands of a difference at which the error is loaded.
+/// The slot after the operands of a difference where the error is loaded.
 const DIFFERENCE_ERROR_SLOT: usize = 8;
 
-/// The slot after the operands of a product at which the error is loaded.
+/// The slot after the operands of a product where the error is loaded.
 const PRODUCT_ERROR_SLOT: usize = 12;
 
-/// The slot after the operands of a quotient or a remainder at which the error is loaded.
+/// The slot after the operands of a quotient or remainder where the error is loaded.
 const DIVIDED_ERROR_SLOT: usize = 9;
 
-/// The ints that R6 and R7 name, into these; where they name no ints, on to the slot so many behind
-/// these.
+/// Replaces the references in R6 and R7 by their ints. If one is not an int, skips this number of
+/// further slots.
 #[tactic(auto, unfolding(expression_code::specs::Code::Arithmetic::int_operands))]
 fn int_operands(slots: usize) -> [Insn; 12]
     requires { slots ≤ 100 }
@@ -57,7 +57,7 @@ fn int_operands(slots: usize) -> [Insn; 12]
     ]
 }
 
-/// A sum or a difference of R6 and R7, and the error where it does not fit.
+/// The sum or difference of R6 and R7, or the error if it overflows.
 fn checked_tail(op: AluOp, below: Comparison, above: Comparison) -> [Insn; 9]
     ensures { result ≡ specs.checked_tail op below above }
 {
@@ -74,7 +74,7 @@ fn checked_tail(op: AluOp, below: Comparison, above: Comparison) -> [Insn; 9]
     ]
 }
 
-/// The product of R6 and R7, and the error where it does not fit.
+/// The product of R6 and R7, or the error if it overflows.
 #[tactic(auto, unfolding(expression_code::specs::Code::Arithmetic::product_tail))]
 fn product_tail() -> [Insn; 12]
     ensures { result ≡ specs.product_tail }
@@ -95,7 +95,7 @@ fn product_tail() -> [Insn; 12]
     ]
 }
 
-/// The quotient or the remainder of R6 by R7, and the error where there is none.
+/// The quotient or remainder of R6 by R7, or the error if there is none.
 fn divided_tail(op: AluOp) -> [Insn; 9]
     ensures { result ≡ specs.divided_tail op }
 {
@@ -112,7 +112,7 @@ fn divided_tail(op: AluOp) -> [Insn; 9]
     ]
 }
 
-/// R6 plus R7, of what they name.
+/// The value in R6 plus the value in R7.
 pub(crate) fn sum(alloc: Global) -> Code
     ensures { IfOk result (λ code. code.items ≡ specs.sum_code) }
 {
@@ -122,7 +122,7 @@ pub(crate) fn sum(alloc: Global) -> Code
     Ok(code)
 }
 
-/// R6 less R7.
+/// The value in R6 minus the value in R7.
 pub(crate) fn difference(alloc: Global) -> Code
     ensures { IfOk result (λ code. code.items ≡ specs.difference_code) }
 {
@@ -131,7 +131,7 @@ pub(crate) fn difference(alloc: Global) -> Code
     Ok(code)
 }
 
-/// R6 times R7.
+/// The product of the values in R6 and R7.
 pub(crate) fn product(alloc: Global) -> Code
     ensures { IfOk result (λ code. code.items ≡ specs.product_code) }
 {
@@ -140,7 +140,7 @@ pub(crate) fn product(alloc: Global) -> Code
     Ok(code)
 }
 
-/// The quotient or the remainder of R6 by R7.
+/// The quotient or remainder of the value in R6 by the value in R7.
 pub(crate) fn divided(alloc: Global, op: AluOp) -> Code
     ensures { IfOk result (λ code. code.items ≡ specs.divided_code op) }
 {
@@ -149,7 +149,7 @@ pub(crate) fn divided(alloc: Global, op: AluOp) -> Code
     Ok(code)
 }
 
-/// The negative of R6, of what it names.
+/// The negation of the value in R6.
 #[tactic(auto, unfolding(expression_code::specs::Code::Arithmetic::negation_tail))]
 pub(crate) fn negation_tail() -> [Insn; 12]
     ensures { result ≡ specs.negation_tail }

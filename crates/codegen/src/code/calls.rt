@@ -1,4 +1,4 @@
-//! Operands, which go into registers.
+//! Loads operands into registers.
 //! Listed in `Code/Calls` of `expression_code/specs`, with laws in `Operators`.
 
 ghost use Rattle.std.specs.Prelude.{◌≡◌, ◌<◌, ◌≤◌, ◌+◌, IfOk};
@@ -15,8 +15,8 @@ use expression_code::simple_operand::SimpleOperand;
 use insn_codec::Register;
 use std::alloc::Global;
 
-/// The part into the register: a simple operand by its own instruction, all else by its code, which
-/// leaves it in R0.
+/// Loads a part into a register. A simple operand takes one instruction; the code of any other part
+/// leaves its value in R0.
 pub(crate) fn operand(alloc: Global, part: &Part, register: Register) -> Code
     ensures { IfOk result (λ code. code.items ≡ specs.operand_code part.now.leaf part.now.code.items register) }
 {
@@ -30,7 +30,8 @@ pub(crate) fn operand(alloc: Global, part: &Part, register: Register) -> Code
     }
 }
 
-/// A left operand before the right one: a simple operand can wait, all else is kept in word k.
+/// Evaluates a left operand before the right one. A simple operand is loaded later; any other value
+/// is stored in word k.
 fn kept(alloc: Global, left: &Part, k: usize) -> Code
     requires { k < frame_words }
     ensures { IfOk result (λ code. code.items ≡ specs.kept_code left.now.leaf left.now.code.items k) }
@@ -43,7 +44,7 @@ fn kept(alloc: Global, left: &Part, k: usize) -> Code
     Ok(code)
 }
 
-/// How many slots that takes.
+/// The number of slots of `kept`.
 pub(crate) fn kept_size(left: &Part) -> usize
     requires { size_of_piece left.now.code.items ≤ part_slot_limit }
     ensures size { result ≡ specs.kept_size left.now.leaf left.now.code.items }
@@ -55,7 +56,7 @@ pub(crate) fn kept_size(left: &Part) -> usize
     }
 }
 
-/// What names the left operand behind the right one.
+/// The left operand after the right one was evaluated.
 fn kept_leaf(left: &Part, k: usize) -> SimpleOperand
     requires { k < frame_words }
     ensures leaf { result ≡ specs.kept_leaf left.now.leaf k }
@@ -64,7 +65,8 @@ fn kept_leaf(left: &Part, k: usize) -> SimpleOperand
     left.leaf.unwrap_or(SimpleOperand::Word(k))
 }
 
-/// Both parts into the registers; a right one that is a simple operand needs no word of the frame.
+/// Loads both parts into registers. A right part that is a simple operand needs no word of the
+/// frame.
 pub(crate) fn operands(
     alloc: Global,
     left: &Part,

@@ -17,39 +17,39 @@ use expression_code::references::{ERROR, FALSE, NULL, TRUE};
 use insn_codec::{Comparison, Insn, Register};
 use std::alloc::Global;
 
-/// The word after a loop's first one, which names the range, with the number of its items.
+/// The word of the number of items, counted from a loop's first word, which holds the range.
 const COUNT: usize = 1;
 
-/// The word with the place of the next item.
+/// The word of the next item's index.
 const PLACE: usize = 2;
 
-/// The word that names the answer so far.
+/// The word of the result so far.
 const ANSWER: usize = 3;
 
-/// The word that names the item.
+/// The word of the current item.
 pub(crate) const ITEM: usize = 4;
 
-/// The words of a loop; its turn begins with the next one.
+/// The number of words of a loop. Its turn uses the words after them.
 pub(crate) const LOOP_WORDS: usize = 5;
 
-/// The slots of a fold between its range and its turn.
+/// The number of slots of a fold between its range and its turn.
 pub(crate) const SLOTS_BEFORE_TURN: usize = 17;
 
-/// The slots that a range without items leaves out beside those of the turn: three of `range_tail`,
-/// the first answer and its store, and those of the loop.
+/// The number of slots, without those of the turn, that are skipped if the range has no items:
+/// three of `range_tail`, the first result and its store, and the loop.
 const NO_RANGE_SLOTS: usize = 17;
 
-/// The slots that a loop at its end leaves out beside those of its turn.
+/// The number of slots, without those of the turn, that a loop skips at its end.
 const EXIT_SLOTS: usize = 8;
 
-/// The slots that a loop goes back beside those of its turn.
+/// The number of slots, without those of the turn, that a loop jumps back.
 const BACK_SLOTS: usize = 7;
 
-/// The slots between the predicate of a `map` and its transform.
+/// The number of slots between the predicate of a `map` and its transform.
 pub(crate) const PREDICATE_SLOTS: usize = 2;
 
-/// R0 names the range; where it is neither list nor map, R0 is the error and so many slots behind
-/// the sixth of these are left out.
+/// R0 holds the range. If it is neither a list nor a map, R0 becomes the error, and this number of
+/// slots after the sixth instruction is skipped.
 fn range_tail(k: usize, slots: usize) -> [Insn; 9]
     requires words { loops.item_word k < frame_words }
     requires near { slots < jump_limit }
@@ -68,7 +68,7 @@ fn range_tail(k: usize, slots: usize) -> [Insn; 9]
     ]
 }
 
-/// The next item, or on to where the answer is loaded.
+/// Loads the next item, or jumps to where the result is loaded.
 fn loop_head(k: usize, slots: usize) -> [Insn; 6]
     requires words { loops.item_word k < frame_words }
     requires near { slots < jump_limit }
@@ -84,8 +84,8 @@ fn loop_head(k: usize, slots: usize) -> [Insn; 6]
     ]
 }
 
-/// Back to the next item, if there is one, and else the answer; a turn that ends the loop goes on
-/// behind these.
+/// Jumps back to the next item if there is one, else loads the result. A turn that ends the loop
+/// continues after this code.
 fn loop_tail(k: usize, slots: usize) -> [Insn; 6]
     requires words { loops.item_word k < frame_words }
     requires near { slots < jump_limit }
@@ -101,7 +101,7 @@ fn loop_tail(k: usize, slots: usize) -> [Insn; 6]
     ]
 }
 
-/// A loop whose turn puts the next answer in the place of the one so far.
+/// A loop whose turn replaces the result so far.
 fn loop_of(alloc: Global, turn: &[Insn], k: usize) -> Code
     requires words { loops.item_word k < frame_words }
     requires near { size_of_piece turn.now ≤ turn_slot_limit }
@@ -114,8 +114,9 @@ fn loop_of(alloc: Global, turn: &[Insn], k: usize) -> Code
     Ok(code)
 }
 
-/// The predicate's value, and the answer so far, which does not decide: a value that decides ends
-/// the loop, the other truth leaves the answer, and what is neither makes it the error.
+/// Combines the predicate's value with the result so far, which does not decide. A value that
+/// decides ends the loop. The other truth keeps the result. Any other value makes the result the
+/// error.
 fn absorbing_turn(decides: i32, other: i32, k: usize) -> [Insn; 4]
     requires { loops.item_word k < frame_words }
     ensures { result ≡ specs.absorbing_turn decides other k }
@@ -128,8 +129,8 @@ fn absorbing_turn(decides: i32, other: i32, k: usize) -> [Insn; 4]
     ]
 }
 
-/// The predicate's value in R0, counted: the answer so far is false for none, true for one, null
-/// for more, and the error.
+/// Counts the predicate's value in R0. The result so far is false for no match, true for one, null
+/// for more, or the error.
 #[tactic(auto, unfolding(expression_code::specs::Code::Folds::exists_one_turn))]
 fn exists_one_turn(k: usize) -> [Insn; 9]
     requires { loops.item_word k < frame_words }
@@ -148,7 +149,7 @@ fn exists_one_turn(k: usize) -> [Insn; 9]
     ]
 }
 
-/// The item behind the answer so far, where the predicate is true.
+/// Appends the item to the result so far if the predicate is true.
 #[tactic(auto, unfolding(expression_code::specs::Code::Folds::filter_turn))]
 fn filter_turn(k: usize) -> [Insn; 8]
     requires { loops.item_word k < frame_words }
@@ -166,7 +167,7 @@ fn filter_turn(k: usize) -> [Insn; 8]
     ]
 }
 
-/// The transform's value behind the answer so far.
+/// Appends the transform's value to the result so far.
 fn map_turn(k: usize) -> [Insn; 4]
     requires { loops.item_word k < frame_words }
     ensures { result ≡ specs.map_turn k }
@@ -179,7 +180,7 @@ fn map_turn(k: usize) -> [Insn; 4]
     ]
 }
 
-/// The transform where the predicate is true.
+/// Evaluates the transform if the predicate is true.
 #[tactic(auto, using(crate::proofs::Lengths::size_map_where))]
 fn map_where_turn(alloc: Global, transform: &[Insn], k: usize) -> Code
     requires words { loops.item_word k < frame_words }
@@ -205,7 +206,7 @@ fn map_where_turn(alloc: Global, transform: &[Insn], k: usize) -> Code
     Ok(code)
 }
 
-/// A predicate or transform, and behind it what makes the next answer.
+/// A predicate or transform, followed by the code that computes the next result.
 #[tactic(auto, using(crate::proofs::Lengths::turn_near))]
 fn turn_of(alloc: Global, part: &[Insn], tail: &[Insn]) -> Code
     requires { size_of_piece part.now + size_of_piece tail.now ≤ turn_slot_limit }
@@ -217,8 +218,8 @@ fn turn_of(alloc: Global, part: &[Insn], tail: &[Insn]) -> Code
     Ok(code)
 }
 
-/// The range, the answer before the first item, and the loop, whose turn is this part with these
-/// instructions behind it.
+/// The range, the result before the first item, and the loop. Its turn is this part followed by
+/// these instructions.
 fn fold(alloc: Global, range: &[Insn], first: Insn, part: &[Insn], tail: &[Insn], k: usize) -> Code
     requires words { loops.item_word k < frame_words }
     requires near { size_of_piece part.now + size_of_piece tail.now ≤ turn_slot_limit }
@@ -236,7 +237,7 @@ fn fold(alloc: Global, range: &[Insn], first: Insn, part: &[Insn], tail: &[Insn]
     Ok(code)
 }
 
-/// Whether the predicate is true of one item alone.
+/// Whether the predicate is true for exactly one item.
 #[tactic(auto, using(crate::proofs::Lengths::size_by_length))]
 fn exists_one(alloc: Global, range: &[Insn], predicate: &[Insn], k: usize) -> Code
     requires words { loops.item_word k < frame_words }
@@ -259,7 +260,7 @@ fn exists_one(alloc: Global, range: &[Insn], predicate: &[Insn], k: usize) -> Co
     Ok(code)
 }
 
-/// What the transform makes of each item of which the predicate is true.
+/// The transformed values of the items for which the predicate is true.
 pub(crate) fn map_where(
     alloc: Global,
     range: &[Insn],
@@ -275,7 +276,7 @@ pub(crate) fn map_where(
     fold(alloc, range, call(helpers::LIST_NEW), predicate, &tail, k)
 }
 
-/// The macro with one part, its predicate or its transform.
+/// A macro with one part, which is its predicate or its transform.
 #[tactic(auto, using(crate::proofs::Lengths::size_by_length, crate::proofs::Walks::same_code))]
 pub(crate) fn macro_of(alloc: Global, found: Macro, range: &[Insn], part: &[Insn], k: usize) -> Code
     requires words { loops.item_word k < frame_words }

@@ -1,4 +1,4 @@
-//! Literals of null, truths, ints and texts.
+//! Literals: null, bools, ints and texts.
 //! Listed in `Code/Literals` and `Code/Leaves` of `expression_code/specs`, with laws in
 //! `Gives/Leaves`.
 
@@ -22,24 +22,24 @@ use guest_memory::CONSTANTS;
 use insn_codec::{Insn, Register};
 use std::alloc::Global;
 
-/// The greatest immediate. An image has no room for a text of as many bytes.
+/// The greatest immediate. The constants of an image cannot hold a text of this length.
 const GREATEST_IMMEDIATE: usize = 0x7fff_ffff;
 
-/// Where the text, which is among these, begins in memory.
+/// The address of this text, which is one of the texts.
 fn address_of(texts: &[String], text: &str) -> u64
     ensures { result ≡ specs.address_of (map string_bytes texts.now) text.now }
 {
     CONSTANTS.saturating_add(place_of(texts, text).unwrap_or(0))
 }
 
-/// The length of a text into a register.
+/// Loads the length of a text into a register.
 fn put_length(dst: Register, bytes: usize) -> Insn
     ensures { result ≡ put_length_insn dst bytes }
 {
     mov_imm(dst, bytes.min(GREATEST_IMMEDIATE) as i32)
 }
 
-/// The address and the length of a text into two registers.
+/// Loads the address and the length of a text into two registers.
 pub(crate) fn text_range(
     texts: &[String],
     text: &str,
@@ -54,7 +54,7 @@ pub(crate) fn text_range(
     ]
 }
 
-/// A truth, which has a reference of its own.
+/// A bool; it has its own reference.
 fn truth_leaf(truth: bool) -> SimpleOperand
     ensures leaf { result ≡ base.truth_leaf truth }
     ensures word { IsFrameWord result }
@@ -62,7 +62,7 @@ fn truth_leaf(truth: bool) -> SimpleOperand
     SimpleOperand::Reference(if truth { TRUE } else { FALSE })
 }
 
-/// The simple operand that a literal is.
+/// The simple operand for a literal, if there is one.
 pub(crate) fn literal_leaf(literal: &Literal) -> Option<SimpleOperand>
     ensures leaf { result ≡ specs.literal_leaf (literal_view literal.now) }
     ensures word { IfSome result IsFrameWord }
@@ -74,14 +74,14 @@ pub(crate) fn literal_leaf(literal: &Literal) -> Option<SimpleOperand>
     }
 }
 
-/// An int, from its word.
+/// An int, created from its word.
 fn int(alloc: Global, n: i64) -> Code
     ensures { IfOk result (λ code. code.items ≡ base.int_code n) }
 {
     [lddw(R1, n.cast_unsigned()), call(helpers::INT_NEW)].to_vec(alloc)
 }
 
-/// A text, from its bytes among the constants.
+/// A text, created from its bytes among the constants.
 fn text(alloc: Global, texts: &[String], text: &str) -> Code
     ensures { IfOk result (λ code. code.items ≡ base.text_code (specs.address_of (map string_bytes texts.now) text.now) (length text.now)) }
 {
@@ -90,7 +90,7 @@ fn text(alloc: Global, texts: &[String], text: &str) -> Code
     Ok(code)
 }
 
-/// The literal's value; a text is among these.
+/// The value of a literal. The text of a text literal is one of the texts.
 pub(crate) fn literal(alloc: Global, texts: &[String], literal: &Literal) -> Code
     ensures { IfOk result (λ code. code.items ≡ specs.literal_code (map string_bytes texts.now) (literal_view literal.now)) }
 {

@@ -15,20 +15,20 @@ use expression_code::references::{ERROR, FALSE, TRUE};
 use insn_codec::{Comparison, Insn, Register};
 use std::alloc::Global;
 
-/// The slots between the sides of an operator.
+/// The number of slots between the sides of an operator.
 pub(crate) const LEFT_SLOTS: usize = 2;
 
-/// The slots after a condition.
+/// The number of slots after a condition.
 pub(crate) const TERNARY_JUMP_SLOTS: usize = 2;
 
-/// The slot of the jump between two branches.
+/// The slot of the jump between the branches.
 pub(crate) const BRANCH_SLOTS: usize = 1;
 
-/// The slots that a left side which decides leaves out beside those of the right one.
+/// The number of slots, without those of the right side, that are skipped if the left side decides.
 const ABSORBED_SLOTS: usize = 6;
 
-/// The operator for which the one truth decides, with its right side in R0 and its left side, which
-/// does not decide, in word k.
+/// The result of an operator that `decides` decides, given its right side in R0 and its left side,
+/// which does not decide, in word k.
 fn absorbing_tail(decides: i32, other: i32, k: usize) -> [Insn; 5]
     requires { k < frame_words }
     ensures { result ≡ specs.absorbing_tail decides other k }
@@ -42,8 +42,8 @@ fn absorbing_tail(decides: i32, other: i32, k: usize) -> [Insn; 5]
     ]
 }
 
-/// The operator for which the one truth decides: where it is the left side's, the right one is left
-/// out. Where neither side decides, both sides have to be the other truth, or the answer is the error.
+/// A logical operator that `decides` decides. If the left side decides, the right side is skipped.
+/// If neither side decides, both must be the other truth, else the result is the error.
 #[tactic(auto, using(crate::proofs::Lengths::put_together))]
 pub(crate) fn absorbing(
     alloc: Global,
@@ -66,14 +66,14 @@ pub(crate) fn absorbing(
     Ok(code)
 }
 
-/// The other truth than R1.
+/// The negation of R1.
 pub(crate) fn not_tail() -> [Insn; 1]
     ensures { result ≡ specs.not_tail }
 {
     [call(helpers::NOT)]
 }
 
-/// The chosen side, or the error where the condition is neither true nor false.
+/// The chosen branch, or the error if the condition is neither true nor false.
 pub(crate) fn ternary(alloc: Global, condition: &[Insn], yes: &[Insn], no: &[Insn]) -> Code
     requires { size_of_piece yes.now + size_of_piece no.now ≤ part_slot_limit }
     ensures { IfOk result (λ code. code.items ≡ specs.ternary_code condition.now yes.now no.now) }

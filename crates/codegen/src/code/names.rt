@@ -1,4 +1,4 @@
-//! Names, and the functions and tests that names stand for.
+//! Names, and the functions and tests that calls name.
 //! Listed in `Code/Names` and `Code/Leaves` of `expression_code/specs`, with laws in
 //! `Gives/Leaves`.
 
@@ -27,7 +27,7 @@ use expression_code::simple_operand::SimpleOperand;
 use insn_codec::Register;
 use std::alloc::Global;
 
-/// The word that holds the item of this iteration name.
+/// The word that holds the item with this iteration name.
 fn word_named(name: &str, words: &FrameWords) -> Option<usize>
     requires { AreItems (words_of words.now).items }
     ensures value { result ≡ lookup name.now (words_of words.now).items }
@@ -45,7 +45,7 @@ fn word_named(name: &str, words: &FrameWords) -> Option<usize>
     }
 }
 
-/// The reference of the root of this name, and the error's where there is none.
+/// The reference of the root with this name; the error's if there is none.
 #[tactic(auto, unfolding(expression_code::specs::Code::Names::root_reference))]
 pub(crate) fn root_reference(name: &str) -> i32
     ensures { result ≡ names.root_reference name.now }
@@ -68,7 +68,7 @@ pub(crate) fn leaf(alloc: Global, leaf: SimpleOperand) -> Code
     [leaf_into(leaf, Register::R0)].to_vec(alloc)
 }
 
-/// What a name stands for.
+/// The operand that a name denotes.
 pub(crate) fn name_leaf(name: &str, words: &FrameWords) -> SimpleOperand
     requires { AreWords (words_of words.now) }
     ensures leaf { result ≡ names.name_leaf name.now (words_of words.now).items }
@@ -80,14 +80,14 @@ pub(crate) fn name_leaf(name: &str, words: &FrameWords) -> SimpleOperand
     }
 }
 
-/// The code of a part that no expression has which the type checker takes: it gives the error.
+/// The error, for parts that the type checker never accepts.
 pub(crate) fn nothing(alloc: Global) -> Code
     ensures { IfOk result (λ code. code.items ≡ specs.no_code) }
 {
     leaf(alloc, SimpleOperand::Reference(ERROR))
 }
 
-/// The number of code points, items or entries of a part.
+/// The number of code points, items or entries.
 fn size_of(alloc: Global, of: &Part) -> Code
     ensures { IfOk result (λ code. code.items ≡ operand_code of.now.leaf of.now.code.items Register.R1 ++ size_tail) }
 {
@@ -96,7 +96,7 @@ fn size_of(alloc: Global, of: &Part) -> Code
     Ok(code)
 }
 
-/// The text of a part.
+/// The conversion to a text.
 fn text_of(alloc: Global, of: &Part) -> Code
     ensures { IfOk result (λ code. code.items ≡ operand_code of.now.leaf of.now.code.items Register.R6 ++ string_tail_code) }
 {
@@ -105,7 +105,7 @@ fn text_of(alloc: Global, of: &Part) -> Code
     Ok(code)
 }
 
-/// The function that a call names, of a part.
+/// A function call with one argument.
 pub(crate) fn function(alloc: Global, callee: &Callee, of: &Part) -> Code
     ensures { IfOk result (λ code. code.items ≡ specs.function_code (function_in (callee_view callee.now)) of.now.leaf of.now.code.items) }
 {
@@ -117,7 +117,7 @@ pub(crate) fn function(alloc: Global, callee: &Callee, of: &Part) -> Code
     }
 }
 
-/// The method without arguments that a call names, of a part.
+/// A method call without arguments.
 pub(crate) fn method(alloc: Global, callee: &Callee, of: &Part) -> Code
     ensures { IfOk result (λ code. code.items ≡ specs.method_function_code (function_in (callee_view callee.now)) of.now.leaf of.now.code.items) }
 {
@@ -128,7 +128,7 @@ pub(crate) fn method(alloc: Global, callee: &Callee, of: &Part) -> Code
     }
 }
 
-/// The helper that makes the test.
+/// The helper for this test.
 fn test_helper(test: TextTest) -> i32
     ensures { result ≡ test_helper test }
 {
@@ -139,7 +139,7 @@ fn test_helper(test: TextTest) -> i32
     }
 }
 
-/// The test that a call names, of a text for a part.
+/// A test of a text by another text.
 pub(crate) fn test(alloc: Global, callee: &Callee, left: &Part, right: &Part, k: usize) -> Code
     requires { k < frame_words }
     ensures { IfOk result (λ code. code.items ≡ specs.test_code (test_in (callee_view callee.now)) left.now.leaf left.now.code.items right.now.leaf right.now.code.items k) }

@@ -22,7 +22,7 @@ use expression_code::references::{FALSE, TRUE};
 use insn_codec::{AluOp, Insn, Register};
 use std::alloc::Global;
 
-/// The operator, of a part.
+/// A unary operator.
 pub(crate) fn unary(alloc: Global, op: UnaryOperator, of: &Part) -> Code
     ensures { IfOk result (λ code. code.items ≡ specs.unary_code op of.now.leaf of.now.code.items) }
 {
@@ -40,7 +40,7 @@ pub(crate) fn unary(alloc: Global, op: UnaryOperator, of: &Part) -> Code
     }
 }
 
-/// How many slots stand before the operator's right operand.
+/// The number of slots before the operator's right operand.
 pub(crate) fn left_size(op: BinaryOperator, left: &Part) -> usize
     requires { size_of_piece left.now.code.items ≤ part_slot_limit }
     ensures size { result ≡ specs.left_size op left.now.leaf left.now.code.items }
@@ -52,12 +52,12 @@ pub(crate) fn left_size(op: BinaryOperator, left: &Part) -> usize
     }
 }
 
-/// The registers of the operator's operands.
+/// The registers for the operator's operands.
 fn registers(op: BinaryOperator) -> (Register, Register)
     ensures { result ≡ specs.registers op }
 {
     match op {
-        // `a > b` is `b < a`, and `a <= b` its opposite.
+        // `a > b` is `b < a`, and `a <= b` its negation.
         BinaryOperator::LessEqual | BinaryOperator::Greater => (R2, R1),
         BinaryOperator::Add
         | BinaryOperator::Subtract
@@ -68,20 +68,20 @@ fn registers(op: BinaryOperator) -> (Register, Register)
     }
 }
 
-/// The opposite of the helper's answer on R1 and R2.
+/// The negation of the helper's result for R1 and R2.
 fn opposite_of(helper: i32) -> [Insn; 3]
     ensures { result ≡ comparison.opposite_of (Insn.Call helper ∷ []) }
 {
     [call(helper), mov_reg(R1, R0), call(NOT)]
 }
 
-/// What the operator makes of both operands.
+/// The operator's code after both operands.
 #[tactic(auto, unfolding(crate::specs::Code::Expressions::binary_tail))]
 fn binary_tail(alloc: Global, op: BinaryOperator) -> Code
     ensures { IfOk result (λ code. code.items ≡ specs.binary_tail op) }
 {
     match op {
-        // These two leave early, so their code is no piece behind both operands.
+        // These two may skip the right side, so they have no code after both operands.
         BinaryOperator::Or | BinaryOperator::And => Ok(Vec::new(alloc)),
         BinaryOperator::Less | BinaryOperator::Greater => [call(LESS)].to_vec(alloc),
         BinaryOperator::LessEqual | BinaryOperator::GreaterEqual => opposite_of(LESS).to_vec(alloc),
@@ -96,7 +96,7 @@ fn binary_tail(alloc: Global, op: BinaryOperator) -> Code
     }
 }
 
-/// The operator, of both sides.
+/// A binary operator.
 pub(crate) fn binary(alloc: Global, op: BinaryOperator, left: &Part, right: &Part, k: usize) -> Code
     requires word { k < frame_words }
     requires near { size_of_piece right.now.code.items ≤ part_slot_limit }

@@ -1,4 +1,4 @@
-//! Fields of roots whose values are kept.
+//! Fields of roots whose values are kept for later uses.
 //! A path is in `Paths` of `expression_code/specs`, with laws in `Gives/Paths`.
 
 ghost use Rattle.std.specs.Prelude.{◌≡◌, map, option_map, string_bytes, IfOk, IfSome};
@@ -19,7 +19,7 @@ use cel_macros::Core;
 use expression_code::simple_operand::SimpleOperand;
 use std::alloc::Global;
 
-/// Word 0, where it keeps this field of the expression.
+/// Word 0, if it keeps this field of the expression.
 pub(crate) fn field_leaf(of: &Core, field: &str, words: &FrameWords) -> Option<SimpleOperand>
     ensures leaf { result ≡ specs.field_leaf (words_of words.now).path (core_view of.now) field.now }
     ensures word { IfSome result IsFrameWord }
@@ -35,7 +35,7 @@ pub(crate) fn field_leaf(of: &Core, field: &str, words: &FrameWords) -> Option<S
     }
 }
 
-/// This field of a root, and else another path.
+/// This field of a root, or else the other path.
 fn path_or<'a>(of: &'a Core, field: &'a str, other: Option<Path<'a>>) -> Option<Path<'a>>
     ensures { option_map path_view result ≡ whole.path_or (core_view of.now) field.now (option_map path_view other.entry) }
 {
@@ -48,7 +48,7 @@ fn path_or<'a>(of: &'a Core, field: &'a str, other: Option<Path<'a>>) -> Option<
     }
 }
 
-/// The field of a root with which the expression begins.
+/// The field of a root that the expression evaluates first.
 #[tactic(auto, unfolding(crate::specs::Code::Whole::first_path))]
 pub(crate) fn first_path(core: &Core) -> Option<Path<'_>>
     ensures { option_map path_view result ≡ whole.first_path (core_view core.now) }
@@ -72,7 +72,7 @@ pub(crate) fn first_path(core: &Core) -> Option<Path<'_>>
     }
 }
 
-/// The code that walks the path, and leaves its value in R0.
+/// The code that evaluates the path and leaves its value in R0.
 pub(crate) fn walk(alloc: Global, texts: &[String], path: Path) -> Code
     ensures { IfOk result (λ code. code.items ≡ path_code (map string_bytes texts.now) (path_view path.entry)) }
 {

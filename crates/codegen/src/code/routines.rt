@@ -1,4 +1,4 @@
-//! Routines among other code.
+//! Routines inside other code.
 
 ghost use Rattle.std.specs.Prelude.{◌≡◌, ◌<◌, ◌≤◌, ◌++◌, IfOk};
 ghost use Rattle.codegen.specs.Added.{passed};
@@ -12,8 +12,7 @@ use crate::instructions::{ja, size};
 use insn_codec::Insn;
 use std::alloc::Global;
 
-/// The routine of variable `i`, whose expression has this code, behind a jump over it. The error
-/// says that there is no memory for it.
+/// The routine of variable `i`, whose expression has this code, after a jump over it.
 #[tactic(auto, using(crate::proofs::Lengths::size_append))]
 pub(crate) fn passed_routine(alloc: Global, body: &[Insn], i: usize) -> Code
     requires short { size_of_piece body.now ≤ turn_slot_limit }

@@ -1,4 +1,4 @@
-//! Selection, indices, and functions of texts and sizes.
+//! Field selection, indexing, and conversion to text.
 //! Listed in `Code/Selection` of `expression_code/specs`, with laws in `Gives/Selection`.
 
 ghost use Rattle.std.specs.Prelude.{◌≡◌, ◌<◌, ◌++◌, length, map, string_bytes, IfOk};
@@ -17,7 +17,7 @@ use expression_code::instructions::{call, jump_if_imm, mov_reg};
 use insn_codec::{Comparison, Insn, Register};
 use std::alloc::Global;
 
-/// The helper's answer on a part, and a text among these.
+/// Calls the helper with a part and one of the texts.
 fn call_with_text(alloc: Global, of: &Part, helper: i32, texts: &[String], text: &str) -> Code
     ensures { IfOk result (λ code. code.items ≡ operand_code of.now.leaf of.now.code.items Register.R1 ++ call_on_text helper (map string_bytes texts.now) text.now) }
 {
@@ -27,21 +27,21 @@ fn call_with_text(alloc: Global, of: &Part, helper: i32, texts: &[String], text:
     Ok(code)
 }
 
-/// The field of this name.
+/// The field with this name.
 pub(crate) fn select(alloc: Global, of: &Part, texts: &[String], field: &str) -> Code
     ensures { IfOk result (λ code. code.items ≡ operand_code of.now.leaf of.now.code.items Register.R1 ++ specs.field_tail (address_of (map string_bytes texts.now) field.now) (length field.now)) }
 {
     call_with_text(alloc, of, helpers::FIELD, texts, field)
 }
 
-/// Whether there is a field of this name.
+/// Whether there is a field with this name.
 pub(crate) fn has(alloc: Global, of: &Part, texts: &[String], field: &str) -> Code
     ensures { IfOk result (λ code. code.items ≡ operand_code of.now.leaf of.now.code.items Register.R1 ++ specs.has_tail (address_of (map string_bytes texts.now) field.now) (length field.now)) }
 {
     call_with_text(alloc, of, helpers::HAS, texts, field)
 }
 
-/// What R6 names as a text: a text as it is, and of an int its decimal text.
+/// Converts the value in R6 to a text: a text is unchanged, an int becomes decimal.
 pub(crate) fn string_tail() -> [Insn; 7]
     ensures { result ≡ specs.string_tail }
 {

@@ -1,4 +1,4 @@
-//! Variables, whose routines fill their memos.
+//! Variables. The first use of a variable runs its routine, which stores the value in a memo.
 //! Listed in `Variables` of `expression_code/specs`, with laws there and in `Scopes`.
 
 ghost use Rattle.std.specs.Prelude.{◌≡◌, ◌<◌, ◌≤◌, IfOk, IfSome};
@@ -17,10 +17,10 @@ use guest_memory::SCRATCH;
 use insn_codec::{Comparison, Insn, Register};
 use std::alloc::Global;
 
-/// The slots of the use of a variable.
+/// The number of slots of a use of a variable.
 const USE_SLOTS: i32 = 6;
 
-/// Where the memo of variable i begins in memory.
+/// The address of the memo of variable i.
 fn memo_address(i: usize) -> u64
     requires { i < memo_limit }
     ensures { result ≡ address_of_memo i }
@@ -28,8 +28,8 @@ fn memo_address(i: usize) -> u64
     SCRATCH + 8 * i as u64
 }
 
-/// The value of variable i: its memo has 1 more than the reference. Where the memo is empty the
-/// value is its routine's, which begins at this offset from the slot behind the call.
+/// The value of variable i. Its memo holds the reference plus 1. If the memo is empty, the routine
+/// is called; it begins at this offset from the slot after the call.
 pub(crate) fn variable_use(i: usize, offset: i32) -> [Insn; 5]
     requires { i < memo_limit }
     ensures { result ≡ specs.use_code i offset }
@@ -43,7 +43,7 @@ pub(crate) fn variable_use(i: usize, offset: i32) -> [Insn; 5]
     ]
 }
 
-/// The end of the routine of variable i, which fills the memo with 1 more than the reference in R0.
+/// The end of the routine of variable i. Stores the reference in R0 plus 1 in the memo.
 pub(crate) fn memo_tail(i: usize) -> [Insn; 5]
     requires { i < memo_limit }
     ensures { result ≡ specs.memo_tail i }
@@ -57,7 +57,8 @@ pub(crate) fn memo_tail(i: usize) -> [Insn; 5]
     ]
 }
 
-/// The number of the first variable of this name that has a routine, and the routine's first slot.
+/// The number of the first variable with this name that has a routine, and the routine's first
+/// slot.
 #[tactic(auto, using(crate::proofs::Walks::found))]
 fn routine_named(name: &str, around: &NameTable) -> Option<(usize, u32)>
     ensures routine { result ≡ first_named name.now (routines_within around.now) }
@@ -73,7 +74,7 @@ fn routine_named(name: &str, around: &NameTable) -> Option<(usize, u32)>
     None
 }
 
-/// The use, at this slot, of the variable of this name.
+/// A use, at this slot, of the variable with this name.
 pub(crate) fn variable(alloc: Global, name: &str, around: &NameTable, slot: usize) -> Code
     requires { slot ≤ slot_reach }
     ensures { IfOk result (λ code. code.items ≡ variable_code (first_named name.now (routines_within around.now)) slot) }

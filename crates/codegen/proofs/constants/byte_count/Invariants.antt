@@ -1,3 +1,5 @@
+-- Loop invariant of `constants::byte_count`.
+
 use Rattle.codegen.proofs.Prelude.{◌≡◌, ◌+◌, map, drop, length, string_bytes, saturated, joined}
 use Rattle.codegen.proofs.constants.byte_count.Given as goal
 

@@ -1,3 +1,5 @@
+-- Loop invariant of `constants::joined`.
+
 use Rattle.codegen.proofs.Prelude.{◌≡◌, ◌++◌, map, drop, string_bytes}
 use Rattle.codegen.specs.Constants as specs
 use Rattle.codegen.proofs.constants.joined.Given as goal

@@ -1,3 +1,5 @@
+-- Loop invariant of `constants::place_of`.
+
 use Rattle.codegen.proofs.Prelude.{◌≡◌, ◌+◌, map, drop, option_map, string_bytes, saturated}
 use Rattle.codegen.specs.Constants as specs
 use Rattle.codegen.proofs.constants.place_of.Given as goal

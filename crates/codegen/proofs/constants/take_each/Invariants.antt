@@ -1,3 +1,5 @@
+-- Loop invariant of `constants::take_each`.
+
 use Rattle.codegen.proofs.Prelude.{◌≡◌, length, map, drop, take, string_bytes, with_texts}
 use Rattle.codegen.proofs.constants.take_each.Given as goal
 

@@ -1,3 +1,5 @@
+-- Proofs of `emission::variable`: the result meets the contract.
+
 use Rattle.codegen.proofs.Prelude.{arith, core_view}
 use Rattle.codegen.proofs.Layer.{emits_routine}
 use Rattle.codegen.proofs.emission.variable.Goals as goal

@@ -1,3 +1,5 @@
+-- Loop invariant of `emitter::slots_of`.
+
 use Rattle.codegen.proofs.Prelude.{◌≡◌, ◌++◌, drop, slots}
 use Rattle.codegen.proofs.emitter.slots_of.Given as goal
 

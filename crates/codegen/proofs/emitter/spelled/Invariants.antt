@@ -1,3 +1,5 @@
+-- Loop invariant of `emitter::spelled`.
+
 use Rattle.codegen.proofs.Prelude.{◌≡◌, ◌++◌, drop, slot_spellings}
 use Rattle.codegen.proofs.emitter.spelled.Given as goal
 

@@ -1,3 +1,5 @@
+-- Loop invariants and the termination measures of `expressions::code`.
+
 use Rattle.codegen.proofs.Prelude.{◌≡◌, ◌+◌, ◌*◌, ◌≤◌, ◌++◌, drop, core_view, cores, core_entries, core_pair, needs, entries_need, nodes, nodes_of, entries_nodes, items_code, entries_code, words_of, texts_within, routines_within, word_limit, slot_reach, part_slots_per_node, callee_view}
 use Rattle.std.specs.Prelude as list
 use Rattle.cel_macros.specs.CoreTree as core

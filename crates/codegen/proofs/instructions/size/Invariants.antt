@@ -1,3 +1,5 @@
+-- Loop invariant of `instructions::size`.
+
 use Rattle.codegen.proofs.Prelude.{◌≡◌, ◌+◌, drop}
 use Rattle.expression_code.specs.Pieces as specs
 use Rattle.codegen.proofs.instructions.size.Given as goal

@@ -1,3 +1,5 @@
+-- Proofs of `laws::costs_stand`: the result meets the contract.
+
 use Rattle.codegen.proofs.Prelude.{refl, name_value, variable_value, function_named, test_named, macro_named, is_map, is_has, is_variables, meaning, cost}
 use Rattle.codegen.proofs.laws.costs_stand.Goals as goal
 

@@ -1,3 +1,5 @@
+-- Loop invariants of `texts::texts`.
+
 use Rattle.codegen.proofs.Prelude.{◌≡◌, ◌++◌, drop, string_bytes, core_view, cores, core_entries, core_pair, plain_trees, plain_entries, texts_of_each, texts_of_entries, HaveLiterals, EntriesHaveLiterals}
 use Rattle.std.specs.Prelude as list
 use Rattle.codegen.proofs.texts.+texts.Given as goal

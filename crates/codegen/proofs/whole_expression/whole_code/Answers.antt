@@ -1,3 +1,5 @@
+-- Proofs of `whole_expression::whole_code`: the result meets the contract.
+
 use Rattle.codegen.proofs.Prelude.{arith, ◌≡◌, option_map, Some, ap, sym, ◌∙◌, core_view, front_of, shorter, path_view, routines_within, texts_within}
 use Rattle.codegen.proofs.Whole.{whole_keeping, whole_plain}
 use Rattle.codegen.proofs.whole_expression.whole_code.Goals as goal

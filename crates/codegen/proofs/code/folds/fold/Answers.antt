@@ -1,7 +1,9 @@
+-- Proofs of `code::folds::fold`: the result meets the contract.
+
 use Rattle.codegen.proofs.Prelude.{◌≡◌, ℕ, ◌+◌, List, [], ◌∷◌, ◌++◌, ap, ◌∙◌, arith, append_assoc, Insn, R0, store, fold_code, loop_code, range_tail, size, loop_size}
 use Rattle.codegen.proofs.code.folds.fold.Goals as goal
 
--- the parts of a fold, put together from left to right
+-- the parts of a fold, joined from left to right
 joined : (k n : ℕ) (range : List Insn) (first : Insn) (turn : List Insn) → size (first ∷ []) ≡ 1 → n ≡ size turn + 17
     → (((range ++ range_tail k n) ++ first ∷ []) ++ store (k + 3) R0 ∷ []) ++ loop_code k turn ≡ fold_code k range (first ∷ []) turn
 joined k n range first turn one is =

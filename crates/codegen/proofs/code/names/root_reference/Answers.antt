@@ -1,3 +1,5 @@
+-- Proofs of `code::names::root_reference`: the result meets the contract.
+
 use Rattle.codegen.proofs.Prelude.{◌≡◌, ℕ, List, false, rules, bytes_eq, codes, bytes_eq-Decides, root_reference}
 use Rattle.codegen.proofs.code.names.root_reference.Goals as goal
 

@@ -1,3 +1,5 @@
+-- Loop invariant of `code::variables::routine_named`.
+
 use Rattle.codegen.proofs.Prelude.{◌≡◌, drop, routine_named, routines_within}
 use Rattle.codegen.proofs.Walks.{counted}
 use Rattle.codegen.proofs.code.variables.routine_named.Given as goal
