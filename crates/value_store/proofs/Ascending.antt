@@ -1,4 +1,4 @@
--- The keys of an object stand in order, as a `BTreeMap` keeps them.
+-- The keys of an object are in order, since a `BTreeMap` keeps them so.
 use Rattle.value_store.proofs.Prelude.{◌≡◌, List, [], ◌∷◌, String, Global, string_cmp, string_bytes, nat_cmp, Less, slice_cmp, AllByRecursion, members_view, Entry, Ascend, member_keys}
 use Rattle.std.specs.List.Sorted.{IsStrictlySortedBy}
 use Rattle.std.specs.Map.{keys_of}

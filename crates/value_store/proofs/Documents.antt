@@ -1,4 +1,4 @@
--- The value of a document, and when there is none.
+-- The value of a document, and the documents without one.
 use Rattle.value_store.proofs.Prelude.{◌≡◌, Some, None, refl, arith, true, false, is_some, not, plain_value, plain_items, plain_entries, value_of, items_value, members_value, has_other, items_have_other, members_have_other}
 use Rattle.serde_json.specs.Data as json
 

@@ -1,10 +1,10 @@
--- Keys in byte order, in maps that are looked into, lengthened and placed.
+-- The order of keys is kept by lookup in maps, insertion into them and placing.
 use Rattle.value_store.proofs.Prelude.{◌≡◌, ℕ, suc, List, [], ◌∷◌, ◌++◌, Option, Some, Less, Greater, nat_cmp, false, bytes_eq, refl, arith, rules, false_from_ne_true, nat_list_cmp_total, is_eq-slice_cmp, bytes_eq-Decides, slice_cmp, AllByRecursion, is_eq, IfSome, option_map, option_and_then, slice_get, Value, Items, no_items, item, Entries, no_entries, entry, ValueOrError, keys_of, values_of, list_of, items_push, items_join, has_key, inserted, inserted_by, Ascend, IsOrdered, AreItemsOrdered, AreEntriesOrdered, IsResultOrdered, AreOrdered, value_at, entries_part, part_at, join_of, joined, push_of, pushed, put_of, put_in, placed, IsOrderedAt, InsertedInOrder, InsertedOnce, KeepsOrder}
 use Rattle.std.proofs.Common.{Ordering}
 use Rattle.std.specs.List.Sorted.{IsStrictlySortedBy}
 use Rattle.value_store.specs.Value as kind
 
--- a key is below each of these
+-- a key is less than each of these
 abbrev pub BelowAll : List ℕ → List (List ℕ) → Type 0
 BelowAll k ks = AllByRecursion (λ l. slice_cmp nat_cmp k l ≡ Less) ks
 
@@ -15,7 +15,7 @@ below_rest : (j k : List ℕ) (ks : List (List ℕ)) → slice_cmp nat_cmp j k �
 below_rest j k [] e h = tt
 below_rest j k (l ∷ ks) e h = grind (arith, nat_list_cmp_total, below_rest j k ks e h.1)
 
--- what is below the key and all entries is below them all together
+-- a key less than the new key and all others is less than the keys after the insertion
 below_inserted : (first key : List ℕ) (x : Value) (es : Entries) → slice_cmp nat_cmp first key ≡ Less → BelowAll first (keys_of es)
     → IfSome (inserted key x es) (λ more. BelowAll first (keys_of more))
 below_inserted first key x no_entries a b = (a, tt)
@@ -33,7 +33,7 @@ unfolding IsStrictlySortedBy
 inserted_in_order key x no_entries up = (tt, tt)
 inserted_in_order key x (entry k v more) up = grind (arith, ascends_by, nat_cmp, below_inserted, inserted_in_order key x more up.1)
 
--- a key below all is none of them
+-- a key less than all others is not among them
 apart : (j k : List ℕ) → is_eq (slice_cmp nat_cmp j k) ≡ false → bytes_eq k j ≡ false
 apart j k e = grind (arith, false_from_ne_true, bytes_eq-Decides, is_eq-slice_cmp)
 
@@ -62,7 +62,7 @@ part h i k = grind (arith, item_at, entry_at)
 a_text : (o : Option (List ℕ)) → IfSome (option_map kind.text o) IsOrdered
 a_text o = grind arith
 
--- ---- what is made of ordered values
+-- ---- results made of ordered values
 
 join_items : (is js : Items) → AreItemsOrdered is → AreItemsOrdered js → AreItemsOrdered (items_join is js)
 join_items no_items js a b = b

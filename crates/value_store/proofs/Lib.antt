@@ -1,3 +1,4 @@
+-- Proofs of value_store: the list of their modules.
 pub mod Ascending
 pub mod Equal
 pub mod Keys

@@ -2,7 +2,7 @@
 use Rattle.value_store.proofs.Prelude.{◌≡◌, ◌<◌, ◌≤◌, ℕ, ◌+◌, ◌-◌, ◌^◌, List, length, Some, None, Bool, true, false, arith, IsSome, max, if◌then◌else◌, size_of, depth_of, items_size, items_depth, entries_size, entries_depth, has_other, items_have_other, members_have_other, plain_value, plain_items, plain_entries, saturated, measure_of, Measure}
 use Rattle.serde_json.specs.Data as json
 
--- the measure so far, with the rest of the parts
+-- the measure so far, together with the parts left
 pub record Measuring (other : Bool) (size depth : ℕ) (rest_other : Bool) (rest_size rest_depth : ℕ) (m : Measure) : Type 0 where
   pub other_is : other ≡ rest_other
   pub size_is : saturated (m.size + rest_size) ≡ saturated (1 + size)
@@ -25,7 +25,7 @@ deeper a b e = omega arith
 measured : (b : Bool) (p m : Measure) → Some p ≡ (if b then None else Some m) → (b ≡ false) × (p ≡ m)
 measured b p m e = grind arith
 
--- what a part's measure says
+-- the measure of a part
 abbrev pub IsMeasured : json.Data → Measure → Type 0
 IsMeasured d p = (has_other d ≡ false) × (p ≡ record { size = saturated (size_of (plain_value d)); depth = saturated (depth_of (plain_value d)) })
 
@@ -66,7 +66,7 @@ pub members_end : (all : json.Members) (m : Measure) → MembersMeasured all jso
 unfolding measure_of
 members_end all m go = grind arith
 
--- a whole document has a measure, and its depth where that fits 64 bits
+-- a whole document has a measure, with its depth if that fits 64 bits
 pub measured_some : (d : json.Data) → has_other d ≡ false → IsSome (measure_of d)
 unfolding measure_of
 measured_some d e = grind arith

@@ -1,4 +1,4 @@
--- The values of ordered documents, and of a table's trees.
+-- The values of ordered documents, and of a table's trees, are ordered.
 use Rattle.value_store.proofs.Prelude.{◌≡◌, ℕ, suc, List, [], ◌∷◌, ◌++◌, Some, Result, Ok, Err, map, Bool, false, BTreeMap, String, Global, refl, sym, subst, arith, rules, AllByRecursion, IsOk, slice_get, ⊤, nat_le, if◌then◌else◌, view, view-Object, Value, ValueOrError, value, keys_of, depth_of, IsOrdered, AreItemsOrdered, AreEntriesOrdered, AreOrdered, member_keys, IsDocumentOrdered, AreElementsOrdered, AreMembersOrdered, Contents, first_values, charge_limit, IsCanonicalAt, AreCanonical, has_other, roots_of, sizes, contents_of, plain_value, plain_items, plain_entries, stored_values, Node, TableError, RootsTooLarge, StartIsOrdered, StartIsCanonical}
 use Rattle.std.specs.List.Sorted.{IsStrictlySortedBy}
 use Rattle.serde_json.specs.Data as json
@@ -24,7 +24,7 @@ mutual
   entries_ordered json.no_members h = tt
   entries_ordered (json.member k d ms) h = (value_ordered d h.0, entries_ordered ms h.1)
 
--- what a table's nodes stand for
+-- the values of a table's nodes are ordered
 pub nodes_ordered : (ns : List Node) → AreOrdered (stored_values ns)
 nodes_ordered [] = tt
 nodes_ordered (n ∷ ns) = grind (arith, nodes_ordered ns)

@@ -1,7 +1,7 @@
--- The order of two texts from the first place where they differ.
+-- The order of two texts, from the first position at which they differ.
 use Rattle.value_store.proofs.Prelude.{◌≡◌, ◌≢◌, ◌<◌, ◌≤◌, ℕ, suc, ◌+◌, List, ◌∷◌, length, get_or, Bool, true, false, arith, ◌==◌, nat_lt, cond, first_difference_of, text_less}
 
--- what the place says: one text ends there, or two bytes differ there
+-- the order by the position: one text ends there, or two bytes differ there
 pub record Differs (a b : List ℕ) (p : ℕ) : Type 0 where
   pub first_within : p ≤ length a
   pub second_within : p ≤ length b

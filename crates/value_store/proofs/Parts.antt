@@ -1,4 +1,4 @@
--- What stands at a place of a list or map.
+-- Items of lists and values of maps, by position.
 use Rattle.value_store.proofs.Prelude.{◌≡◌, ◌≤◌, ℕ, zero, suc, List, [], ◌∷◌, length, Option, Some, None, false, Bor, slice_get, option_map, refl, sym, ap, ◌∙◌, subst, arith, IsSome, or_parts, get_item, view, items_view, members_view, Entry, list_of, keys_of, values_of, depth_of, items_depth, entries_depth, parts_of, has_other, items_have_other, members_have_other, plain_value, plain_items, plain_entries, nth_member, part_of}
 use Rattle.serde_json.specs.Data as json
 use Rattle.serde_json.specs.declared.value.Value as document
@@ -18,11 +18,11 @@ member_key i json.no_members = refl
 member_key zero (json.member k d ms) = refl
 member_key (suc i) (json.member k d ms) = member_key i ms
 
--- the value of the part at a place is the part of the value
+-- the value of the part at a position is the part of the value
 pub part_value : (i : ℕ) (d : json.Data) → option_map plain_value (part_of i d) ≡ slice_get (parts_of (plain_value d)) i
 part_value i d = grind (arith, item_value, member_value)
 
--- a part is whole, and its value no deeper than this
+-- a part is whole, and its value is at most this deep
 pub record Within (e : json.Data) (most : ℕ) : Type 0 where
   pub whole : has_other e ≡ false
   pub shallow : depth_of (plain_value e) ≤ most

@@ -1,4 +1,4 @@
--- The value at a key stands at the key's place.
+-- The value at a key is the value at the key's position.
 use Rattle.value_store.proofs.Prelude.{◌≡◌, ℕ, suc, List, Option, Some, None, Bool, false, refl, ◌∙◌, arith, is_some, IsSome, option_map, option_and_then, slice_get, bytes_eq, if◌then◌else◌, ◌∷◌, Ordering, is_eq, slice_cmp, is_eq-slice_cmp, bytes_eq-Decides, Value, Entries, no_entries, entry, values_of, find, has_key, place_of_key, inserted, inserted_by}
 use Rattle.std.specs.Ordering.{nat_cmp}
 
@@ -12,7 +12,7 @@ find_place key (entry k v more) = grind (arith, find_place key more)
 both : (b : Bool) (v : Value) (o : Option Value) (p : Option ℕ) → is_some o ≡ is_some p → is_some (if b then Some v else o) ≡ is_some (if b then Some 0 else option_map suc p)
 both b v o p e = grind arith
 
--- a map has a key if the key has a place
+-- a map has a key if the key has a position
 pub has_key_place : (key : List ℕ) (es : Entries) → has_key key es ≡ is_some (place_of_key key es)
 has_key_place key no_entries = refl
 has_key_place key (entry k v more) = grind (arith, has_key_place key more)
@@ -27,7 +27,7 @@ other_key b p e = grind arith
 turned : (b : Bool) (xs ys : List ℕ) → bytes_eq xs ys ≡ b → bytes_eq ys xs ≡ false → b ≡ false
 turned b xs ys e f = grind (arith, bytes_eq-Decides)
 
--- a key that has no place can be put
+-- a key that has no position can be inserted
 pub absent_fits : (key : List ℕ) (x : Value) (es : Entries) → place_of_key key es ≡ None → IsSome (inserted key x es)
 absent_fits key x no_entries e = refl
 absent_fits key x (entry k v more) e =

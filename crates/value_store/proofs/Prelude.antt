@@ -1,4 +1,4 @@
--- The names that these proofs cite of the library, of the crates below and of the definitions here. Declares nothing.
+-- The names that these proofs use, from the library, the crates below and these definitions. It declares nothing.
 pub use Rattle.std.proofs.Common.{BTreeMap, Bool, Bor, Err, Global, Greater, IfSome, IsOk, IsSome, Less, List, None}
 pub use Rattle.std.proofs.Common.{Ok, Option, Result, Some, String, Vec, ℕ, [], add-one, ap, append_assoc, arith}
 pub use Rattle.std.proofs.Common.{bytes_eq, cond, drop, false, get_or, if◌then◌else◌, is_some, length, length-append}

@@ -1,4 +1,4 @@
--- The values of the roots, one root after another.
+-- The values of the roots, in order.
 use Rattle.value_store.proofs.Prelude.{◌≡◌, ◌≤◌, ◌<◌, ℕ, suc, ◌+◌, ◌^◌, List, [], ◌∷◌, ◌++◌, map, Result, Ok, Err, false, refl, sym, ap, ◌∙◌, subst, arith, append_assoc, rules, IsOk, view, Value, ValueOrError, value, size_of, depth_of, items_size, items_depth, entries_size, entries_depth, Contents, IsStore, first_values, charge_limit, has_other, root_of, before, roots_of, sizes, start_contents, StoreStarts, plain_value, saturated, size_in, charge_in, deepest, TableError, Memory}
 use Rattle.serde_json.specs.Data as json
 use Rattle.serde_json.specs.declared.value.Value as document
@@ -6,12 +6,12 @@ use Rattle.value_store.specs.Value as kind
 use Rattle.value_store.proofs.Documents.{whole_value, other_value}
 use Rattle.value_store.proofs.Tables.{Stands}
 
--- these values, and then what is due
+-- these values, followed by those of the rest or its error
 abbrev pub behind : List Value → Result (List Value) TableError → Result (List Value) TableError
 behind vs (Ok ws) = Ok (vs ++ ws)
 behind vs (Err e) = Err e
 
--- the charge of the roots before a place
+-- the charge of the roots before an index
 pub record Judging (all rest : List json.Data) (place charge : ℕ) : Type 0 where
   pub done : List Value
   pub left : roots_of 4 all ≡ behind done (roots_of place rest)
@@ -28,13 +28,13 @@ pub judging_step : (all : List json.Data) (d : json.Data) (rest : List json.Data
     → Judging all rest (suc place) (saturated (charge + size))
 judging_step all d rest place charge size go e = grind (arith, behind_more, sizes-append)
 
--- ---- roots that are not refused
+-- ---- roots that are valid
 
 abbrev pub AllWhole : List json.Data → Type 0
 AllWhole [] = Unit {0}
 AllWhole (d ∷ ds) = (has_other d ≡ false) × AllWhole ds
 
--- each document is whole, and they are not larger than the limit together
+-- each document is whole, and their sizes are within the limit
 pub record Welcome (ds : List json.Data) : Type 0 where
   pub whole : AllWhole ds
   pub small : sizes (map plain_value ds) ≤ charge_limit
@@ -57,7 +57,7 @@ started ds ok = search (rules, roots_known)
 pub charged_ok : (r : Result Contents TableError) (n : ℕ) → Ok n ≡ charge_in r → IsOk r
 charged_ok r n e = grind arith
 
--- ---- no value is deeper than large
+-- ---- a value is no deeper than it is large
 
 mutual
   pub shallow : (v : Value) → depth_of v ≤ size_of v
@@ -80,18 +80,18 @@ shallow_all (v ∷ vs) = grind (arith, shallow, shallow_all vs)
 pub start_stands : (vs : List ValueOrError) (ws : List Value) → vs ≡ first_values ++ map value ws → sizes ws ≤ charge_limit → Stands vs
 start_stands vs ws e small = grind (arith, shallow, shallow_all)
 
--- ---- the roots before a place are welcome, and so is the next
+-- ---- the roots before an index are valid, and so is the next
 
 pub next_shallow : (d : json.Data) (ds : List json.Data) → Welcome (d ∷ ds) → depth_of (plain_value d) < 2 ^ 64
 next_shallow d ds w = grind (arith, shallow)
 
--- ---- want of memory is no root's fault
+-- ---- a root is never refused for an allocation failure
 
 no_memory_roots : (place : ℕ) (ds : List json.Data) → roots_of place ds ≡ Err Memory → ⊥
 no_memory_roots place [] e = cc
 no_memory_roots place (d ∷ ds) e = grind (arith, no_memory_roots (suc place) ds)
 
--- a refusal is answered as it is due
+-- an error is returned exactly if it is due
 pub refused : {S : Type 0} (contents : S → Contents) (ds : List json.Data) (x : TableError) → Err x ≡ charge_in (start_contents ds) → StoreStarts contents (start_contents ds) (Err x)
 refused contents ds x e = grind (arith, no_memory_roots)
 

@@ -1,4 +1,4 @@
--- The values of a table, with one more behind them.
+-- The values of a table, with one more appended.
 use Rattle.value_store.proofs.Prelude.{◌≡◌, ◌≤◌, ℕ, suc, ◌+◌, List, [], ◌∷◌, ◌++◌, length, Bool, true, false, Some, slice_get, arith, length-append, AllZip, max, if◌then◌else◌, map-append, slice_get-map, ValueOrError, result_depth, charge_limit, deepest, has_first_values, stored, stored_values, Node}
 
 pub within_deepest : (vs : List ValueOrError) (h : ℕ) (v : ValueOrError) → slice_get vs h ≡ Some v → result_depth v ≤ deepest vs
@@ -9,7 +9,7 @@ deepest-append : (vs : List ValueOrError) (v : ValueOrError) → deepest (vs ++ 
 deepest-append [] v = omega arith
 deepest-append (w ∷ vs) v = grind (arith, deepest-append vs v)
 
--- what the table says of itself
+-- the invariant of a table
 pub record Stands (vs : List ValueOrError) : Type 0 where
   pub first : has_first_values vs ≡ true
   pub shallow : deepest vs ≤ charge_limit + length vs

@@ -1,4 +1,4 @@
--- The text of a document that is whole is that of its value.
+-- The text of a whole document is that of its value.
 use Rattle.value_store.proofs.Prelude.{◌≡◌, Bool, true, false, refl, arith, compact_text, items_text as json_items_text, members_text, has_float, items_have_float, members_have_float, json_text, entries_text, has_other, items_have_other, members_have_other, plain_value, plain_items, plain_entries}
 use Rattle.serde_json.specs.Data as json
 use Rattle.value_store.specs.Json.{items_text}

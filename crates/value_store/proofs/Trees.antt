@@ -1,4 +1,4 @@
--- Documents that are made of others, and their values.
+-- Documents that are built from others, and their values.
 use Rattle.value_store.proofs.Prelude.{◌≡◌, ℕ, ◌+◌, List, [], ◌∷◌, ◌++◌, false, Option, Some, Vec, BTreeMap, Global, String, refl, arith, map-append, IsSome, max, option_and_then, view, items_view, members_view, items_of, view-Array, view-Object, items_push, items_join, depth_of, items_depth, entries_depth, inserted, push_of, join_of, put_of, entries_part, has_other, items_have_other, members_have_other, plain_value, plain_items, plain_entries}
 use Rattle.serde_json.specs.Data as json
 use Rattle.serde_json.specs.declared.value.Value as document
@@ -6,13 +6,13 @@ use Rattle.value_store.specs.Value as kind
 use Rattle.value_store.specs.Nodes.{tree_value}
 use Rattle.value_store.specs.declared.tree.Tree.{Tree}
 
--- a document is whole and as deep as is said, and has the value that is due
+-- a document is whole, has this depth and has the value that is due
 pub record Gives (d : json.Data) (depth : ℕ) (due : Option kind.Value) : Type 0 where
   pub whole : has_other d ≡ false
   pub deep : depth ≡ depth_of (plain_value d)
   pub value : Some (plain_value d) ≡ due
 
--- the items of both
+-- the concatenation of two sequences of elements
 abbrev joined : json.Items → json.Items → json.Items
 joined json.no_items es = es
 joined (json.item d ds) es = json.item d (joined ds es)
@@ -41,7 +41,7 @@ pub push_depth : (is : kind.Items) (v : kind.Value) → items_depth (items_push 
 push_depth kind.no_items v = omega arith
 push_depth (kind.item w is) v = grind (arith, push_depth is v)
 
--- the depth of two lists that are joined
+-- the depth of a concatenation of two lists
 pub join_depth : (is js : kind.Items) → items_depth (items_join is js) ≡ max (items_depth is) (items_depth js)
 join_depth kind.no_items js = omega arith
 join_depth (kind.item v is) js = grind (arith, join_depth is js)

@@ -8,22 +8,22 @@ use Rattle.serde_json.specs.Read.{read}
 unfoldable pub document_of : List ℕ → Option json.Data
 document_of bytes = if is_utf8 bytes then read bytes else None
 
--- a document that is not given is null
+-- the document of optional bytes: null if none are given
 abbrev pub document_given : Option (List ℕ) → Option json.Data
 document_given (Some bytes) = document_of bytes
 document_given None = Some json.null
 
--- this very text
+-- whether the document is this string
 abbrev pub equals_string : Option json.Data → List ℕ → Bool
 equals_string (Some (json.string s)) text = bytes_eq s text
 equals_string _ text = false
 
--- a text is there
+-- whether the document is a string
 abbrev pub is_text : Option json.Data → Bool
 is_text (Some (json.string s)) = true
 is_text _ = false
 
--- the text that is there, and else the empty one
+-- the document's string, empty if it is not a string
 abbrev pub text_or_empty : Option json.Data → List ℕ
 text_or_empty (Some (json.string s)) = s
 text_or_empty _ = []

@@ -25,13 +25,13 @@ abbrev mutual
   equal (map xs) (map ys) = entries_equal xs ys
   equal _ _ = false
 
-  -- whether there are as many items, equal one by one
+  -- whether two lists of items have the same length and equal items at each position
   pub items_equal : Items → Items → Bool
   items_equal no_items no_items = true
   items_equal (item a xs) (item b ys) = equal a b && items_equal xs ys
   items_equal _ _ = false
 
-  -- whether there are as many entries, with equal keys and equal values one by one
+  -- whether two maps have the same number of entries, with equal keys and equal values at each position
   pub entries_equal : Entries → Entries → Bool
   entries_equal no_entries no_entries = true
   entries_equal (entry k a xs) (entry l b ys) = bytes_eq k l && (equal a b && entries_equal xs ys)

@@ -10,7 +10,7 @@ abbrev pub truth_text : Bool → List ℕ
 truth_text true = codes "true"
 truth_text false = codes "false"
 
--- a comma, where something stands before
+-- a comma, if an item or entry precedes
 abbrev pub comma_after : Bool → List ℕ
 comma_after later = if later then codes "," else []
 
@@ -24,17 +24,17 @@ abbrev mutual
   json_text (list is) = codes "[" ++ items_text false is
   json_text (map es) = codes "{" ++ entries_text false es
 
-  -- the items and the closing bracket; later: another item stands before (RFC 8259, section 5)
+  -- the items and the closing bracket; `later` if an item precedes (RFC 8259, section 5)
   pub items_text : Bool → Items → List ℕ
   items_text later no_items = codes "]"
   items_text later (item v is) = comma_after later ++ (json_text v ++ items_text true is)
 
-  -- the entries and the closing brace; later: another entry stands before (RFC 8259, section 4)
+  -- the entries and the closing brace; `later` if an entry precedes (RFC 8259, section 4)
   pub entries_text : Bool → Entries → List ℕ
   entries_text later no_entries = codes "}"
   entries_text later (entry k v es) = comma_after later ++ (quoted k ++ (codes ":" ++ (json_text v ++ entries_text true es)))
 
--- what stands at a reference, as text
+-- the value at a reference as JSON, `error` for the error
 abbrev pub shown_text : ValueOrError → List ℕ
 shown_text error = codes "error"
 shown_text (value v) = json_text v

@@ -1,4 +1,4 @@
--- Maps whose keys stand in byte order, each once. All maps of a store are so.
+-- Maps whose keys are in byte order without duplicates. All maps of a store are ordered so.
 use Rattle.std.specs.Prelude.{ℕ, List, [], ◌∷◌, ⊤}
 use Rattle.std.specs.Ordering.{nat_cmp}
 use Rattle.std.specs.Cmp.Lexicographic.{slice_cmp}
@@ -8,7 +8,7 @@ use Rattle.serde_json.specs.Data as json
 use Rattle.value_store.specs.Value.{Value, null, boolean, int, text, list, map, Items, no_items, item, Entries, no_entries, entry}
 use Rattle.value_store.specs.Value.{ValueOrError, error, value, keys_of}
 
--- each key is below those after it, byte by byte
+-- each key is less than those after it, byte by byte
 abbrev pub Ascend : List (List ℕ) → Type 0
 Ascend keys = IsStrictlySortedBy (slice_cmp nat_cmp) keys
 
@@ -22,22 +22,22 @@ abbrev mutual
   IsOrdered (list is) = AreItemsOrdered is
   IsOrdered (map es) = Ascend (keys_of es) × AreEntriesOrdered es
 
-  -- so it is inside each of the items
+  -- every item is ordered
   pub AreItemsOrdered : Items → Type 0
   AreItemsOrdered no_items = ⊤
   AreItemsOrdered (item v more) = IsOrdered v × AreItemsOrdered more
 
-  -- and inside each value of the entries
+  -- the value of every entry is ordered
   pub AreEntriesOrdered : Entries → Type 0
   AreEntriesOrdered no_entries = ⊤
   AreEntriesOrdered (entry k v more) = IsOrdered v × AreEntriesOrdered more
 
--- the error holds no map
+-- the error is ordered, since it holds no map
 abbrev pub IsResultOrdered : ValueOrError → Type 0
 IsResultOrdered error = ⊤
 IsResultOrdered (value v) = IsOrdered v
 
--- so it is with each of these
+-- every value of a list is ordered
 abbrev pub AreOrdered : List ValueOrError → Type 0
 AreOrdered vs = AllByRecursion IsResultOrdered vs
 
@@ -56,12 +56,12 @@ abbrev mutual
   IsDocumentOrdered (json.array ds) = AreElementsOrdered ds
   IsDocumentOrdered (json.object ms) = Ascend (member_keys ms) × AreMembersOrdered ms
 
-  -- so it is inside each element of an array
+  -- every element of an array is ordered
   pub AreElementsOrdered : json.Items → Type 0
   AreElementsOrdered json.no_items = ⊤
   AreElementsOrdered (json.item d more) = IsDocumentOrdered d × AreElementsOrdered more
 
-  -- and inside each value of the members
+  -- the value of every member is ordered
   pub AreMembersOrdered : json.Members → Type 0
   AreMembersOrdered json.no_members = ⊤
   AreMembersOrdered (json.member k d more) = IsDocumentOrdered d × AreMembersOrdered more

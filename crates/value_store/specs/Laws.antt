@@ -1,4 +1,4 @@
--- What is proved of values.
+-- The laws proved of values.
 use Rattle.std.specs.Prelude.{Decides, ◌≡◌, ◌<◌, not, is_some, ℕ, List, Option, option_and_then, slice_get, None, IsSome, IfSome, Ok, Err}
 use Rattle.std.specs.List.{AllByRecursion}
 use Rattle.serde_json.specs.Data as json
@@ -11,44 +11,44 @@ use Rattle.value_store.specs.Placing.{Contents, IsStore, AreCanonical, charge_li
 use Rattle.value_store.specs.Roots.{value_of, has_other, sizes, start_contents, within_limit}
 use Rattle.value_store.specs.declared.table_error.TableError.TheVariants.{RootsTooLarge}
 
--- deep equality is equality
+-- deep equality decides equality
 abbrev pub EqualDecides : Type 0
 EqualDecides = (a b : Value) → Decides (equal a b) (a ≡ b)
 
--- the value at a key stands at the key's place
+-- the value at a key is the value at the key's position
 abbrev pub FindIsPlace : Type 0
 FindIsPlace = (key : List ℕ) (es : Entries) → find key es ≡ option_and_then (slice_get (values_of es)) (place_of_key key es)
 
--- a document has a value unless some number in it is no integer of 64 bits signed
+-- a document has a value unless it contains a number that is not a signed 64-bit integer
 abbrev pub OtherNumbersRefused : Type 0
 OtherNumbersRefused = (d : json.Data) → has_other d ≡ not (is_some (value_of d))
 
--- a key that has no place in a map can be put there
+-- a key that is not in a map can be inserted
 abbrev pub AbsentKeyFits : Type 0
 AbsentKeyFits = (key : List ℕ) (x : Value) (es : Entries) → place_of_key key es ≡ None → IsSome (inserted key x es)
 
--- at the start the error, null, false and true stand first, and the charge is within its limit
+-- a store at the start begins with the error, null, false and true, and its charge is within the limit
 abbrev pub StartIsStore : Type 0
 StartIsStore = (roots : List json.Data) (contents : Contents) → start_contents roots ≡ Ok contents → IsStore contents
 
--- at the start the error stands at 0 alone, false at 2 and true at 3
+-- at the start the error is at 0 only, false at 2 only and true at 3 only
 abbrev pub StartIsCanonical : Type 0
 StartIsCanonical = (roots : List json.Data) (contents : Contents) → start_contents roots ≡ Ok contents → AreCanonical contents.values
 
--- a key is put in its place in byte order, and none twice
+-- a key is inserted at its position in byte order, and never twice
 abbrev pub InsertedInOrder : Type 0
 InsertedInOrder = (key : List ℕ) (x : Value) (es : Entries) → Ascend (keys_of es)
     → IfSome (inserted key x es) (λ more. Ascend (keys_of more))
 
--- a key can be put into a map exactly where the map does not have it
+-- a key can be inserted into a map exactly if the map does not have it
 abbrev pub InsertedOnce : Type 0
 InsertedOnce = (key : List ℕ) (x : Value) (es : Entries) → Ascend (keys_of es) → is_some (inserted key x es) ≡ not (has_key key es)
 
--- what stands at a reference, if it is one, is ordered
+-- the value at a reference, if there is one, is ordered
 abbrev pub IsOrderedAt : Option ValueOrError → Type 0
 IsOrderedAt o = IfSome o IsResultOrdered
 
--- what the calls of a store make of ordered values is ordered, and so are the values that it has then
+-- calls of a store on ordered values give ordered results, and the store's values stay ordered
 pub record KeepsOrder : Type 0 where
   pub part : (h : Option ValueOrError) (i : ℕ) → IsOrderedAt h → IfSome (part_at h i) IsOrdered
   pub key : (h : Option ValueOrError) (i : ℕ) → IfSome (key_at h i) IsOrdered
@@ -62,6 +62,6 @@ abbrev pub StartIsOrdered : Type 0
 StartIsOrdered = (roots : List json.Data) (contents : Contents) → AllByRecursion IsDocumentOrdered roots
     → start_contents roots ≡ Ok contents → AreOrdered contents.values
 
--- roots that are together above the limit are refused for that, and not as out of memory
+-- roots whose sizes exceed the limit are refused as too large, not as out of memory
 abbrev pub LargeRootsRefused : Type 0
 LargeRootsRefused = (roots : List Value) → charge_limit < sizes roots → within_limit roots ≡ Err RootsTooLarge

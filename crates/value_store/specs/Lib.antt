@@ -1,3 +1,4 @@
+-- Definitions of value_store: the list of their modules.
 pub mod Value
 pub mod Codes
 pub mod Size

@@ -4,14 +4,14 @@ use Rattle.std.specs.Ordering.{nat_cmp, is_lt}
 use Rattle.std.specs.Cmp.Lexicographic.{slice_cmp}
 use Rattle.value_store.specs.Value.{Value, null, boolean, int, text, list, map}
 
--- a value as an order sees it
+-- the values that have an order
 pub data Ordered : Type 0 where
   Truth : Bool → Ordered
   Number : ℤ → Ordered
   Text : List ℕ → Ordered
   Unordered : Ordered
 
--- what an order sees of a value
+-- a value as one that has an order
 abbrev pub ordered : Value → Ordered
 ordered (boolean b) = Truth b
 ordered (int n) = Number n
@@ -20,17 +20,17 @@ ordered null = Unordered
 ordered (list is) = Unordered
 ordered (map es) = Unordered
 
--- in UTF-8 the order of bytes is the order of code points
+-- the order of two texts: in UTF-8 the order of bytes is the order of code points
 abbrev pub text_less : List ℕ → List ℕ → Bool
 text_less a b = is_lt (slice_cmp nat_cmp a b)
 
--- whether the first is below the second; nothing where the two have no order
+-- whether the first is less than the second; None if they are of different kinds
 abbrev pub parts_less : Ordered → Ordered → Option Bool
 parts_less (Truth a) (Truth b) = Some (not a && b)
 parts_less (Number a) (Number b) = Some (int_lt a b)
 parts_less (Text a) (Text b) = Some (text_less a b)
 parts_less _ _ = None
 
--- whether the value a is below b; nothing where the two have no order
+-- whether the value a is less than b; None if they have no order
 abbrev pub less : Value → Value → Option Bool
 less a b = parts_less (ordered a) (ordered b)

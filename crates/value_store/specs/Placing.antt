@@ -1,17 +1,16 @@
--- The values of a store, in a list: a reference is a place in it.
+-- The values of a store as a list; a reference is an index into it.
 use Rattle.std.specs.Prelude.{◌≡◌, ◌≤◌, ℕ, Bool, true, false, List, [], ◌∷◌, ◌++◌, length, Some, slice_get, ⊤}
 use Rattle.value_store.specs.Value.{Value, null, boolean, int, text, list, map, ValueOrError, error, value}
 
--- the most that a store is charged, for its roots at the start and for every call together: 2 ^ 24
+-- the limit of a store's charge, for its roots and all calls together: 2 ^ 24
 abbrev pub charge_limit : ℕ
 charge_limit = 16777216
 
--- what stands at the references 0 to 3
+-- the values at the references 0 to 3
 abbrev pub first_values : List ValueOrError
 first_values = error ∷ value null ∷ value (boolean false) ∷ value (boolean true) ∷ []
 
--- the reference of a value that is placed: null, false and true have theirs, any other value comes
--- behind the last
+-- the reference of a placed value: null, false and true have fixed ones, any other value is appended
 abbrev pub place : List ValueOrError → Value → ℕ
 place vs null = 1
 place vs (boolean false) = 2
@@ -21,7 +20,7 @@ place vs (text s) = length vs
 place vs (list is) = length vs
 place vs (map es) = length vs
 
--- any value but null, false and true comes behind the last, and so needs room
+-- whether placing a value appends it, and so allocates: all values but null, false and true
 abbrev pub is_appended : Value → Bool
 is_appended null = false
 is_appended (boolean b) = false
@@ -30,7 +29,7 @@ is_appended (text s) = true
 is_appended (list is) = true
 is_appended (map es) = true
 
--- the values after a value is placed: null, false and true stand there already, any other comes behind the last
+-- the values after one is placed: null, false and true are already there, any other is appended
 abbrev pub placed : List ValueOrError → Value → List ValueOrError
 placed vs null = vs
 placed vs (boolean b) = vs
@@ -39,23 +38,23 @@ placed vs (text s) = vs ++ value (text s) ∷ []
 placed vs (list is) = vs ++ value (list is) ∷ []
 placed vs (map es) = vs ++ value (map es) ∷ []
 
--- the error, false and true stand at their own places alone
+-- the error, false and true are at their fixed references only
 abbrev pub IsCanonicalAt : ValueOrError → ℕ → Type 0
 IsCanonicalAt error h = h ≡ 0
 IsCanonicalAt (value (boolean false)) h = h ≡ 2
 IsCanonicalAt (value (boolean true)) h = h ≡ 3
 IsCanonicalAt _ h = ⊤
 
--- so they do among these values
+-- every value of a list is at a reference that it may have
 abbrev pub AreCanonical : List ValueOrError → Type 0
 AreCanonical vs = (h : ℕ) (x : ValueOrError) → slice_get vs h ≡ Some x → IsCanonicalAt x h
 
--- the values of a store and what it was charged
+-- the values of a store and its charge so far
 pub record Contents : Type 0 where
   pub values : List ValueOrError
   pub charge : ℕ
 
--- the error, null, false and true stand first, and the charge is within its limit
+-- the error, null, false and true come first, and the charge is within its limit
 pub record IsStore (contents : Contents) : Type 0 where
   pub more : List ValueOrError
   pub values_are : contents.values ≡ first_values ++ more

@@ -1,4 +1,4 @@
--- Values worked by hand.
+-- Values worked out by hand.
 use Rattle.std.specs.Prelude.{◌≡◌, ℕ, ◌++◌, pos, negsuc, List, [], ◌∷◌, true, false, Some, None, Ok, Err, Float, codes, map}
 use Rattle.serde_json.specs.Data as json
 use Rattle.value_store.specs.Value as kind
@@ -53,7 +53,7 @@ least = int (negsuc 9223372036854775807)
 abbrev pub greatest : Value
 greatest = int (pos 9223372036854775807)
 
--- what stands behind the first four values
+-- the first four values followed by these
 abbrev pub behind : List ValueOrError → List ValueOrError
 behind vs = first_values ++ vs
 
@@ -61,11 +61,11 @@ behind vs = first_values ++ vs
 abbrev pub with_a : json.Data → json.Data
 with_a d = json.object (json.member (codes "a") d json.no_members)
 
--- {"b":null,"a":1}, as no map stands
+-- {"b":null,"a":1}, which is not in the order of keys
 abbrev pub b_before_a : Value
 b_before_a = kind.map (entry (codes "b") null (entry (codes "a") (int (pos 1)) no_entries))
 
--- {"a":null,"a":null}, as no map stands
+-- {"a":null,"a":null}, which has a key twice
 abbrev pub a_twice : Value
 a_twice = kind.map (entry (codes "a") null (entry (codes "a") null no_entries))
 
@@ -84,7 +84,7 @@ uid_document = json.object (json.member (codes "uid") (json.string (codes "u1"))
 abbrev pub nulls : List json.Data
 nulls = json.null ∷ json.null ∷ json.null ∷ []
 
--- values, calls and documents, each with what is worked out
+-- values, calls and documents, each with its result worked out by hand
 pub record StoreRowsHold : Type 0 where
   pub size_null : size_of null ≡ 1
   pub size_least : size_of least ≡ 1
@@ -105,7 +105,7 @@ pub record StoreRowsHold : Type 0 where
   pub less_negative : less (int (negsuc 0)) (int (pos 0)) ≡ Some true
   pub less_truths : less (boolean false) (boolean true) ≡ Some true
   pub less_equal_truths : less (boolean true) (boolean true) ≡ Some false
-  -- by code points, where the longer text is the less, and where UTF-16 has them the other way
+  -- by code points: the longer text can be the lesser, and the order of UTF-16 differs
   pub less_longer : less (text (codes "ab")) (text (codes "b")) ≡ Some true
   pub less_texts : less (text last_of_plane) (text linear_b) ≡ Some true
   pub less_prefix : less (text (codes "a")) (text (codes "ab")) ≡ Some true
@@ -126,7 +126,7 @@ pub record StoreRowsHold : Type 0 where
       ≡ Some (entry (codes "Z") null (entry (codes "a") null no_entries))
   pub inserted_twice : inserted (codes "b") null a_and_b ≡ None
   pub ordered_two : IsOrdered (kind.map a_and_b)
-  -- Z stands before a, U+FFFF before U+10000, a before ab
+  -- Z is before a, U+FFFF before U+10000, a before ab
   pub ordered_letters : IsOrdered (kind.map (entry (codes "Z") null (entry (codes "a") null (entry (codes "ab") null no_entries))))
   pub ordered_planes : IsOrdered (kind.map (entry last_of_plane null (entry linear_b null no_entries)))
   pub unordered_two : IsOrdered b_before_a → ⊥
@@ -175,7 +175,7 @@ pub record StoreRowsHold : Type 0 where
       ≡ Ok (record { values = behind (map value (null ∷ null ∷ null ∷ null ∷ null ∷ [])); charge = 5 })
   pub start_review : start_contents (replicas_document ∷ nulls ++ uid_document ∷ [])
       ≡ Ok (record { values = behind (map value (replicas ∷ null ∷ null ∷ null ∷ uid ∷ [])); charge = 28 })
-  -- the first root with a refusal counts, whichever it is
+  -- the first invalid root decides, at any position
   pub start_first : (x : Float)
       → start_contents (json.null ∷ with_a (json.number (json.float x)) ∷ json.boolean true ∷ json.null ∷ json.null ∷ [])
       ≡ Err (NumberOutOfInt64 5)

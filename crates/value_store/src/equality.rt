@@ -8,7 +8,7 @@ ghost use Rattle.value_store.specs.Plain.{plain_value, plain_items, plain_entrie
 use crate::number::integer;
 use serde_json::{Map, Value};
 
-/// Whether two documents have equal values. It goes as deep as the documents.
+/// Whether two documents have equal values. The recursion is as deep as the documents.
 #[cycle(same)]
 pub(crate) fn same(left: &Value, right: &Value) -> bool
     ensures { result ≡ equal (plain_value (view left.now)) (plain_value (view right.now)) }

@@ -15,15 +15,15 @@ ghost use Rattle.value_store.specs.Laws.{
 };
 ghost use Rattle.value_store.specs.Rows.{StoreRowsHold};
 
-/// Values worked by hand.
+/// Values worked out by hand.
 pub fn rows_stand()
     ensures { StoreRowsHold }
 {}
 
-/// Two values are equal in depth exactly if they are the same value; the value that a map has at a
-/// key stands at the key's place; a key without a place can be put; a document has a value exactly
-/// if its numbers are integers of 64 bits; and the roots of a review make a store, in which the
-/// error stands at 0 alone, false at 2 and true at 3.
+/// Two values are deeply equal exactly if they are the same value; a map's value at a key is the value
+/// at the key's position; a key that is not in a map can be inserted; a document has a value exactly if
+/// its numbers are signed 64-bit integers; and the roots of a review make a store in which the error is
+/// at 0 only, false at 2 only and true at 3 only.
 #[tactic(auto, using(crate::proofs::Documents::exact, crate::proofs::Equal::equal_decides, crate::proofs::Ordered::start_is_canonical, crate::proofs::Places::absent_fits, crate::proofs::Places::find_place, crate::proofs::Starting::start_is_store))]
 pub fn values_are_as_said()
     ensures equal { EqualDecides }
@@ -34,8 +34,8 @@ pub fn values_are_as_said()
     ensures canonical { StartIsCanonical }
 {}
 
-/// The keys of maps stand in byte order, each once, in the values of documents that have them so
-/// and in all that the calls of a store make of such values.
+/// The keys of maps are in byte order without duplicates, in the values of documents that have them so and
+/// in every result of a store's calls on such values.
 #[tactic(auto, using(crate::proofs::Keys::inserted_in_order, crate::proofs::Keys::inserted_once, crate::proofs::Keys::keeps_order, crate::proofs::Ordered::start_is_ordered))]
 pub fn keys_stay_in_order()
     ensures inserted { InsertedInOrder }
@@ -44,7 +44,7 @@ pub fn keys_stay_in_order()
     ensures start { StartIsOrdered }
 {}
 
-/// Roots that are together above the limit are refused for that.
+/// Roots whose sizes exceed the limit together are refused for that.
 #[tactic(auto)]
 pub fn large_roots_are_refused()
     ensures { LargeRootsRefused }

@@ -1,5 +1,4 @@
-//! The values that a program on the machine names by number: what they are, and what a store of
-//! them does.
+//! The values that a program refers to by number: their definition, and the calls of a store of values.
 #![tactic(auto)]
 
 mod equality;

@@ -1,4 +1,4 @@
-//! How large and how deep the value of a document is.
+//! The size and the depth of a document's value.
 
 ghost use Rattle.std.specs.Prelude.{◌≡◌, ◌+◌, max, length, OnSome};
 ghost use Rattle.serde_json.specs.Data.{array, object};
@@ -8,7 +8,7 @@ ghost use Rattle.value_store.specs.Plain.{measure_of, saturated};
 
 use serde_json::{Map, Value};
 
-/// The size and the depth of a value. The greatest number of 64 bits stands for all greater ones.
+/// The size and the depth of a value, each capped at the greatest number of 64 bits.
 #[derive(Clone, Copy, Debug, PartialEq, Eq)]
 pub(crate) struct Measure {
     pub(crate) size: u64,
@@ -16,14 +16,14 @@ pub(crate) struct Measure {
 }
 
 impl Measure {
-    // Of a value that has no parts.
+    // The measure of a value without parts.
     fn of_size(size: u64) -> Measure
         ensures { result ≡ record { size = size; depth = 0 } }
     {
         Measure { size, depth: 0 }
     }
 
-    // Of a list or map with one more part.
+    // The measure of a list or map with one more part.
     fn with_part(self, part: Measure) -> Measure
         ensures { result ≡ record { size = saturated (self.size + part.size); depth = max self.depth (saturated (part.depth + 1)) } }
     {
@@ -33,7 +33,7 @@ impl Measure {
         }
     }
 
-    // Of a map with one more key.
+    // The measure of a map with one more key.
     fn with_key(self, key: &str) -> Measure
         ensures { result ≡ record { size = saturated (self.size + (1 + length key.now)); depth = self.depth } }
     {
@@ -44,8 +44,8 @@ impl Measure {
     }
 }
 
-/// The measure of a document's value, if each of its numbers is an integer of 64 bits signed. It
-/// goes as deep as the document. As `serde_json` keeps objects, their keys stand in order.
+/// The size and the depth of a document's value, if each of its numbers is a signed 64-bit integer. The recursion is
+/// as deep as the document. `serde_json` keeps the keys of an object in order.
 #[cycle(measure_document)]
 #[tactic(auto, unfolding(crate::specs::Plain::measure_of))]
 pub(crate) fn measure_document(value: &Value) -> Option<Measure>

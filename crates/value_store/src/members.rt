@@ -1,4 +1,4 @@
-//! Looking into arrays and objects. The members of an object stand in byte order of their keys.
+//! Lookup in arrays and objects. The members of an object are in byte order of their keys.
 
 ghost use Rattle.std.specs.Prelude.{◌≡◌, ◌<◌, ◌^◌, length, slice_get, string_bytes, option_map};
 ghost use Rattle.serde_json.specs.View.{view, items_view, members_view};
@@ -8,7 +8,7 @@ ghost use Rattle.value_store.specs.Plain.{plain_items, plain_entries, nth_member
 
 use serde_json::{Map, Value};
 
-/// How many items a list has.
+/// The number of items of a list.
 #[tactic(auto, using(crate::proofs::Parts::item_count))]
 pub(crate) fn item_count(items: &Vec<Value>) -> u64
     ensures count { result ≡ length (list_of (plain_items (items_view items.now.items))) }
@@ -17,7 +17,7 @@ pub(crate) fn item_count(items: &Vec<Value>) -> u64
     items.len() as u64
 }
 
-/// How many entries a map has.
+/// The number of entries of a map.
 #[tactic(auto, using(crate::proofs::Parts::member_count))]
 pub(crate) fn member_count(members: &Map<String, Value>) -> u64
     ensures count { result ≡ length (keys_of (plain_entries (members_view members.now.entries))) }
@@ -26,7 +26,7 @@ pub(crate) fn member_count(members: &Map<String, Value>) -> u64
     members.len() as u64
 }
 
-/// The member at a place, the first being 0.
+/// The member at a position, counted from 0.
 fn member_at(members: &Map<String, Value>, place: u64) -> Option<(&String, &Value)>
     ensures { option_map (λ m. (string_bytes m.0.now, view m.1.now)) result ≡ nth_member place (members_view members.now.entries) }
 {
@@ -40,7 +40,7 @@ fn member_at(members: &Map<String, Value>, place: u64) -> Option<(&String, &Valu
     None
 }
 
-/// The value at a place.
+/// The value at a position.
 pub(crate) fn part_at(members: &Map<String, Value>, place: u64) -> Option<&Value>
     ensures { option_map (λ v. view v.now) result ≡ option_map (λ m. m.1) (nth_member place (members_view members.now.entries)) }
 {
@@ -50,7 +50,7 @@ pub(crate) fn part_at(members: &Map<String, Value>, place: u64) -> Option<&Value
     }
 }
 
-/// The key at a place.
+/// The key at a position.
 pub(crate) fn key_at(members: &Map<String, Value>, place: u64) -> Option<&str>
     ensures { option_map (λ k. k.now) result ≡ slice_get (keys_of (plain_entries (members_view members.now.entries))) place }
 {
@@ -60,7 +60,7 @@ pub(crate) fn key_at(members: &Map<String, Value>, place: u64) -> Option<&str>
     }
 }
 
-/// The place of a key, if it is there.
+/// The position of a key, if the object has it.
 pub(crate) fn place_in(members: &Map<String, Value>, key: &[u8]) -> Option<u64>
     ensures { result ≡ place_of_key key.now (plain_entries (members_view members.now.entries)) }
 {
@@ -74,7 +74,7 @@ pub(crate) fn place_in(members: &Map<String, Value>, key: &[u8]) -> Option<u64>
     None
 }
 
-/// Whether a key is there.
+/// Whether the object has the key.
 #[tactic(auto, using(crate::proofs::Places::has_key_place))]
 pub(crate) fn has_member(members: &Map<String, Value>, key: &[u8]) -> bool
     ensures { result ≡ has_key key.now (plain_entries (members_view members.now.entries)) }

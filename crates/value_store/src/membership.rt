@@ -1,4 +1,4 @@
-//! Whether a document's value is among another's.
+//! Whether a document's value is a member of another's.
 
 ghost use Rattle.std.specs.Prelude.{◌≡◌};
 ghost use Rattle.serde_json.specs.View.{view, items_view};
@@ -9,8 +9,8 @@ use crate::equality::same;
 use crate::members::has_member;
 use serde_json::Value;
 
-/// Whether the list `container` has an item equal to the value, or the map `container` the text as
-/// a key; nothing for other kinds.
+/// Whether the list `container` has an item equal to the value, or the map `container` has
+/// the text as a key; `None` for other kinds.
 pub(crate) fn among(value: &Value, container: &Value) -> Option<bool>
     ensures { result ≡ member (plain_value (view value.now)) (plain_value (view container.now)) }
 {

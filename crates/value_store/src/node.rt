@@ -1,4 +1,4 @@
-//! What the plain table keeps for a reference.
+//! One entry of the plain table: the error or a value.
 
 ghost use Rattle.std.specs.Prelude.{◌≡◌, ◌<◌, ◌^◌, option_map, string_bytes, IfSome, IfOk};
 ghost use Rattle.value_store.specs.Size.{result_depth};
@@ -29,7 +29,7 @@ impl Node {
         }
     }
 
-    /// The value, if it is one.
+    /// The value, unless this is the error.
     pub(crate) fn tree(&self) -> Option<&Tree>
         ensures value { option_map (λ t. tree_value t.now) result ≡ value_part (stored self.now) }
         ensures depth { IfSome result (λ t. t.now.depth ≡ result_depth (stored self.now)) }
@@ -40,7 +40,7 @@ impl Node {
         }
     }
 
-    /// What stands here as text: `error`, or the value as JSON.
+    /// The entry as text: `error`, or the value as JSON.
     pub(crate) fn json(&self, alloc: Global) -> Result<String, AllocError>
         ensures { IfOk result (λ s. string_bytes s ≡ shown_text (stored self.now)) }
     {
@@ -61,7 +61,7 @@ impl Node {
     }
 }
 
-// By hand, since a derived one says nothing of the trees.
+// Written by hand, since a derived one states nothing about the trees.
 impl Clone for Node {
     ghost use Rattle.value_store.specs.Nodes.{stored};
 

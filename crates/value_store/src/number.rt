@@ -6,7 +6,7 @@ ghost use Rattle.serde_json.specs.View.{number_view};
 
 use serde_json::Number;
 
-/// The number, where it is an integer of 64 bits signed; else 0.
+/// The number if it is a signed 64-bit integer, else 0.
 pub(crate) fn integer(number: &Number) -> i64
     ensures { result ≡ unwrap_or (as_i64 (number_view number.now)) (pos 0) }
 {

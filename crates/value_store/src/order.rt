@@ -9,7 +9,7 @@ use crate::number::integer;
 use serde_json::Value;
 use text_kernels::first_difference;
 
-/// Whether the first value is below the second, if they have an order.
+/// Whether the first value is less than the second, if they have an order.
 pub(crate) fn below(left: &Value, right: &Value) -> Option<bool>
     ensures { result ≡ less (plain_value (view left.now)) (plain_value (view right.now)) }
 {
@@ -27,7 +27,7 @@ fn int_below(a: i64, b: i64) -> bool
     a < b
 }
 
-// The first byte at which they differ decides, or that the first ends.
+// The first differing byte decides; a text that is a proper prefix of the other is less.
 fn text_below(left: &[u8], right: &[u8]) -> bool
     ensures { result ≡ text_less left.now right.now }
 {

@@ -22,28 +22,26 @@ use crate::tree::Tree;
 use serde_json::Value;
 use std::alloc::{AllocError, Global};
 
-/// The plain store: whole trees in a list. A copy, an item that is placed and a list with one more
-/// item are each a tree of their own.
+/// The plain store: whole trees in a list. A copied item, a placed value and a list with
+/// an appended item are each a separate tree.
 #[derive(Drop)]
 pub struct PlainTable {
     nodes: Vec<Node>,
     charge: u64,
-    // The error, null, false and true stand first.
+    // The error, null, false and true come first.
     ghost first: { has_first_values (stored_values nodes.items) ≡ true },
-    // A call makes a value at most 1 deeper than those that it has.
+    // A call makes a value at most 1 deeper than the values in the table.
     ghost shallow: { deepest (stored_values nodes.items) ≤ charge_limit + length (stored_values nodes.items) },
     ghost charged: { charge ≤ charge_limit },
 }
 
 impl PlainTable {
-    /// The table of the five roots of a review, in the order object, oldObject, params,
-    /// namespaceObject and request, at the references 4 to 8, charged with their sizes. It goes as
-    /// deep as the documents.
+    /// The table of the five roots of a review, in the order object, oldObject, params, namespaceObject and request,
+    /// at the references 4 to 8, charged with their sizes. The recursion is as deep as the documents.
     ///
-    /// The first root that is refused counts: `NotAnObject` if it is neither an object nor null,
-    /// `NumberOutOfInt64` if it holds a number that is no integer of 64 bits signed (`-0` is none).
-    /// Then `RootsTooLarge` if the charge is above 16,777,216. All this is tested before any memory
-    /// is taken.
+    /// The first invalid root decides: `NotAnObject` if it is neither an object nor null, `NumberOutOfInt64` if it
+    /// contains a number that is not a signed 64-bit integer (`-0` is not one). Then `RootsTooLarge` if the charge is
+    /// above 16,777,216. All this is checked before anything is allocated.
     #[tactic(auto, using(crate::proofs::Starting::opened, crate::proofs::Starting::refused))]
     pub fn of_roots(alloc: Global, roots: &[Value; 5]) -> Result<PlainTable, TableError>
         ensures { StoreStarts (λ t. record { values = ⟦<PlainTable as ValueStore>⟧.values t; charge = ⟦<PlainTable as ValueStore>⟧.charge t }) (start_contents (map view roots.now)) result }
@@ -53,7 +51,7 @@ impl PlainTable {
         Ok(PlainTable { nodes, charge })
     }
 
-    // The value at a reference, if one stands there.
+    // The value at a reference, unless it is invalid or refers to the error.
     #[tactic(auto, using(crate::proofs::Tables::stored_at, crate::proofs::Tables::within_deepest, std::proofs::lemmas::Option::slice_get_read))]
     fn tree(&self, h: u64) -> Option<&Tree>
         ensures value { option_map (λ t. tree_value t.now) result ≡ value_at (slice_get (stored_values self.now.nodes.items) h) }
@@ -73,7 +71,7 @@ impl PlainTable {
         self.tree(h).unwrap()
     }
 
-    // Puts a value that is neither null nor a bool behind the last.
+    // Appends a value that is neither null nor a bool.
     fn place(&mut self, tree: Tree) -> Result<u64, AllocError>
         requires kind { is_appended (tree_value tree) ≡ true }
         requires shallow { tree.depth ≤ charge_limit + length (stored_values self.old.nodes.items) + 1 }
@@ -86,7 +84,7 @@ impl PlainTable {
     }
 }
 
-// The reference of null, false or true, which take no place of their own.
+// The fixed reference of null, false or true.
 fn first_place(document: &Value) -> Option<u64>
     ensures { result ≡ own_place (plain_value (view document.now)) }
 {
@@ -98,7 +96,7 @@ fn first_place(document: &Value) -> Option<u64>
     }
 }
 
-// What the placing calls place. Each is at most 1 deeper than what is there.
+// The calls that place a value. Each value is at most 1 deeper than those in the table.
 impl PlainTable {
     #[tactic(auto, using(crate::proofs::Parts::part_is, crate::proofs::Parts::part_there, crate::proofs::Parts::part_within))]
     fn part(&self, h: u64, i: u64) -> &Value

@@ -18,9 +18,9 @@ use crate::tree::Tree;
 use serde_json::Value;
 use std::alloc::{AllocError, Global};
 
-/// What a store of a review's five roots, in the order of `PlainTable::of_roots`, is charged at
-/// first, or the refusal that is due there. It takes no memory, and goes as deep as the documents.
-/// The keys of each object in roots that are not refused stand in byte order, each once.
+/// The initial charge of a store of a review's five roots, in the order of `PlainTable::of_roots`, or the error that
+/// `of_roots` returns for them. Allocates nothing; the recursion is as deep as the documents. The keys of each object
+/// in valid roots are in byte order without duplicates.
 #[tactic(auto, using(crate::proofs::Starting::judging_step, std::proofs::lemmas::List::drop_all, std::proofs::lemmas::List::drop_more))]
 pub fn start_charge(roots: &[Value; 5]) -> Result<u64, TableError>
     ensures charge { result ≡ charge_in (start_contents (map view roots.now)) }

@@ -1,17 +1,16 @@
-//! What is seen of a value at first.
+//! The outline of a value.
 
-/// What stands at a reference: its kind, the value of a simple one, and how many items or entries
-/// another has.
+/// The outline of a value: its kind, the value of a simple one, and the number of items or entries of a list or map.
 #[derive(Clone, Copy, Debug, PartialEq, Eq)]
 pub enum Shape<'a> {
-    /// The error, which is no value.
+    /// The error, which is not a value.
     Error,
     Null,
     Bool(bool),
     Int(i64),
     Text(&'a str),
-    /// How many items.
+    /// The number of items.
     List(u64),
-    /// How many entries.
+    /// The number of entries.
     Map(u64),
 }

@@ -1,4 +1,4 @@
-//! Why five documents give no table.
+//! Why the roots of a review are refused.
 
 ghost use Rattle.std.specs.Prelude.{◌≡◌};
 ghost use Rattle.value_store.specs.declared.table_error.TableError.TheVariants.{Memory};
@@ -6,16 +6,16 @@ ghost use Rattle.value_store.specs.declared.table_error.TableError.TheVariants.{
 use std::alloc::{AllocError, AllocFailed};
 use thiserror::Error;
 
-/// Why five documents give no table. The number of a variant is the reference of the root, 4 to 8.
+/// Why five documents make no table. The number in a variant is the reference of the root, 4 to 8.
 #[derive(Clone, Copy, Debug, PartialEq, Eq, Error)]
 pub enum TableError {
     /// The root at this reference is neither an object nor null.
     #[error("root {0} is neither an object nor null")]
     NotAnObject(u64),
-    /// The root at this reference has a number that is not an integer of 64 bits signed.
+    /// The root at this reference contains a number that is not a signed 64-bit integer.
     #[error("root {0} holds a number that is no integer of 64 bits")]
     NumberOutOfInt64(u64),
-    /// The sizes of the roots together are above 16,777,216, the most that the charge can be.
+    /// The sizes of the roots together exceed 16,777,216, the limit of the charge.
     #[error("the roots are too large")]
     RootsTooLarge,
     /// An allocation failed.

@@ -21,15 +21,15 @@ use crate::shape::Shape;
 use serde_json::{Map, Value};
 use std::alloc::{AllocError, Global};
 
-/// A value as a document of its own, with its depth.
+/// A value as an owned document, with its depth.
 #[derive(Drop)]
 pub(crate) struct Tree {
     pub(crate) document: Value,
     pub(crate) depth: u64,
-    // Each number is an integer of 64 bits signed.
+    // Each number is a signed 64-bit integer.
     pub ghost whole: { has_other (view document) ≡ false },
     pub ghost deep: { depth ≡ depth_of (plain_value (view document)) },
-    // The keys of its maps stand in byte order, each once.
+    // The keys of its maps are in byte order without duplicates.
     pub ghost ordered: { IsOrdered (plain_value (view document)) } by { ordered_prop (plain_value (view document)) },
 }
 
@@ -74,7 +74,7 @@ impl Tree {
         }
     }
 
-    /// A tree of its own for a document, which has a value.
+    /// An owned tree of a document that has a value.
     #[tactic(auto, using(crate::proofs::Measures::measured_depth, crate::proofs::Measures::measured_some, crate::proofs::Ordered::value_ordered))]
     pub(crate) fn of_document(document: &Value) -> Result<Tree, AllocError>
         requires whole { has_other (view document.now) ≡ false }
@@ -120,7 +120,7 @@ impl Tree {
         }
     }
 
-    /// What is seen of the value at first.
+    /// The outline of the value.
     pub(crate) fn shape(&self) -> Shape<'_>
         ensures shape { shape_view result ≡ outcome_view (kind.value (tree_value self.now)) }
         ensures short { seen_size (shape_view result) < 2 ^ 63 }
@@ -135,7 +135,7 @@ impl Tree {
         }
     }
 
-    /// The i-th item of a list, or value of a map.
+    /// The i-th item of a list, or the i-th value of a map.
     pub(crate) fn part(&self, i: u64) -> Option<&Value>
         ensures { option_map (λ v. view v.now) result ≡ part_of i (view self.now.document) }
     {
@@ -155,7 +155,7 @@ impl Tree {
         }
     }
 
-    /// The place of a key among a map's.
+    /// The position of a key in a map.
     pub(crate) fn place_of(&self, key: &[u8]) -> Option<u64>
         requires { IsSome (option_map (place_of_key key.now) (entries_part (tree_value self.now))) }
         ensures { Some result ≡ option_map (place_of_key key.now) (entries_part (tree_value self.now)) }
@@ -166,7 +166,7 @@ impl Tree {
         }
     }
 
-    /// The value as JSON (RFC 8259), compact.
+    /// The value as compact JSON (RFC 8259).
     #[tactic(auto, using(crate::proofs::Texts::text_same, crate::proofs::Texts::no_float))]
     pub(crate) fn json(&self, alloc: Global) -> Result<String, AllocError>
         ensures { IfOk result (λ s. string_bytes s ≡ json_text (tree_value self.now)) }
@@ -175,7 +175,7 @@ impl Tree {
         Ok(text)
     }
 
-    /// The text, if it is one.
+    /// The bytes of a text.
     pub(crate) fn text(&self) -> Option<&str>
         ensures { option_map (λ t. t.now) result ≡ text_part (tree_value self.now) }
     {
@@ -185,7 +185,7 @@ impl Tree {
         }
     }
 
-    /// The map with one more entry, whose key it does not have.
+    /// The map with one more entry, under a key that it does not have.
     pub(crate) fn put(&self, alloc: Global, key: &str, value: &Tree) -> Result<Tree, AllocError>
         requires map { IsSome (option_and_then (λ es. put_of es key.now (tree_value value.now)) (entries_part (tree_value self.now))) }
         requires shallow { value.now.depth + 1 < 2 ^ 64 }
@@ -206,7 +206,7 @@ impl Tree {
         }
     }
 
-    /// This text or list, and the other behind it.
+    /// The concatenation of this text or list and the other.
     #[tactic(auto, using(crate::proofs::Keys::join_ordered, crate::proofs::Trees::join_lists))]
     pub(crate) fn join(&self, other: &Tree) -> Result<Tree, AllocError>
         requires { IsSome (join_of (tree_value self.now) (tree_value other.now)) }

@@ -1,3 +1,4 @@
+-- Loop invariants of the functions of the cycle `same` (src/equality.rt).
 use Rattle.value_store.proofs.Prelude.{◌≡◌, length, drop}
 use Rattle.value_store.proofs.Pairs.{same_items_of, same_members_of}
 use Rattle.value_store.proofs.equality.+same.Given as goal

@@ -1,3 +1,4 @@
+-- Proof obligations of `rows_stand` (src/laws.rt).
 use Rattle.value_store.proofs.Prelude.{arith}
 use Rattle.std.specs.Fmt.{digits}
 use Rattle.std.specs.List.Sorted.{IsStrictlySortedBy}

@@ -1,3 +1,4 @@
+-- Proof obligations of the functions of the cycle `measure_document` (src/measure.rt).
 use Rattle.value_store.proofs.Prelude.{◌≡◌, ◌+◌, ◌∷◌, drop, length, max, string_bytes, sym, ap, ◌∙◌, subst, arith, rules, drop_more, items_view, members_view, saturated, AreElementsOrdered, AreMembersOrdered}
 use Rattle.value_store.proofs.Measures.{ItemsMeasured, MembersMeasured, items_step, members_step}
 use Rattle.value_store.proofs.measure.+measure_document.Goals as goal

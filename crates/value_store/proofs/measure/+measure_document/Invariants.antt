@@ -1,3 +1,4 @@
+-- Loop invariants of the functions of the cycle `measure_document` (src/measure.rt).
 use Rattle.value_store.proofs.Prelude.{drop, items_view, members_view, AreElementsOrdered, AreMembersOrdered}
 use Rattle.value_store.proofs.Measures.{ItemsMeasured, MembersMeasured}
 use Rattle.value_store.proofs.measure.+measure_document.Given as goal

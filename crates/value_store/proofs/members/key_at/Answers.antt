@@ -1,3 +1,4 @@
+-- Proof obligations of `key_at` (src/members.rt).
 use Rattle.value_store.proofs.Prelude.{ℕ, List, Some, option_map, ap, ◌∙◌, Data, members_view}
 use Rattle.value_store.proofs.Parts.{member_key}
 use Rattle.value_store.proofs.members.key_at.Goals as goal

@@ -1,3 +1,4 @@
+-- Loop invariants of `member_at` (src/members.rt).
 use Rattle.value_store.proofs.Prelude.{◌≡◌, members_view, nth_member}
 use Rattle.value_store.proofs.members.member_at.Given as goal
 

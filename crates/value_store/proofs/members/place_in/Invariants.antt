@@ -1,3 +1,4 @@
+-- Loop invariants of `place_in` (src/members.rt).
 use Rattle.value_store.proofs.Prelude.{◌≡◌, ◌+◌, length, option_map, members_view, place_of_key, plain_entries}
 use Rattle.value_store.proofs.members.place_in.Given as goal
 

@@ -1,3 +1,4 @@
+-- Loop invariants of `is_item` (src/membership.rt).
 use Rattle.value_store.proofs.Prelude.{◌≡◌, drop, view, items_view, has_item, plain_value, plain_items}
 use Rattle.value_store.proofs.membership.is_item.Given as goal
 

@@ -1,3 +1,4 @@
+-- Proof obligations of `text_below` (src/order.rt).
 use Rattle.value_store.proofs.Prelude.{sym, arith}
 use Rattle.value_store.proofs.Orders.{Differs, differs}
 use Rattle.value_store.proofs.order.text_below.Goals as goal

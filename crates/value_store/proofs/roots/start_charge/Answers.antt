@@ -1,3 +1,4 @@
+-- Proof obligations of `start_charge` (src/roots.rt).
 use Rattle.value_store.proofs.Prelude.{◌+◌, suc, drop, map, sym, subst, add-one, arith, AllByRecursion, drop_more, view, IsDocumentOrdered}
 use Rattle.value_store.proofs.Starting.{Judging, judging_step}
 use Rattle.value_store.proofs.roots.start_charge.Goals as goal

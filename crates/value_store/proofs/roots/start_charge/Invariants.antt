@@ -1,3 +1,4 @@
+-- Loop invariants of `start_charge` (src/roots.rt).
 use Rattle.value_store.proofs.Prelude.{◌≡◌, ◌+◌, drop, map, AllByRecursion, view, IsDocumentOrdered}
 use Rattle.value_store.proofs.Starting.{Judging}
 use Rattle.value_store.proofs.roots.start_charge.Given as goal

@@ -1,3 +1,4 @@
+-- Proof obligations of `start_nodes` (src/roots.rt).
 use Rattle.value_store.proofs.Prelude.{map, view}
 use Rattle.value_store.proofs.Starting.{started}
 use Rattle.value_store.proofs.roots.start_nodes.Goals as goal

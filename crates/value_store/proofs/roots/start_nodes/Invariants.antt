@@ -1,3 +1,4 @@
+-- Loop invariants of `start_nodes` (src/roots.rt).
 use Rattle.value_store.proofs.Prelude.{◌≡◌, ◌++◌, drop, take, map, view, value, first_values, plain_value, stored_values}
 use Rattle.value_store.proofs.Starting.{Welcome}
 use Rattle.value_store.proofs.roots.start_nodes.Given as goal

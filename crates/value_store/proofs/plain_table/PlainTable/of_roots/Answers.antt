@@ -1,3 +1,4 @@
+-- Proof obligations of `PlainTable::of_roots` (src/plain_table.rt).
 use Rattle.value_store.proofs.Prelude.{◌≡◌, map, Err, sym, subst, rules, arith, view, Contents, start_contents, StoreStarts, stored_values, PlainTable}
 use Rattle.value_store.proofs.Starting.{refused, opened}
 use Rattle.value_store.proofs.plain_table.PlainTable.of_roots.Goals as goal

@@ -1,3 +1,4 @@
+-- Proof obligations of `PlainTable::part` (src/plain_table.rt).
 use Rattle.value_store.proofs.Prelude.{option_map, ap, sym, ◌∙◌, arith, view, Bor}
 use Rattle.serde_json.specs.declared.value.Value as document
 use Rattle.value_store.proofs.Parts.{part_within}

@@ -1,3 +1,4 @@
+-- Proof obligations of `PlainTable::place` (src/plain_table.rt).
 use Rattle.value_store.proofs.Prelude.{◌+◌, ◌≤◌, length, arith, result_depth, charge_limit, stored, stored_values}
 use Rattle.value_store.specs.declared.node.Node.TheVariants as node
 use Rattle.value_store.proofs.Tables.{Stands, pushed_stands}

@@ -1,3 +1,4 @@
+-- Proof obligations of `Tree::join` (src/tree.rt).
 use Rattle.value_store.proofs.Prelude.{sym, ap, ◌∙◌, view}
 use Rattle.value_store.proofs.Keys.{join_ordered, made_ordered}
 use Rattle.value_store.proofs.Trees.{join_lists}

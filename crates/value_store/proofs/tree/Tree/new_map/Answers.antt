@@ -1,3 +1,4 @@
+-- Proof obligations of `Tree::new_map` (src/tree.rt).
 use Rattle.value_store.proofs.Ordered.{empty_fresh}
 use Rattle.value_store.proofs.tree.Tree.new_map.Goals as goal
 

@@ -1,3 +1,4 @@
+-- Proof obligations of `Tree::push` (src/tree.rt).
 use Rattle.value_store.proofs.Prelude.{sym, ap, ◌∙◌, view}
 use Rattle.value_store.proofs.Keys.{push_ordered, made_ordered}
 use Rattle.value_store.proofs.Trees.{push_list}

@@ -1,3 +1,4 @@
+-- Proof obligations of `Tree::put` (src/tree.rt).
 use Rattle.value_store.proofs.Prelude.{sym, ap, ◌∙◌, view}
 use Rattle.value_store.proofs.Keys.{put_at_ordered, made_ordered}
 use Rattle.value_store.proofs.Trees.{put_map}
