@@ -48,7 +48,7 @@ content_more raw quote n said xs x h d e low high =
 pub quote_ascii : (b : ℕ) → is_quote b ≡ true → b < 128
 quote_ascii b h = grind (arith, nat_tests)
 
--- before an ASCII byte a text may be cut
+-- a text may be split before an ASCII byte
 pub said_utf8 : (said bytes : List ℕ) → IsUtf8 (said ++ bytes) → 0 < length bytes → get_or bytes 0 0 < 128 → IsUtf8 said
 said_utf8 said bytes u l a =
     let e : get_or (said ++ bytes) (length said + 0) 0 ≡ get_or bytes 0 0 = get_or-append-add said bytes 0 0 in
@@ -57,7 +57,7 @@ said_utf8 said bytes u l a =
     let b = IsCharBoundary-before_ascii (said ++ bytes) (length said) (omega (arith, length-append said bytes)) (omega (arith, f, a)) in
     subst IsUtf8 (take-append_seam said bytes) (IsUtf8-take (said ++ bytes) (length said) u b)
 
--- after an ASCII byte too
+-- a text may be split after an ASCII byte
 pub rest_utf8 : (said bytes : List ℕ) (len : ℕ) → IsUtf8 (said ++ bytes) → len < length bytes → get_or bytes len 0 < 128 → IsUtf8 (drop (len + 1) bytes)
 rest_utf8 said bytes len u l a =
     let f : get_or (said ++ bytes) (length said + len) 0 ≡ get_or bytes len 0 = get_or-append-add said bytes len 0 in
@@ -65,7 +65,7 @@ rest_utf8 said bytes len u l a =
     let q : length said + len + 1 ≡ length said + (len + 1) = omega arith in
     subst IsUtf8 (ap (λ y. drop y (said ++ bytes)) q ∙ drop-append-add said bytes (len + 1)) (IsUtf8-drop (said ++ bytes) (length said + len + 1) u b)
 
--- an escape that ends in an ASCII byte may be put for its code point
+-- an escape that ends in an ASCII byte may be replaced by its code point
 pub escape_utf8 : (said bytes : List ℕ) (code len : ℕ) → IsUtf8 (said ++ bytes) → get_or bytes 0 0 < 128 → len < length bytes
     → get_or bytes len 0 < 128 → IsScalar code → IsUtf8 ((said ++ encode_utf8 code) ++ drop (len + 1) bytes)
 escape_utf8 said bytes code len u a l z s =

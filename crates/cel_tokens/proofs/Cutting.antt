@@ -4,7 +4,7 @@ use mathlib.Core.Logic.{inl, inr}
 use Rattle.cel_tokens.specs.Lexed as front
 use Rattle.cel_tokens.specs.Lexis.TokenBegins.{a_text, an_int}
 
--- the front of the rest is that of the text at this place
+-- the front of the rest is that of the text at this position
 pub there : (source rest : List ℕ) (signed : Bool) (at : ℕ) (found : front.Lexed) → rest ≡ drop at source → found ≡ front signed rest → front signed (drop at source) ≡ found
 there source rest signed at found e s = ap (front signed) (sym e) ∙ sym s
 
@@ -31,7 +31,7 @@ seen_new : (source : List ℕ) (at n : ℕ) (kind : Kind) (old new : List CodeTo
     → map (token_view source) new ≡ map (token_view source) old ++ (lexeme at n (word_of (take n (drop at source)) kind) ∷ [])
 seen_new source at n kind old new e = grind (arith, map-append, same_word)
 
--- the rest of a text from a place on, and the token at its front
+-- the rest of a text from a position on, and the token at its front
 pub record BeginsToken (source rest : List ℕ) (signed : Bool) (at n : ℕ) (kind : Kind) : Type 0 where
   pub rest_is : rest ≡ drop at source
   pub front_is : front.word n (word_of (take n rest) kind) ≡ front signed rest
@@ -45,21 +45,21 @@ token_goes source rest signed at n kind old r begins l d =
     let f : front signed (drop at source) ≡ front.word n (word_of (take n (drop at source)) kind) = there source rest signed at _ begins.rest_is begins.front_is ∙ ap (front.word n) w in
     token_step source signed at n (map (token_view source) old) _ r f (omega (arith, length-map old (token_view source))) (moved _ _ _ _ (at + n) source r (ap sign_may_follow w) (seen_new source at n kind old _ refl) d)
 
--- one that comes behind blanks
+-- reading on allocates after blanks and comments if it does without them
 pub taken_behind : (source : List ℕ) (signed : Bool) (at n : ℕ) → front signed (drop at source) ≡ front.space n
     → TakesMemory signed (drop (at + n) source) → TakesMemory signed (drop at source)
 taken_behind source signed at n f t = behind_space n f (subst (TakesMemory signed) (sym (drop-drop n at source)) t)
 
--- a token's
+-- reading a token allocates
 pub taken_for : (source rest : List ℕ) (signed : Bool) (at n : ℕ) (w : Word) → rest ≡ drop at source → front.word n w ≡ front signed rest → TakesMemory signed (drop at source)
 taken_for source rest signed at n w e s = for_word n w (there source rest signed at (front.word n w) e s)
 
--- a text literal's, whether it is one or not
+-- reading a text literal allocates, even if it is invalid
 pub taken_by_text : (signed : Bool) (bytes : List ℕ) (before : ℕ) (o : Option (ℕ × List ℕ)) → front signed bytes ≡ front_text before o → TakesMemory signed bytes
 taken_by_text signed bytes before None e = for_text e
 taken_by_text signed bytes before (Some x) e = for_word (before + x.0) (text x.1) e
 
--- after 4,096 tokens what begins is one too many
+-- after 4,096 tokens the next one exceeds the limit
 pub too_many_words : (source rest : List ℕ) (signed : Bool) (at n : ℕ) (w : Word) (old : List CodeToken) → rest ≡ drop at source
     → front.word n w ≡ front signed rest → token_limit ≤ length old → EndsAs source signed at old (Err (TextTooLong at))
 too_many_words source rest signed at n w old e s l =
@@ -81,7 +81,7 @@ pub int_refused : (source : List ℕ) (signed : Bool) (at n count : ℕ) (old : 
 int_refused source signed at n count old answer f c a =
     elim (cases_lt count token_limit) [ inl h ↦ rw (a, not_full count at (IntOutOfRange (at + n)) h) (cut_int {so_far = map (token_view source) old} n f (omega (arith, c, length-map old (token_view source)))) | inr h ↦ rw (a, full count at (IntOutOfRange (at + n)) h) (too_many {so_far = map (token_view source) old} (subst TokenBegins (sym f) (an_int n)) (omega (arith, c, length-map old (token_view source)))) ]
 
--- the answer of the whole text
+-- the outcome of the whole text
 pub whole : (source : List ℕ) (r : Result (Vec CodeToken Global) ReadError) → length source ≤ text_limit → CutsTo source r → TokensReturns source r
 whole source (Err (UnexpectedToken place)) h c = c
 whole source (Err (TooManyOpen place)) h c = c

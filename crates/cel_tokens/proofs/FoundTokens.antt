@@ -1,4 +1,4 @@
--- The tokens of what is found at the front.
+-- The token of each kind of front.
 use Rattle.cel_tokens.proofs.Prelude.{◌≡◌, ℕ, suc, ◌+◌, ◌≤◌, List, [], ◌∷◌, ◌++◌, length, take, drop, refl, sym, ◌∙◌, ap, subst, arith, Bool, true, false, Option, Some, pos, neg_ℤ, length-take-le, length-drop, length-append, append_assoc, take-take, take-append-drop, take-append_seam, Mark, name, int, text, mark, mark_word, is_letter, is_name_byte, run, mark_at, mark_of, one_byte, two_bytes, opening_len, is_quote, is_raw_prefix, LiteralMeans, Skips, none, blank, comment, IsToken, HasToken, a_name, a_signed_int, a_mark, a_text, a_raw_text, FollowsSign}
 use mathlib.Core.Logic.{inl, inr}
 use Rattle.cel_tokens.proofs.Runs.{run_within}
@@ -8,7 +8,7 @@ use Rattle.cel_tokens.proofs.OwnBytes.{says_within, says_alike}
 
 -- ---- text literals
 
--- a literal alone
+-- a literal without the text after it
 own : (raw : Bool) (quote n : ℕ) (bytes said : List ℕ) → LiteralMeans raw quote bytes n said → (n ≤ length bytes)
     × LiteralMeans raw quote (take n bytes) (length (take n bytes)) said
 own raw quote n bytes said s = grind (arith, says_within, length-take-le, says_alike, take-take)
@@ -55,7 +55,7 @@ mark_token signed bytes m n e = (mark_within bytes m n e, a_mark (no_word (mark_
 
 -- ---- ints with a sign
 
--- without what stands behind
+-- without the bytes after it
 cut : {bytes rest : List ℕ} → Skips bytes rest → (digits more : List ℕ) → rest ≡ digits ++ more → (first : List ℕ) × (bytes ≡ first ++ more)
     × Skips first digits
 cut none digits more e = (digits, e, none)

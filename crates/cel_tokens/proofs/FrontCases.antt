@@ -1,4 +1,4 @@
--- What is found at the front, by cases.
+-- The front of a text, by cases.
 use Rattle.cel_tokens.proofs.Prelude.{◌≡◌, ℕ, ◌≤◌, List, [], ◌∷◌, take, drop, refl, arith, Bool, true, false, Option, Some, None, ◌==◌, ◌&&◌, if◌then◌else◌, nat_lt, nat_tests, name, is_letter, is_name_byte, is_digit_of, run, between, mark_at, opening, opening_len, content, digit_begins, front, front_word, front_text, front_int, front_mark, before_digits, signed_int_begins}
 use Rattle.cel_tokens.specs.Lexed as front
 

@@ -1,4 +1,4 @@
--- The definition of what stands at the front, without cases on the text.
+-- The definition of the front, without cases on the text.
 use Rattle.cel_tokens.proofs.Prelude.{◌≡◌, ℕ, ◌<◌, ◌≤◌, List, length, get_or, refl, arith, Bool, true, false, if◌then◌else◌, nat_lt, ◌==◌, Result, OnErr, nat_tests, between, IsUtf8, drop, IsQuoted, EndsText, opening, opening_len, front, front_word}
 use Rattle.cel_tokens.proofs.Contents.{rest_utf8, quote_ascii}
 use Rattle.cel_tokens.specs.Lexed.{over, space}
@@ -28,7 +28,7 @@ front_else signed xs n h e l =
     let t : nat_lt 0 (between false xs) ≡ false = grind (arith, nat_tests) in
     rw (front_is signed xs h, t) refl
 
--- what follows the quote of a text literal is UTF-8
+-- the bytes after the quote of a text literal are UTF-8
 pub opened : (bytes : List ℕ) (raw : Bool) (quote : ℕ) → IsQuoted bytes raw quote → EndsText bytes → IsUtf8 (drop (opening_len raw) bytes)
 opened bytes false quote q u =
     let e = q.2 in
@@ -37,6 +37,6 @@ opened bytes true quote q u =
     let e = q.2 in
     rest_utf8 u.0 bytes 1 u.1 (omega (arith, q.0)) (omega (arith, e, quote_ascii quote q.1))
 
--- what holds whatever is answered
+-- a property that holds for both results
 pub in_any_case : {T E P : Type 0} (r : Result T E) → P → OnErr r P
 in_any_case r h0 = grind arith

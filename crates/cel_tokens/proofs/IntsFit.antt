@@ -1,4 +1,4 @@
--- Each int of a text's tokens has 64 bits.
+-- Every int among a text's tokens fits 64 bits.
 use Rattle.cel_tokens.proofs.Prelude.{◌≡◌, ℕ, List, drop, Bool, true, false, Option, arith, subst, if◌then◌else◌, ◌&&◌, All, IfOk, Result, Ok, All-push, Word, Token, is_letter, is_digit_of, Lexed, front, front_int, front_plain, front_word, before_digits, signed_int_begins, Lexes, Cuts, lexeme, IntFits, ReadError}
 use Rattle.cel_tokens.specs.Lexed as front
 use Rattle.cel_tokens.specs.Lexis as lexis

@@ -1,3 +1,4 @@
+-- Proofs of cel_tokens: the list of their modules.
 pub mod Runs
 pub mod Numbers
 pub mod EscapeDigits

@@ -1,8 +1,8 @@
--- What is computed of blanks and comments is their longest stretch.
+-- The computed gap is the longest run of blanks and comments.
 use Rattle.cel_tokens.proofs.Prelude.{◌≡◌, ℕ, suc, ◌+◌, ◌≤◌, List, [], ◌∷◌, ◌++◌, length, drop, refl, sym, ◌∙◌, ap, subst, arith, Bool, true, false, not, nat_tests, length-append, between, stays_in_comment, is_blank, is_line_end, opens_comment, AllPass, Skips, IsLineOver, IsGap, none, blank, comment}
 use Rattle.cel_tokens.proofs.Runs.{between_on, between_off}
 
--- ---- what the bytes are
+-- ---- the bytes of a run
 
 nothing : (c : Bool) → between c [] ≡ 0
 unfolding between
@@ -17,7 +17,7 @@ inside_line b bs h = between_on true b bs refl ∙ (rw h refl)
 at_line_end : (b : ℕ) (bs : List ℕ) → is_line_end b ≡ true → between true (b ∷ bs) ≡ between false bs + 1
 at_line_end b bs h = between_on true b bs refl ∙ (rw h refl)
 
--- ---- no stretch is longer
+-- ---- no run is longer
 
 line_over : (after : List ℕ) → IsLineOver after → between true after ≡ between false after
 line_over after h = grind (arith, nothing, at_line_end, at_blank, nat_tests)
@@ -26,7 +26,7 @@ through_line : (inside after : List ℕ) → AllPass (λ b. not (is_line_end b))
 through_line [] after a h = let e = line_over after h in omega (arith, e)
 through_line (b ∷ bs) after a h = grind (arith, inside_line, through_line bs after a.1 h)
 
--- behind a stretch the longest one goes on
+-- the longest run continues after a shorter one
 pub goes_on : {bytes rest : List ℕ} → Skips bytes rest → between false bytes + length rest ≡ between false rest + length bytes
 goes_on none = refl
 goes_on (blank {b = b} {bs = bs} h s) = grind (arith, at_blank, goes_on s)
@@ -35,19 +35,19 @@ goes_on (comment inside after a h s) = grind (arith, between_on, through_line, l
 none_longer : {bytes rest : List ℕ} → Skips bytes rest → length bytes ≤ between false bytes + length rest
 none_longer s = let e = goes_on s in omega (arith, e)
 
--- ---- what is computed is a stretch
+-- ---- the computed gap is a run
 
 pub within : (c : Bool) (bytes : List ℕ) → between c bytes ≤ length bytes
 unfolding between
 within c [] = omega arith
 within c (b ∷ bs) = grind (arith, within (stays_in_comment c b) bs)
 
--- the rest of a comment's line, and the stretch behind it
+-- the rest of a comment's line, and the run after it
 abbrev InComment : List ℕ → List ℕ → Type 0
 InComment bytes rest =
     (inside : List ℕ) × (after : List ℕ) × (bytes ≡ inside ++ after) × AllPass (λ b. not (is_line_end b)) inside × IsLineOver after × Skips after rest
 
--- a stretch, or one that begins in a comment
+-- a run, or one that begins in a comment
 abbrev Stretch : Bool → List ℕ → List ℕ → Type 0
 Stretch true bytes rest = InComment bytes rest
 Stretch false bytes rest = Skips bytes rest
@@ -78,12 +78,12 @@ over_here b bs k o =
     let e : between false (b ∷ bs) ≡ 0 = between_off false b bs (rw (k, o) refl) in
     subst (Skips (b ∷ bs)) (sym (ap (λ n. drop n (b ∷ bs)) e)) none
 
--- the comment's rest behind a byte of these, if there is one
+-- the comment's rest after one of these bytes, if there is one
 abbrev AfterOne : List ℕ → Type 0
 AfterOne [] = Unit {0}
 AfterOne (c ∷ cs) = InComment cs (behind true cs)
 
--- a byte that is no blank
+-- a byte that is not a blank
 no_blank : (b : ℕ) (bs : List ℕ) → AfterOne bs → is_blank b ≡ false → (t : Bool) → opens_comment (b ∷ bs) ≡ t → Skips (b ∷ bs) (behind false (b ∷ bs))
 no_blank b bs i k false t = over_here b bs k t
 no_blank b [] i k true t = absurd cc

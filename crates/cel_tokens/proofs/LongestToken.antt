@@ -1,4 +1,4 @@
--- No longer token stands at the front.
+-- No longer token is at the front.
 use Rattle.cel_tokens.proofs.Prelude.{◌≡◌, ℕ, suc, ◌+◌, ◌<◌, ◌≤◌, List, [], ◌∷◌, ◌++◌, length, take, drop, refl, sym, ◌∙◌, ap, subst, arith, Bool, true, false, Option, Some, None, ◌⊎◌, ◌==◌, ℤ, nat_tests, length-append, length-take-le, append_assoc, take-append-drop, take-append-le, drop-append_seam, Mark, Word, text, is_letter, is_name_byte, is_digit_of, is_blank, mark_at, mark_of, of_two, two_bytes, opening, opening_len, is_quote, is_raw_prefix, LiteralMeans, int_at, int_of, front, int_front, front_mark, before_digits, IsName, Takes, Skips, IsLineOver, none, blank, comment, Spells, IsInt, FollowsSign, decimal, hex, IsToken, HasToken, IsLongestToken, a_name, an_int, a_signed_int, a_mark, a_text, a_raw_text}
 use Rattle.cel_tokens.specs.Lexed as front
 use Rattle.cel_tokens.proofs.Runs.{run_on}
@@ -10,7 +10,7 @@ use Rattle.cel_tokens.proofs.Fronts.{front_nil}
 use Rattle.cel_tokens.proofs.FrontCases as case
 use Rattle.cel_tokens.proofs.FrontCases.{Found}
 
--- what is found takes so many of the bytes at least, and something is found
+-- a finding that covers at least n of the bytes
 abbrev AtLeast : List ℕ → ℕ → front.Lexed → Type 0
 AtLeast bytes k (front.space n) = Unit {0}
 AtLeast bytes k (front.word n w) = k ≤ n
@@ -25,7 +25,7 @@ int_takes bytes k before o h0 = grind arith
 name_byte : (b : ℕ) → is_letter b ≡ true → is_name_byte b ≡ true
 name_byte b l = rw l refl
 
--- a byte at least, where something is found
+-- a finding covers at least one byte
 takes_one : (signed : Bool) (b : ℕ) (bs : List ℕ) (x : front.Lexed) → Found signed b bs x
     → (is_letter b ≡ false → AtLeast (b ∷ bs) 1 (front_mark (mark_at (b ∷ bs)))) → AtLeast (b ∷ bs) 1 x
 takes_one signed b bs x (case.a_gap n l q) h = tt
@@ -68,7 +68,7 @@ int_takes_all signed (hex d ds a) rest = either signed (48 ∷ 120 ∷ d ∷ ds)
 
 -- ---- ints with a sign
 
--- what is skipped
+-- the bytes of a gap
 pub skipped : {bytes rest : List ℕ} → Skips bytes rest → (gap : List ℕ) × (bytes ≡ gap ++ rest)
 skipped none = ([], refl)
 skipped (blank {b = b} h s) = let g = skipped s in (b ∷ g.0, ap (λ (xs : List ℕ). b ∷ xs) g.1)
@@ -122,7 +122,7 @@ unfolding front
 plain_front true a bs k s q r l d m = rw (begins_here a bs (k, s), no_text a bs q r, l, d, m) refl
 plain_front false a bs k s q r l d m = rw (begins_here a bs (k, s), no_text a bs q r, l, d) refl
 
--- a byte that begins a mark of two
+-- a byte that begins a mark of two bytes
 two_begin : (a b : ℕ) (m : Mark) → two_bytes a b ≡ Some m → (signed : Bool) (bs : List ℕ) → front signed (a ∷ bs) ≡ front_mark (mark_at (a ∷ bs))
 two_begin a b m e signed bs =
     plain_front signed a bs (grind (arith, nat_tests)) (grind (arith, nat_tests)) (grind (arith, nat_tests)) (grind (arith, nat_tests))
@@ -187,7 +187,7 @@ has_takes signed bytes m w t =
     subst (λ k. AtLeast bytes k (front signed bytes)) (length-take-le m bytes t.0)
     (subst (λ xs. AtLeast xs (length (take m bytes)) (front signed xs)) (take-append-drop m bytes) (token_takes t.1 (drop m bytes)))
 
--- ---- no longer token, and none
+-- ---- no longer token, and no token
 
 pub longest : (signed : Bool) (bytes : List ℕ) (n : ℕ) (w : Word) → front signed bytes ≡ front.word n w → HasToken signed bytes n w
     → IsLongestToken signed bytes n w

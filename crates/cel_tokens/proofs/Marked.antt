@@ -1,4 +1,4 @@
--- The bytes of a mark say which it is.
+-- The bytes of a mark determine it.
 use Rattle.cel_tokens.proofs.Prelude.{arith, ◌≡◌, ℕ, List, [], ◌∷◌, take, Option, Some, sym, subst, ap, inl, inr, ◌⊎◌, front_mark, mark_at, mark_of, of_one, of_two, one_byte, two_bytes, mark, mark_word, Mark}
 use Rattle.cel_tokens.specs.Lexed as front
 

@@ -1,4 +1,4 @@
--- What is computed of an escape is what its bytes name.
+-- The computed code point of an escape is the one that its bytes denote.
 use Rattle.cel_tokens.proofs.Prelude.{◌≡◌, ℕ, suc, ◌+◌, ◌*◌, ◌≤◌, List, [], ◌∷◌, ◌++◌, length, take, drop, refl, sym, ◌∙◌, ap, subst, arith, Bool, true, false, Option, Some, None, ◌⊎◌, ◌==◌, ◌&&◌, ◌||◌, if◌then◌else◌, nat_lt, option_map, option_and_then, digit_value, nat_tests, length-take, length-take-le, take-append-drop, take-append_seam, is_digit_of, run, number, number_from, escape, simple, numeric, code_point, is_code_point, AllPass, AreDigits, EscapeNames, bell, backspace, form_feed, line_feed, carriage_return, tab, vertical_tab, backslash, question_mark, double_quote, single_quote, back_quote, two_hex, four_hex, eight_hex, octal}
 use Rattle.cel_tokens.proofs.Runs.{run_on, run_within}
 
@@ -17,7 +17,7 @@ unfolding run
 all_pass p [] e = tt
 all_pass p (x ∷ xs) e = ((grind arith), all_pass p xs (grind arith))
 
--- ---- what a number of digits gives
+-- ---- the results of a number of digits
 
 -- the digits at the front, and the escape of this length that they give
 abbrev Given : ℕ → ℕ → ℕ → List ℕ → ℕ × ℕ → Type 0
@@ -34,7 +34,7 @@ given base count len bytes x e = given_run base count len bytes x (run (is_digit
 gives : (base count len : ℕ) (ds rest : List ℕ) → AreDigits base count ds → is_code_point (number base ds) ≡ true → numeric base count len (ds ++ rest) ≡ Some (number base ds, len)
 gives base count len ds rest d c = grind (arith, take-append_seam, run_passes)
 
--- ---- what stands behind a backslash is named
+-- ---- the text after a backslash denotes the code point
 
 abbrev Named : List ℕ → ℕ × ℕ → Type 0
 Named bytes x = (x.1 ≤ length bytes) × EscapeNames (take x.1 bytes) x.0
@@ -46,12 +46,12 @@ NamedIf bytes o = (x : ℕ × ℕ) → o ≡ Some x → Named bytes x
 one : (k code : ℕ) (bs : List ℕ) → EscapeNames (k ∷ []) code → NamedIf (k ∷ bs) (Some (code, 1))
 one k code bs h0 = grind arith
 
--- what stands behind a test, whichever way it goes
+-- the result after a test, for either outcome
 choose : (bytes : List ℕ) (t : Bool) (o p : Option (ℕ × ℕ)) → (t ≡ true → NamedIf bytes o) → NamedIf bytes p → NamedIf bytes (if t then o else p)
 choose bytes true o p f g = f refl
 choose bytes false o p f g = g
 
--- or whichever of two tests holds
+-- the result after two alternatives, for either outcome
 choose_either : (bytes : List ℕ) (t more : Bool) (o p : Option (ℕ × ℕ)) → (t ≡ true → NamedIf bytes o)
     → NamedIf bytes (if more then o else p) → NamedIf bytes (if t || more then o else p)
 choose_either bytes true more o p f g = f refl
@@ -61,11 +61,11 @@ choose_either bytes false more o p f g = g
 read_as : (b k : ℕ) (bs : List ℕ) (o : Option (ℕ × ℕ)) → NamedIf (k ∷ bs) o → (b == k) ≡ true → NamedIf (b ∷ bs) o
 read_as b k bs o i t = subst (λ c. NamedIf (c ∷ bs) o) (sym (grind (arith, nat_tests))) i
 
--- one letter, else what comes behind it in the table
+-- one letter, or the rest of the table
 letter : (b k code : ℕ) (bs : List ℕ) (o : Option (ℕ × ℕ)) → EscapeNames (k ∷ []) code → NamedIf (b ∷ bs) o → NamedIf (b ∷ bs) (if b == k then Some (code, 1) else o)
 letter b k code bs o n i = choose (b ∷ bs) (b == k) _ o (read_as b k bs _ (one k code bs n)) i
 
--- a mark that stands for itself
+-- a mark that represents itself
 itself : (b k : ℕ) (bs : List ℕ) → EscapeNames (k ∷ []) k → (b == k) ≡ true → NamedIf (b ∷ bs) (Some (b, 1))
 itself b k bs n t = subst (λ c. NamedIf (c ∷ bs) (Some (c, 1))) (sym (grind (arith, nat_tests))) (one k k bs n)
 
@@ -84,7 +84,7 @@ simple_named b bs =
     (choose_either (b ∷ bs) (b == 39) _ _ None (itself b 39 bs single_quote)
     (choose (b ∷ bs) (b == 96) _ None (itself b 96 bs back_quote) (λ x e. absurd cc))))))))))))
 
--- a letter and so many hex digits
+-- a letter and `count` hex digits
 hex_named : (b count : ℕ) (bs : List ℕ) → ((ds : List ℕ) → AreDigits 16 count ds → is_code_point (number 16 ds) ≡ true → EscapeNames (b ∷ ds) (number 16 ds))
     → NamedIf (b ∷ bs) (numeric 16 count (suc count) bs)
 hex_named b count bs names x e = grind (arith, given)
@@ -110,7 +110,7 @@ escape_named (b ∷ bs) =
     (choose (b ∷ bs) (b == 85) _ _ (read_as b 85 bs _ (hex_named 85 8 bs eight_hex))
     (choose (b ∷ bs) (nat_lt 47 b && nat_lt b 52) _ _ (octal_named b bs) (simple_named b bs))))
 
--- ---- what is named is computed
+-- ---- what is denoted is computed
 
 abbrev Computed : List ℕ → ℕ → Type 0
 Computed written code = (rest : List ℕ) → escape (written ++ rest) ≡ Some (code, length written)

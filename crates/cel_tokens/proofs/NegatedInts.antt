@@ -1,4 +1,4 @@
--- A minus and the int behind it are one token, where the minus may be a sign.
+-- A minus and the int after it are one token if the minus may be a sign.
 use Rattle.cel_tokens.proofs.Prelude.{◌≡◌, ℕ, suc, ◌+◌, ◌^◌, ◌<◌, ◌≤◌, List, [], ◌∷◌, ◌++◌, length, take, drop, refl, sym, ◌∙◌, ap, subst, arith, Bool, true, false, ◌⊎◌, ◌&&◌, if◌then◌else◌, ℤ, pos, neg_ℤ, nat_tests, cases_lt, length-take-le, length-drop, take-append-drop, Minus, int, mark, is_digit_of, run, between, number, int_at, int_of, digit_begins, hex_begins, spelled, fits64, front, int_front, AllPass, IsDecimal, Spells, IsInt, FollowsSign, decimal, hex}
 use mathlib.Core.Logic.{inr}
 use Rattle.cel_tokens.specs.Lexed as front
@@ -11,7 +11,7 @@ use Rattle.cel_tokens.proofs.LongestGap.{goes_on, is_longest_gap}
 passes_by : (p : ℕ → Bool) (x : ℕ) (xs : List ℕ) → AllPass p (take (run p xs) xs) → (t : Bool) → p x ≡ t → AllPass p (take (if t then run p xs + 1 else 0) (x ∷ xs))
 passes_by p x xs h0 t h1 = grind arith
 
--- as many bytes as pass, pass
+-- all bytes of a run pass
 pub front_passes : (p : ℕ → Bool) (xs : List ℕ) → AllPass p (take (run p xs) xs)
 unfolding run
 front_passes p [] = tt
@@ -58,7 +58,7 @@ none_longer bytes m other h s =
 pub int_is : (bytes : List ℕ) → digit_begins bytes ≡ true → IsInt bytes (int_at bytes).0 (int_at bytes).1
 int_is bytes d = (within_by bytes (hex_begins bytes) refl, spells_by bytes d (hex_begins bytes) refl, none_longer bytes)
 
--- ---- there is one
+-- ---- the int is unique
 
 pub same_value : {xs : List ℕ} {m n : ℕ} → Spells xs m → Spells xs n → m ≡ n
 same_value h0 h1 = grind arith
@@ -66,7 +66,7 @@ same_value h0 h1 = grind arith
 pub int_digit : (bytes : List ℕ) (n v : ℕ) → IsInt bytes n v → digit_begins bytes ≡ true
 int_digit bytes n v i = subst (λ (xs : List ℕ). digit_begins xs ≡ true) (take-append-drop n bytes) (grind arith)
 
--- ---- where the digits are
+-- ---- the position of the digits
 
 pub stops_at_digit : (bytes : List ℕ) → digit_begins bytes ≡ true → between false bytes ≡ 0
 stops_at_digit bytes d = grind (arith, begins_here, digit_is_token)
@@ -74,7 +74,7 @@ stops_at_digit bytes d = grind (arith, begins_here, digit_is_token)
 pub gap_is : (bytes : List ℕ) (gap n v : ℕ) → FollowsSign bytes gap n v → between false bytes ≡ gap
 gap_is bytes gap n v f = grind (arith, goes_on, stops_at_digit, int_digit, length-drop)
 
--- ---- what a minus begins
+-- ---- the token that a minus begins
 
 behind_minus : (bytes : List ℕ) → drop (between false bytes + 1) (45 ∷ bytes) ≡ drop (between false bytes) bytes
 behind_minus bytes = grind arith
@@ -109,9 +109,9 @@ negated bytes gap n v f h = sign_front bytes gap n v f ∙ (rw (fits v h) refl)
 too_wide : (bytes : List ℕ) (gap n v : ℕ) → FollowsSign bytes gap n v → 2 ^ 63 < v → front true (45 ∷ bytes) ≡ front.wide_int (gap + 1)
 too_wide bytes gap n v f h = sign_front bytes gap n v f ∙ (rw (is_wide v h) refl)
 
--- ---- what the front is, by cases
+-- ---- the front, by cases
 
--- what a minus begins: an int with its sign, one too wide, or a mark
+-- the token that a minus begins: an int with its sign, one that is too wide, or a mark
 abbrev Begun : List ℕ → front.Lexed → Type 0
 Begun bytes x =
     ((gap n v : ℕ) × FollowsSign bytes gap n v × (v ≤ 2 ^ 63) × (x ≡ front.word (gap + 1 + n) (int (neg_ℤ (pos v))))) ⊎ (((gap n v : ℕ) × FollowsSign bytes gap n v × (2 ^ 63 < v) × (x ≡ front.wide_int (gap + 1))) ⊎ (x ≡ front.word 1 (mark Minus)))

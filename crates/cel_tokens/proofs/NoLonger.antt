@@ -1,4 +1,4 @@
--- No longer name and no longer int stands where a token is.
+-- No longer name and no longer int is at the position of a token.
 use Rattle.cel_tokens.proofs.Prelude.{◌≡◌, ℕ, ◌+◌, ◌≤◌, List, [], ◌∷◌, ◌++◌, length, take, refl, arith, Bool, true, false, None, ◌⊎◌, ◌==◌, if◌then◌else◌, drop, nat_tests, name, is_letter, is_name_byte, is_digit_of, is_blank, opens_comment, between, run, int_at, hex_begins, spelled, opening, is_quote, is_raw_prefix, front, front_int, AllPass, IsName, IsDecimal, Takes}
 use Rattle.cel_tokens.specs.Lexed as front
 use Rattle.cel_tokens.proofs.Runs.{between_off, run_on}
@@ -10,7 +10,7 @@ run_prefix p (x ∷ xs) ys a = grind (arith, run_on, run_prefix p xs ys a.1)
 no_comment : (b : ℕ) (bs : List ℕ) → (b == 47) ≡ false → opens_comment (b ∷ bs) ≡ false
 no_comment b bs h0 = grind arith
 
--- no letter begins what stands between tokens
+-- a letter does not begin a gap
 letter_is_token : (b : ℕ) → is_letter b ≡ true → (is_blank b ≡ false) × ((b == 47) ≡ false)
 letter_is_token b h = (grind (arith, nat_tests), grind (arith, nat_tests))
 
@@ -33,7 +33,7 @@ no_longer_name signed (b ∷ bs) rest a o =
 pub digit_is_token : (b : ℕ) → is_digit_of 10 b ≡ true → (is_blank b ≡ false) × ((b == 47) ≡ false)
 digit_is_token b h = (grind (arith, nat_tests), grind (arith, nat_tests))
 
--- no digit begins a text or a name
+-- a digit does not begin a text literal or a name
 digit_is_no_letter : (b : ℕ) → is_digit_of 10 b ≡ true → (is_quote b ≡ false) × (is_raw_prefix b ≡ false) × (is_letter b ≡ false)
 digit_is_no_letter b h = (grind (arith, nat_tests), grind (arith, nat_tests), grind (arith, nat_tests))
 

@@ -1,4 +1,4 @@
--- The number that digits spell, kept within 64 bits.
+-- The number that digits denote, capped at 64 bits.
 use Rattle.cel_tokens.proofs.Prelude.{◌≡◌, ℕ, suc, zero, ◌+◌, ◌*◌, ◌-◌, ◌^◌, ◌<◌, ◌≤◌, List, [], ◌∷◌, length, get_or, drop, refl, arith, drop-cons, Bool, le-mul_of_pos_right, cases_lt, min, digit_value, number_from, int_of}
 use mathlib.Core.Logic.{inl, inr}
 
@@ -23,7 +23,7 @@ at_least base v (x ∷ xs) h =
 kept_small : (base v m : ℕ) (xs : List ℕ) → v ≤ m → min (number_from base (min v m) xs) m ≡ min (number_from base v xs) m
 kept_small base v m xs h = let e : min v m ≡ v = omega arith in rw e refl
 
--- digits spell the same below the bound whether what was spelled so far was kept within it or not
+-- below the bound, digits denote the same number whether or not the number so far was capped
 kept : (base v m : ℕ) (xs : List ℕ) → 1 ≤ base → min (number_from base (min v m) xs) m ≡ min (number_from base v xs) m
 kept base v m xs b = elim (cases_lt m v) [ inl h ↦ (grind (arith, at_least)) | inr h ↦ kept_small base v m xs h ]
 
@@ -37,6 +37,6 @@ number_more base v m xs n b h =
     let e : min (min (v * base) m + digit_value (get_or xs n 0)) m ≡ min (v * base + digit_value (get_or xs n 0)) m = omega arith in
     rw (e, step base v xs n h) (kept base (v * base + digit_value (get_or xs n 0)) m (drop (n + 1) xs) b)
 
--- an int is the same whether its value was kept within 64 bits or not
+-- an int is the same whether or not its absolute value was capped at 64 bits
 pub kept_int : (minus : Bool) (m : ℕ) → int_of minus (min m (2 ^ 64 - 1)) ≡ int_of minus m
 kept_int minus m = grind arith

@@ -1,14 +1,14 @@
--- A text ends in one way, and its tokens within the limits are its tokens.
+-- The outcome of a text is unique, and tokens within the limits are its tokens.
 use Rattle.cel_tokens.proofs.Prelude.{◌≡◌, ℕ, ◌+◌, ◌<◌, ◌≤◌, List, [], ◌∷◌, ◌++◌, length, drop, refl, sym, ◌∙◌, ap, arith, Bool, true, Result, Ok, Err, subst, ◌⊎◌, ◌↔◌, Token, front, sign_may_follow, Cuts, TokenBegins, Tokens, IsTokens, Lexes, lexeme, over, space, token, nothing, wrong_text, wide_int, too_many, too_long, read, ReadError, UnknownCharacter, InvalidTextLiteral, IntOutOfRange, TextTooLong, token_limit, text_limit}
 use Rattle.std.proofs.Common.{append_assoc, append-nil, length-append}
 use Rattle.cel_tokens.specs.Lexed as front
 use Rattle.cel_tokens.specs.Lexis.Tokens.{over as no_more, space as then_space, token as then_token}
 
--- within the room this, else the 4,097th token
+-- this outcome within the limit, else the error for the 4,097th token
 abbrev Within : List Token → ℕ → Result (List Token) ReadError → Type 0 → Type 0
 Within so_far place r P = ((length so_far < token_limit) × P) ⊎ ((token_limit ≤ length so_far) × (r ≡ Err (TextTooLong place)))
 
--- what a text's end is by what stands at its front
+-- the outcome of a text by its front
 abbrev Case : List Token → Bool → ℕ → List ℕ → Result (List Token) ReadError → front.Lexed → Type 0
 Case so_far signed place rest r front.over = r ≡ Ok so_far
 Case so_far signed place rest r (front.space n) = Cuts signed so_far (place + n) (drop n rest) r
@@ -46,7 +46,7 @@ one_cut {so_far} {signed} {place} {rest} {r} {s} (too_many b h) c = sym (only_fu
 pub one_end : (source : List ℕ) (r s : Result (List Token) ReadError) → Lexes source r → Lexes source s → r ≡ s
 one_end source r s h h2 = grind (arith, one_cut)
 
--- ---- the tokens alone
+-- ---- the tokens only
 
 abbrev Next : Bool → ℕ → List ℕ → List Token → front.Lexed → Type 0
 Next signed place rest ls front.over = ls ≡ []
@@ -68,7 +68,7 @@ one_list {signed} {place} {rest} {xs} {ys} (then_token n w f d) t =
 pub one_reading : (source : List ℕ) (xs ys : List Token) → IsTokens source xs → IsTokens source ys → xs ≡ ys
 one_reading source xs ys a b = one_list a b
 
--- what is read to the end was read of tokens
+-- what was read to the end was read as tokens
 abbrev Reaches : List Token → Bool → ℕ → List ℕ → List Token → Type 0
 Reaches so_far signed place rest out =
     (more : List Token) × (out ≡ so_far ++ more) × (length out ≤ token_limit) × Tokens signed place rest more

@@ -1,4 +1,4 @@
--- One thing stands at the front of a text.
+-- The front of a text is unique.
 use Rattle.cel_tokens.proofs.Prelude.{◌≡◌, ℕ, ◌+◌, ◌≤◌, List, [], ◌∷◌, drop, refl, sym, ap, arith, Bool, true, false, length-drop, Word, int, IsGap, IsInt, IsLongestToken, DigitsAt, StandsAtFront, NothingElseStands, here, behind_sign}
 use Rattle.cel_tokens.specs.Lexed as front
 use Rattle.cel_tokens.proofs.NegatedInts.{int_digit, gap_is}
@@ -12,7 +12,7 @@ same_gap bytes m n f g = grind (arith, length-drop)
 no_gap : {P : Type 0} (bytes : List ℕ) (n : ℕ) → (1 ≤ n) × IsGap bytes n → IsGap bytes 0 → P
 no_gap bytes n f g = let e = same_gap bytes n 0 f.1 g in let h = f.0 in absurd (omega (arith, e, h))
 
--- no longest token but one, and it has one word
+-- the longest token is unique, and it has one word
 same_token : (signed : Bool) (bytes : List ℕ) (m n : ℕ) (w v : Word) → IsLongestToken signed bytes m w → IsLongestToken signed bytes n v → (m ≡ n) × (w ≡ v)
 same_token signed bytes m n w v f g = grind (arith, one_word)
 
@@ -22,7 +22,7 @@ same_place m n v w here (behind_sign {bytes = bytes} h s) i j = let d : false �
 same_place m n v w (behind_sign {bytes = bytes} h s) here i j = let d : false ≡ true = int_digit (45 ∷ bytes) n w j in absurd cc
 same_place m n v w (behind_sign {bytes = bytes} {gap = k} h s) (behind_sign {gap = l} g t) i j = grind (arith, gap_is)
 
--- at the end of a text stands nothing more
+-- at the end of a text the front is the end
 at_end : (signed : Bool) (bytes : List ℕ) (y : front.Lexed) → bytes ≡ [] → StandsAtFront signed bytes y → front.over ≡ y
 at_end signed bytes y e g = grind (arith, none_at_end)
 

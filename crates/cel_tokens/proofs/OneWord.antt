@@ -5,7 +5,7 @@ use Rattle.cel_tokens.proofs.LongestGap.{goes_on}
 use Rattle.cel_tokens.proofs.LongestToken.{name_byte_is_no_quote, skipped, some_behind, some_digits}
 use Rattle.cel_tokens.proofs.SaidPieces.{says_its_pieces}
 
--- what tokens there are
+-- the kinds of tokens
 data Kind : Type 0 where
   Name : Kind
   Int : Kind
@@ -14,7 +14,7 @@ data Kind : Type 0 where
   Text : Kind
   Raw : Kind
 
--- the kind of a token of these bytes: c, whether the second is a quote; some, whether there is a second
+-- the kind of a token of these bytes; c: the second byte is a quote; some: there is a second byte
 abbrev kind_by : (quote letter digit minus c some : Bool) → Kind
 kind_by true l d m c s = Text
 kind_by false true d m true s = Raw
@@ -57,7 +57,7 @@ int_kind (decimal [] a) = absurd a
 int_kind (decimal (b ∷ bs) a) = let p = digit_plain b a.0 in let d = a.0 in rw (p.0, p.1, d) refl
 int_kind (hex d ds a) = refl
 
--- a byte that is no quote, letter or digit
+-- a byte that is neither a quote nor a letter nor a digit
 abbrev IsSign : ℕ → Type 0
 IsSign b = (is_quote b ≡ false) × (is_letter b ≡ false) × (is_digit_of 10 b ≡ false)
 
@@ -98,7 +98,7 @@ of_its_kind (a_text {quote = quote} {bytes = bytes} {said = said} q s) = of_kind
 of_its_kind (a_raw_text {prefix = prefix} {quote = quote} {bytes = bytes} {said = said} r q s) =
     of_kind Raw (prefix ∷ quote ∷ bytes) _ (raw_kind prefix quote bytes r q) (said, s, refl)
 
--- ---- one of each kind
+-- ---- uniqueness, kind by kind
 
 digits_are : {digits : List ℕ} {value : ℕ} → Spells digits value → between false digits ≡ 0
 digits_are {digits} s = stops_at_digit digits (subst (λ xs. digit_begins xs ≡ true) (append-nil digits) (grind arith))
@@ -121,7 +121,7 @@ unique _ _ w v o p = absurd o
 pub one_word : {signed : Bool} {bytes : List ℕ} {w v : Word} → IsToken signed bytes w → IsToken signed bytes v → w ≡ v
 one_word {bytes = bytes} {w = w} {v = v} s t = unique (kind bytes) bytes w v (of_its_kind s) (of_its_kind t)
 
--- no int begins where a text literal is opened
+-- an int does not begin where a text literal begins
 int_is_no_text : {P : Type 0} (z : ℤ) (said : List ℕ) → int z ≡ text said → P
 int_is_no_text z said e = absurd cc
 

@@ -1,18 +1,18 @@
--- What a text literal says depends on its own bytes alone.
+-- The value of a text literal depends on its own bytes only.
 use Rattle.cel_tokens.proofs.Prelude.{◌≡◌, ℕ, ◌+◌, ◌≤◌, List, [], ◌∷◌, ◌++◌, length, take, drop, sym, ◌∙◌, ap, subst, arith, Bool, Option, Some, None, encode_utf8, length-drop, take-take, drop-take, escape, escaped, piece, LiteralMeans, closing, one_piece, EscapeNames}
 use Rattle.cel_tokens.proofs.NamedEscapes.{names_its_code_point}
 
--- the first n bytes are the same
+-- the first n bytes are equal
 abbrev Alike : ℕ → List ℕ → List ℕ → Type 0
 Alike n xs ys = (n ≤ length ys) × (take n ys ≡ take n xs)
 
--- the same behind some of them
+-- equal bytes after some equal bytes
 pub alike_behind : (m n : ℕ) (xs ys : List ℕ) → Alike (m + n) xs ys → Alike n (drop m xs) (drop m ys)
 alike_behind m n xs ys a =
     let l = a.0 in
     (omega (arith, l, length-drop m ys), sym (drop-take m n ys) ∙ ap (drop m) a.1 ∙ drop-take m n xs)
 
--- fewer of them are the same
+-- fewer bytes are equal too
 pub alike_fewer : (m n : ℕ) (xs ys : List ℕ) → m ≤ n → Alike n xs ys → Alike m xs ys
 alike_fewer m n xs ys h a =
     let l = a.0 in
@@ -33,11 +33,11 @@ escaped_alike b xs ys x (Some (code, len)) e f a =
 piece_alike : (raw : Bool) (b : ℕ) (xs ys : List ℕ) (x : ℕ × List ℕ) → piece raw (b ∷ xs) ≡ Some x → Alike x.0 (b ∷ xs) (b ∷ ys) → piece raw (b ∷ ys) ≡ Some x
 piece_alike raw b xs ys x e a = grind (arith, escaped_alike)
 
--- a literal takes a byte at least
+-- a literal has at least one byte
 says_some : {raw : Bool} {quote n : ℕ} {xs said : List ℕ} → LiteralMeans raw quote xs n said → 1 ≤ n
 says_some h0 = grind arith
 
--- and no more than there are
+-- a literal has no more bytes than there are
 pub says_within : {raw : Bool} {quote n : ℕ} {xs said : List ℕ} → LiteralMeans raw quote xs n said → n ≤ length xs
 says_within closing = omega arith
 says_within (one_piece {b = b} {bs = bs} x d e s) = grind (arith, says_some, length-drop, says_within s)

@@ -1,15 +1,15 @@
--- A plain stretch of a text literal stands for itself.
+-- A run of plain bytes in a text literal has itself as value.
 use Rattle.cel_tokens.proofs.Prelude.{◌≡◌, ℕ, ◌+◌, List, [], ◌∷◌, ◌++◌, take, drop, refl, sym, ◌∙◌, ap, arith, Bool, true, false, Some, cond, IsUtf8, nat_tests, append-nil, append_assoc, drop-drop, take-append-drop, is_plain, skip_plain_of, content, piece, is_quote}
 use Rattle.cel_tokens.proofs.Contents.{ended, goes_on}
 
 plain_piece : (raw : Bool) (b : ℕ) (bs : List ℕ) → is_plain b ≡ true → piece raw (b ∷ bs) ≡ Some (1, b ∷ [])
 plain_piece raw b bs h0 = grind arith
 
--- the same place and the same text, written in another way
+-- the same position and the same text, written differently
 placed : (raw : Bool) (quote m n : ℕ) (said new rest : List ℕ) → m ≡ n → said ≡ new → content raw quote 0 m said rest ≡ content raw quote 0 n new rest
 placed raw quote m n said new rest e f = λ i. content raw quote 0 (e i) (f i) rest
 
--- a run of plain bytes from any place is read to its end
+-- a run of plain bytes is read to its end, from any position
 abbrev RunIs : Bool → ℕ → List ℕ → Type 0
 RunIs raw quote xs =
     (n : ℕ) (said : List ℕ) → content raw quote 0 n said xs ≡ content raw quote 0 (n + skip_plain_of xs) (said ++ take (skip_plain_of xs) xs) (drop (skip_plain_of xs) xs)
@@ -22,7 +22,7 @@ plain_run : (raw : Bool) (quote : ℕ) (xs : List ℕ) → is_quote quote ≡ tr
 plain_run raw quote [] q n said = ended raw quote 0 n said ∙ sym (ended raw quote 0 (n + 0) (said ++ []))
 plain_run raw quote (b ∷ bs) q n said = plain_run_at raw quote n b said bs q (plain_run raw quote bs q) (is_plain b) refl
 
--- one stretch of the loop over a text
+-- one run in the loop over a text
 pub stretch_step : (raw : Bool) (quote n k : ℕ) (said rest xs : List ℕ) → is_quote quote ≡ true → rest ≡ drop n xs → k ≡ skip_plain_of rest
     → content raw quote 0 (n + k) (said ++ take k rest) (drop (n + k) xs) ≡ content raw quote 0 n said (drop n xs)
 stretch_step raw quote n k said rest xs q r l = grind (arith, plain_run, drop-drop)

@@ -1,4 +1,4 @@
--- Where a minus may be a sign.
+-- The positions in which a minus may be a sign.
 use Rattle.cel_tokens.proofs.Prelude.{◌≡◌, refl, true, false, codes, bytes_eq, bytes_eq-Decides, false_from_ne_true, not_from_Decides, Mark, CloseParen, CloseBracket, CloseBrace, Word, name, int, text, mark, sign_may_follow, EndsOperand, identifier, paren, bracket, brace}
 use Rattle.cel_tokens.specs.SignedInts.EndsOperand.{an_int, a_text}
 

@@ -1,4 +1,4 @@
--- The names that these proofs cite of the library, of the crates below and of the definitions here. Declares nothing.
+-- The names that these proofs use, from the library, the crates below and these definitions. It declares nothing.
 pub use Rattle.std.proofs.Common.{All, Bool, Err, IfOk, IfSome, List, None, Ok, OnErr, Option, Result, Some, Vec, ℕ}
 pub use Rattle.std.proofs.Common.{ℤ, [], ap, arith, bytes_eq, codes, cond, drop, drop-cons, encode_utf8, false}
 pub use Rattle.std.proofs.Common.{get_or, if◌then◌else◌, inl, inr, length, lit≤, map, min, nat_le, nat_lt, neg_ℤ, not}

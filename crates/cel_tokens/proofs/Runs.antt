@@ -50,7 +50,7 @@ between_more c xs n h = grind (arith, drop-cons, between_on)
 pub between_stops : (c : Bool) (xs : List ℕ) (n : ℕ) → n < length xs → is_between c (get_or xs n 0) (drop n xs) ≡ false → between c (drop n xs) ≡ 0
 between_stops c xs n h = grind (arith, drop-cons, between_off)
 
--- a slice from a place on
+-- the slice from a position on
 pub tail_is : (xs : List ℕ) (n : ℕ) → take (length xs - n) (drop n xs) ≡ drop n xs
 tail_is xs n = take_all (length xs - n) (drop n xs) (omega (arith, length-drop n xs))
 

@@ -1,14 +1,14 @@
--- What is computed of a text literal is what its pieces say.
+-- The computed value of a text literal is that of its pieces.
 use Rattle.cel_tokens.proofs.Prelude.{◌≡◌, ℕ, suc, zero, ◌+◌, ◌-◌, ◌<◌, ◌≤◌, List, [], ◌∷◌, ◌++◌, length, drop, refl, sym, ◌∙◌, ap, subst, arith, Bool, true, false, Option, Some, None, ◌≢◌, ◌==◌, option_and_then, IfSome, cases_lt, nat_tests, append-nil, append_assoc, length-drop, content, piece, LiteralMeans, closing, one_piece}
 use mathlib.Core.Logic.{inl, inr}
 use Rattle.cel_tokens.proofs.Contents.{ended, closes, goes_on, skipped, more_at}
 
--- ---- a piece takes a byte at least
+-- ---- a piece has at least one byte
 
 pub low : (raw : Bool) (b : ℕ) (bs : List ℕ) (x : ℕ × List ℕ) → piece raw (b ∷ bs) ≡ Some x → 1 ≤ x.0
 low raw b bs x e = subst (λ (o : Option (ℕ × List ℕ)). IfSome o (λ x. 1 ≤ x.0)) e (grind arith)
 
--- ---- what the pieces say is computed
+-- ---- the value of the pieces is computed
 
 some_left : {raw : Bool} {quote n : ℕ} {ys said : List ℕ} → LiteralMeans raw quote ys n said → 0 < length ys
 some_left h0 = grind arith
@@ -32,16 +32,16 @@ computed {raw} {quote} (one_piece {b = b} {n = n} {bs = bs} {said = said} x d e 
     ∙ (ap (content raw quote 0 (m + x.0) (so_far ++ x.1)) (behind x.0 b bs l)
     ∙ (computed s (m + x.0) (so_far ++ x.1) ∙ answer (m + x.0 + n) (m + (x.0 + n)) ((so_far ++ x.1) ++ said) (so_far ++ (x.1 ++ said)) (omega arith) (append_assoc so_far x.1 said)))
 
--- ---- what is computed is what pieces say
+-- ---- what is computed is the value of pieces
 
--- a piece that goes past the end leaves nothing
+-- a piece that extends past the end leaves nothing
 run_off : (raw : Bool) (quote skip n : ℕ) (said bs : List ℕ) → length bs < skip → content raw quote skip n said bs ≡ None
 unfolding content
 run_off raw quote skip n said [] h = refl
 run_off raw quote zero n said (b ∷ bs) h = absurd (omega arith)
 run_off raw quote (suc skip) n said (b ∷ bs) h = run_off raw quote skip (n + 1) said bs (omega arith)
 
--- pieces from here on, after so many bytes and what they said
+-- the pieces from here on, after the bytes so far and their value
 abbrev Found : Bool → ℕ → ℕ → List ℕ → List ℕ → ℕ × List ℕ → Type 0
 Found raw quote m so_far bytes y = (n : ℕ) × (said : List ℕ) × LiteralMeans raw quote bytes n said × (m + n ≡ y.0) × (so_far ++ said ≡ y.1)
 
@@ -63,7 +63,7 @@ at_closing raw quote m b so_far bs y q e =
     let p : (m + 1, so_far) ≡ y = some_same (m + 1, so_far) y (sym (closes raw quote m b so_far bs q) ∙ e) in
     (1, [], subst (λ (k : ℕ). LiteralMeans raw k (b ∷ bs) 1 []) q closing, ap (λ (z : ℕ × List ℕ). z.0) p, append-nil so_far ∙ ap (λ (z : ℕ × List ℕ). z.1) p)
 
--- from a byte on, where pieces are found in every shorter rest
+-- from a byte on, if pieces are found in every shorter rest
 module _ (fuel : ℕ) (raw : Bool) (quote : ℕ) (more : Finds fuel raw quote) (m b : ℕ) (so_far bs : List ℕ) (y : ℕ × List ℕ) (l : length bs ≤ fuel) where
   at_piece : (x : ℕ × List ℕ) → b ≢ quote → piece raw (b ∷ bs) ≡ Some x → x.0 - 1 ≤ length bs → content raw quote (x.0 - 1) (m + 1) (so_far ++ x.1) bs ≡ Some y
       → Found raw quote m so_far (b ∷ bs) y

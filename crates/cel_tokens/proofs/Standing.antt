@@ -1,4 +1,4 @@
--- What is found at the front of a text stands there.
+-- `front` finds what is at the front of a text.
 use Rattle.cel_tokens.proofs.Prelude.{◌≡◌, ℕ, suc, ◌+◌, ◌≤◌, List, [], ◌∷◌, take, drop, refl, sym, ap, subst, arith, Bool, true, false, Option, Some, None, if◌then◌else◌, ℤ, pos, neg_ℤ, cases_lt, take-append-drop, Word, int, text, between, opening, opening_len, content, is_quote, int_at, fits64, digit_begins, front, front_text, front_int, int_front, before_digits, IsGap, IsInt, HasToken, OpensText, IsTextWord, DigitsAt, StandsAtFront, FindsWhatStands, an_int, here, behind_sign, by_quote, by_prefix}
 use mathlib.Core.Logic.{inl, inr}
 use Rattle.cel_tokens.specs.Lexed as front
@@ -43,7 +43,7 @@ text_stands : (signed raw : Bool) (quote b : ℕ) (bs : List ℕ) (o : Option (�
     → front signed (b ∷ bs) ≡ front_text (opening_len raw) o → StandsAtFront signed (b ∷ bs) (front_text (opening_len raw) o)
 text_stands signed raw quote b bs o p c g e = grind (arith, opens_text, no_text, says_its_pieces, word_stands, text_token)
 
--- an int begins a text: no gap and no text literal does, and its digits are found
+-- an int begins a text: neither a gap nor a text literal does, and its digits are found
 record BeginsInt (bytes : List ℕ) (before n value : ℕ) : Type 0 where
   no_text : opening bytes ≡ None
   no_gap : bare bytes
@@ -58,7 +58,7 @@ int_stands signed true bytes before n value z f begins h e =
 int_stands signed false bytes before n value z f begins h e =
     (n, value, z, begins.no_gap, begins.digits, begins.int, longest_wide signed bytes before n value (int z) e begins.int h, (grind arith))
 
--- the int that a byte begins as its sign
+-- the int of which a byte is the sign
 abbrev Signed : List ℕ → Bool → ℕ → Type 0
 Signed bs signed b =
     opening (b ∷ bs) ≡ None → digit_begins (drop (before_digits (b ∷ bs)) (b ∷ bs)) ≡ true → bare (b ∷ bs)

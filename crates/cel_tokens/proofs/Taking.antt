@@ -1,10 +1,10 @@
--- A text that has tokens takes memory.
+-- Reading a text that has tokens allocates.
 use Rattle.cel_tokens.proofs.Prelude.{arith, ◌≡◌, ◌≢◌, ℕ, ◌≤◌, List, [], length, drop, true, Bool, Result, Ok, Err, ◌⊎◌, IfOk, Token, front, Cuts, Lexes, TakesMemory, for_word, behind_space, ReadError, text_limit}
 use mathlib.Core.Logic.{inl, inr}
 use Rattle.cel_tokens.specs.Lexed as front
 use Rattle.cel_tokens.specs.Lexis as lexis
 
--- the text from here on has no token, or takes memory
+-- the text from here on has no token, or reading it allocates
 abbrev Taken : Bool → List ℕ → Result (List Token) ReadError → Type 0
 Taken signed rest r = IfOk r (λ xs. (xs ≡ []) ⊎ TakesMemory signed rest)
 
@@ -22,7 +22,7 @@ cut_takes (lexis.Cuts.space {signed = signed} {rest = rest} {r = r} n f d) e = b
 cut_takes (lexis.Cuts.token {signed = signed} {rest = rest} {r = r} n w f l d) e = takes signed rest r (for_word n w f)
 cut_takes _ e = tt
 
--- the text has no token, or is short enough and takes memory
+-- the text has no token, or it is short enough and reading it allocates
 abbrev Found : List ℕ → Result (List Token) ReadError → Type 0
 Found source r = IfOk r (λ xs. (xs ≡ []) ⊎ ((length source ≤ text_limit) × TakesMemory true source))
 

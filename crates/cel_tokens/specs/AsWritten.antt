@@ -1,5 +1,5 @@
--- Tokens as they are written: the bytes of each, and its word; and what is found at the front of a text, by them.
--- (cel-spec, IDENT, INT_LIT and STRING_LIT)
+-- Tokens as they are written: the bytes of each, its word, and the longest token at the front of a
+-- text (cel-spec, IDENT, INT_LIT and STRING_LIT)
 use Rattle.std.specs.Prelude.{◌≡◌, ◌≢◌, ◌≤◌, ◌+◌, ℕ, ℤ, pos, neg_ℤ, List, [], ◌∷◌, length, take, drop, Bool, true, false, Some, FitsSigned}
 use Rattle.std.specs.Int.{w64}
 use Rattle.cel_tokens.specs.declared.mark.Mark.{Mark}
@@ -14,9 +14,9 @@ use Rattle.cel_tokens.specs.Gaps.{Skips, IsGap}
 use Rattle.cel_tokens.specs.SignedInts.{Spells, IsInt}
 use Rattle.cel_tokens.specs.Laws.{IntFits}
 
--- these bytes are a token of this word: a name; an int, of any size; where a minus (45) may be a sign, a minus, blanks
--- and comments if any, and an int, the number negated; an operator or a bracket; a quote, pieces and that quote again;
--- and the same behind r or R
+-- these bytes are a token of this word: a name; an int of any size; if a minus (45) may be a sign, a
+-- minus, blanks and comments if any, and an int, the number negated; an operator or a bracket; a quote,
+-- pieces and the same quote again, also after r or R
 pub data IsToken : (signed : Bool) → List ℕ → Word → Type 0 where
   a_name : {signed : Bool} {bytes : List ℕ} → IsName bytes → IsToken signed bytes (name bytes)
   an_int : {signed : Bool} {bytes : List ℕ} {value : ℕ} → Spells bytes value → IsToken signed bytes (int (pos value))
@@ -32,31 +32,30 @@ pub data IsToken : (signed : Bool) → List ℕ → Word → Type 0 where
 abbrev pub HasToken : Bool → List ℕ → ℕ → Word → Type 0
 HasToken signed bytes n w = (n ≤ length bytes) × IsToken signed (take n bytes) w
 
--- and no more of them are a token
+-- the first n of these bytes are a token of this word, and no longer prefix is a token
 abbrev pub IsLongestToken : Bool → List ℕ → ℕ → Word → Type 0
 IsLongestToken signed bytes n w = HasToken signed bytes n w × ((m : ℕ) (other : Word) → HasToken signed bytes m other → m ≤ n)
 
--- a text literal is opened here: by a quote, or by r or R and a quote
+-- a text literal begins here: a quote, or r or R and a quote
 pub data OpensText : List ℕ → Type 0 where
   by_quote : {quote : ℕ} {bytes : List ℕ} → is_quote quote ≡ true → OpensText (quote ∷ bytes)
   by_prefix : {prefix quote : ℕ} {bytes : List ℕ} → is_raw_prefix prefix ≡ true → is_quote quote ≡ true → OpensText (prefix ∷ quote ∷ bytes)
 
--- the word is of a text literal
+-- the word is a text literal
 abbrev pub IsTextWord : Word → Type 0
 IsTextWord (text said) = Unit {0}
 IsTextWord (name bytes) = ⊥
 IsTextWord (int z) = ⊥
 IsTextWord (mark m) = ⊥
 
--- the digits of an int begin so many bytes on: here, or behind a minus (45), blanks and comments
+-- the digits of an int begin at this offset: at 0, or after a minus (45), blanks and comments
 pub data DigitsAt : List ℕ → ℕ → Type 0 where
   here : {bytes : List ℕ} → DigitsAt bytes 0
   behind_sign : {bytes : List ℕ} {gap : ℕ} → gap ≤ length bytes → Skips bytes (drop gap bytes) → DigitsAt (45 ∷ bytes) (1 + gap)
 
--- this stands at the front of the bytes: their end; the longest stretch of blanks and comments; or, where there is
--- none, a word of the longest token there, a text literal where one is opened, and an int of 64 bits; a text literal
--- that is opened and is none; an int as the longest token, its digits `before` bytes on, that 64 bits do not hold; or
--- no token
+-- what is at the front of the bytes: their end; the longest run of blanks and comments; else the word of the longest
+-- token, which is a text literal if one begins here and otherwise a name, a mark or an int of 64 bits; an invalid
+-- text literal; an int as the longest token that does not fit 64 bits, with its digits `before` bytes on; or no token
 abbrev pub StandsAtFront : (signed : Bool) → List ℕ → front.Lexed → Type 0
 StandsAtFront signed bytes front.over = bytes ≡ []
 StandsAtFront signed bytes (front.space n) = (1 ≤ n) × IsGap bytes n
@@ -69,10 +68,10 @@ StandsAtFront signed bytes (front.wide_int before) =
 StandsAtFront signed bytes front.nothing =
     IsGap bytes 0 × (bytes ≢ []) × (OpensText bytes → ⊥) × ((n : ℕ) (w : Word) → HasToken signed bytes n w → ⊥)
 
--- what is found at the front of a text stands there
+-- `front` returns what is at the front of the text
 abbrev pub FindsWhatStands : Type 0
 FindsWhatStands = (signed : Bool) (bytes : List ℕ) → StandsAtFront signed bytes (front signed bytes)
 
--- and nothing else does
+-- nothing else is at the front
 abbrev pub NothingElseStands : Type 0
 NothingElseStands = (signed : Bool) (bytes : List ℕ) (x : front.Lexed) → StandsAtFront signed bytes x → front signed bytes ≡ x

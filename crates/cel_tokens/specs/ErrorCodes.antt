@@ -1,9 +1,9 @@
--- The codes of the errors.
+-- Codes and positions of the errors of a text.
 use Rattle.std.specs.Prelude.{ℕ, List, Option, None, Some, codes}
 use Rattle.cel_tokens.specs.declared.read_error.ReadError.{ReadError}
 use Rattle.cel_tokens.specs.declared.read_error.ReadError.TheVariants.{UnknownCharacter, InvalidTextLiteral, IntOutOfRange, UnexpectedToken, TooManyOpen, TextTooLong, Memory}
 
--- the code of a text that is not an expression: P1 to P6, or memory
+-- the code of a syntax error: P1 to P6, or memory
 abbrev pub read_error_code : ReadError → List ℕ
 read_error_code (UnknownCharacter place) = codes "P1"
 read_error_code (InvalidTextLiteral place) = codes "P2"

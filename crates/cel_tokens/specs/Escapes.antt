@@ -1,16 +1,16 @@
--- Escapes of text literals as they are written, behind the backslash. (cel-spec, ESCAPE)
+-- Escapes of text literals as they are written after the backslash (cel-spec, ESCAPE).
 use Rattle.std.specs.Prelude.{◌≡◌, ◌≤◌, ◌↔◌, ◌⊎◌, ℕ, List, [], ◌∷◌, length, take, true, Some, codes}
 use Rattle.cel_tokens.specs.Bytes.{is_digit_of}
 use Rattle.cel_tokens.specs.Ints.{number}
 use Rattle.cel_tokens.specs.Texts.{escape, is_code_point}
 use Rattle.cel_tokens.specs.Longest.{AllPass}
 
--- so many digits in this base
+-- `count` digits in this base
 abbrev pub AreDigits : ℕ → ℕ → List ℕ → Type 0
 AreDigits base count ds = (length ds ≡ count) × AllPass (is_digit_of base) ds
 
--- these bytes name this code point: a letter or a mark, two hex digits after x (120) or X (88), four after u (117),
--- eight after U (85), or three octal digits up to 377
+-- these bytes denote this code point: a letter or a mark, two hex digits after x (120) or X (88), four after u
+-- (117), eight after U (85), or three octal digits up to 377
 pub data EscapeNames : List ℕ → ℕ → Type 0 where
   bell : EscapeNames (codes "a") 7
   backspace : EscapeNames (codes "b") 8
@@ -29,7 +29,7 @@ pub data EscapeNames : List ℕ → ℕ → Type 0 where
   eight_hex : (ds : List ℕ) → AreDigits 16 8 ds → is_code_point (number 16 ds) ≡ true → EscapeNames (85 ∷ ds) (number 16 ds)
   octal : (ds : List ℕ) → AreDigits 8 3 ds → number 8 ds ≤ 255 → EscapeNames ds (number 8 ds)
 
--- what is computed of an escape is what its bytes name
+-- `escape` computes the code point that the bytes denote
 abbrev pub NamesItsCodePoint : Type 0
 NamesItsCodePoint = (bytes : List ℕ) (code len : ℕ)
     → (escape bytes ≡ Some (code, len)) ↔ ((len ≤ length bytes) × EscapeNames (take len bytes) code)

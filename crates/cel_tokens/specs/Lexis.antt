@@ -1,4 +1,4 @@
--- The tokens of a text, and why it has none. (cel-spec, lexis)
+-- The tokens of a text, and the errors of a text without (cel-spec, lexis).
 use Rattle.std.specs.Prelude.{◌≡◌, ℕ, ◌+◌, ◌<◌, ◌≤◌, List, [], ◌∷◌, ◌++◌, drop, length, map, Bool, true, Result, Ok, Err, Vec}
 use Rattle.std.specs.Global.{Global}
 use Rattle.cel_tokens.specs.Limits.{token_limit, text_limit}
@@ -9,11 +9,11 @@ use Rattle.cel_tokens.specs.declared.token.Token.{Token as CodeToken}
 use Rattle.cel_tokens.specs.declared.read_error.ReadError.{ReadError}
 use Rattle.cel_tokens.specs.declared.read_error.ReadError.TheVariants.{UnknownCharacter, InvalidTextLiteral, IntOutOfRange, UnexpectedToken, TooManyOpen, TextTooLong, Memory}
 
--- the token of n bytes at this place
+-- the token of n bytes at this position
 abbrev pub lexeme : ℕ → ℕ → Word → Token
 lexeme place n w = record { place = place; end = place + n; word = w }
 
--- the text from this place on is these tokens, the longest at each place, with blanks and comments between them
+-- the text from this position on is these tokens, the longest at each position, with blanks and comments between them
 pub data Tokens : Bool → ℕ → List ℕ → List Token → Type 0 where
   over : {signed : Bool} {place : ℕ} {rest : List ℕ} → front signed rest ≡ front.over → Tokens signed place rest []
   space : {signed : Bool} {place : ℕ} {rest : List ℕ} {more : List Token} (n : ℕ) → front signed rest ≡ front.space n
@@ -21,17 +21,17 @@ pub data Tokens : Bool → ℕ → List ℕ → List Token → Type 0 where
   token : {signed : Bool} {place : ℕ} {rest : List ℕ} {more : List Token} (n : ℕ) (w : Word) → front signed rest ≡ front.word n w
       → Tokens (sign_may_follow w) (place + n) (drop n rest) more → Tokens signed place rest (lexeme place n w ∷ more)
 
--- the whole text is these tokens
+-- these are the tokens of the whole text
 abbrev pub IsTokens : List ℕ → List Token → Type 0
 IsTokens source lexemes = Tokens true 0 source lexemes
 
--- a token is at the front, or what would be one but for its text or its size
+-- a token begins at the front, even if its text or its size is invalid
 pub data TokenBegins : front.Lexed → Type 0 where
   a_word : (n : ℕ) (w : Word) → TokenBegins (front.word n w)
   a_text : TokenBegins front.wrong_text
   an_int : (n : ℕ) → TokenBegins (front.wide_int n)
 
--- after the tokens so far, the text from this place on ends as this outcome, the first cause from the left
+-- after the tokens so far, the text from this position on has this outcome, by the first error from the left
 pub data Cuts : Bool → List Token → ℕ → List ℕ → Result (List Token) ReadError → Type 0 where
   over : {signed : Bool} {so_far : List Token} {place : ℕ} {rest : List ℕ} → front signed rest ≡ front.over
       → Cuts signed so_far place rest (Ok so_far)
@@ -50,20 +50,20 @@ pub data Cuts : Bool → List Token → ℕ → List ℕ → Result (List Token)
       → token_limit ≤ length so_far
       → Cuts signed so_far place rest (Err (TextTooLong place))
 
--- the whole text ends as this outcome; a text above 65,536 bytes is refused before it is read
+-- the whole text has this outcome; a text above 65,536 bytes is refused before it is read
 pub data Lexes : List ℕ → Result (List Token) ReadError → Type 0 where
   too_long : {source : List ℕ} → text_limit < length source → Lexes source (Err (TextTooLong text_limit))
   read : {source : List ℕ} {r : Result (List Token) ReadError} → length source ≤ text_limit → Cuts true [] 0 source r → Lexes source r
 
--- reading on takes memory: for a token or a text literal, the first thing here but for blanks and comments
+-- reading on allocates: the first thing here after blanks and comments is a token or a text literal
 pub data TakesMemory : Bool → List ℕ → Type 0 where
   for_word : {signed : Bool} {rest : List ℕ} (n : ℕ) (w : Word) → front signed rest ≡ front.word n w → TakesMemory signed rest
   for_text : {signed : Bool} {rest : List ℕ} → front signed rest ≡ front.wrong_text → TakesMemory signed rest
   behind_space : {signed : Bool} {rest : List ℕ} (n : ℕ) → front signed rest ≡ front.space n → TakesMemory signed (drop n rest)
       → TakesMemory signed rest
 
--- what an answer of the code says. That there was no memory may be answered beside, but for a text that is refused
--- before any is taken: for its length, or in its first token, which is no text literal
+-- what the code may return. An allocation may also fail, unless the text is refused before anything is allocated: for
+-- its length, or in its first token if that is not a text literal
 abbrev pub TokensReturns : List ℕ → Result (Vec CodeToken Global) ReadError → Type 0
 TokensReturns source (Ok tokens) = Lexes source (Ok (map (token_view source) tokens.items))
 TokensReturns source (Err Memory) = (length source ≤ text_limit) × TakesMemory true source

@@ -1,3 +1,4 @@
+-- Definitions of cel_tokens: the list of their modules.
 pub mod Limits
 pub mod Token
 pub mod ErrorCodes

@@ -1,4 +1,4 @@
--- What the longest token at a place is.
+-- Bounds of the longest token at a position.
 use Rattle.std.specs.Prelude.{◌≡◌, ◌≤◌, ◌⊎◌, ℕ, List, [], ◌∷◌, ◌++◌, length, Bool, true, None}
 use Rattle.cel_tokens.specs.Token.{Word}
 use Rattle.cel_tokens.specs.Bytes.{is_letter, is_name_byte, is_digit_of}
@@ -21,20 +21,20 @@ abbrev pub IsDecimal : List ℕ → Type 0
 IsDecimal [] = ⊥
 IsDecimal (b ∷ bs) = (is_digit_of 10 b ≡ true) × AllPass (is_digit_of 10) bs
 
--- the token at the front takes no less than the first of these bytes
+-- the token at the front includes at least the first of these bytes
 abbrev pub Takes : Bool → List ℕ → List ℕ → Type 0
 Takes signed first rest = (n : ℕ) × (w : Word) × (front signed (first ++ rest) ≡ front.word n w) × (length first ≤ n)
 
--- where no text literal begins, the token is no shorter than any name that stands there
+-- unless a text literal begins here, the token is no shorter than any name at the front
 abbrev pub NoLongerName : Type 0
 NoLongerName = (signed : Bool) (first rest : List ℕ) → IsName first → opening (first ++ rest) ≡ None → Takes signed first rest
 
--- nor than any decimal digits, unless the int is outside 64 bits
+-- it is no shorter than any decimal digits, unless the int is outside 64 bits
 abbrev pub NoLongerInt : Type 0
 NoLongerInt = (signed : Bool) (first rest : List ℕ) → IsDecimal first
     → (front signed (first ++ rest) ≡ front.wide_int 0) ⊎ Takes signed first rest
 
--- nor than 0x (48, 120) and any hex digits
+-- it is no shorter than 0x (48, 120) and any hex digits, unless the int is outside 64 bits
 abbrev pub NoLongerHex : Type 0
 NoLongerHex = (signed : Bool) (d : ℕ) (ds rest : List ℕ) → AllPass (is_digit_of 16) (d ∷ ds)
     → (front signed (48 ∷ 120 ∷ d ∷ (ds ++ rest)) ≡ front.wide_int 0) ⊎ Takes signed (48 ∷ 120 ∷ d ∷ ds) rest

@@ -5,7 +5,7 @@ use Rattle.cel_tokens.specs.declared.mark.Mark.TheVariants.{Question, Colon, Or,
 use Rattle.cel_tokens.specs.declared.mark.Mark.TheVariants.{NotEqual, Plus, Minus, Star, Slash, Percent, Not, Dot, Comma, OpenParen}
 use Rattle.cel_tokens.specs.declared.mark.Mark.TheVariants.{CloseParen, OpenBracket, CloseBracket, OpenBrace, CloseBrace}
 
--- the mark of these two bytes, where they are one: || && <= >= == !=
+-- the mark of these two bytes, if any: || && <= >= == !=
 abbrev pub two_bytes : ℕ → ℕ → Option Mark
 two_bytes a b =
     if (a == 124) && (b == 124) then Some Or
@@ -16,7 +16,7 @@ two_bytes a b =
     else (if (a == 33) && (b == 61) then Some NotEqual
     else None)))))
 
--- the bracket that the byte is, where it is one: ( ) [ ] { }
+-- the bracket of this byte, if any: ( ) [ ] { }
 abbrev pub bracket : ℕ → Option Mark
 bracket b =
     if b == 40 then Some OpenParen
@@ -27,7 +27,7 @@ bracket b =
     else (if b == 125 then Some CloseBrace
     else None)))))
 
--- the operator of one byte, where the byte is one: ? : < > + - * / % ! . ,
+-- the operator of this byte, if any: ? : < > + - * / % ! . ,
 abbrev pub operator : ℕ → Option Mark
 operator b =
     if b == 63 then Some Question
@@ -44,33 +44,33 @@ operator b =
     else (if b == 44 then Some Comma
     else None)))))))))))
 
--- the first mark, where there is one, and else the other
+-- the first mark if there is one, else the other
 abbrev pub or_else : Option Mark → Option Mark → Option Mark
 or_else None other = other
 or_else (Some m) other = Some m
 
--- the mark that the byte is, where it is one
+-- the mark of this byte, if any
 abbrev pub one_byte : ℕ → Option Mark
 one_byte b = or_else (bracket b) (operator b)
 
--- the mark that a token of these bytes is
+-- the mark of a token with these bytes
 abbrev pub mark_of : List ℕ → Option Mark
 mark_of [] = None
 mark_of (a ∷ []) = one_byte a
 mark_of (a ∷ b ∷ []) = two_bytes a b
 mark_of (a ∷ b ∷ c ∷ bs) = None
 
--- a mark of one byte, where there is one, and its length
+-- a mark of one byte with its length
 abbrev pub of_one : Option Mark → Option (Mark × ℕ)
 of_one None = None
 of_one (Some m) = Some (m, 1)
 
--- the mark of two bytes, where there is one, and its length; else the mark of one byte
+-- the mark of two bytes with its length, else the mark of one byte
 abbrev pub of_two : Option Mark → Option Mark → Option (Mark × ℕ)
 of_two None one = of_one one
 of_two (Some m) one = Some (m, 2)
 
--- the longest mark at the front, and its length
+-- the longest mark at the front with its length
 abbrev pub mark_at : List ℕ → Option (Mark × ℕ)
 mark_at [] = None
 mark_at (a ∷ []) = of_one (one_byte a)

@@ -1,8 +1,8 @@
--- The pieces of a text, as the code holds them.
+-- The pieces of a text literal as the code represents them.
 use Rattle.std.specs.Prelude.{ℕ, ◌+◌, List, [], ◌∷◌, encode_utf8}
 use Rattle.cel_tokens.specs.declared.literal.Piece.{Piece, TheVariants.Byte, TheVariants.Escape}
 
--- how many bytes a piece takes, and what it says
+-- the length of a piece in bytes, and its value
 abbrev pub said_by : Piece → ℕ × List ℕ
 said_by (Byte b) = (1, b ∷ [])
 said_by (Escape code len) = (len + 1, encode_utf8 code)

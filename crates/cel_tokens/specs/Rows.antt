@@ -1,4 +1,4 @@
--- Bytes, escapes, marks and the fronts of texts, written out by the lexis of cel-spec.
+-- Bytes, escapes, marks and fronts of texts, worked out by hand from the lexis of cel-spec.
 use Rattle.std.specs.Prelude.{◌≡◌, pos, negsuc, true, false, [], ◌∷◌, Some, None, codes}
 use Rattle.cel_tokens.specs.Bytes.{is_blank, is_digit_of, is_letter, is_line_end, is_name, is_name_byte}
 use Rattle.cel_tokens.specs.ErrorCodes.{read_error_code, read_error_place}
@@ -10,7 +10,7 @@ use Rattle.cel_tokens.specs.Token.{int, mark, name, text}
 use Rattle.cel_tokens.specs.declared.mark.Mark.TheVariants as marks
 use Rattle.cel_tokens.specs.declared.read_error.ReadError.TheVariants as error
 
--- the classes of bytes at their borders
+-- the classes of bytes at their boundaries
 pub record ByteRowsStand : Type 0 where
   pub letter_at_sign : is_letter 64 ≡ false
   pub letter_upper_a : is_letter 65 ≡ true
@@ -69,7 +69,7 @@ pub record ByteRowsStand : Type 0 where
   pub name_empty : is_name [] ≡ false
   pub name_dot : is_name (codes "a.b") ≡ false
 
--- what stands behind a backslash: the code point and how many bytes it takes
+-- the text after a backslash: the code point and the length in bytes
 pub record EscapeRowsStand : Type 0 where
   pub bell : escape (codes "az") ≡ Some (7, 1)
   pub backspace : escape (codes "bz") ≡ Some (8, 1)
@@ -146,7 +146,7 @@ pub record MarkRowsStand : Type 0 where
   pub mark_of_three : mark_of (codes "<==") ≡ None
   pub mark_of_none : mark_of [] ≡ None
 
--- what stands at the front of a text, where a sign may stand if the first word says so
+-- the front of a text; the first word tells whether a sign may be here
 pub record FrontRowsStand : Type 0 where
   pub end : front true [] ≡ over
   pub blanks : front true (32 ∷ 9 ∷ 10 ∷ 13 ∷ 12 ∷ 97 ∷ []) ≡ space 5
@@ -195,7 +195,7 @@ pub record FrontRowsStand : Type 0 where
   pub unknown : front true (codes "#") ≡ nothing
   pub single_ampersand : front true (codes "&a") ≡ nothing
 
--- whether a minus behind this token may be the sign of an int
+-- whether a minus after this token may be the sign of an int
 pub record SignRowsStand : Type 0 where
   pub behind_in : sign_may_follow (name (codes "in")) ≡ true
   pub behind_name : sign_may_follow (name (codes "a")) ≡ false
@@ -210,7 +210,7 @@ pub record SignRowsStand : Type 0 where
   pub behind_minus : sign_may_follow (mark marks.Minus) ≡ true
   pub behind_question : sign_may_follow (mark marks.Question) ≡ true
 
--- the code and the place of each refusal, and the limits
+-- the code and the position of each error, and the limits
 pub record TokenLimitRowsStand : Type 0 where
   pub code_1 : read_error_code (error.UnknownCharacter 7) ≡ codes "P1"
   pub place_1 : read_error_place (error.UnknownCharacter 7) ≡ Some 7

@@ -1,4 +1,4 @@
--- What the code finds at the front of a text, as the definitions say it.
+-- What the code finds at the front of a text, in the terms of the definitions.
 use Rattle.std.specs.Prelude.{◌≡◌, ℕ, ◌-◌, ◌≤◌, List, ◌++◌, take, length, get_or, Bool, true}
 use Rattle.std.specs.Str.{IsUtf8}
 use Rattle.cel_tokens.specs.Token.{word_of}
@@ -7,7 +7,7 @@ use Rattle.cel_tokens.specs.Lexed as front
 use Rattle.cel_tokens.specs.declared.lexed.Lexed.{Lexed}
 use Rattle.cel_tokens.specs.declared.lexed.Lexed.TheVariants.{Over, Space, Word, WrongText, WideInt, Nothing}
 
--- what the code finds at the front of these bytes: its words as plain data, its lengths in bytes as they are
+-- the code's finding as plain data: its words, with lengths in bytes
 abbrev pub lexed_view : List ℕ → Lexed → front.Lexed
 lexed_view bytes Over = front.over
 lexed_view bytes (Space n) = front.space n
@@ -16,7 +16,7 @@ lexed_view bytes WrongText = front.wrong_text
 lexed_view bytes (WideInt n) = front.wide_int n
 lexed_view bytes Nothing = front.nothing
 
--- what is found is within a text of this length, and takes some of it
+-- the finding is within a text of this length and consumes at least one byte
 abbrev pub IsWithin : ℕ → Lexed → Type 0
 IsWithin len Over = Unit {0}
 IsWithin len (Space n) = (1 ≤ n) × (n ≤ len)
@@ -25,7 +25,7 @@ IsWithin len WrongText = Unit {0}
 IsWithin len (WideInt n) = n ≤ len
 IsWithin len Nothing = Unit {0}
 
--- the bytes are the end of a text
+-- the bytes are the end of a UTF-8 text
 abbrev pub EndsText : List ℕ → Type 0
 EndsText bytes = (before : List ℕ) × IsUtf8 (before ++ bytes)
 

@@ -1,4 +1,4 @@
--- One step of the code over a text, as the definitions say it.
+-- One step of the code over a text, in the terms of the definitions.
 use Rattle.std.specs.Prelude.{ℕ, ◌<◌, ◌≤◌, List, [], length, drop, map, Bool, true, Result, Ok, Err, Option, Some, None, Vec, if◌then◌else◌, nat_le}
 use Rattle.std.specs.Global.{Global}
 use Rattle.cel_tokens.specs.Limits.{token_limit}
@@ -8,11 +8,11 @@ use Rattle.cel_tokens.specs.declared.token.Token.{Token as CodeToken}
 use Rattle.cel_tokens.specs.declared.read_error.ReadError.{ReadError}
 use Rattle.cel_tokens.specs.declared.read_error.ReadError.TheVariants.{UnknownCharacter, InvalidTextLiteral, IntOutOfRange, UnexpectedToken, TooManyOpen, TextTooLong, Memory}
 
--- the text, after these tokens at this place, ends as this outcome
+-- after these tokens, the text from this position on has this outcome
 abbrev pub EndsAs : List ℕ → Bool → ℕ → List CodeToken → Result (List Token) ReadError → Type 0
 EndsAs source signed at tokens r = Cuts signed (map (token_view source) tokens) at (drop at source) r
 
--- the text ends in this refusal, or it takes memory
+-- the text has this error, or an allocation for it may fail
 abbrev pub IsTextRefused : (Result (List Token) ReadError → Type 0) → Type 0 → ReadError → Type 0
 IsTextRefused ends Takes Memory = Takes
 IsTextRefused ends Takes (UnknownCharacter place) = ends (Err (UnknownCharacter place))
@@ -22,7 +22,7 @@ IsTextRefused ends Takes (UnexpectedToken place) = ⊥
 IsTextRefused ends Takes (TooManyOpen place) = ⊥
 IsTextRefused ends Takes (TextTooLong place) = ends (Err (TextTooLong place))
 
--- a step leads to where the text ends as it did before; the last one is the text's end
+-- a step keeps the outcome of the text; after the last one the text is at its end
 abbrev pub CutsOn : List ℕ → Bool → ℕ → List CodeToken → List CodeToken → Result (Option (ℕ × Bool)) ReadError → Type 0
 CutsOn source signed at old new (Ok (Some x)) =
     (at < x.0) × (x.0 ≤ length source) × ((r : Result (List Token) ReadError) → EndsAs source x.1 x.0 new r → EndsAs source signed at old r)
@@ -30,11 +30,11 @@ CutsOn source signed at old new (Ok (Some x)) =
 CutsOn source signed at old new (Ok None) = EndsAs source signed at old (Ok (map (token_view source) new))
 CutsOn source signed at old new (Err e) = IsTextRefused (EndsAs source signed at old) (TakesMemory signed (drop at source)) e
 
--- the cause of what begins at this place, or the 4,097th token
+-- the error at this position, or that the token is the 4,097th
 abbrev pub refusal_of : ℕ → ℕ → ReadError → ReadError
 refusal_of count at cause = if nat_le token_limit count then TextTooLong at else cause
 
--- how the code ends
+-- the outcome that the code returns
 abbrev pub CutsTo : List ℕ → Result (Vec CodeToken Global) ReadError → Type 0
 CutsTo source (Ok tokens) = Cuts true [] 0 source (Ok (map (token_view source) tokens.items))
 CutsTo source (Err e) = IsTextRefused (Cuts true [] 0 source) (TakesMemory true source) e

@@ -1,4 +1,4 @@
--- What a token is, as plain data.
+-- Tokens as plain data.
 use Rattle.std.specs.Prelude.{ℕ, ◌-◌, ℤ, List, [], take, drop, Option, Some, None, string_bytes}
 use Rattle.cel_tokens.specs.Marks.{mark_of}
 use Rattle.cel_tokens.specs.declared.mark.Mark.{Mark}
@@ -13,25 +13,25 @@ pub data Word : Type 0 where
   text : List ℕ → Word
   mark : Mark → Word
 
--- a word and the bytes of the text that it takes, from the place to before the end
+-- a word and its bytes in the text, from `place` to before `end`
 pub record Token : Type 0 where
   pub place : ℕ
   pub end : ℕ
   pub word : Word
 
--- a mark; bytes that are none, which no token of this kind has, would be a name of no bytes, which no token is
+-- the word of a mark; `None` is no mark and never occurs, so it maps to the empty name, which is no token
 abbrev pub mark_word : Option Mark → Word
 mark_word (Some m) = mark m
 mark_word None = name []
 
--- the word that the code's kind stands for, of a token with these bytes
+-- the word of a token of the code, from its kind and its bytes
 abbrev pub word_of : List ℕ → Kind → Word
 word_of bytes Name = name bytes
 word_of bytes (Int z) = int z
 word_of bytes (Text s) = text (string_bytes s)
 word_of bytes OfMark = mark_word (mark_of bytes)
 
--- what the code's token stands for in this text
+-- the token of the code as plain data
 abbrev pub token_view : List ℕ → CodeToken → Token
 token_view source t = record {
   place = t.place;

@@ -1,4 +1,4 @@
-//! Classes of bytes, and what stands between tokens.
+//! Classes of bytes, and the blanks and comments between tokens.
 
 ghost use Rattle.std.specs.Prelude.{◌≡◌, ◌≤◌, ◌<◌, length, drop, get_or, true, false};
 ghost use Rattle.std.specs.List.{list_all};
@@ -6,28 +6,28 @@ ghost use Rattle.std.specs.Char.{digit_value};
 ghost use Rattle.cel_tokens.specs.Bytes as bytes_of;
 ghost use Rattle.cel_tokens.specs.Bytes.{run};
 
-/// Whether the byte is a letter of a name.
+/// Whether the byte may begin a name.
 pub fn is_letter(byte: u8) -> bool
     ensures { result ≡ bytes_of.is_letter byte }
 {
     byte.is_ascii_alphabetic() || byte == b'_'
 }
 
-/// Whether the byte goes on with a name.
+/// Whether the byte may continue a name.
 fn is_name_byte(byte: u8) -> bool
     ensures { result ≡ bytes_of.is_name_byte byte }
 {
     is_letter(byte) || byte.is_ascii_digit()
 }
 
-/// Whether each byte goes on with a name.
+/// Whether each byte may continue a name.
 fn are_name_bytes(bytes: &[u8]) -> bool
     ensures { result ≡ list_all bytes_of.is_name_byte bytes.now }
 {
     bytes.iter().all(|byte| is_name_byte(*byte))
 }
 
-/// Whether these bytes are a letter or `_`, then letters, digits and `_`. (cel-spec, IDENT)
+/// Whether these bytes are a letter or `_`, then letters, digits and `_` (cel-spec, IDENT).
 pub fn is_name(bytes: &[u8]) -> bool
     ensures { result ≡ bytes_of.is_name bytes.now }
 {
@@ -70,7 +70,7 @@ fn is_blank(byte: u8) -> bool
     byte == b' ' || byte == b'\t' || byte == b'\x0c' || is_line_end(byte)
 }
 
-/// The bytes from this place on.
+/// The bytes from this position on.
 #[tactic(auto, using(crate::proofs::Runs::tail_is))]
 pub fn tail(bytes: &[u8], at: usize) -> &[u8]
     requires { at ≤ length bytes.now }
@@ -79,7 +79,7 @@ pub fn tail(bytes: &[u8], at: usize) -> &[u8]
     &bytes[at..]
 }
 
-/// How many bytes at the front make a name go on.
+/// The number of bytes at the front that continue a name.
 #[tactic(auto, using(crate::proofs::Runs::run_empty, crate::proofs::Runs::run_more, crate::proofs::Runs::run_stops, crate::proofs::Runs::run_within, crate::proofs::Runs::run_first))]
 pub fn name_len(bytes: &[u8]) -> usize
     ensures length { result ≡ run bytes_of.is_name_byte bytes.now }
@@ -93,7 +93,7 @@ pub fn name_len(bytes: &[u8]) -> usize
     n
 }
 
-/// How many bytes at the front are digits in this base.
+/// The number of digits in this base at the front.
 #[tactic(auto, using(crate::proofs::Runs::run_empty, crate::proofs::Runs::run_more, crate::proofs::Runs::run_stops, crate::proofs::Runs::run_within, crate::proofs::Runs::run_first))]
 pub fn digits_len(bytes: &[u8], base: u64) -> usize
     ensures length { result ≡ run (bytes_of.is_digit_of base) bytes.now }
@@ -117,14 +117,14 @@ fn opens_comment(bytes: &[u8]) -> bool
     }
 }
 
-/// Whether the byte, which begins these bytes, stands between tokens.
+/// Whether the first byte of these bytes is a blank or part of a comment.
 fn is_between(in_comment: bool, byte: u8, bytes: &[u8]) -> bool
     ensures { result ≡ bytes_of.is_between in_comment byte bytes.now }
 {
     in_comment || is_blank(byte) || opens_comment(bytes)
 }
 
-/// Whether what follows the byte is in a comment.
+/// Whether the byte after this one is still in a comment.
 fn stays_in_comment(in_comment: bool, byte: u8) -> bool
     ensures { result ≡ bytes_of.stays_in_comment in_comment byte }
 {
@@ -135,7 +135,7 @@ fn stays_in_comment(in_comment: bool, byte: u8) -> bool
     }
 }
 
-/// How many bytes at the front are blanks and comments.
+/// The number of bytes of blanks and comments at the front.
 #[tactic(auto, using(crate::proofs::Runs::between_empty, crate::proofs::Runs::between_more, crate::proofs::Runs::between_stops))]
 pub fn between(bytes: &[u8]) -> usize
     ensures length { result ≡ bytes_of.between false bytes.now }

@@ -1,4 +1,4 @@
-//! The cutting of a text into its tokens.
+//! Splits a text into its tokens.
 
 ghost use Rattle.std.specs.Prelude.{◌≡◌, ◌≤◌, ◌<◌, length, List, ℕ, take, Err, IfOk, OnOk, ◌+◌, ◌++◌, ◌∷◌, []};
 ghost use Rattle.std.specs.Str.{IsUtf8};
@@ -18,7 +18,7 @@ use crate::read_error::ReadError;
 use crate::token::Token;
 use std::alloc::{AllocError, Global};
 
-/// Whether a minus after this token, of these bytes, may be the sign of an int.
+/// Whether a minus after this token may be the sign of an int. `bytes` are those of the token.
 fn sign_may_follow(bytes: &[u8], kind: &Kind) -> bool
     ensures { result ≡ fronts.sign_may_follow (word_of bytes.now kind.now) }
 {
@@ -32,7 +32,7 @@ fn sign_may_follow(bytes: &[u8], kind: &Kind) -> bool
     }
 }
 
-/// The refusal of what begins at this place, after so many tokens.
+/// The error of what begins at this position, after `count` tokens.
 fn refusal(count: usize, at: usize, cause: ReadError) -> ReadError
     ensures { result ≡ refusal_of count at cause }
 {
@@ -43,8 +43,7 @@ fn refusal(count: usize, at: usize, cause: ReadError) -> ReadError
     }
 }
 
-/// Appends the token of so many bytes that begins at this place. Gives the place after it, and
-/// whether a sign may stand there.
+/// Appends the token that begins at this position. Returns the position after it, and whether a sign may be there.
 fn add(
     out: &mut Vec<Token>,
     rest: &[u8],
@@ -68,8 +67,8 @@ fn add(
     Ok((end, sign))
 }
 
-/// Reads on from a place: appends the token that begins there, or passes what stands before it.
-/// Gives the next place, and whether a sign may stand there, or `None` at the text's end.
+/// Appends the token that begins at this position, or skips the blanks and comments there. Returns the next position
+/// and whether a sign may be there, or `None` at the end of the text.
 fn step(
     out: &mut Vec<Token>,
     bytes: &[u8],
@@ -124,10 +123,9 @@ fn cut(alloc: Global, bytes: &[u8]) -> Result<Vec<Token>, ReadError>
     }
 }
 
-/// The tokens of the text. Else the error says the first cause from the left why it has none:
-/// `UnknownCharacter`, `InvalidTextLiteral` or `IntOutOfRange` at its place, or `TextTooLong` at
-/// the 4,097th token; a text above 65,536 bytes is `TextTooLong` at byte 65,536 before it is read.
-/// (cel-spec, lexis)
+/// The tokens of the text (cel-spec, lexis). The error is the first one from the left: `UnknownCharacter`,
+/// `InvalidTextLiteral` or `IntOutOfRange` at its position, or `TextTooLong` at the 4,097th token. A text above
+/// 65,536 bytes is `TextTooLong` at byte 65,536 before it is read.
 pub fn tokens(alloc: Global, text: &str) -> Result<Vec<Token>, ReadError>
     ensures answers { TokensReturns text.now result }
     ensures long { text_limit < length text.now → result ≡ Err (TextTooLong text_limit) }

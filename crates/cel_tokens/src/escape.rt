@@ -7,7 +7,7 @@ ghost use Rattle.cel_tokens.specs.Texts as texts;
 use crate::bytes::{digits_len, tail};
 use crate::int::number;
 
-/// The number that this many digits at the front spell, or the largest `u64` where it is above.
+/// The number that `count` digits at the front denote, capped at the greatest `u64`.
 #[tactic(auto, using(crate::proofs::EscapeDigits::too_short))]
 fn digits(bytes: &[u8], base: u64, count: usize) -> Option<u64>
     requires { 1 ≤ base }
@@ -26,7 +26,7 @@ fn digits(bytes: &[u8], base: u64, count: usize) -> Option<u64>
     }
 }
 
-/// The code point of this number.
+/// The code point with this number.
 #[tactic(auto, using(crate::proofs::EscapeDigits::scalar_is))]
 fn code_point(number: u64) -> Option<char>
     ensures value { result ≡ texts.code_point number }
@@ -38,7 +38,7 @@ fn code_point(number: u64) -> Option<char>
     char::from_u32(number as u32)
 }
 
-/// The code point that this many digits at the front spell, and `len`, the escape's length.
+/// The code point that `count` digits at the front denote, and `len`, the length of the escape.
 #[tactic(auto, using(crate::proofs::EscapeDigits::kept_code))]
 fn numeric(bytes: &[u8], base: u64, count: usize, len: usize) -> Option<(char, usize)>
     requires { 1 ≤ base }
@@ -52,7 +52,7 @@ fn numeric(bytes: &[u8], base: u64, count: usize, len: usize) -> Option<(char, u
     Some((code, len))
 }
 
-/// The code point of an escape of one byte.
+/// The code point of a one-byte escape.
 fn simple(byte: u8) -> Option<(char, usize)>
     ensures value { result ≡ texts.simple byte }
     ensures within { IfSome result (λ x. x.1 ≡ 1) }
@@ -72,7 +72,7 @@ fn simple(byte: u8) -> Option<(char, usize)>
     }
 }
 
-/// What stands after a backslash: its code point, and how many bytes it takes.
+/// The escape after a backslash: its code point, and its length in bytes.
 #[tactic(auto, unfolding(crate::specs::Texts::escape))]
 pub fn escape(bytes: &[u8]) -> Option<(char, usize)>
     ensures value { result ≡ texts.escape bytes.now }

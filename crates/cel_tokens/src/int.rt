@@ -1,11 +1,11 @@
-//! Ints.
+//! Int literals.
 
 ghost use Rattle.std.specs.Prelude.{◌≡◌, ◌≤◌, ◌-◌, ◌^◌, min, length, true};
 ghost use Rattle.cel_tokens.specs.Ints as ints;
 
 use crate::bytes::{digit_value, digits_len, is_digit_of, tail};
 
-/// The number that the digits spell, or the largest `u64` where it is above.
+/// The number that the digits denote, capped at the greatest `u64`.
 #[tactic(auto, using(crate::proofs::Numbers::number_empty, crate::proofs::Numbers::number_more))]
 pub fn number(digits: &[u8], base: u64) -> u64
     requires { 1 ≤ base }
@@ -42,8 +42,7 @@ fn hex_begins(bytes: &[u8]) -> bool
     }
 }
 
-/// How many bytes at the front are digits, and the number that they spell, or the largest `u64`
-/// where it is above.
+/// The number of digits at the front, and the number that they denote, capped at the greatest `u64`.
 fn spelled(bytes: &[u8], base: u64) -> (usize, u64)
     requires { 1 ≤ base }
     ensures len { result.0 ≡ (ints.spelled base bytes.now).0 }
@@ -55,8 +54,7 @@ fn spelled(bytes: &[u8], base: u64) -> (usize, u64)
     (len, number(&bytes[..len], base))
 }
 
-/// The length of the int at the front, and its value without a sign, or the largest `u64` where
-/// it is above.
+/// The length of the int at the front, and its value without the sign, capped at the greatest `u64`.
 pub fn int_at(bytes: &[u8]) -> (usize, u64)
     ensures len { result.0 ≡ (ints.int_at bytes.now).0 }
     ensures value { result.1 ≡ min (ints.int_at bytes.now).1 (2 ^ 64 - 1) }
@@ -71,7 +69,7 @@ pub fn int_at(bytes: &[u8]) -> (usize, u64)
     }
 }
 
-/// The int of this sign and value, if 64 bits hold it.
+/// The int with this sign and absolute value, if it fits 64 bits.
 pub fn int_of(minus: bool, value: u64) -> Option<i64>
     ensures { result ≡ ints.int_of minus value }
 {

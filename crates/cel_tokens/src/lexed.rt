@@ -1,4 +1,4 @@
-//! What stands at the front of a text.
+//! The front of a text.
 
 ghost use Rattle.std.specs.Prelude.{◌≡◌, ◌≤◌, ◌<◌, ◌+◌, ℕ, List, [], length, drop, get_or, true, Some, IfOk, IfSome, OnErr};
 ghost use Rattle.cel_tokens.specs.Bytes as bytes_of;
@@ -17,18 +17,18 @@ use crate::literal::content;
 use crate::mark::mark_at;
 use std::alloc::{AllocError, Global};
 
-/// What stands at the front of a text.
+/// The front of a text.
 #[derive(Debug, Drop)]
 pub enum Lexed {
-    /// The text is at its end.
+    /// The end of the text.
     Over,
-    /// So many bytes of blanks and comments.
+    /// Blanks and comments of this many bytes.
     Space(usize),
-    /// A token of so many bytes.
+    /// A token of this many bytes.
     Word(usize, Kind),
-    /// A text literal that is not ended, or has a wrong escape.
+    /// A text literal that does not end, or has an invalid escape.
     WrongText,
-    /// So many bytes on, the digits of an int outside 64 bits.
+    /// An int outside 64 bits, with its digits at this offset.
     WideInt(usize),
     /// No token.
     Nothing,
@@ -41,14 +41,14 @@ fn is_quote(byte: u8) -> bool
     byte == b'"' || byte == b'\''
 }
 
-/// Whether the byte is the prefix of a raw text.
+/// Whether the byte is the prefix of a raw text literal.
 fn is_raw_prefix(byte: u8) -> bool
     ensures { result ≡ texts.is_raw_prefix byte }
 {
     byte == b'r' || byte == b'R'
 }
 
-/// Whether the text literal at the front is a raw one, and its quote.
+/// Whether the text literal at the front is raw, and its quote.
 fn opening(bytes: &[u8]) -> Option<(bool, u8)>
     ensures value { result ≡ texts.opening bytes.now }
     ensures quoted { IfSome result (λ x. IsQuoted bytes.now x.0 x.1) }
@@ -65,7 +65,7 @@ fn opening(bytes: &[u8]) -> Option<(bool, u8)>
     }
 }
 
-/// How many bytes stand before what a text says.
+/// The number of bytes that open a text literal.
 fn opening_len(raw: bool) -> usize
     ensures { result ≡ texts.opening_len raw }
 {
@@ -87,7 +87,7 @@ fn literal(alloc: Global, bytes: &[u8], raw: bool, quote: u8) -> Result<Lexed, A
     }
 }
 
-/// The int whose digits are so many bytes on.
+/// The int whose digits are `before` bytes on.
 #[tactic(auto, using(crate::proofs::Numbers::kept_int))]
 fn int_front(minus: bool, before: usize, digits: &[u8]) -> Lexed
     requires digit { ints.digit_begins digits.now ≡ true }
@@ -102,7 +102,7 @@ fn int_front(minus: bool, before: usize, digits: &[u8]) -> Lexed
     }
 }
 
-/// How many bytes stand before the digits that a sign at the front belongs to.
+/// The number of bytes before the digits of a signed int.
 fn before_digits(bytes: &[u8]) -> usize
     requires { 0 < length bytes.now }
     ensures value { result ≡ fronts.before_digits bytes.now }
@@ -111,7 +111,7 @@ fn before_digits(bytes: &[u8]) -> usize
     between(tail(bytes, 1)) + 1
 }
 
-/// Whether a sign and its int are at the front, `first` being the first byte.
+/// Whether a sign and its int are at the front. `first` is the first byte.
 fn signed_int_begins(first: u8, bytes: &[u8]) -> bool
     requires { 0 < length bytes.now }
     ensures { result ≡ fronts.signed_int_begins first bytes.now }
@@ -151,7 +151,7 @@ fn plain(bytes: &[u8], signed: bool) -> Lexed
     mark_front(bytes)
 }
 
-/// What stands at the front of the text; `signed`: a minus here may be the sign of an int.
+/// The front of the text. `signed`: a minus here may be the sign of an int.
 #[tactic(auto, using(crate::proofs::Fronts::front_nil, crate::proofs::Fronts::front_is))]
 pub fn front_of(alloc: Global, bytes: &[u8], signed: bool) -> Result<Lexed, AllocError>
     requires text { EndsText bytes.now }

@@ -1,5 +1,4 @@
-//! The tokens of a CEL expression: its text is cut, from the left, into the longest token at each
-//! place.
+//! The tokens of a CEL expression: the text is split from the left, the longest token at each position.
 #![tactic(auto)]
 
 mod bytes;

@@ -11,16 +11,16 @@ use crate::escape::escape;
 use std::alloc::{AllocError, Global};
 use text_kernels::skip_plain;
 
-/// What stands at one place of a text.
+/// One piece of a text literal.
 #[derive(Clone, Copy, Debug, PartialEq, Eq)]
 pub enum Piece {
-    /// A byte for itself.
+    /// A byte that represents itself.
     Byte(u8),
-    /// An escape: its code point, and how many bytes it takes after the backslash.
+    /// An escape: its code point, and its length after the backslash.
     Escape(char, usize),
 }
 
-/// What stands at this place of a text.
+/// The piece at the front.
 fn piece_at(bytes: &[u8], raw: bool) -> Option<Piece>
     ensures value { option_map said_by result ≡ texts.piece raw bytes.now }
     ensures within { IfSome result (λ p. (1 ≤ (said_by p).0) × ((said_by p).0 ≤ length bytes.now)) }
@@ -37,7 +37,7 @@ fn piece_at(bytes: &[u8], raw: bool) -> Option<Piece>
     Some(Piece::Escape(code, len))
 }
 
-/// How many bytes the piece takes.
+/// The length of the piece in bytes.
 fn piece_len(piece: Piece) -> usize
     requires { (said_by piece).0 ≤ text_limit }
     ensures { result ≡ (said_by piece).0 }
@@ -48,7 +48,7 @@ fn piece_len(piece: Piece) -> usize
     }
 }
 
-/// Adds what the piece says.
+/// Appends the value of the piece.
 fn add(said: &mut Vec<u8>, piece: Piece) -> Result<(), AllocError>
     ensures { OnOk result (said.new.items ≡ said.old.items ++ (said_by piece).1) }
 {
@@ -61,7 +61,7 @@ fn add(said: &mut Vec<u8>, piece: Piece) -> Result<(), AllocError>
     }
 }
 
-/// The text of these bytes.
+/// The text with these bytes.
 fn text_of(said: Vec<u8>) -> String
     requires { IsUtf8 said.items }
     ensures { string_bytes result ≡ said.items }
@@ -69,7 +69,7 @@ fn text_of(said: Vec<u8>) -> String
     String::from_utf8(said).unwrap()
 }
 
-/// What a text says up to its closing quote, and how many bytes it takes with that quote.
+/// The value of a text literal up to its closing quote, and its length with that quote.
 pub fn content(
     alloc: Global,
     bytes: &[u8],

@@ -32,7 +32,7 @@ pub enum Mark {
     CloseBrace,
 }
 
-/// The mark that these two bytes are.
+/// The mark of these two bytes.
 fn two_bytes(first: u8, second: u8) -> Option<Mark>
     ensures { result ≡ marks.two_bytes first second }
 {
@@ -47,7 +47,7 @@ fn two_bytes(first: u8, second: u8) -> Option<Mark>
     }
 }
 
-/// The bracket that this byte is.
+/// The bracket of this byte.
 fn bracket(byte: u8) -> Option<Mark>
     ensures { result ≡ marks.bracket byte }
 {
@@ -62,7 +62,7 @@ fn bracket(byte: u8) -> Option<Mark>
     }
 }
 
-/// The operator that this byte is.
+/// The operator of this byte.
 fn operator(byte: u8) -> Option<Mark>
     ensures { result ≡ marks.operator byte }
 {
@@ -83,7 +83,7 @@ fn operator(byte: u8) -> Option<Mark>
     }
 }
 
-/// The mark that this byte is.
+/// The mark of this byte.
 fn one_byte(byte: u8) -> Option<Mark>
     ensures { result ≡ marks.one_byte byte }
 {
@@ -93,7 +93,7 @@ fn one_byte(byte: u8) -> Option<Mark>
     }
 }
 
-/// The mark that a token of these bytes is.
+/// The mark of a token with these bytes.
 pub fn mark_of(bytes: &[u8]) -> Option<Mark>
     ensures { result ≡ marks.mark_of bytes.now }
 {
@@ -104,7 +104,7 @@ pub fn mark_of(bytes: &[u8]) -> Option<Mark>
     }
 }
 
-/// The longest mark at the front, and its length.
+/// The longest mark at the front, with its length.
 pub fn mark_at(bytes: &[u8]) -> Option<(Mark, usize)>
     ensures value { result ≡ marks.mark_at bytes.now }
     ensures within { IfSome result (λ x. (1 ≤ x.1) × (x.1 ≤ length bytes.now)) }

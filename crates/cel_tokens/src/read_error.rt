@@ -6,8 +6,7 @@ ghost use Rattle.cel_tokens.specs.declared.read_error.ReadError.TheVariants.{Mem
 use std::alloc::{AllocError, AllocFailed};
 use thiserror::Error;
 
-/// Why a text is not an expression. The number of a variant is a place in the text: a byte, counted
-/// from 0.
+/// Why a text is not an expression. The number in a variant is a position in the text: a byte, counted from 0.
 #[derive(Clone, Copy, Debug, PartialEq, Eq, Error)]
 pub enum ReadError {
     /// No token begins at this byte.
@@ -17,17 +16,16 @@ pub enum ReadError {
     /// escape.
     #[error("the text literal at byte {0} is not ended, or has a wrong escape")]
     InvalidTextLiteral(usize),
-    /// The int whose digits begin at this byte is outside 64 bits signed.
+    /// The int whose digits begin at this byte does not fit a signed 64-bit integer.
     #[error("the int at byte {0} is outside 64 bits")]
     IntOutOfRange(usize),
-    /// The grammar does not allow the token at this byte, or the text ends at this byte too early.
+    /// The grammar does not allow the token at this byte, or the text ends too early, at this byte.
     #[error("no expression has what stands at byte {0}")]
     UnexpectedToken(usize),
-    /// The bracket or `?` at this byte would be the 101st that is open.
+    /// The bracket or `?` at this byte would be the 101st open one.
     #[error("more than 100 brackets and conditions are open at byte {0}")]
     TooManyOpen(usize),
-    /// The text has more than 65,536 bytes (the byte is then 65,536), or the token at this byte is
-    /// the 4,097th.
+    /// The text has more than 65,536 bytes (the position is then 65,536), or the token at this byte is the 4,097th.
     #[error("the text is too long at byte {0}")]
     TextTooLong(usize),
     /// An allocation failed.
@@ -55,7 +53,7 @@ impl ReadError {
         }
     }
 
-    /// The byte of the text at which it is refused, counted from 0.
+    /// The byte at which the text is refused, counted from 0.
     pub fn place(&self) -> Option<usize>
         ensures { result ≡ read_error_place self.now }
     {

@@ -1,3 +1,4 @@
+-- Loop invariants and measures of `between` (src/bytes.rt).
 use Rattle.cel_tokens.proofs.Prelude.{◌≡◌, ◌+◌, ◌-◌, ◌≤◌, length, drop, false, between}
 use Rattle.cel_tokens.proofs.bytes.between.Given as goal
 

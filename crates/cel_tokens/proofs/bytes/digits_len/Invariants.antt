@@ -1,3 +1,4 @@
+-- Loop invariants and measures of `digits_len` (src/bytes.rt).
 use Rattle.cel_tokens.proofs.Prelude.{◌≡◌, ◌+◌, ◌-◌, ◌≤◌, length, drop, run, is_digit_of}
 use Rattle.cel_tokens.proofs.bytes.digits_len.Given as goal
 

@@ -1,3 +1,4 @@
+-- Loop invariants and measures of `name_len` (src/bytes.rt).
 use Rattle.cel_tokens.proofs.Prelude.{◌≡◌, ◌+◌, ◌-◌, ◌≤◌, length, drop, run, is_name_byte}
 use Rattle.cel_tokens.proofs.bytes.name_len.Given as goal
 

@@ -1,3 +1,4 @@
+-- Loop invariants and measures of `cut` (src/cut.rt).
 use Rattle.cel_tokens.proofs.Prelude.{◌-◌, ◌≤◌, List, [], drop, length, true, Result, Token, Cuts, TakesMemory, EndsAs, ReadError}
 use Rattle.cel_tokens.proofs.cut.cut.Given as goal
 

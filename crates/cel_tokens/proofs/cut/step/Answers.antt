@@ -1,3 +1,4 @@
+-- Proof obligations of `step` (src/cut.rt).
 use Rattle.cel_tokens.proofs.Prelude.{ap, arith, ◌+◌, length, map, take, subst, err_from_is_err_and, token_view, word_of, sign_may_follow, EndsAs, over, nothing}
 use Rattle.std.proofs.Common.{length-drop}
 use Rattle.cel_tokens.proofs.Cutting.{there, taken_behind, taken_for, ends_text, space_step, token_goes, too_many_words, text_refused, int_refused}

@@ -1,3 +1,4 @@
+-- Proof obligations of `tokens` (src/cut.rt).
 use Rattle.cel_tokens.proofs.Prelude.{List, ℕ, length, subst, refl, ap, arith, TokensReturns, too_long}
 use Rattle.cel_tokens.proofs.Cutting.{whole}
 use Rattle.cel_tokens.proofs.cut.tokens.Goals as goal

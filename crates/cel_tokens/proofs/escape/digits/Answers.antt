@@ -1,3 +1,4 @@
+-- Proof obligations of `digits` (src/escape.rt).
 use Rattle.cel_tokens.proofs.escape.digits.Goals as goal
 use Rattle.cel_tokens.proofs.Prelude.{arith, get_or-take, length-take, nat_tests}
 use Rattle.cel_tokens.proofs.EscapeDigits.{run_all}

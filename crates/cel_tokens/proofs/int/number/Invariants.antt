@@ -1,3 +1,4 @@
+-- Loop invariants and measures of `number` (src/int.rt).
 use Rattle.cel_tokens.proofs.Prelude.{◌≡◌, ◌-◌, ◌^◌, ◌≤◌, length, drop, min, number, number_from}
 use Rattle.cel_tokens.proofs.int.number.Given as goal
 

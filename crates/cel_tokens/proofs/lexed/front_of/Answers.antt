@@ -1,3 +1,4 @@
+-- Proof obligations of `front_of` (src/lexed.rt).
 use Rattle.cel_tokens.proofs.Prelude.{[], sym, ◌∙◌, ap, get_or, drop, front_word, opening_len, content}
 use Rattle.cel_tokens.proofs.Cutting.{taken_by_text}
 use Rattle.cel_tokens.proofs.Fronts.{front_over, some_left, front_space, front_else, in_any_case}

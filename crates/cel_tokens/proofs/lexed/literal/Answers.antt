@@ -1,3 +1,4 @@
+-- Proof obligations of `literal` (src/lexed.rt).
 use Rattle.cel_tokens.proofs.Prelude.{ℕ, sym, ◌∙◌, ap, drop, subst, IsUtf8}
 use Rattle.cel_tokens.proofs.Fronts.{opened}
 use Rattle.cel_tokens.proofs.lexed.literal.Goals as goal

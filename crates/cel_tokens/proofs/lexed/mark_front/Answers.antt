@@ -1,3 +1,4 @@
+-- Proof obligations of `mark_front` (src/lexed.rt).
 use Rattle.cel_tokens.proofs.Prelude.{sym, ◌∙◌}
 use Rattle.cel_tokens.proofs.Marked.{mark_shown}
 use Rattle.cel_tokens.proofs.lexed.mark_front.Goals as goal

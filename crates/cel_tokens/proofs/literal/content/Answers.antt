@@ -1,3 +1,4 @@
+-- Proof obligations of `content` (src/literal.rt).
 use Rattle.cel_tokens.proofs.Prelude.{◌≡◌, ℕ, List, ◌+◌, ◌++◌, content, get_or, length, drop, arith, sym, ◌∙◌, ap, subst, drop-cons, IsUtf8, piece, get_or-drop, drop-drop, prefix_len-le-length, is_plain}
 use Rattle.std.proofs.Common.{length-drop}
 use Rattle.cel_tokens.proofs.Contents.{closes, content_more, content_over, content_refused, quote_ascii, said_utf8}

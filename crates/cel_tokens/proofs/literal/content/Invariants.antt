@@ -1,3 +1,4 @@
+-- Loop invariants and measures of `content` (src/literal.rt).
 use Rattle.cel_tokens.proofs.Prelude.{◌≡◌, ◌-◌, ◌≤◌, ◌++◌, [], length, drop, IsUtf8, content}
 use Rattle.cel_tokens.proofs.literal.content.Given as goal
 

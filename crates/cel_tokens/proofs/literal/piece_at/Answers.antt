@@ -1,3 +1,4 @@
+-- Proof obligations of `piece_at` (src/literal.rt).
 use Rattle.cel_tokens.proofs.Prelude.{◌≡◌, ◌+◌, ◌-◌, get_or, length, arith, ◌∙◌, ap, get_or-drop}
 use Rattle.std.proofs.Common.{length-drop}
 use Rattle.cel_tokens.proofs.Contents.{escape_utf8}

@@ -1,3 +1,4 @@
+-- Proof obligations of `front_rows_stand` (src/rows.rt).
 use Rattle.std.proofs.Common.{refl}
 use lib.Utf8.{encode}
 use Rattle.cel_tokens.specs.Bytes.{between, run}
