@@ -1,7 +1,7 @@
--- Words that begin in the same way, before different ends.
+-- Words with the same beginning and different ends.
 use Rattle.cel_reader.proofs.Prelude.{◌≡◌, List, [], ◌∷◌, sym, subst, Word, Look, IsNot, IsNotNext}
 
--- ws ends with x and us with y, and before these they are the same
+-- ws ends with x and us with y, and before these ends they are equal
 pub data Alike : List Word → List Word → List Word → List Word → Type 0 where
   same : {x y : List Word} → Alike x y x y
   down : {x y ws us : List Word} {w : Word} → Alike x y ws us → Alike x y (w ∷ ws) (w ∷ us)
@@ -10,7 +10,7 @@ pub over : {x y v w ws us : List Word} → Alike x y v w → Alike v w ws us →
 over a same = a
 over a (down b) = down (over a b)
 
--- both begin with the same word, or there is none
+-- both begin with the same word, or both are empty
 abbrev pub SameHead : List Word → List Word → Type 0
 SameHead [] [] = Unit {0}
 SameHead (w ∷ ws) (u ∷ us) = u ≡ w

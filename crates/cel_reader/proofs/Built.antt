@@ -1,4 +1,4 @@
--- What is derived is read by some run of the reader.
+-- Every derived phrase is read by some run of the reader.
 use Rattle.cel_reader.proofs.Prelude.{◌≡◌, ℕ, suc, List, [], ◌∷◌, Bool, true, false, ◌&&◌, Some, None, inl, inr, refl, sym, ◌∙◌, ap, is_name, Word, name, mark, Mark, Question, Colon, Comma, OpenParen, Tree, Literal, trees, is_identifier, may_stand_free, literal_of, literal_role, role_of, at, operator, this_mark, this_name, this_literal, this_operator, IsNotNext, Closes, GoesOn, closing_mark, takes_comma, Class, Expression, Infix, Unary, Prefixed, Member, Primary, Items, OptionalItems, Pairs, OptionalPairs, Phrase, One, Many, Keyed, below, OptionalComma, Derives, ReadOutcome, Got, Row, Tail, Suffix, Listed, Item, Behind, Mapped, Entry, BehindEntry, maybe_call, PlanRuns, stands, goes, calls, found, missing, enters, passes, opened, StepReads, Level, Or, And, Relation, Sum, Product, Closing, Call, Map, Role}
 use Rattle.cel_reader.specs.Tree as tree
 use Rattle.cel_reader.specs.Grammar as derives
@@ -10,7 +10,7 @@ use Rattle.cel_reader.proofs.Lists.{comma_no_end, list_empty, list_goes, behind_
 use Rattle.cel_reader.proofs.Steps.{unary_goes}
 use Rattle.cel_reader.proofs.Stops.{StopsExpression, StopsMember, Stops, ends_operand, ends_question, ends_colon, ends_comma, ends_closing, ends_list}
 
--- a run of the row, from a run of what comes behind its phrase
+-- a run of the row, from a run of what follows its phrase
 abbrev BuiltOne : Class → ℕ → List Word → Tree → List Word → Type 0
 BuiltOne Expression room ws a rest = StopsExpression rest → StepReads (Row Expression) room ws (Got (One a) rest)
 BuiltOne (Infix l) room ws a rest = (o : ReadOutcome) → Stops (below l) rest → StepReads (Tail l a) room rest o → StepReads (Row (Infix l)) room ws o
@@ -49,7 +49,7 @@ ended_below Product room ws rest a f n = f n
 ended_member : (room : ℕ) (ws rest : List Word) (a : Tree) → BuiltOne Member room ws a rest → StopsMember rest → StepReads (Row Member) room ws (Got (One a) rest)
 ended_member room ws rest a f n = f (Got (One a) rest) n.2 (goes (missing n.0 (passes n.1 stands)))
 
--- no list ends at a comma before an expression
+-- a list does not end at a comma before an expression
 comma_goes_on : (c : Closing) (us : List Word) → FirstIs begins us → GoesOn c (mark Comma ∷ us)
 comma_goes_on c us here x (inl e) = comma_no_end c cc
 comma_goes_on c us here x (inr p) = mark_not_first (closing_mark c) us x (closing_not_first c) here cc

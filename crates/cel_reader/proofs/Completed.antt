@@ -1,5 +1,5 @@
--- Where the reader refuses, some words go on from there to the end of its step; where a bracket or conditional is too
--- many, with one more than there is room for, and with no more from the word before.
+-- If the reader refuses, some words in place of those left complete its step; if a bracket or conditional is too
+-- many, they do with room for one more, and not without if they begin with that bracket.
 use Rattle.cel_reader.proofs.Prelude.{◌≡◌, ℕ, suc, ◌≤◌, List, [], ◌∷◌, ◌++◌, pos, Bool, true, false, ◌⊎◌, inl, inr, refl, codes, arith, Word, int, mark, Mark, Colon, CloseBrace, Tree, trees, is_selector, is_identifier, is_reserved, role_of, Look, opens, opens_mark, closing_mark, FoundBy, Is, this_mark, this_name, this_literal, Class, Expression, Infix, Unary, Prefixed, Member, Primary, Items, OptionalItems, Pairs, OptionalPairs, below, Cause, Misfit, Deep, Refused, Kind, whole, Of, Step, Row, Tail, Suffix, Selection, Enclosed, Listed, Item, Behind, Mapped, Entry, BehindEntry, Plan, done, misfit, go, call, look, enter, inside, operand, maybe_call, listed, behind, plan, PlanRuns, StepReads, Level, Or, Sum, Product, Closing, Map, UnaryOperator}
 use Rattle.cel_reader.specs.Tree as tree
 use Rattle.cel_reader.specs.Reading as runs
@@ -7,7 +7,7 @@ use Rattle.cel_reader.specs.declared.operator.UnaryOperator.TheVariants as unary
 use Rattle.cel_reader.proofs.Loose.{Loose, stands, goes, calls, found, skips, enters, passes, opened, loosely, wide, carried}
 use Rattle.cel_reader.proofs.Alike.{Alike, over, down, same}
 
--- ---- each plan can come to its end
+-- ---- each plan can be completed
 
 -- the literal 0, in each row
 abbrev pub nil : Tree
@@ -45,7 +45,7 @@ identifies : is_identifier (codes "x") ≡ true
 unfolding role_of is_reserved
 identifies = refl
 
--- the reader stands there
+-- the reader can be in this state
 abbrev Stood : {b : Bool} {k : Kind} → Step b k → Type 0
 Stood (Row Items) = ⊥
 Stood (Row OptionalItems) = ⊥
@@ -78,7 +78,7 @@ ends (Entry pairs) h room = (
 )
 ends (BehindEntry pairs) h room = (_, pairs, goes (found this_mark stands))
 
--- some words are, and so they are of each plan that this one leads to
+-- each plan that this one continues with has a phrase
 data Whole : (b : Bool) (k : Kind) → Plan b k → Type 0 where
   at_done : {k : Kind} {x : Of k} → Whole false k (done x)
   at_step : {b : Bool} {k : Kind} {s : Step b k} → Stood s → Whole b k (go s)
@@ -137,9 +137,9 @@ plan_whole Mapped h = list_whole Map [] (Entry []) tt
 plan_whole (Entry pairs) h = at_call tt (λ a. at_last this_mark (λ x. at_call tt (λ b. at_step tt)))
 plan_whole (BehindEntry pairs) h = behind_whole Map pairs (Entry pairs) tt
 
--- ---- what is left of a plan
+-- ---- the rest of a plan
 
--- as much room, or room for one more
+-- the same room, or room for one more
 abbrev extra : Bool → ℕ → ℕ
 extra false room = room
 extra true room = suc room
@@ -152,15 +152,15 @@ extra_inner : (by : Bool) (room : ℕ) → extra by (suc room) ≡ suc (extra by
 extra_inner false room = refl
 extra_inner true room = refl
 
--- with some words in place of those left, the plan is at its end
+-- with some words in place of those left, the plan is completed
 abbrev pub Finishes : {b : Bool} {k : Kind} → Plan b k → ℕ → List Word → List Word → Type 0
 Finishes {k = k} p room ws rest = (us more : List Word) × (x : Of k) × Alike rest more ws us × Loose p room us x []
 
--- so it is with the bracket or question mark before those left, or that one stands before the plan
+-- the plan is completed from the bracket or question mark before the words left, or that one is before the plan
 abbrev pub Opening : (b : Bool) {k : Kind} → Plan b k → ℕ → List Word → List Word → Type 0
 Opening b p room ws rest = ((b ≡ true) × (ws ≡ rest)) ⊎ ((w : Word) × (opens w ≡ true) × Finishes p room ws (w ∷ rest))
 
--- what stands before a refusal goes on to the plan's end
+-- the words before a refusal can be extended to the plan's end
 abbrev pub Ended : (b : Bool) {k : Kind} → Plan b k → ℕ → List Word → Cause → Type 0
 Ended b p room ws (Misfit rest) = Finishes p room ws rest
 Ended b p room ws (Deep rest) = Finishes p (suc room) ws rest × Opening b p room ws rest
@@ -173,7 +173,7 @@ raised (Misfit rest) f own d = f false rest d
 raised (Deep rest) f own d =
     (f true rest d.0, elim d.1 [ inl x ↦ own rest x.0 x.1 | inr x ↦ inr (x.0, x.1, f false (x.0 ∷ rest) x.2) ])
 
--- more words behind an end
+-- more words after an end
 ahead : {x y ws us vs xs : List Word} → Alike x y ws us → Alike [] vs us xs → (more : List Word) × Alike x more ws xs
 ahead same b = (_, same)
 ahead (down a) (down b) = let t = ahead a b in (t.0, down t.1)
@@ -184,7 +184,7 @@ afresh room ws t = (t.0, t.0, t.1, same, t.2)
 no_bracket : {P : Type 0} → false ≡ true → P
 no_bracket e = absurd cc
 
--- where no bracket stands before
+-- no bracket precedes
 abbrev EndsHere : (b : Bool) {k : Kind} → Plan b k → Type 0
 EndsHere true p = Unit {0}
 EndsHere false p = (room : ℕ) → Ends p room
@@ -193,7 +193,7 @@ step_ends : {b : Bool} {k : Kind} (s : Step b k) → Stood s → EndsHere b (go 
 step_ends {b = true} s h = tt
 step_ends {b = false} s h = ends s h
 
--- what a plan refuses of which the other may come to as much
+-- a refusal of the first plan is one of the second, if the second can continue as the first
 ended_by : {b : Bool} {k : Kind} {p q : Plan b k} {room : ℕ} {ws : List Word} {e : Cause}
     → ((n : ℕ) (us : List Word) (x : Of k) → Loose q n us x [] → Loose p n us x []) → EndsHere b p → Whole b k q → PlanRuns q room ws (Refused e)
     → Ended b p room ws e

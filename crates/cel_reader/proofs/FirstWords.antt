@@ -1,27 +1,27 @@
--- What a phrase begins with.
+-- The first word of a phrase.
 use Rattle.cel_reader.proofs.Prelude.{◌≡◌, ℕ, List, [], ◌∷◌, Bool, true, false, inl, inr, Some, None, refl, sym, ◌∙◌, ap, subst, or_left, ◌||◌, Word, mark, Mark, Not, Minus, Comma, OpenParen, OpenBracket, OpenBrace, Literal, unary_mark, literal_of, at, IsNotNext, GoesOn, closing_mark, Class, Member, Primary, OptionalItems, OptionalPairs, Phrase, below, Derives, Level, Or, Closing, Call, UnaryOperator}
 use Rattle.cel_reader.specs.Grammar as derives
 use Rattle.cel_reader.specs.declared.operator.UnaryOperator.TheVariants as unary
 
--- ( [ {
+-- whether the mark is ( [ or {
 abbrev opens_member : Mark → Bool
 opens_member OpenParen = true
 opens_member OpenBracket = true
 opens_member OpenBrace = true
 opens_member other = false
 
--- ! -
+-- whether the mark is ! or -
 abbrev is_prefix : Mark → Bool
 is_prefix Not = true
 is_prefix Minus = true
 is_prefix other = false
 
--- a word that a member begins with
+-- whether a member may begin with the word
 abbrev pub begins_member : Word → Bool
 begins_member (mark m) = opens_member m
 begins_member _ = true
 
--- a word that an expression begins with
+-- whether an expression may begin with the word
 abbrev pub begins : Word → Bool
 begins (mark m) = opens_member m || is_prefix m
 begins _ = true
@@ -30,7 +30,7 @@ abbrev pub FirstIs : (Word → Bool) → List Word → Type 0
 FirstIs p [] = ⊥
 FirstIs p (w ∷ ws) = p w ≡ true
 
--- what the first word of a phrase of the row is
+-- the first word of a phrase of the row
 abbrev pub Front : Class → List Word → Type 0
 Front Member ws = FirstIs begins_member ws
 Front Primary ws = FirstIs begins_member ws
@@ -79,7 +79,7 @@ first (derives.first_pair d e) = first d
 first (derives.next_pair d e f) = first d
 first _ = refl
 
--- another mark is first
+-- a different mark is first
 pub not_first : (p : Word → Bool) (m : Mark) (ws : List Word) → p (mark m) ≡ false → FirstIs p ws → IsNotNext (at m) ws
 not_first p m [] none x = tt
 not_first p m (w ∷ ws) none x = λ e. absurd (let f : true ≡ false = sym x ∙ ap p e ∙ none in cc)
@@ -91,7 +91,7 @@ pub closing_not_first : (c : Closing) → begins (mark (closing_mark c)) ≡ fal
 closing_not_first Call = refl
 closing_not_first _ = refl
 
--- where an expression begins, no list ends and no comma stands
+-- where an expression begins, a list does not end and no comma follows
 pub goes_on : (c : Closing) (ws : List Word) → FirstIs begins ws → GoesOn c ws
 goes_on c ws x rest (inl e) = mark_not_first (closing_mark c) ws rest (closing_not_first c) x e
 goes_on c ws x rest (inr p) = mark_not_first Comma ws (mark (closing_mark c) ∷ rest) refl x p.1
@@ -99,7 +99,7 @@ goes_on c ws x rest (inr p) = mark_not_first Comma ws (mark (closing_mark c) ∷
 pub no_comma : (ws : List Word) → FirstIs begins ws → IsNotNext (at Comma) ws
 no_comma ws x = not_first begins Comma ws refl x
 
--- no member begins with an operator before an operand
+-- a member does not begin with a unary operator
 member_prefix : (op : UnaryOperator) → begins_member (mark (unary_mark op)) ≡ false
 member_prefix unary.Not = refl
 member_prefix unary.Negate = refl

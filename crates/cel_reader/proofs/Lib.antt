@@ -1,3 +1,4 @@
+-- Proofs of cel_reader: the list of their modules.
 pub mod Names
 pub mod Ranks
 pub mod Prefixed

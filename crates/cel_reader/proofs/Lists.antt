@@ -1,4 +1,4 @@
--- The plans of lists, by how a list ends and goes on.
+-- The plans of lists, by how a list ends or continues.
 use Rattle.cel_reader.proofs.Prelude.{◌≡◌, ◌≢◌, ℕ, List, [], ◌∷◌, Bool, true, false, inl, inr, refl, ◌∙◌, ap, if◌then◌else◌, Word, mark, Mark, Comma, Tree, at, in_literal, this_mark, this_one, IsNotNext, Closes, GoesOn, closing_mark, takes_comma, Misfit, ReadOutcome, Got, Refused, Kind, Of, phrase, Step, Item, Plan, misfit, done, go, look, behind, PlanRuns, StepReads, stands, unfit, goes, fails, found, missing, passes, Closing, Call}
 use Rattle.cel_reader.proofs.Looks.{other_one}
 use Rattle.cel_reader.proofs.Steps.{found_at}
@@ -14,7 +14,7 @@ end_lacks : (c : Closing) (ws : List Word) → GoesOn c ws → IsNotNext (at (cl
 end_lacks c [] g = tt
 end_lacks c (w ∷ ws) g = λ e. g ws (inl (ap (λ (x : Word). x ∷ ws) e))
 
--- no closing mark that may stand there is behind the comma
+-- the closing mark does not follow the comma
 behind_lacks : (c : Closing) (ws us : List Word) → GoesOn c ws → ws ≡ mark Comma ∷ us → IsNotNext (in_literal c (closing_mark c)) us
 behind_lacks c ws [] g e = tt
 behind_lacks c ws (w ∷ us) g e = λ t f. g us (inr (t, e ∙ ap (λ (x : Word). mark Comma ∷ x ∷ us) f))
@@ -27,7 +27,7 @@ in_this : (c : Closing) (m : Mark) (ws : List Word) → takes_comma c ≡ true �
 in_this c m [] t n = tt
 in_this c m (w ∷ ws) t n = n t
 
--- a list behind its bracket
+-- a list after its bracket
 abbrev pub list : {k : Kind} → Closing → Of k → Step false k → Plan false k
 list c none first =
     look (at (closing_mark c)) (λ x. done none) (look (in_literal c Comma) (λ x. look (at (closing_mark c)) (λ y. done none) misfit) (go first))
@@ -60,7 +60,7 @@ module _ {k : Kind} (c : Closing) (all : Of k) (next : Step false k) {room : ℕ
       → PlanRuns (list c all next) room ws (Refused (Misfit (if takes_comma c then us else ws)))
   list_comma us g e r = list_comma_by (takes_comma c) us refl g e r
 
--- no item begins with a comma
+-- an item does not begin with a comma
 comma_refused : (c : Closing) (items : List Tree) (room : ℕ) (us : List Word) → StepReads (Item c items) room (mark Comma ∷ us) (Refused (Misfit (mark Comma ∷ us)))
 comma_refused c items room us =
     goes (fails (goes (fails (goes (fails (goes (fails (goes (fails (goes (fails (goes (fails (goes (missing (λ f. cc) (missing (λ f. cc)

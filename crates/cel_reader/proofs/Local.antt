@@ -1,8 +1,8 @@
--- The reader looks at no word behind the first that it leaves: it goes the same way before other words.
+-- The reader looks at no word after the first of those left: with other words there it runs the same way.
 use Rattle.cel_reader.proofs.Prelude.{ℕ, List, ◌∷◌, Bool, true, false, refl, Word, mark, Phrase, at, Cause, Misfit, Deep, ReadOutcome, Got, Refused, Kind, Plan, PlanRuns, stands, unfit, goes, fails, calls, found, missing, enters, passes, opened, full}
 use Rattle.cel_reader.proofs.Alike.{Alike, over, down, same, SameHead, lacks_too}
 
--- the words that a refusal leaves, and the same refusal with other words
+-- the words left by a refusal, and the same refusal with other words
 abbrev pub left_by : Cause → List Word
 left_by (Misfit rest) = rest
 left_by (Deep rest) = rest
@@ -19,7 +19,7 @@ abbrev pub ending : ReadOutcome → List Word → ReadOutcome
 ending (Got p rest) vs = Got p vs
 ending (Refused e) vs = Refused (caused e vs)
 
--- the first of the words left is the same, but behind a bracket too many
+-- the first of the words left is the same, except after a bracket too many
 abbrev pub NearCause : Cause → List Word → List Word → Type 0
 NearCause (Misfit rest) ws us = SameHead ws us
 NearCause (Deep rest) ws us = Unit {0}
@@ -32,7 +32,7 @@ near : (o : ReadOutcome) (ws us : List Word) → SameHead ws us → Near o ws us
 near (Refused (Deep rest)) ws us h = tt
 near _ ws us h = h
 
--- and so is the first word of the plan, unless a bracket stands before it
+-- the first word of the plan is the same, unless a bracket precedes it
 abbrev Begun : Bool → ReadOutcome → List Word → List Word → Type 0
 Begun true o ws us = Near o ws us
 Begun false o ws us = SameHead ws us

@@ -1,10 +1,10 @@
--- What the reader looks for at the front of the words: that it finds one thing or none, and what it finds.
+-- Lookahead finds at most one thing, and finds it by computation.
 use Rattle.cel_reader.proofs.Prelude.{◌≡◌, ◌≢◌, ℕ, List, [], ◌∷◌, Bool, true, false, Option, Some, None, inl, inr, ◌⊎◌, refl, sym, ◌∙◌, Word, name, mark, Mark, Literal, literal_of, operator_of, level_of, Look, at, in_literal, named, constant, operator, FoundBy, Is, this_mark, this_one, this_name, this_literal, this_operator, IsNot, IsNotNext, takes_comma, Level, Closing, BinaryOperator}
 use denote.Enum.Bare.{sameb, same_true, same_false}
 use Rattle.cel_tokens.specs.contracts.mark.Mark.{the_type}
 use Rattle.cel_reader.specs.declared.level.Level.TheVariants as level
 
--- what the word is, by equations
+-- the word by equations
 abbrev Says : (l : Look) → Word → FoundBy l → Type 0
 Says (at m) w x = Unit {0}
 Says (in_literal c m) w x = Unit {0}
@@ -36,9 +36,9 @@ not_both (this_name {n = k} e) n = let f : true ≡ false = sym e ∙ n k refl i
 not_both (this_literal {v = v} e) n = let f : Some v ≡ None = sym e ∙ n in cc
 not_both (this_operator {op = op} e f) n = n op e f
 
--- ---- what is found, computed
+-- ---- lookahead, computed
 
--- found in the first word, or not there
+-- found in the first word, or not found
 pub data Seen (l : Look) : List Word → Type 0 where
   yes : {w : Word} {ws : List Word} (x : FoundBy l) → Is l w x → Seen l (w ∷ ws)
   no : {ws : List Word} → IsNotNext l ws → Seen l ws

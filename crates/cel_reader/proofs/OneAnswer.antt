@@ -1,10 +1,10 @@
--- A text has one answer.
+-- The result for a text is unique.
 use Rattle.cel_reader.proofs.Prelude.{◌≡◌, ℕ, suc, ◌+◌, ◌<◌, ◌≤◌, List, [], ◌∷◌, ◌++◌, length, take, drop, Ok, Err, refl, sym, ◌∙◌, ap, subst, inl, inr, arith, cases_order, append_assoc, length-append, length-take, length-take-le, take-append-drop, take-append-le, Word, Token, Lexes, ReadError, UnexpectedToken, TooManyOpen, Memory, one_end, words_only, Expression, One, Derives, place_at, IsViablePrefix, UnexpectedAt, DeepAt, IsReadResult, GoesWrongOnce, ReadHasOneResult, open_limit}
 use Rattle.cel_reader.proofs.Told.{one_list, not_refused, only_of, same_error}
 
 -- ---- words
 
--- of words that go on to an expression the first ones do
+-- a shorter prefix of words that can be extended to an expression can be too
 fewer : (room few many : ℕ) (ws : List Word) → few ≤ many → many ≤ length ws → IsViablePrefix room (take many ws) → IsViablePrefix room (take few ws)
 fewer room few many ws h within v =
     let rest = drop few (take many ws) in
@@ -13,11 +13,11 @@ fewer room few many ws h within v =
     let all : take many ws ++ v.0 ≡ take few ws ++ (rest ++ v.0) = ap (λ (x : List Word). x ++ v.0) both ∙ append_assoc (take few ws) rest v.0 in
     (rest ++ v.0, v.1, subst (λ (x : List Word). Derives Expression room x (One v.1) []) all v.2)
 
--- more words than those before a misfit do not
+-- a prefix longer than that before a misfit cannot be extended
 behind_misfit : (count many : ℕ) (ws : List Word) → count < many → many ≤ length ws → UnexpectedAt count ws → (room : ℕ) → IsViablePrefix room (take many ws) → ⊥
 behind_misfit count many ws h within wrong room v = wrong.2 (omega (arith, h, within)) room (fewer room (suc count) many ws h within v)
 
--- nor, with 100 open, more than those before one bracket too many
+-- with 100 open, a prefix longer than that before one bracket too many cannot be extended
 behind_deep : (count many : ℕ) (ws : List Word) → count < many → many ≤ length ws → DeepAt count ws → IsViablePrefix open_limit (take many ws) → ⊥
 behind_deep count many ws h within wrong v = wrong.4 (fewer open_limit (suc count) many ws h within v)
 
@@ -54,7 +54,7 @@ wrong_once ws = record { misfit = misfit_once ws; deep = deep_once ws; not_both 
 
 -- ---- texts
 
--- a text that is refused has no tokens, or they go wrong behind so many
+-- a refused text has no tokens, or their words have an error at some position
 data IsWrong (source : List ℕ) : ReadError → Type 0 where
   cut_off : {e : ReadError} → Lexes source (Err e) → IsWrong source e
   misfit : (lexemes : List Token) (count : ℕ) → Lexes source (Ok lexemes) → UnexpectedAt count (words_only lexemes) → IsWrong source (UnexpectedToken (place_at (length source) (drop count lexemes)))
@@ -87,7 +87,7 @@ refused_once source e f (deep xs n k a) (deep ys m l b) =
 pub one_refusal : (source : List ℕ) (e f : ReadError) → IsReadResult source (Err e) → IsReadResult source (Err f) → e ≡ f
 one_refusal source e f is also = refused_once source e f (wrong source e is) (wrong source f also)
 
--- ---- answers
+-- ---- results
 
 pub one_answer : ReadHasOneResult
 one_answer source h h2 is also = grind (arith, only_of, one_refusal)

@@ -1,13 +1,13 @@
--- What is too deep has more opening brackets and question marks than there is room.
+-- Words that are refused as too deep have more opening brackets and question marks than there is room.
 use Rattle.cel_reader.proofs.Prelude.{◌≡◌, ℕ, suc, ◌+◌, ◌<◌, ◌≤◌, List, Bool, true, false, arith, if◌then◌else◌, Word, openings, opens, Misfit, Deep, ReadOutcome, Got, Refused, Kind, Plan, PlanRuns, stands, unfit, goes, fails, calls, found, missing, enters, passes, opened, full}
 
--- of at most so many openings: what is left has no more of them, and what is too deep more than the room
+-- bounds of the openings: the words left have at most `most`, and a refusal as too deep has used more than the room
 abbrev Within : ℕ → ℕ → ReadOutcome → Type 0
 Within room most (Got p rest) = openings rest ≤ most
 Within room most (Refused (Deep us)) = room < most
 Within room most (Refused (Misfit us)) = Unit {0}
 
--- with the bracket that stands before
+-- the openings with the bracket that precedes
 abbrev before : Bool → ℕ → ℕ
 before true n = suc n
 before false n = n
@@ -16,7 +16,7 @@ before false n = n
 within : (room few most : ℕ) (o : ReadOutcome) → few ≤ most → Within room few o → Within room most o
 within room few most o h x = grind arith
 
--- behind one more bracket
+-- after one more bracket
 within_one : (room most : ℕ) (o : ReadOutcome) → Within room most o → Within (suc room) (suc most) o
 within_one room most o x = grind arith
 

@@ -1,4 +1,4 @@
--- Where the reader's runs go wrong.
+-- The error positions of the reader's runs.
 use Rattle.cel_reader.proofs.Prelude.{◌≡◌, ℕ, suc, ◌+◌, ◌-◌, ◌<◌, List, [], ◌∷◌, ◌++◌, pos, map, length, take, Err, true, false, refl, sym, ◌∙◌, ap, subst, arith, append_assoc, length-append, drop-map, take-append_seam, take-append-add, Word, token_view, int, CodeToken, UnexpectedToken, Tree, words, opens, Expression, One, Derives, Misfit, Deep, Got, Refused, Row, go, StepReads, place_left, refused_at, place_at, IsViablePrefix, UnexpectedAt, DeepAt, StandsAt, ParseErrorIsAt, Refusal, open_limit}
 use Rattle.cel_reader.specs.declared.refusal.Refusal.TheVariants as refusal
 use Rattle.cel_reader.proofs.Steps.{Fails, words_length}
@@ -9,7 +9,7 @@ use Rattle.cel_reader.proofs.Sound.{sound}
 use Rattle.cel_reader.proofs.Completed.{Finishes, Opening, ended, nil, nought_whole}
 use Rattle.cel_reader.proofs.Theorems.{misfit_never, rest_never, deep_never}
 
--- what both begin with
+-- the common beginning of both
 front_of : {x y ws us : List Word} → Alike x y ws us → (front : List Word) × (ws ≡ front ++ x) × (us ≡ front ++ y)
 front_of same = ([], refl, refl)
 front_of (down {w = w} a) = let t = front_of a in (w ∷ t.0, ap (λ (z : List Word). w ∷ z) t.1, ap (λ (z : List Word). w ∷ z) t.2)
@@ -17,17 +17,17 @@ front_of (down {w = w} a) = let t = front_of a in (w ∷ t.0, ap (λ (z : List W
 parts : (front rest ws : List Word) → ws ≡ front ++ rest → length ws ≡ length front + length rest
 parts front rest ws e = ap length e ∙ length-append front rest
 
--- so many words are the front
+-- the first n words are the front
 front_is : (n : ℕ) (front rest ws : List Word) → ws ≡ front ++ rest → n ≡ length front → take n ws ≡ front
 front_is n front rest ws e f = ap (λ (k : ℕ). take k ws) f ∙ ap (take (length front)) e ∙ take-append_seam front rest
 
--- and one more
+-- the first n + 1 words are the front and one more
 front_next : (n : ℕ) (w : Word) (front rest ws : List Word) → ws ≡ front ++ w ∷ rest → n ≡ length front → take (suc n) ws ≡ front ++ w ∷ []
 front_next n w front rest ws e f =
     let g : suc n ≡ length front + 1 = omega (arith, f) in
     ap (λ (k : ℕ). take k ws) g ∙ ap (take (length front + 1)) e ∙ take-append-add front (w ∷ rest) 1
 
--- the same front before other words
+-- the front is determined by the words after it
 one_front : (front other rest ws : List Word) → ws ≡ front ++ rest → ws ≡ other ++ rest → front ≡ other
 one_front front other rest ws e f =
     let g : length front ≡ length other = omega (arith, parts front rest ws e, parts other rest ws f) in
@@ -44,7 +44,7 @@ derived room ws us a e d = subst (λ (x : List Word). Derives Expression room x 
 viable_as : (room : ℕ) (ws us : List Word) → ws ≡ us → IsViablePrefix room us → IsViablePrefix room ws
 viable_as room ws us e v = subst (λ (x : List Word). IsViablePrefix room x) (sym e) v
 
--- what stands before the words left goes on to an expression
+-- the words before those left can be extended to an expression
 goes_on : (room : ℕ) (ws rest : List Word) → Finishes (go (Row Expression)) room ws rest → (front : List Word) × (ws ≡ front ++ rest) × IsViablePrefix room front
 goes_on room ws rest f = let t = front_of f.3 in (t.0, t.1, (f.1, f.2, derived room f.0 (t.0 ++ f.1) f.2 t.2 (sound f.4)))
 
@@ -122,7 +122,7 @@ placed_fails source tokens (refusal.Misfit left) g = moved UnexpectedAt source t
 placed_fails source tokens (refusal.Deep left) g = moved DeepAt source tokens left (suc (length g.0)) g.1 (deep_at (words source tokens) g.0 g.2)
 placed_fails source tokens refusal.Memory g = tt
 
--- words are left
+-- the reading leaves words
 pub placed_rest : (source : List ℕ) (tokens rest : List CodeToken) (us : List Word) (w : Word) (a : Tree) → StepReads (Row Expression) open_limit (words source tokens) (Got (One a) (words source rest)) → words source rest ≡ w ∷ us → ParseErrorIsAt (length source) (map (token_view source) tokens) (Err (UnexpectedToken (place_left (length source) tokens (length rest))))
 placed_rest source tokens rest us w a r e =
     let n : length rest ≡ suc (length us) = words_length source rest ∙ ap length e in

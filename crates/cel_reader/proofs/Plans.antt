@@ -1,4 +1,4 @@
--- A plan has one outcome, and more room changes nothing but what was too deep.
+-- A plan has one outcome, and more room changes only an outcome that was too deep.
 use Rattle.cel_reader.proofs.Prelude.{◌≡◌, ℕ, zero, suc, ◌≤◌, List, ◌∷◌, Bool, true, false, refl, sym, subst, arith, Word, mark, Mark, at, IsNotNext, opens_mark, Phrase, Kind, whole, many, keyed, Of, phrase, Deep, ReadOutcome, Got, Refused, Plan, enter, PlanRuns, stands, unfit, goes, fails, calls, found, missing, enters, passes, opened, full}
 use Rattle.cel_reader.proofs.Looks.{one_found, not_both}
 
@@ -10,13 +10,13 @@ one_phrase keyed x y e = cc
 same_got : (p q : Phrase) (rest end : List Word) → Got p rest ≡ Got q end → (p ≡ q) × (rest ≡ end)
 same_got p q rest end e = (cc, cc)
 
--- behind the mark that opens
+-- after the opening mark
 entered : {k : Kind} {m : Mark} {e : opens_mark m ≡ true} {p : Plan true k} {q : Plan false k} {room : ℕ} {ws us : List Word} {o : ReadOutcome}
     → PlanRuns (enter m e p q) room ws o → ws ≡ mark m ∷ us → PlanRuns p room us o
 entered {p = p} {room = room} {us = us} {o = o} (enters {ws = vs} r) g = let f : vs ≡ us = cc in subst (λ (y : List Word). PlanRuns p room y o) f r
 entered {m = m} (passes n r) g = absurd (subst (λ (y : List Word). IsNotNext (at m) y) g n refl)
 
--- from one place the reader comes to one outcome
+-- the outcome of a plan is unique
 pub one_outcome : {b : Bool} {k : Kind} {p : Plan b k} {room : ℕ} {ws : List Word} {o other : ReadOutcome} → PlanRuns p room ws o → PlanRuns p room ws other → o ≡ other
 one_outcome stands stands = refl
 one_outcome unfit unfit = refl

@@ -1,4 +1,4 @@
--- The names that these proofs cite of the library, of the crates below and of the definitions here. Declares nothing.
+-- The names that these proofs use, from the library, the crates below and these definitions. It declares nothing.
 pub use Rattle.std.proofs.Common.{All, Bool, Err, FitsSigned, IfOk, IfSome, IsErrAnd, List, MatchResult, None, Ok}
 pub use Rattle.std.proofs.Common.{Option, Result, Some, ℕ, [], ap, arith, codes, drop, false, if◌then◌else◌, inl, inr}
 pub use Rattle.std.proofs.Common.{length, map, nat_lt, pos, refl, subst, suc, sym, take, true, true≢false, zero, ◌&&◌}

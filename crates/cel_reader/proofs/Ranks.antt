@@ -1,7 +1,7 @@
--- How many rows are tighter than an operator's.
+-- The number of grammar rows below an operator's.
 use Rattle.cel_reader.proofs.Prelude.{ℕ, Level, Or, And, Relation, Sum, Product}
 
--- counted twice, above the four rows from a unary operator's on
+-- twice the number of rows, above the four from a unary operator's on
 abbrev pub rank : Level → ℕ
 rank Or = 14
 rank And = 12

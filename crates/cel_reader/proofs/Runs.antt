@@ -3,7 +3,7 @@ pub mod Refusals
 use Rattle.cel_reader.proofs.Prelude.{◌≡◌, ℕ, zero, suc, List, ◌∷◌, Bool, true, false, Option, Some, None, refl, sym, subst, Word, Mark, Look, at, Is, this_mark, FoundBy, opens_mark, Phrase, One, Many, Keyed, Kind, whole, many, keyed, Of, phrase, ReadOutcome, Got, Refused, Plan, done, misfit, go, call, look, enter, inside, plan, PlanRuns, stands, unfit, goes, fails, calls, found, missing, enters, passes, opened, full}
 use Rattle.cel_reader.proofs.Looks.{Seen, yes, no, seen}
 
--- an outcome that the plan comes to; or none is known
+-- an outcome of the plan, or none known
 pub data Run (b : Bool) (k : Kind) (p : Plan b k) (room : ℕ) (ws : List Word) : Type 0 where
   ran : (o : ReadOutcome) → PlanRuns p room ws o → Run b k p room ws
   none : Run b k p room ws
@@ -13,7 +13,7 @@ unfoldable pub after : {b c : Bool} {j k : Kind} {p : Plan b j} {q : Plan c k} {
 after (ran o r) f = ran o (f o r)
 after none f = none
 
--- what the phrase is of
+-- the value of a phrase
 unfoldable pub of : (k : Kind) (p : Phrase) → Option ((x : Of k) × (phrase k x ≡ p))
 of whole (One a) = Some (a, refl)
 of many (Many items) = Some (items, refl)
@@ -34,7 +34,7 @@ unfoldable pub by_mark : {k : Kind} {m : Mark} {e : opens_mark m ≡ true} {p : 
 by_mark g h (yes {ws = us} x i) = after (g us) (λ o r. enters_by i r)
 by_mark g h (no n) = after (h tt) (λ o r. passes n r)
 
--- calls go at most so deep
+-- runs with recursion up to this depth
 unfoldable pub run : ℕ → {b : Bool} {k : Kind} (p : Plan b k) (room : ℕ) (ws : List Word) → Run b k p room ws
 run fuel {k = k} (done x) room ws = ran (Got (phrase k x) ws) stands
 run fuel misfit room ws = ran _ unfit

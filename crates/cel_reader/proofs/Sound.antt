@@ -1,4 +1,4 @@
--- What the reader reads, the grammar derives.
+-- What the reader reads is derived by the grammar.
 use Rattle.cel_reader.proofs.Prelude.{◌≡◌, ℕ, suc, List, [], ◌∷◌, ◌++◌, Bool, false, true, ◌⊎◌, inl, inr, refl, Word, name, mark, Mark, Colon, Dot, Comma, OpenParen, CloseParen, OpenBracket, CloseBracket, OpenBrace, Tree, trees, entries, is_identifier, is_selector, Look, FoundBy, Is, opens_mark, this_mark, this_one, this_name, this_literal, this_operator, Closes, closing_mark, Class, Expression, Infix, Unary, Prefixed, Member, Primary, Items, OptionalItems, Pairs, OptionalPairs, One, Phrase, Many, Keyed, OptionalComma, Derives, Kind, Of, Step, Row, Tail, Suffix, Selection, Enclosed, Listed, Item, Behind, Mapped, Entry, BehindEntry, Plan, done, go, call, look, enter, inside, plan, Closing, Call, Map}
 use Rattle.cel_reader.specs.Tree as tree
 use Rattle.cel_reader.specs.Grammar as derives
@@ -7,15 +7,15 @@ use Rattle.cel_reader.specs.declared.operator.UnaryOperator.TheVariants as unary
 use Rattle.cel_reader.proofs.Loose.{Loose}
 use Rattle.cel_reader.proofs.Loose as loose
 
--- the parts of a list from `start` on, so far, where the next one begins at `ws`
+-- the parts of a list from `start` on so far; the next one begins at `ws`
 abbrev PartsBefore : {X : Type 0} → Class → (List X → Phrase) → ℕ → List Word → List X → List Word → Type 0
 PartsBefore c seen room start xs ws = ((xs ≡ []) × (start ≡ ws)) ⊎ Derives c room start (seen xs) (mark Comma ∷ ws)
 
--- the parts up to an end, which the closing mark follows
+-- the parts up to an end, followed by the closing mark
 abbrev PartsEnd : {X : Type 0} → Class → (List X → Phrase) → Closing → ℕ → List Word → List X → List Word → Type 0
 PartsEnd c seen closing room start xs rest = (end : List Word) × Derives c room start (seen xs) end × Closes closing end rest
 
--- what a step gives, in the grammar's words: behind the first part of a phrase, what was derived goes on so
+-- the result of a step in terms of the grammar; after the first part of a phrase, the derivation is extended
 abbrev pub Sound : {b : Bool} {k : Kind} → Step b k → ℕ → List Word → Of k → List Word → Type 0
 Sound (Row c) room ws a rest = Derives c room ws (One a) rest
 Sound (Tail l left) room ws a rest = (start : List Word) → Derives (Infix l) room start (One left) ws → Derives (Infix l) room start (One a) rest
@@ -76,7 +76,7 @@ module _ {room : ℕ} {us rest : List Word} where
       → Derives Primary room (mark OpenBrace ∷ us) (One (tree.map (entries pairs))) rest
   map_bracketed x = rw x.1 (derives.map_literal x.2.1 (ends_list Map x.2.0 rest x.2.2))
 
--- a plan with what its steps give, in the grammar's words
+-- a plan with the results of its steps, in terms of the grammar
 data Once : (b : Bool) (k : Kind) → Plan b k → ℕ → List Word → Of k → List Word → Type 0 where
   stands : {k : Kind} {x : Of k} {room : ℕ} {ws : List Word} → Once false k (done x) room ws x ws
   goes : {b : Bool} {k : Kind} {s : Step b k} {room : ℕ} {ws rest : List Word} {x : Of k} → Sound s room ws x rest → Once b k (go s) room ws x rest

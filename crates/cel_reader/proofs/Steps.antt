@@ -1,4 +1,4 @@
--- Steps over the answers of calls.
+-- Steps over the results of calls.
 use Rattle.cel_reader.proofs.Prelude.{Bool, true, false, ◌≡◌, ◌≢◌, ℕ, suc, ◌-◌, List, [], ◌∷◌, ◌++◌, map, length, Err, Result, sym, ◌∙◌, ap, arith, map-append, length-map, ReadOutcome, Refused, Cause, Misfit, Deep, ReturnsOutcome, Kind, Row, Plan, look, enter, inside, operand, PlanRuns, goes, found, missing, enters, opened, full, StepReads, Unary, unary_mark, UnaryOperator, Mark, err_from_is_err_and, if◌then◌else◌, IsErrAnd, Word, Token, token_view, mark, CodeToken, words, Look, FoundBy, Is, this_mark, opens_mark, Refusal}
 use Rattle.cel_reader.specs.declared.operator.UnaryOperator.TheVariants as unary
 
@@ -31,11 +31,11 @@ unary_at op e r = rw e (unary_goes op r)
 pub pushed : {X Y : Type 0} (f : X → Y) (old new : List X) (x : X) → new ≡ old ++ x ∷ [] → map f new ≡ map f old ++ f x ∷ []
 pushed f old new x e = ap (map f) e ∙ map-append f old (x ∷ [])
 
--- a token is a word
+-- each token is one word
 pub words_length : (source : List ℕ) (tokens : List CodeToken) → length tokens ≡ length (words source tokens)
 words_length source tokens = sym (length-map (map (token_view source) tokens) (λ (l : Token). l.word) ∙ length-map tokens (token_view source))
 
--- the words from here on, or those behind a bracket, are left
+-- the words from here on, or those after a bracket, are left
 module _ (source : List ℕ) (tokens : List CodeToken) (P : List Word → Type 0) where
   pub misfit_left : P (words source tokens) → (rest : List Word) × (length tokens ≡ length rest) × P rest
   misfit_left p = (words source tokens, words_length source tokens, p)
@@ -43,21 +43,21 @@ module _ (source : List ℕ) (tokens : List CodeToken) (P : List Word → Type 0
   pub deep_left : P (words source tokens) → (rest : List Word) × (suc (length tokens) ≡ suc (length rest)) × P rest
   deep_left p = (words source tokens, ap suc (words_length source tokens), p)
 
--- these words or those, of as many tokens
+-- one of two lists of words, from tokens of the same number
 pub either : (b : Bool) (source : List ℕ) (xs ys : List CodeToken) (P : List Word → Type 0) → P (if b then words source xs else words source ys)
     → (rest : List Word) × (length (if b then xs else ys) ≡ length rest) × P rest
 either true source xs ys P p = (words source xs, words_length source xs, p)
 either false source xs ys P p = (words source ys, words_length source ys, p)
 
--- what a refusal says of the outcome
+-- the outcome that an error means
 abbrev pub Fails : Refusal → (ReadOutcome → Type 0) → Type 0
 Fails e P = ReturnsOutcome {X = Unit {0}} (λ u. Refused (Misfit [])) (Err e) P
 
--- the same, as the code finds the error
+-- the outcome that an error means, from the code's finding
 pub refused : {X : Type 0} (token_view : X → ReadOutcome) (P Q : ReadOutcome → Type 0) (e : Refusal) (r : Result X Refusal) → IsErrAnd r (λ f. f ≡ e) → Fails e P
     → ((k : Cause) → P (Refused k) → Q (Refused k)) → ReturnsOutcome token_view r Q
 refused token_view P Q e r is g f = let p = err_from_is_err_and r is in rw (p.1, p.2) (grind arith)
 
--- an answer that is handed on
+-- a result that is passed on
 pub hand : {X : Type 0} (token_view : X → ReadOutcome) (r : Result X Refusal) (P Q : ReadOutcome → Type 0) → ((o : ReadOutcome) → P o → Q o) → ReturnsOutcome token_view r P → ReturnsOutcome token_view r Q
 hand token_view r P Q f g = grind arith

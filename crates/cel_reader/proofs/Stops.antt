@@ -1,8 +1,8 @@
--- What ends a phrase: the words that go on with none.
+-- What ends a phrase: words that cannot continue it.
 use Rattle.cel_reader.proofs.Prelude.{◌≡◌, List, [], ◌∷◌, inl, inr, Some, None, refl, sym, ◌∙◌, ap, subst, Word, mark, Mark, Question, Colon, Dot, Comma, OpenParen, CloseParen, OpenBracket, CloseBracket, CloseBrace, operator_of, operator_mark, level_of, at, operator, IsNotNext, Closes, closing_mark, Class, Infix, Unary, Prefixed, Member, Primary, below, Level, Or, And, Relation, Sum, Product, Closing, Call, Map, BinaryOperator}
 use Rattle.cel_reader.specs.declared.closing.Closing.TheVariants.{List as ListLiteral}
 
--- no word goes on with the phrase; a name before a parenthesis would be a call
+-- no word continues the member; a name before a parenthesis would be a call
 abbrev pub StopsMember : List Word → Type 0
 StopsMember ws = IsNotNext (at Dot) ws × IsNotNext (at OpenBracket) ws × IsNotNext (at OpenParen) ws
 
@@ -36,11 +36,11 @@ Stops Member ws = StopsMember ws
 Stops Primary ws = IsNotNext (at OpenParen) ws
 Stops _ ws = StopsExpression ws
 
--- an operator of one level is none of another
+-- an operator of one level is not one of another
 other_level : (k l : Level) (w : Word) (ws : List Word) (op : BinaryOperator) → operator_of w ≡ Some op → level_of op ≡ k → (k ≡ l → ⊥) → IsNotNext (operator l) (w ∷ ws)
 other_level k l w ws op e level differ = λ other f g. differ cc
 
--- an operator is no other mark
+-- an operator is not a different mark
 operator_not : (m : Mark) (w : Word) (op : BinaryOperator) → operator_of w ≡ Some op → operator_mark m ≡ None → w ≡ mark m → ⊥
 operator_not m w op e none f = let g : None ≡ Some op = sym none ∙ ap operator_of (sym f) ∙ e in cc
 
@@ -60,7 +60,7 @@ ends_operand Product w ws op e f = operator_member w ws op e
 no_operator : (l : Level) (m : Mark) (ws : List Word) → operator_mark m ≡ None → IsNotNext (operator l) (mark m ∷ ws)
 no_operator l m ws none = λ op e f. let g : None ≡ Some op = sym none ∙ e in cc
 
--- a mark that is no operator and begins no suffix ends an Or
+-- a mark that is no operator and begins no suffix ends a disjunction
 ends_or : (m : Mark) (ws : List Word) → operator_mark m ≡ None → StopsMember (mark m ∷ ws) → StopsOr (mark m ∷ ws)
 ends_or m ws none member = (no_operator Or m ws none, (no_operator And m ws none, (no_operator Relation m ws none, (no_operator Sum m ws none, (no_operator Product m ws none, member)))))
 

@@ -1,4 +1,4 @@
--- What holds of the grammar and of the reader's runs.
+-- Theorems about the grammar and the reader's runs.
 use Rattle.cel_reader.proofs.Prelude.{◌≡◌, ℕ, ◌+◌, ◌<◌, ◌≤◌, List, [], ◌∷◌, arith, Word, Tree, openings, Expression, One, Derives, ReadOutcome, Got, Refused, Misfit, Deep, Row, StepReads}
 use Rattle.cel_reader.proofs.Stops.{ends_all}
 use Rattle.cel_reader.proofs.Sound.{sound}
@@ -11,38 +11,38 @@ use Rattle.cel_reader.proofs.Plans.{one_outcome, roomier}
 pub whole_sound : (room : ℕ) (ws rest : List Word) (a : Tree) → StepReads (Row Expression) room ws (Got (One a) rest) → Derives Expression room ws (One a) rest
 whole_sound room ws rest a r = sound (loosely r)
 
--- and what is derived of all the words is read, with more room too
+-- what is derived from all the words is read, also with more room
 whole_read : (room more : ℕ) (ws : List Word) (a : Tree) → room ≤ more → Derives Expression room ws (One a) [] → StepReads (Row Expression) more ws (Got (One a) [])
 whole_read room more ws a h d = roomier (built d ends_all) more h (λ us e. cc)
 
--- an expression is one with more room
+-- an expression is one with more room too
 pub more_room : (room more : ℕ) (ws : List Word) (a : Tree) → room ≤ more → Derives Expression room ws (One a) [] → Derives Expression more ws (One a) []
 more_room room more ws a h d = whole_sound more ws [] a (whole_read room more ws a h d)
 
--- all the words have one tree, whatever the room
+-- all the words have at most one tree, for any room
 pub whole_unique : (room other : ℕ) (ws : List Word) (a b : Tree) → Derives Expression room ws (One a) [] → Derives Expression other ws (One b) [] → a ≡ b
 whole_unique room other ws a b d e =
     let same = one_outcome (whole_read room (room + other) ws a (omega arith) d) (whole_read other (room + other) ws b (omega arith) e) in
     cc
 
--- a run that was not too deep and did not end in this tree leaves no other derivation, whatever the room
+-- a run that was not too deep and did not end in this tree excludes any other derivation, for any room
 one_answer : (room other : ℕ) (ws : List Word) (b : Tree) (o : ReadOutcome) → ((left : List Word) → o ≡ Refused (Deep left) → ⊥)
     → StepReads (Row Expression) room ws o → Derives Expression other ws (One b) [] → o ≡ Got (One b) []
 one_answer room other ws b o not r d =
     one_outcome (roomier r (room + other) (omega arith) not) (whole_read other (room + other) ws b (omega arith) d)
 
--- a misfit is one with any room
+-- a misfit is one for any room
 pub misfit_never : (room other : ℕ) (ws us : List Word) (a : Tree) → StepReads (Row Expression) room ws (Refused (Misfit us)) → Derives Expression other ws (One a) [] → ⊥
 misfit_never room other ws us a r d = let same = one_answer room other ws a (Refused (Misfit us)) (λ vs e. cc) r d in cc
 
--- where the reader leaves words, they belong to no phrase of all the words, whatever the room
+-- words that the reader leaves belong to no phrase of all the words, for any room
 pub rest_never : (room other : ℕ) (ws us : List Word) (w : Word) (a b : Tree) → StepReads (Row Expression) room ws (Got (One a) (w ∷ us)) → Derives Expression other ws (One b) [] → ⊥
 rest_never room other ws us w a b r d = let same = one_answer room other ws b (Got (One a) (w ∷ us)) (λ vs e. cc) r d in cc
 
--- what is too deep for the reader is no phrase with this room
+-- a text that is too deep for the reader is not a phrase with this room
 pub deep_never : (room : ℕ) (ws us : List Word) (a : Tree) → StepReads (Row Expression) room ws (Refused (Deep us)) → Derives Expression room ws (One a) [] → ⊥
 deep_never room ws us a r d = let same = one_outcome r (built d ends_all) in cc
 
--- what is too deep has more opening brackets and question marks than the room
+-- a text that is too deep has more opening brackets and question marks than the room
 pub deep_openings : (room : ℕ) (ws us : List Word) → StepReads (Row Expression) room ws (Refused (Deep us)) → room < openings ws
 deep_openings room ws us r = counted r

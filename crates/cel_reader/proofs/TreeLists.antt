@@ -1,4 +1,4 @@
--- Trees and entries are the lists of them.
+-- Trees and entries correspond to lists of them.
 use Rattle.cel_reader.proofs.Prelude.{◌≡◌, List, [], ◌∷◌, length, refl, ap, arith, Tree, Trees, TreeEntries, no_trees, more_trees, no_entries, more_entries, trees, entries, tree_list, entry_list, tree_count, entry_count}
 
 pub list_of_trees : (items : List Tree) → tree_list (trees items) ≡ items

@@ -1,4 +1,4 @@
--- What is derived from the words of a text's tokens is well formed.
+-- A tree derived from the words of a text's tokens is well formed.
 use Rattle.cel_reader.proofs.Prelude.{◌≡◌, ℕ, ◌-◌, List, [], ◌∷◌, map, take, drop, Option, Some, None, inl, inr, subst, All, IfSome, IfOk, Ok, Err, Result, FitsSigned, w64, IsUtf8, All-nil, All-cons, All-head, All-tail, All-push, IsUtf8-string_bytes, Word, Token, mark, token_view, word_of, mark_word, mark_of, Lexes, IntFits, lexemes_fit, Mark, CloseBracket, CloseBrace, CodeToken, ReadError, Tree, trees, entries, view, literal_of, literal_role, role_of, words, Class, Phrase, One, Many, Keyed, Derives, OptionalComma, ParseReturns, IsWellFormedLiteral, IsWellFormed, AreWellFormed, HasWellFormedEntries, Expr, Role}
 use Rattle.cel_tokens.specs.Token as word
 use Rattle.cel_tokens.specs.declared.kind.Kind.{Kind}
@@ -6,7 +6,7 @@ use Rattle.cel_tokens.specs.declared.kind.Kind.TheVariants as kind
 use Rattle.cel_reader.specs.Grammar as derives
 use Rattle.cel_reader.specs.declared.role.Role.TheVariants as role
 
--- what each word is known to be
+-- what holds of each word
 abbrev pub IsPlain : Word → Type 0
 IsPlain (word.int z) = FitsSigned w64 z
 IsPlain (word.text bytes) = IsUtf8 bytes

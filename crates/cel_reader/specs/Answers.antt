@@ -1,4 +1,4 @@
--- What the reader answers.
+-- Results of the reader.
 use Rattle.std.specs.Prelude.{◌≡◌, ◌≢◌, ℕ, suc, ◌<◌, ◌≤◌, List, [], ◌∷◌, ◌++◌, length, take, drop, true, Result, Ok, Err}
 use Rattle.cel_tokens.specs.Token.{Word, Token}
 use Rattle.cel_tokens.specs.Lexis.{Lexes, TakesMemory}
@@ -11,42 +11,42 @@ use Rattle.cel_reader.specs.Grammar.{Expression, One, Derives}
 use Rattle.cel_reader.specs.Look.{words_only, openings, opens}
 use Rattle.cel_reader.specs.declared.expr.Expr.{Expr}
 
--- all of the words are this expression, with at most `room` brackets and conditionals open at one word
+-- all of the words are this expression, with at most `room` brackets and conditionals open at any word
 abbrev pub IsExpression : ℕ → List Word → Tree → Type 0
 IsExpression room ws a = Derives Expression room ws (One a) []
 
--- the words are no expression, however many brackets and conditionals may be open
+-- the words are not an expression, for any number of open brackets and conditionals
 abbrev pub IsNoExpression : List Word → Type 0
 IsNoExpression ws = (room : ℕ) (a : Tree) → IsExpression room ws a → ⊥
 
--- the words are no expression with at most 100 open, and more than 100 of them open one
+-- the words are not an expression with at most 100 open, and more than 100 of them open one
 abbrev pub IsTooDeep : List Word → Type 0
 IsTooDeep ws = ((a : Tree) → IsExpression open_limit ws a → ⊥) × (open_limit < openings ws)
 
--- some words behind these make one expression of them, with at most `room` open at one word
+-- these words can be extended to an expression with at most `room` open at any word
 abbrev pub IsViablePrefix : ℕ → List Word → Type 0
 IsViablePrefix room ws = (more : List Word) × (a : Tree) × IsExpression room (ws ++ more) a
 
--- So many words go on to an expression, and with the next one to none, however many brackets and conditionals may be
--- open; or there is no next one.
+-- The first `count` words can be extended to an expression, but not with the next one, for any number of open
+-- brackets and conditionals; or there is no next one.
 abbrev pub UnexpectedAt : ℕ → List Word → Type 0
 UnexpectedAt count ws =
     (count ≤ length ws) × IsViablePrefix open_limit (take count ws)
     × (count < length ws → (room : ℕ) → IsViablePrefix room (take (suc count) ws) → ⊥)
 
--- So many words go on to an expression. The next is an opening bracket or question mark, and with it they go on to one
--- only where one more than 100 may be open.
+-- The first `count` words can be extended to an expression. The next is an opening bracket or question mark, with
+-- which they can be extended only if more than 100 may be open.
 abbrev pub DeepAt : ℕ → List Word → Type 0
 DeepAt count ws =
     (w : Word) × (take (suc count) ws ≡ take count ws ++ w ∷ []) × (opens w ≡ true) × IsViablePrefix open_limit (take count ws)
     × (IsViablePrefix open_limit (take (suc count) ws) → ⊥) × IsViablePrefix (suc open_limit) (take (suc count) ws)
 
--- the text has its tokens, and of their words this holds
+-- the text has its tokens, and this holds of their words
 abbrev pub HasTokens : List ℕ → (List Word → Type 0) → Type 0
 HasTokens source Holds = (lexemes : List Token) × Lexes source (Ok lexemes) × Holds (words_only lexemes)
 
--- What an answer says of the text: its tokens are this expression, or there is none for this cause. That there
--- was no memory may be answered to any text but one that is refused before any is taken.
+-- The result for a text: the expression that its tokens are, or the error, exactly if its cause holds. An allocation
+-- may fail for any text that is not refused before anything is allocated.
 abbrev pub ReadReturns : List ℕ → Result Expr ReadError → Type 0
 ReadReturns source (Ok e) = HasTokens source (λ ws. IsExpression open_limit ws (view e))
 ReadReturns source (Err (UnknownCharacter place)) = Lexes source (Err (UnknownCharacter place))
@@ -57,7 +57,7 @@ ReadReturns source (Err (TooManyOpen place)) = HasTokens source IsTooDeep
 ReadReturns source (Err (TextTooLong place)) = Lexes source (Err (TextTooLong place))
 ReadReturns source (Err Memory) = (length source ≤ text_limit) × TakesMemory true source
 
--- the same of the words alone
+-- the result for words without their text
 abbrev pub ParseReturns : List Word → Result Expr ReadError → Type 0
 ParseReturns ws (Ok e) = IsExpression open_limit ws (view e)
 ParseReturns ws (Err (UnexpectedToken place)) = IsNoExpression ws
@@ -65,16 +65,16 @@ ParseReturns ws (Err (TooManyOpen place)) = IsTooDeep ws
 ParseReturns ws (Err Memory) = ws ≢ []
 ParseReturns ws _ = ⊥
 
--- the place of the first of these, or of the end of a text of so many bytes
+-- the position of the first of these tokens, or the end of a text of `len` bytes if there are none
 abbrev pub place_at : ℕ → List Token → ℕ
 place_at len [] = len
 place_at len (l ∷ ls) = l.place
 
--- behind so many words, of which this holds, is this place
+-- this property holds of some number of words, and the position is that of the token after them
 abbrev pub StandsAt : ℕ → List Token → ℕ → (ℕ → List Word → Type 0) → Type 0
 StandsAt len lexemes place Holds = (count : ℕ) × (place ≡ place_at len (drop count lexemes)) × Holds count (words_only lexemes)
 
--- where the words of a text of so many bytes go wrong
+-- the position of an error in the words of a text of `len` bytes
 abbrev pub ParseErrorIsAt : ℕ → List Token → Result Expr ReadError → Type 0
 ParseErrorIsAt len lexemes (Err (UnexpectedToken place)) = StandsAt len lexemes place UnexpectedAt
 ParseErrorIsAt len lexemes (Err (TooManyOpen place)) = StandsAt len lexemes place DeepAt
@@ -82,7 +82,7 @@ ParseErrorIsAt len lexemes (Ok e) = Unit {0}
 ParseErrorIsAt len lexemes (Err Memory) = Unit {0}
 ParseErrorIsAt len lexemes _ = ⊥
 
--- where a text goes wrong; of a refusal that its tokens have, they say the place
+-- the position of an error in a text; for an error of its tokens, that of the tokens
 abbrev pub ErrorIsAt : List ℕ → Result Expr ReadError → Type 0
 ErrorIsAt source (Err (UnexpectedToken place)) = (lexemes : List Token) × Lexes source (Ok lexemes)
     × ParseErrorIsAt (length source) lexemes (Err (UnexpectedToken place))
@@ -92,7 +92,7 @@ ErrorIsAt source (Err Memory) = Unit {0}
 ErrorIsAt source (Err e) = Lexes source (Err e)
 ErrorIsAt source (Ok e) = Unit {0}
 
--- what is answered where there is memory: it says of the text what is so, and where
+-- a result other than an allocation failure: it is correct for the text, and so is its position
 pub record IsReadResult (source : List ℕ) (r : Result Expr ReadError) : Type 0 where
   pub some : r ≢ Err Memory
   pub answers : ReadReturns source r

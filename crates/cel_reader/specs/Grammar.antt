@@ -1,4 +1,4 @@
--- The grammar of expressions. (cel-spec, syntax)
+-- The grammar of expressions (cel-spec, syntax).
 use Rattle.std.specs.Prelude.{◌≡◌, ℕ, suc, List, [], ◌∷◌, ◌++◌, true, Some, ◌⊎◌}
 use Rattle.cel_tokens.specs.Token.{Word, name, mark}
 use Rattle.cel_tokens.specs.declared.mark.Mark.TheVariants.{Question, Colon, Dot, Comma, OpenParen, CloseParen, OpenBracket, CloseBracket}
@@ -10,9 +10,9 @@ use Rattle.cel_reader.specs.declared.level.Level.{Level, TheVariants.Or, TheVari
 use Rattle.cel_reader.specs.declared.operator.BinaryOperator.{BinaryOperator}
 use Rattle.cel_reader.specs.declared.operator.UnaryOperator.{UnaryOperator}
 
--- the rows of the grammar: an expression; the operators of a level; an operand with the operators before it;
--- a member behind any number of one operator; members; primaries; one or more expressions with commas between
--- them, or none; and the same of keys with their values
+-- the rows of the grammar: an expression; the operators of a level; an operand with the operators before
+-- it; a member after any number of one operator; members; primaries; one or more expressions separated by
+-- commas, or none; one or more keys with values, or none
 pub data Class : Type 0 where
   Expression : Class
   Infix : Level → Class
@@ -25,13 +25,13 @@ pub data Class : Type 0 where
   Pairs : Class
   OptionalPairs : Class
 
--- what a phrase stands for
+-- the result of a phrase: one expression, several, or keys with values
 pub data Phrase : Type 0 where
   One : Tree → Phrase
   Many : List Tree → Phrase
   Keyed : List (Tree × Tree) → Phrase
 
--- the row whose phrases are operands of the level's operators
+-- the row of the operands of the level's operators
 abbrev pub below : Level → Class
 below Or = Infix And
 below And = Infix Relation
@@ -39,13 +39,13 @@ below Relation = Infix Sum
 below Sum = Infix Product
 below Product = Unary
 
--- these words, or the same behind a comma
+-- `rest`, or a comma and `rest`
 abbrev pub OptionalComma : List Word → List Word → Type 0
 OptionalComma ws rest = (ws ≡ rest) ⊎ (ws ≡ mark Comma ∷ rest)
 
--- The first words of ws are a phrase of the row, in which at most `room` brackets and conditionals are open at
--- one word, and `rest` are the words behind it. A conditional is open from its question mark to its end. One
--- case for each alternative; repeated operators nest to the left.
+-- The first words of ws are a phrase of the row, in which at most `room` brackets and conditionals are open at any
+-- word, and `rest` are the words after it. A conditional is open from its question mark to its end. One case for
+-- each alternative; repeated operators nest to the left.
 pub data Derives : Class → ℕ → List Word → Phrase → List Word → Type 0 where
   plain : {room : ℕ} {ws rest : List Word} {a : Tree} → Derives (Infix Or) room ws (One a) rest → Derives Expression room ws (One a) rest
   conditional : {room : ℕ} {ws us vs rest : List Word} {a b c : Tree} → Derives (Infix Or) (suc room) ws (One a) (mark Question ∷ us)

@@ -1,3 +1,4 @@
+-- Definitions of cel_reader: the list of their modules.
 pub mod Limits
 pub mod Tree
 pub mod Words

@@ -1,4 +1,4 @@
--- Words that are literals, operators or names, and a law on memory.
+-- Words that are literals, operators or names, and a law on allocation failures.
 use Rattle.std.specs.Prelude.{◌≡◌, ℕ, ◌≤◌, pos, true, false, List, [], ◌∷◌, Some, None, Err, codes, length}
 use Rattle.cel_tokens.specs.Limits.{text_limit}
 use Rattle.cel_tokens.specs.Token.{name, int, text, mark}
@@ -9,7 +9,7 @@ use Rattle.cel_reader.specs.Tree as tree
 use Rattle.cel_reader.specs.Words.{is_identifier, is_selector, literal_of, operator_of}
 use Rattle.cel_reader.specs.declared.operator.BinaryOperator.TheVariants.{In, Remainder}
 
--- what cel-spec's syntax calls these words
+-- the class of each of these words in cel-spec's syntax
 pub record LiteralRowsHold : Type 0 where
   pub null_literal : literal_of (name (codes "null")) ≡ Some tree.null
   pub true_literal : literal_of (name (codes "true")) ≡ Some (tree.truth true)
@@ -27,6 +27,6 @@ pub record LiteralRowsHold : Type 0 where
   pub last_reserved_name : is_identifier (codes "while") ≡ false
   pub plain_name : is_identifier (codes "object") ≡ true
 
--- memory runs out for no text that is too long, since that is refused first
+-- an allocation fails only for a text that is not too long, since the length is checked first
 abbrev pub MemoryIsForShortTexts : Type 0
 MemoryIsForShortTexts = (source : List ℕ) → ReadReturns source (Err Memory) → length source ≤ text_limit

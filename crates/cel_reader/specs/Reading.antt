@@ -1,4 +1,4 @@
--- How the reader goes over the words: what it does at each step.
+-- The steps of the reader, and their outcomes.
 use Rattle.std.specs.Prelude.{◌≡◌, ℕ, zero, suc, List, [], ◌∷◌, ◌++◌, length, Bool, true, false, Result, Ok, Err}
 use Rattle.std.proofs.Common.{refl}
 use Rattle.cel_tokens.specs.Token.{Word, mark}
@@ -17,18 +17,18 @@ use Rattle.cel_reader.specs.declared.operator.UnaryOperator.TheVariants as unary
 use Rattle.cel_reader.specs.declared.refusal.Refusal.{Refusal}
 use Rattle.cel_reader.specs.declared.refusal.Refusal.TheVariants as refusal
 
--- Why there is no phrase: the first of these words does not go on with one, or there is none where one has to come;
--- or a bracket or conditional too many, and these are the words behind it.
+-- Why there is no phrase: the first of these words, or their end, does not fit; or one bracket or
+-- conditional too many is opened, with these words after it.
 pub data Cause : Type 0 where
   Misfit : List Word → Cause
   Deep : List Word → Cause
 
--- a phrase and the words behind it, or none
+-- a phrase and the words after it, or a refusal
 pub data ReadOutcome : Type 0 where
   Got : Phrase → List Word → ReadOutcome
   Refused : Cause → ReadOutcome
 
--- what a step gives: an expression, a list of them, or keys with their values
+-- the result of a step: an expression, a list of them, or keys with their values
 pub data Kind : Type 0 where
   whole : Kind
   many : Kind
@@ -44,50 +44,52 @@ phrase whole a = One a
 phrase many items = Many items
 phrase keyed pairs = Keyed pairs
 
--- where the reader stands; `true` where the word before is an opening bracket that is still to be counted
+-- a state of the reader; `true` if the word before is an opening bracket that is not counted yet
 pub data Step : Bool → Kind → Type 0 where
   Row : Class → Step false whole  -- at a phrase of the row
-  Tail : Level → Tree → Step false whole  -- behind an operand of the level
-  Suffix : Tree → Step false whole  -- behind a member
-  Selection : Tree → Step false whole  -- behind a member and its dot
-  Enclosed : Mark → Step true whole  -- behind the bracket before an expression that this mark closes
-  Listed : Closing → Step true many  -- behind the bracket before a list of expressions
-  Item : Closing → List Tree → Step false many  -- at an item, the others so far
-  Behind : Closing → List Tree → Step false many  -- behind an item
-  Mapped : Step true keyed  -- behind the brace before a list of entries
-  Entry : List (Tree × Tree) → Step false keyed  -- at an entry, the others so far
-  BehindEntry : List (Tree × Tree) → Step false keyed  -- behind an entry
+  Tail : Level → Tree → Step false whole  -- after an operand of the level
+  Suffix : Tree → Step false whole  -- after a member
+  Selection : Tree → Step false whole  -- after a member and its dot
+  Enclosed : Mark → Step true whole  -- after the bracket that opens an expression, which this mark closes
+  Listed : Closing → Step true many  -- after the bracket that opens a list of expressions
+  Item : Closing → List Tree → Step false many  -- at an item, after these
+  Behind : Closing → List Tree → Step false many  -- after these items
+  Mapped : Step true keyed  -- after the brace that opens a list of entries
+  Entry : List (Tree × Tree) → Step false keyed  -- at an entry, after these
+  BehindEntry : List (Tree × Tree) → Step false keyed  -- after these entries
 
--- what the reader does from there; `true` where the word before is an opening bracket or a question mark that is still
--- to be counted
+-- what the reader does next; `true` if the word before is an opening bracket or a
+-- question mark that is not counted yet
 pub data Plan : Bool → Kind → Type 0 where
-  never : {k : Kind} → Plan false k  -- it does not come there
+  never : {k : Kind} → Plan false k  -- unreachable
   done : {k : Kind} → Of k → Plan false k  -- this is the phrase
   misfit : {k : Kind} → Plan false k  -- the first of the words, or the end, does not fit
-  go : {b : Bool} {k : Kind} → Step b k → Plan b k  -- this step
-  call : {b : Bool} {j k : Kind} → Step b j → (Of j → Plan false k) → Plan b k  -- this step, and then what its phrase asks for
-  -- behind such a word; or else, where none is first
+  go : {b : Bool} {k : Kind} → Step b k → Plan b k  -- take this step
+  call : {b : Bool} {j k : Kind} → Step b j → (Of j → Plan false k) → Plan b k  -- take this step, then continue with its phrase
+  -- continue after such a word; otherwise, if it is not first, with the other plan
   look : {k : Kind} (l : Look) → (FoundBy l → Plan false k) → Plan false k → Plan false k
-  enter : {k : Kind} (m : Mark) → opens_mark m ≡ true → Plan true k → Plan false k → Plan false k  -- the same of a mark that opens
-  inside : {k : Kind} → Plan false k → Plan true k  -- where one more may be open
+  enter : {k : Kind} (m : Mark) → opens_mark m ≡ true → Plan true k → Plan false k → Plan false k  -- continue after this opening mark, or with the other plan
+  inside : {k : Kind} → Plan false k → Plan true k  -- if one more may be open
 
--- an operator of this kind before what follows
+-- an operand with this operator before it
 abbrev pub operand : UnaryOperator → Plan false whole
 operand op = call (Row (Prefixed op)) (λ a. done (tree.unary op a))
 
--- a name, or a call where a bracket stands behind it
+-- a name, or a call if an opening parenthesis follows
 abbrev pub maybe_call : Tree → (List Tree → Tree) → Plan false whole
 maybe_call a of = enter OpenParen refl (call (Listed Call) (λ items. done (of items))) (done a)
 
--- a list behind its bracket, which goes on with the first item; in a call a comma there is refused by the item
+-- a list after its opening bracket: it is empty or continues with the first item; in a
+-- call a comma there is refused by the item
 abbrev pub listed : {k : Kind} → Closing → Of k → Step false k → Plan true k
 listed c none first =
     inside (look (at (closing_mark c)) (λ x. done none)
     (look (in_literal c Comma) (λ x. look (at (closing_mark c)) (λ y. done none) misfit) (go first)))
 
--- a list behind an item, which goes on with the next
+-- a list after an item: it ends or continues with the next
 abbrev pub behind : {k : Kind} → Closing → Of k → Step false k → Plan false k
 behind c all next =
+    -- what the reader does in each state
     look (at (closing_mark c)) (λ x. done all)
     (look (at Comma) (λ x. look (in_literal c (closing_mark c)) (λ y. done all) (go next)) misfit)
 
@@ -120,7 +122,7 @@ plan (Entry pairs) =
     call (Row Expression) (λ a. look (at Colon) (λ x. call (Row Expression) (λ b. go (BehindEntry (pairs ++ (a, b) ∷ [])))) misfit)
 plan (BehindEntry pairs) = behind Map pairs (Entry pairs)
 
--- with this room, before these words, the plan ends with this outcome
+-- with this room, before these words, the plan has this outcome
 pub data PlanEnds : (b : Bool) (k : Kind) → Plan b k → ℕ → List Word → ReadOutcome → Type 0 where
   stands : {k : Kind} {x : Of k} {room : ℕ} {ws : List Word} → PlanEnds false k (done x) room ws (Got (phrase k x) ws)
   unfit : {k : Kind} {room : ℕ} {ws : List Word} → PlanEnds false k misfit room ws (Refused (Misfit ws))
@@ -144,15 +146,15 @@ pub data PlanEnds : (b : Bool) (k : Kind) → Plan b k → ℕ → List Word →
       → PlanEnds false k p room ws o → PlanEnds true k (inside p) (suc room) ws o
   full : {k : Kind} {p : Plan false k} {ws : List Word} → PlanEnds true k (inside p) zero ws (Refused (Deep ws))
 
--- with this room, before these words, what the plan says comes to this outcome
+-- with this room, before these words, the plan has this outcome; the parts of the type are inferred
 abbrev pub PlanRuns : {b : Bool} {k : Kind} → Plan b k → ℕ → List Word → ReadOutcome → Type 0
 PlanRuns {b} {k} p room ws o = PlanEnds b k p room ws o
 
--- Where it stands, with this room, before these words, the reader ends with this outcome.
+-- In this state, with this room, before these words, the reader has this outcome.
 abbrev pub StepReads : {b : Bool} {k : Kind} → Step b k → ℕ → List Word → ReadOutcome → Type 0
 StepReads s room ws o = PlanRuns (go s) room ws o
 
--- the answer is an outcome of this reading, unless memory ran out; a refusal says how many words stand from there on
+-- the result is an outcome of this reading, unless an allocation failed; an error gives the number of words left
 abbrev pub ReturnsOutcome : {X : Type 0} → (X → ReadOutcome) → Result X Refusal → (ReadOutcome → Type 0) → Type 0
 ReturnsOutcome seen (Ok x) P = P (seen x)
 ReturnsOutcome seen (Err (refusal.Misfit left)) P = (rest : List Word) × (left ≡ length rest) × P (Refused (Misfit rest))

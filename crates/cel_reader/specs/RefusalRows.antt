@@ -1,14 +1,14 @@
--- Texts that are refused, and how, worked by hand.
+-- Texts that are refused, with their errors, worked out by hand.
 use Rattle.std.specs.Prelude.{ℕ, zero, suc, List, [], ◌∷◌, ◌++◌, Err, codes}
 use Rattle.cel_tokens.specs.declared.read_error.ReadError.{ReadError, TheVariants.UnknownCharacter, TheVariants.InvalidTextLiteral, TheVariants.IntOutOfRange, TheVariants.UnexpectedToken, TheVariants.TooManyOpen}
 use Rattle.cel_reader.specs.Answers.{IsReadResult}
 
--- the text so many times
+-- the text repeated n times
 abbrev pub times : ℕ → List ℕ → List ℕ
 times zero text = []
 times (suc n) text = text ++ times n text
 
--- each text with its refusal
+-- each text with its error
 abbrev pub refused_texts : List (List ℕ × ReadError)
 refused_texts =
     (codes "namespace", UnexpectedToken 0) ∷
@@ -64,11 +64,11 @@ refused_texts =
     (times 100 (codes "["), UnexpectedToken 100) ∷
     (times 100 (codes "(") ++ codes "1(", UnexpectedToken 101) ∷ []
 
--- each of these is what is answered
+-- the error is the result for each text
 abbrev pub Stand : List (List ℕ × ReadError) → Type 0
 Stand [] = Unit {0}
 Stand (row ∷ rows) = IsReadResult row.0 (Err row.1) × Stand rows
 
--- all of them are
+-- the errors are the results for all of the texts
 abbrev pub RefusalRowsStand : Type 0
 RefusalRowsStand = Stand refused_texts

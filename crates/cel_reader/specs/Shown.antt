@@ -1,8 +1,8 @@
--- What the code's words stand for.
+-- The words of the code as plain data.
 use Rattle.cel_tokens.specs.Token as word
 use Rattle.cel_reader.specs.declared.word.Word.{Word, TheVariants.Name, TheVariants.Int, TheVariants.Text, TheVariants.Mark}
 
--- the word that the code's one stands for
+-- a word of the code as plain data
 abbrev pub word_view : Word → word.Word
 word_view (Name bytes) = word.name bytes.now
 word_view (Int z) = word.int z

@@ -1,4 +1,4 @@
--- Expressions as plain data, without where they lie in memory.
+-- Expressions as plain data, independent of their layout in memory.
 use Rattle.std.specs.Prelude.{ℕ, ◌+◌, ℤ, List, [], ◌∷◌, Bool, string_bytes, box_value}
 use Rattle.cel_reader.specs.declared.operator.UnaryOperator.{UnaryOperator}
 use Rattle.cel_reader.specs.declared.operator.BinaryOperator.{BinaryOperator}
@@ -17,8 +17,8 @@ pub data Literal : Type 0 where
   null : Literal
 
 mutual
-  -- an expression, with names by their bytes (cel-spec, syntax): select is a field of an operand, method a call on one,
-  -- and the parts of ternary are its condition, what it is where that is true, and what it is where that is false
+  -- an expression, with names by their bytes (cel-spec, syntax): `select` is a field of an operand, `method` a call
+  -- on one, and the parts of `ternary` are its condition and its values for true and for false
   pub data Tree : Type 0 where
     literal : Literal → Tree
     name : List ℕ → Tree
@@ -32,54 +32,54 @@ mutual
     list : Trees → Tree
     map : TreeEntries → Tree
 
-  -- expressions one after another: the arguments of a call, or the elements of a list
+  -- a sequence of expressions: the arguments of a call, or the elements of a list
   pub data Trees : Type 0 where
     no_trees : Trees
     more_trees : Tree → Trees → Trees
 
-  -- the entries of a map one after another, each an expression for its key and one for its value
+  -- a sequence of map entries, each an expression for the key and one for the value
   pub data TreeEntries : Type 0 where
     no_entries : TreeEntries
     more_entries : Tree → Tree → TreeEntries → TreeEntries
 
--- the same expressions from a list of them
+-- the expressions of a list
 abbrev pub trees : List Tree → Trees
 trees [] = no_trees
 trees (a ∷ more) = more_trees a (trees more)
 
--- the same entries from a list of keys and values
+-- the entries of a list of keys and values
 abbrev pub entries : List (Tree × Tree) → TreeEntries
 entries [] = no_entries
 entries (e ∷ es) = more_entries e.0 e.1 (entries es)
 
--- the list of the expressions
+-- the expressions as a list
 abbrev pub tree_list : Trees → List Tree
 tree_list no_trees = []
 tree_list (more_trees a more) = a ∷ tree_list more
 
--- the list of the entries, each a key and its value
+-- the entries as a list, each a key and its value
 abbrev pub entry_list : TreeEntries → List (Tree × Tree)
 entry_list no_entries = []
 entry_list (more_entries k v more) = (k, v) ∷ entry_list more
 
--- how many expressions they are
+-- the number of expressions
 abbrev pub tree_count : Trees → ℕ
 tree_count no_trees = 0
 tree_count (more_trees a more) = tree_count more + 1
 
--- how many entries they are
+-- the number of entries
 abbrev pub entry_count : TreeEntries → ℕ
 entry_count no_entries = 0
 entry_count (more_entries k v more) = entry_count more + 1
 
--- the literal that the code's one stands for
+-- a literal of the code as plain data
 abbrev pub literal_view : CodeLiteral → Literal
 literal_view (of_code.Int z) = int z
 literal_view (of_code.Text s) = text (string_bytes s)
 literal_view (of_code.Bool b) = truth b
 literal_view of_code.Null = null
 
--- one layer, with what its children are seen as
+-- one layer of an expression as plain data, from its converted children
 abbrev pub view_step : Expr-F Tree → Tree
 view_step (layer.Literal l) = literal (literal_view l)
 view_step (layer.Name n) = name (string_bytes n)
@@ -93,10 +93,10 @@ view_step (layer.Ternary a b c) = ternary (box_value a) (box_value b) (box_value
 view_step (layer.List more) = list (trees more.items)
 view_step (layer.Map more) = map (entries more.items)
 
--- the expression that the code's one stands for
+-- an expression of the code as plain data
 abbrev pub view : Expr → Tree
 view = fold-Expr Tree view_step
 
--- a key and its value
+-- a key and its value as plain data
 abbrev pub entry_view : Expr × Expr → Tree × Tree
 entry_view e = (view e.0, view e.1)

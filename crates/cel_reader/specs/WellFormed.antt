@@ -1,5 +1,5 @@
--- Trees as a text can spell them: ints of 64 bits signed, texts in UTF-8, and names that the grammar allows where they
--- stand. (cel-spec, syntax)
+-- Trees that a text can denote: signed 64-bit ints, texts in UTF-8, and names that the grammar
+-- allows at their positions (cel-spec, syntax).
 use Rattle.std.specs.Prelude.{◌≡◌, true, FitsSigned}
 use Rattle.std.specs.Int.{w64}
 use Rattle.std.specs.Str.{IsUtf8}
@@ -7,7 +7,7 @@ use Rattle.cel_reader.specs.Tree as tree
 use Rattle.cel_reader.specs.Tree.{Literal, Tree, Trees, TreeEntries, no_trees, more_trees, no_entries, more_entries}
 use Rattle.cel_reader.specs.Words.{is_identifier, is_selector}
 
--- an int is of 64 bits signed, and a text is in UTF-8
+-- a literal is well formed: an int has 64 bits signed, and a text is UTF-8
 abbrev pub IsWellFormedLiteral : Literal → Type 0
 IsWellFormedLiteral (tree.int z) = FitsSigned w64 z
 IsWellFormedLiteral (tree.text bytes) = IsUtf8 bytes
@@ -15,7 +15,8 @@ IsWellFormedLiteral (tree.truth b) = Unit {0}
 IsWellFormedLiteral tree.null = Unit {0}
 
 abbrev mutual
-  -- an expression is so: its literals, its names and its parts are; a field's or a method's name may be a reserved word
+  -- an expression is well formed: its literals, its names and its parts are; a field or a
+  -- method may have a reserved word as name
   pub IsWellFormed : Tree → Type 0
   IsWellFormed (tree.literal l) = IsWellFormedLiteral l
   IsWellFormed (tree.name n) = is_identifier n ≡ true
@@ -29,12 +30,12 @@ abbrev mutual
   IsWellFormed (tree.list items) = AreWellFormed items
   IsWellFormed (tree.map pairs) = HasWellFormedEntries pairs
 
-  -- each of the expressions is
+  -- each of the expressions is well formed
   pub AreWellFormed : Trees → Type 0
   AreWellFormed no_trees = Unit {0}
   AreWellFormed (more_trees a more) = IsWellFormed a × AreWellFormed more
 
-  -- each key and each value is
+  -- each key and each value is well formed
   pub HasWellFormedEntries : TreeEntries → Type 0
   HasWellFormedEntries no_entries = Unit {0}
   HasWellFormedEntries (more_entries k v more) = IsWellFormed k × IsWellFormed v × HasWellFormedEntries more

@@ -1,4 +1,4 @@
--- What a word of a text is for: names, literals and operators.
+-- The roles of words: names, literals and operators.
 use Rattle.std.specs.Prelude.{ℕ, List, [], ◌∷◌, Bool, true, false, if◌then◌else◌, ◌&&◌, ◌||◌, Option, Some, None, codes, bytes_eq}
 use Rattle.cel_tokens.specs.Token.{Word, name, int, text, mark}
 use Rattle.cel_tokens.specs.Bytes.{is_name}
@@ -15,24 +15,24 @@ use Rattle.cel_reader.specs.declared.operator.UnaryOperator.{UnaryOperator, TheV
 use Rattle.cel_reader.specs.declared.role.Role.{Role}
 use Rattle.cel_reader.specs.declared.role.Role.TheVariants as role
 
--- whether the bytes are one of these words
+-- whether the name is one of these words
 abbrev pub is_one_of : List (List ℕ) → List ℕ → Bool
 is_one_of [] n = false
 is_one_of (w ∷ []) n = bytes_eq n w
 is_one_of (w ∷ v ∷ ws) n = bytes_eq n w || is_one_of (v ∷ ws) n
 
--- the words kept for later (cel-spec, RESERVED)
+-- the reserved words (cel-spec, RESERVED)
 abbrev pub reserved_words : List (List ℕ)
 reserved_words =
     codes "as" ∷ codes "break" ∷ codes "const" ∷ codes "continue" ∷ codes "else" ∷ codes "for" ∷
     codes "function" ∷ codes "if" ∷ codes "import" ∷ codes "let" ∷ codes "loop" ∷ codes "package" ∷
     codes "namespace" ∷ codes "return" ∷ codes "var" ∷ codes "void" ∷ codes "while" ∷ []
 
--- whether a name is one of these words
+-- whether a name is reserved
 unfoldable pub is_reserved : List ℕ → Bool
 is_reserved n = is_one_of reserved_words n
 
--- what a name is for; only a plain one is an identifier, and a reserved one may name a field too
+-- the role of a name; only a plain one is an identifier, and a reserved one may also name a field
 unfoldable pub role_of : List ℕ → Role
 role_of n =
     if bytes_eq n (codes "true") then role.True
@@ -42,13 +42,13 @@ role_of n =
     else (if is_reserved n then role.Reserved
     else role.Plain))))
 
--- whether a name of this role may stand behind a dot (cel-spec, SELECTOR)
+-- whether a name of this role may follow a dot (cel-spec, SELECTOR)
 abbrev pub may_select : Role → Bool
 may_select role.Reserved = true
 may_select role.Plain = true
 may_select other = false
 
--- whether a name of this role may stand where none is before it (cel-spec, IDENT)
+-- whether a name of this role may be an identifier (cel-spec, IDENT)
 abbrev pub may_stand_free : Role → Bool
 may_stand_free role.Plain = true
 may_stand_free other = false
@@ -61,21 +61,21 @@ is_selector n = is_name n && may_select (role_of n)
 abbrev pub is_identifier : List ℕ → Bool
 is_identifier n = is_name n && may_stand_free (role_of n)
 
--- the literal that a name of this role is, where it is one: true, false or null (cel-spec, LITERAL)
+-- the literal of a name of this role, if any: true, false or null (cel-spec, LITERAL)
 abbrev pub literal_role : Role → Option Literal
 literal_role role.True = Some (tree.truth true)
 literal_role role.False = Some (tree.truth false)
 literal_role role.Null = Some tree.null
 literal_role other = None
 
--- the literal that a word is (cel-spec, LITERAL)
+-- the literal of a word, if any (cel-spec, LITERAL)
 abbrev pub literal_of : Word → Option Literal
 literal_of (name n) = literal_role (role_of n)
 literal_of (int z) = Some (tree.int z)
 literal_of (text bytes) = Some (tree.text bytes)
 literal_of (mark m) = None
 
--- the operator that a mark is between two operands, where it is one
+-- the binary operator of a mark, if any
 abbrev pub operator_mark : Mark → Option BinaryOperator
 operator_mark marks.Or = Some Or
 operator_mark marks.And = Some And
@@ -92,12 +92,12 @@ operator_mark marks.Slash = Some Divide
 operator_mark marks.Percent = Some Remainder
 operator_mark other = None
 
--- the operator that a name of this role is between two operands, where it is one: in
+-- the binary operator of a name of this role, if any: in
 abbrev pub operator_role : Role → Option BinaryOperator
 operator_role role.In = Some In
 operator_role other = None
 
--- the operator that a word is between two operands, where it is one
+-- the binary operator of a word, if any
 abbrev pub operator_of : Word → Option BinaryOperator
 operator_of (name n) = operator_role (role_of n)
 operator_of (int z) = None
@@ -121,7 +121,7 @@ level_of Multiply = level.Product
 level_of Divide = level.Product
 level_of Remainder = level.Product
 
--- the mark that stands before an operand
+-- the mark of a unary operator
 abbrev pub unary_mark : UnaryOperator → Mark
 unary_mark Not = marks.Not
 unary_mark Negate = marks.Minus

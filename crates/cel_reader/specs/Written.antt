@@ -1,4 +1,4 @@
--- Short words for trees, for rows that are worked by hand.
+-- Short notation for trees, for cases that are worked out by hand.
 use Rattle.std.specs.Prelude.{ℕ, pos, neg_ℤ, List, true, false, codes}
 use Prim.Native.String.{String}
 use Rattle.cel_reader.specs.Tree as tree

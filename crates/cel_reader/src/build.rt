@@ -1,4 +1,4 @@
-//! Expressions from their parts.
+//! Builds expressions from their parts.
 
 ghost use Rattle.std.specs.Prelude.{◌≡◌, IfOk, string_bytes};
 ghost use Rattle.std.specs.Prelude as list;
@@ -79,7 +79,7 @@ pub fn unary(alloc: Global, operator: UnaryOperator, operand: Expr) -> Result<Ex
     Ok(Expr::Unary(operator, Box::new(alloc, operand)?))
 }
 
-/// So many of an operator before an operand.
+/// An operand with `count` of one operator before it.
 pub fn prefixed(
     alloc: Global,
     operator: UnaryOperator,

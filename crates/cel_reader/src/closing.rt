@@ -10,9 +10,9 @@ use cel_tokens::Mark;
 pub enum Closing {
     /// Arguments, ended by `)`.
     Call,
-    /// The items of a list literal, ended by `]`; a comma may stand before it.
+    /// The items of a list literal, ended by `]`, possibly after a comma.
     List,
-    /// The entries of a map literal, ended by `}`; a comma may stand before it.
+    /// The entries of a map literal, ended by `}`, possibly after a comma.
     Map,
 }
 
@@ -28,7 +28,7 @@ impl Closing {
         }
     }
 
-    /// Whether a comma may stand before it.
+    /// Whether a comma may be before the closing bracket.
     pub fn takes_comma(self) -> bool
         ensures { result ≡ specs.takes_comma self }
     {

@@ -3,7 +3,7 @@
 use crate::literal::Literal;
 use crate::operator::{BinaryOperator, UnaryOperator};
 
-/// An expression of CEL. Brackets leave no node.
+/// An expression of CEL. Parentheses leave no node.
 #[derive(Debug, Drop)]
 pub enum Expr {
     Literal(Literal),
@@ -17,7 +17,7 @@ pub enum Expr {
     Method(Box<Expr>, String, Vec<Expr>),
     Unary(UnaryOperator, Box<Expr>),
     Binary(BinaryOperator, Box<Expr>, Box<Expr>),
-    /// A condition, what stands where it is true, and what stands where it is false.
+    /// A condition, the value if it is true, and the value if it is false.
     Ternary(Box<Expr>, Box<Expr>, Box<Expr>),
     List(Vec<Expr>),
     /// Keys and their values.

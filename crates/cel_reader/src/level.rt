@@ -1,6 +1,6 @@
-//! How tightly operators bind.
+//! The precedence of binary operators.
 
-/// The rows of binary operators, from the loosest on.
+/// The levels of binary operators, from the loosest to the tightest.
 #[derive(Clone, Copy, Debug, PartialEq, Eq)]
 pub enum Level {
     Or,

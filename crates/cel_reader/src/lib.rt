@@ -1,4 +1,4 @@
-//! The expressions of CEL: reads a text into a tree.
+//! The expressions of CEL: parses a text into a tree.
 #![tactic(auto)]
 
 mod build;

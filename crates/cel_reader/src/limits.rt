@@ -1,4 +1,4 @@
 //! The limit of nesting.
 
-/// The most brackets and conditionals that may be open.
+/// The maximum number of open brackets and conditionals.
 pub const OPEN_LIMIT: u8 = 100;

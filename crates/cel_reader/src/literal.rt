@@ -1,6 +1,6 @@
 //! Literals.
 
-/// A literal of CEL. (cel-spec, LITERAL)
+/// A literal of CEL (cel-spec, LITERAL).
 #[derive(Debug, Drop, PartialEq, Eq)]
 pub enum Literal {
     Int(i64),

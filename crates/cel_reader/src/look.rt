@@ -1,4 +1,4 @@
-//! What stands at the front of the tokens.
+//! Lookahead: the front of the tokens.
 
 ghost use Rattle.std.specs.Prelude.{◌≡◌, ◌<◌, ◌≤◌, ◌∷◌, length, true, false, Some, IfOk, IfSome, MatchOption, ◌↔◌, IsTrue, option_map};
 ghost use Rattle.cel_tokens.specs.Token as word;
@@ -29,7 +29,7 @@ fn is_mark(found: Word, wanted: Mark) -> bool
     }
 }
 
-/// The tokens behind this mark, if it is first.
+/// The tokens after this mark, if it is first.
 pub fn after<'a>(text: &'a [u8], tokens: &'a [Token], wanted: Mark) -> Option<&'a [Token]>
     ensures at { MatchOption result (IsNotNext (looks.at wanted) (words text.now tokens.now)) (λ rest. words text.now tokens.now ≡ word.mark wanted ∷ words text.now rest.now) }
     ensures shorter { IfSome result (λ rest. length rest.now < length tokens.now) }
@@ -42,7 +42,7 @@ pub fn after<'a>(text: &'a [u8], tokens: &'a [Token], wanted: Mark) -> Option<&'
     }
 }
 
-/// The operator that the mark is between operands.
+/// The binary operator of a mark, if any.
 fn operator_mark(mark: Mark) -> Option<BinaryOperator>
     ensures { result ≡ specs.operator_mark mark }
 {
@@ -64,7 +64,7 @@ fn operator_mark(mark: Mark) -> Option<BinaryOperator>
     }
 }
 
-/// The operator that the word is between operands.
+/// The binary operator of a word, if any.
 fn operator_of(found: Word) -> Option<BinaryOperator>
     ensures { result ≡ specs.operator_of (word_view found.entry) }
 {
@@ -78,7 +78,7 @@ fn operator_of(found: Word) -> Option<BinaryOperator>
     }
 }
 
-/// The operator of this level, if one is first, and the tokens behind it.
+/// The binary operator of this level, if one is first, and the tokens after it.
 pub fn operator_at<'a>(
     text: &'a [u8],
     tokens: &'a [Token],
@@ -99,7 +99,7 @@ pub fn operator_at<'a>(
     }
 }
 
-/// The operator before an operand, if one is first, and the tokens behind it.
+/// The unary operator, if one is first, and the tokens after it.
 pub fn prefix_at<'a>(text: &'a [u8], tokens: &'a [Token]) -> Option<(UnaryOperator, &'a [Token])>
     ensures at { MatchOption result
         (IsNotNext (looks.at Mark.Not) (words text.now tokens.now)
@@ -114,7 +114,7 @@ pub fn prefix_at<'a>(text: &'a [u8], tokens: &'a [Token]) -> Option<(UnaryOperat
     Some((UnaryOperator::Negate, rest))
 }
 
-/// The name that may stand behind a dot, if one is first, and the tokens behind it.
+/// The field or method name, if one is first, and the tokens after it.
 pub fn selector_at<'a>(text: &'a [u8], tokens: &'a [Token]) -> Option<(&'a [u8], &'a [Token])>
     ensures at { MatchOption result
         (IsNotNext (looks.named specs.is_selector) (words text.now tokens.now))
@@ -129,7 +129,7 @@ pub fn selector_at<'a>(text: &'a [u8], tokens: &'a [Token]) -> Option<(&'a [u8],
     }
 }
 
-/// The name that may stand for itself, if one is first, and the tokens behind it.
+/// The identifier, if one is first, and the tokens after it.
 pub fn identifier_at<'a>(text: &'a [u8], tokens: &'a [Token]) -> Option<(&'a [u8], &'a [Token])>
     ensures at { MatchOption result
         (IsNotNext (looks.named specs.is_identifier) (words text.now tokens.now))
@@ -144,7 +144,7 @@ pub fn identifier_at<'a>(text: &'a [u8], tokens: &'a [Token]) -> Option<(&'a [u8
     }
 }
 
-/// The literal that the word is.
+/// The literal of a word, if any.
 fn literal_of(alloc: Global, found: Word) -> Result<Option<Literal>, AllocError>
     ensures { IfOk result (λ o. option_map literal_view o ≡ specs.literal_of (word_view found.entry)) }
 {
@@ -161,7 +161,7 @@ fn literal_of(alloc: Global, found: Word) -> Result<Option<Literal>, AllocError>
     }
 }
 
-/// The literal, if one is first, and the tokens behind it.
+/// The literal, if one is first, and the tokens after it.
 pub fn literal_at<'a>(
     alloc: Global,
     text: &'a [u8],
@@ -182,7 +182,7 @@ pub fn literal_at<'a>(
     }
 }
 
-/// The tokens behind the list's end, if it is first.
+/// The tokens after the list's end, if it is first.
 pub fn end_at<'a>(text: &'a [u8], tokens: &'a [Token], closing: Closing) -> Option<&'a [Token]>
     ensures at { MatchOption result (GoesOn closing (words text.now tokens.now)) (λ rest. Closes closing (words text.now tokens.now) (words text.now rest.now)) }
     ensures shorter { IfSome result (λ rest. length rest.now < length tokens.now) }
@@ -197,7 +197,7 @@ pub fn end_at<'a>(text: &'a [u8], tokens: &'a [Token], closing: Closing) -> Opti
     after(text, rest, closing.mark())
 }
 
-/// How many times the operator is first, and the tokens behind.
+/// How many times the operator is repeated at the front, and the tokens after it.
 pub fn prefixes<'a>(
     text: &'a [u8],
     tokens: &'a [Token],

@@ -8,21 +8,21 @@ use crate::role::{Role, role_of};
 use cel_tokens::is_name;
 use std::alloc::{AllocError, Global};
 
-/// Whether the name may stand behind a dot. (cel-spec, SELECTOR)
+/// Whether the name may follow a dot (cel-spec, SELECTOR).
 pub fn is_selector(name: &[u8]) -> bool
     ensures { result ≡ specs.is_selector name.now }
 {
     is_name(name) && matches!(role_of(name), Role::Reserved | Role::Plain)
 }
 
-/// Whether the name may stand for itself. (cel-spec, IDENT)
+/// Whether the name may be an identifier (cel-spec, IDENT).
 pub fn is_identifier(name: &[u8]) -> bool
     ensures { result ≡ specs.is_identifier name.now }
 {
     is_name(name) && matches!(role_of(name), Role::Plain)
 }
 
-/// The name as a text.
+/// A copy of the name as a `String`.
 #[tactic(auto, using(crate::proofs::Names::name_utf8))]
 pub fn name_of(alloc: Global, name: &[u8]) -> Result<String, AllocError>
     requires { bytes_of.is_name name.now ≡ true }

@@ -33,7 +33,7 @@ pub enum BinaryOperator {
 }
 
 impl UnaryOperator {
-    /// The mark that the operator is written by.
+    /// The mark of the operator.
     pub(crate) fn mark(self) -> Mark
         ensures { result ≡ specs.unary_mark self }
     {

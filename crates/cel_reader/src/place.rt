@@ -1,4 +1,4 @@
-//! Where a text is refused.
+//! The position of an error in the text.
 
 ghost use Rattle.std.specs.Prelude.{◌≡◌, length};
 ghost use Rattle.cel_reader.specs.Place.{place_left, refused_at};
@@ -6,7 +6,7 @@ ghost use Rattle.cel_reader.specs.Place.{place_left, refused_at};
 use crate::refusal::Refusal;
 use cel_tokens::{ReadError, Token};
 
-/// The place of the token that so many tokens go on from, or of the text's end, in bytes.
+/// The position in bytes of the token with which the last `left` tokens begin, or of the text's end.
 fn place_of(text: &[u8], tokens: &[Token], left: usize) -> usize
     ensures { result ≡ place_left (length text.now) tokens.now left }
 {
@@ -17,7 +17,7 @@ fn place_of(text: &[u8], tokens: &[Token], left: usize) -> usize
     }
 }
 
-/// The refusal with its place in the text, of which these are all the tokens.
+/// The error with its position in the text. `tokens` are all tokens of the text.
 pub fn placed(text: &[u8], tokens: &[Token], refusal: Refusal) -> ReadError
     ensures { result ≡ refused_at (length text.now) tokens.now refusal }
 {

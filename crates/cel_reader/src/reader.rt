@@ -20,11 +20,10 @@ use crate::refusal::{Refusal, lone_comma, misfit, too_deep};
 use cel_tokens::{Mark, Token};
 use std::alloc::Global;
 
-/// What was read, and the tokens behind it.
+/// What was read, and the tokens after it.
 type Read<'a, T = Expr> = Result<(T, &'a [Token]), Refusal>;
 
-/// The expression that is first, with this many brackets and conditionals to open, and the tokens
-/// behind it.
+/// The expression that is first, with `room` more brackets and conditionals to open, and the tokens after it.
 #[cycle(reader)]
 pub fn expression<'a>(alloc: Global, text: &'a [u8], tokens: &'a [Token], room: u8) -> Read<'a>
     ensures reads { ReturnsOutcome (λ x. Got (One (view x.0)) (words text.now x.1.now)) result (StepReads (Row row.Expression) room (words text.now tokens.now)) }
@@ -96,7 +95,7 @@ fn unary<'a>(alloc: Global, text: &'a [u8], tokens: &'a [Token], room: u8) -> Re
     Ok((build::unary(alloc, operator, inner)?, end))
 }
 
-/// A primary, its selections, calls and indexes.
+/// A primary with its selections, calls and indexes.
 #[cycle(reader)]
 fn member<'a>(alloc: Global, text: &'a [u8], tokens: &'a [Token], room: u8) -> Read<'a>
     ensures reads { ReturnsOutcome (λ x. Got (One (view x.0)) (words text.now x.1.now)) result (StepReads (Row row.Member) room (words text.now tokens.now)) }
@@ -118,7 +117,7 @@ fn member<'a>(alloc: Global, text: &'a [u8], tokens: &'a [Token], room: u8) -> R
     }
 }
 
-/// The field or the method's call that stands behind a dot.
+/// The field or the method call after a dot.
 #[cycle(reader)]
 fn selection<'a>(alloc: Global, text: &'a [u8], tokens: &'a [Token], of: Expr, room: u8) -> Read<'a>
     ensures reads { ReturnsOutcome (λ x. Got (One (view x.0)) (words text.now x.1.now)) result (StepReads (Selection (view of)) room (words text.now tokens.now)) }
@@ -166,7 +165,7 @@ fn primary<'a>(alloc: Global, text: &'a [u8], tokens: &'a [Token], room: u8) -> 
     Ok((build::call(name, arguments), end))
 }
 
-/// The expression behind a bracket, up to the bracket's end.
+/// The expression after an opening bracket, up to its closing one.
 #[cycle(reader)]
 fn enclosed<'a>(
     alloc: Global,
@@ -188,7 +187,7 @@ fn enclosed<'a>(
     Ok((inner, end))
 }
 
-/// The expressions behind a bracket, up to the list's end.
+/// The expressions after a bracket, up to the list's end.
 #[cycle(reader)]
 fn items<'a>(
     alloc: Global,
@@ -224,7 +223,7 @@ fn items<'a>(
     }
 }
 
-/// The entries behind a brace, up to the map's end.
+/// The entries after a brace, up to the map's end.
 #[cycle(reader)]
 fn entries<'a>(
     alloc: Global,

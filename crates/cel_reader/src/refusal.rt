@@ -1,4 +1,4 @@
-//! Why the tokens are no expression, and where.
+//! Why the tokens are not an expression, and where.
 
 ghost use Rattle.std.specs.Prelude.{◌≡◌, suc, length, if◌then◌else◌};
 ghost use Rattle.cel_reader.specs.Look.{takes_comma};
@@ -8,14 +8,14 @@ use crate::closing::Closing;
 use cel_tokens::Token;
 use std::alloc::{AllocError, AllocFailed};
 
-/// Why the tokens are no expression, with how many of them stand from there on.
+/// Why the tokens are not an expression, with the number of tokens left at the error.
 #[derive(Clone, Copy, Debug, PartialEq, Eq)]
 pub enum Refusal {
-    /// The first of these fits nowhere; or there is none, and the text is no whole expression.
+    /// The first token left does not fit; or none is left and the expression is incomplete.
     Misfit(usize),
-    /// The first of these opens one bracket or conditional too many.
+    /// The first token left opens one bracket or conditional too many.
     Deep(usize),
-    /// There is no memory for what was read.
+    /// An allocation failed.
     Memory,
 }
 
@@ -35,22 +35,22 @@ impl<T: Drop> From<AllocFailed<T>> for Refusal {
     }
 }
 
-/// The refusal of the first token, or of the text's end.
+/// The error at the first token, or at the text's end.
 pub fn misfit(tokens: &[Token]) -> Refusal
     ensures { result ≡ refusal.Misfit (length tokens.now) }
 {
     Refusal::Misfit(tokens.len())
 }
 
-/// The refusal of the bracket or question mark that stands before these tokens.
+/// The error at the bracket or question mark before these tokens.
 pub fn too_deep(behind: &[Token]) -> Refusal
     ensures { result ≡ refusal.Deep (suc (length behind.now)) }
 {
     Refusal::Deep(behind.len() + 1)
 }
 
-/// The refusal of a comma that stands first in a list that does not end. In a literal the comma
-/// may end an empty one, so what is behind it is at fault.
+/// The error for a comma that is first in a list that does not end. In a literal the comma may end an empty
+/// list, so the token after it is the invalid one.
 pub fn lone_comma(tokens: &[Token], behind: &[Token], closing: Closing) -> Refusal
     ensures { result ≡ refusal.Misfit (length (if takes_comma closing then behind.now else tokens.now)) }
 {

@@ -1,9 +1,9 @@
-//! What names are for.
+//! The roles of names.
 
 ghost use Rattle.std.specs.Prelude.{◌≡◌, true};
 ghost use Rattle.cel_reader.specs.Words as specs;
 
-/// What a name is for.
+/// The role of a name.
 #[derive(Clone, Copy, Debug, PartialEq, Eq)]
 pub enum Role {
     /// The literal `true`.
@@ -14,13 +14,13 @@ pub enum Role {
     Null,
     /// The operator `in`.
     In,
-    /// A word kept for later, which may only name a field. (cel-spec, RESERVED)
+    /// A reserved word, which may only name a field (cel-spec, RESERVED).
     Reserved,
     /// Any other name.
     Plain,
 }
 
-/// Whether the name is kept for later. (cel-spec, RESERVED)
+/// Whether the name is reserved (cel-spec, RESERVED).
 #[tactic(auto, unfolding(crate::specs::Words::is_reserved))]
 fn is_reserved(name: &[u8]) -> bool
     ensures { result ≡ specs.is_reserved name.now }
@@ -44,7 +44,7 @@ fn is_reserved(name: &[u8]) -> bool
         || name == b"while".as_slice()
 }
 
-/// What the name is for.
+/// The role of the name.
 #[tactic(auto, unfolding(crate::specs::Words::role_of))]
 pub fn role_of(name: &[u8]) -> Role
     ensures { result ≡ specs.role_of name.now }

@@ -1,4 +1,4 @@
-//! The reading of a whole text.
+//! Parses a whole text.
 
 ghost use Rattle.std.specs.Prelude.{◌≡◌, ◌<◌, List, length, map, IfOk, MatchResult, Ok, Err};
 ghost use Rattle.cel_tokens.specs.Token.{Token as TokenView, token_view};
@@ -20,12 +20,12 @@ use crate::word::first;
 use cel_tokens::{ReadError, Token, tokens};
 use std::alloc::Global;
 
-/// The expression that all of the tokens are.
+/// The expression that all of the tokens form.
 fn whole(alloc: Global, text: &[u8], tokens: &[Token]) -> Result<Expr, ReadError>
     ensures told { ParseReturns (words text.now tokens.now) result }
     ensures places { ParseErrorIsAt (length text.now) (map (token_view text.now) tokens.now) result }
 {
-    // A text of no tokens is refused before any memory is taken.
+    // A text without tokens is refused before anything is allocated.
     let Some(_) = first(text, tokens) else {
         return Err(placed(text, tokens, misfit(tokens)));
     };
@@ -38,11 +38,10 @@ fn whole(alloc: Global, text: &[u8], tokens: &[Token]) -> Result<Expr, ReadError
     }
 }
 
-/// The expression that the text is. Else the error says why it is none: `UnknownCharacter`,
-/// `InvalidTextLiteral`, `IntOutOfRange` or `TextTooLong` if the text has no tokens;
-/// `UnexpectedToken` at the first token that no expression has there, or at the text's end;
-/// `TooManyOpen` at a bracket or a question mark that fits and would be the 101st open one.
-/// (cel-spec, syntax)
+/// The expression of the text (cel-spec, syntax). The error is `UnknownCharacter`,
+/// `InvalidTextLiteral`, `IntOutOfRange` or `TextTooLong` if the text has no tokens; `UnexpectedToken`
+/// at the first token that no expression allows there, or at the text's end; `TooManyOpen` at a bracket
+/// or a question mark that fits but would be the 101st open one.
 pub fn read(alloc: Global, text: &str) -> Result<Expr, ReadError>
     ensures answers { ReadReturns text.now result }
     ensures places { ErrorIsAt text.now result }

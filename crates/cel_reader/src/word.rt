@@ -1,4 +1,4 @@
-//! Words of a text.
+//! The words of a text.
 
 ghost use Rattle.std.specs.Prelude.{◌≡◌, ◌<◌, ◌-◌, [], ◌∷◌, take, drop, length, IfSome, MatchOption};
 ghost use Rattle.cel_tokens.specs.Token.{token_view};
@@ -7,17 +7,17 @@ ghost use Rattle.cel_reader.specs.Shown.{word_view};
 
 use cel_tokens::{Kind, Mark, Token, mark_of};
 
-/// What a token is, with its bytes.
+/// The word of a token: its kind, and its bytes or its value.
 #[derive(Clone, Copy, Debug)]
 pub enum Word<'a> {
     Name(&'a [u8]),
     Int(i64),
-    /// A text literal, its escapes resolved.
+    /// A text literal with its escapes resolved.
     Text(&'a str),
     Mark(Mark),
 }
 
-/// The bytes of the token, as far as the text has them.
+/// The bytes of the token in the text.
 fn bytes_of<'a>(text: &'a [u8], token: &Token) -> &'a [u8]
     ensures { result.now ≡ take (token.now.end - token.now.place) (drop token.now.place text.now) }
 {
@@ -26,8 +26,8 @@ fn bytes_of<'a>(text: &'a [u8], token: &Token) -> &'a [u8]
     &rest[..len.min(rest.len())]
 }
 
-/// The word of the token. One of a mark's kind whose bytes are none is a name of no bytes, which no
-/// token of a text is.
+/// The word of the token. A mark's bytes that are no mark would give the empty
+/// name; no token of a text has such bytes.
 fn word_of<'a>(text: &'a [u8], token: &'a Token) -> Word<'a>
     ensures { word_view result ≡ (token_view text.now token.now).word }
 {
@@ -43,7 +43,7 @@ fn word_of<'a>(text: &'a [u8], token: &'a Token) -> Word<'a>
     }
 }
 
-/// The first word, and the tokens behind it.
+/// The first word, and the tokens after it.
 pub fn first<'a>(text: &'a [u8], tokens: &'a [Token]) -> Option<(Word<'a>, &'a [Token])>
     ensures word { MatchOption result (words text.now tokens.now ≡ []) (λ x. words text.now tokens.now ≡ word_view x.0 ∷ words text.now x.1.now) }
     ensures shorter { IfSome result (λ x. length x.1.now < length tokens.now) }

@@ -1,4 +1,4 @@
--- How texts are refused, computed.
+-- The errors of texts, computed.
 use Rattle.cel_reader.proofs.Prelude.{◌≡◌, ℕ, zero, suc, ◌+◌, ◌-◌, ◌<◌, ◌≤◌, Bool, true, false, nat_lt, List, [], ◌∷◌, ◌++◌, length, drop, map, Option, Some, None, Result, Ok, Err, refl, subst, ltb-true, ltb-false, Token, run as run_of, between, number_from, escape, content, Lexed, sign_may_follow, Cuts, Lexes, lexeme, ReadError, UnknownCharacter, InvalidTextLiteral, IntOutOfRange, UnexpectedToken, TooManyOpen, is_reserved, role_of, words_only, Expression, One, Many, Keyed, Misfit, Deep, ReadOutcome, Got, Refused, whole, Row, StepReads, place_at, IsReadResult, RefusalRowsStand, Stand, refused_texts, token_limit, text_limit, open_limit}
 use Rattle.cel_tokens.specs.Lexed as front
 use Rattle.cel_tokens.specs.Lexis as tokens
@@ -33,7 +33,7 @@ cut_by go signed so_far place rest front.wrong_text e = elim (few so_far) [ Some
 cut_by go signed so_far place rest (front.wide_int n) e = elim (few so_far) [ Some h ↦ cut (Err (IntOutOfRange (place + n))) (tokens.wide_int n e h) | None ↦ uncut ]
 cut_by go signed so_far place rest front.nothing e = cut (Err (UnknownCharacter place)) (tokens.nothing e)
 
--- with at most so many tokens and gaps
+-- with at most this many tokens and gaps
 cuts : ℕ → (signed : Bool) (so_far : List Token) (place : ℕ) (rest : List ℕ) → Cut signed so_far place rest
 cuts zero signed so_far place rest = uncut
 cuts (suc fuel) signed so_far place rest = cut_by (λ (s : Bool) (xs : List Token) (n : ℕ) (bytes : List ℕ). cuts fuel s xs n bytes) signed so_far place rest (front.front signed rest) refl
@@ -81,7 +81,7 @@ unfolding refusal_from
 from_run source lexemes (ran o r) e l is = misread source lexemes o e l r is
 from_run source lexemes none e l is = cc
 
--- calls go at most so deep in the rows
+-- with recursion up to this depth in the rows
 refusal : (source : List ℕ) → Cut true [] 0 source → Option ReadError
 refusal source (cut (Ok lexemes) c) = refusal_from (length source) lexemes (run 10000 (reading.go (Row Expression)) open_limit (words_only lexemes))
 refusal source (cut (Err (UnknownCharacter place)) c) = Some (UnknownCharacter place)

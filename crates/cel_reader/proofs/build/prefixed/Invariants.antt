@@ -1,3 +1,4 @@
+-- Loop invariants of `prefixed` (src/build.rt).
 use Rattle.cel_reader.proofs.Prelude.{◌≡◌, view, wrapped}
 use Rattle.cel_reader.proofs.build.prefixed.Given as goal
 

@@ -1,3 +1,4 @@
+-- Proof obligations of `prefixes` (src/look.rt).
 use Rattle.cel_reader.proofs.Prelude.{suc, arith}
 use Rattle.cel_reader.proofs.Prefixed.{more, ended}
 use Rattle.cel_reader.proofs.look.prefixes.Goals as goal

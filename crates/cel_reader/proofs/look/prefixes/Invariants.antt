@@ -1,3 +1,4 @@
+-- Loop invariants and measures of `prefixes` (src/look.rt).
 use Rattle.cel_reader.proofs.Prelude.{◌≡◌, ℕ, ◌+◌, ◌≤◌, length, List, Word, words, Prefixes}
 use Rattle.cel_reader.proofs.look.prefixes.Given as goal
 

@@ -1,3 +1,4 @@
+-- Proof obligations of the functions of the cycle `reader` (src/reader.rt).
 use Rattle.cel_reader.proofs.Prelude.{[], arith, CloseParen, view, entry_view, words, takes_comma, this_mark, this_name, this_literal, this_operator, Unary, Member, Primary, Refused, Misfit, StepReads, Row, Enclosed, Listed, Item, Entry, stands, unfit, goes, fails, calls, missing, passes, Map}
 use Rattle.cel_reader.proofs.Lists.{behind_ends, behind_misfit, behind_goes, list_empty, list_goes, list_comma, comma_misfit}
 use Rattle.cel_reader.proofs.Steps.{full_at, opened_at, found_at, enters_at, unary_at, pushed, misfit_left, deep_left, either, refused, hand}

@@ -1,3 +1,4 @@
+-- Loop invariants and measures of the functions of the cycle `reader` (src/reader.rt).
 use Rattle.cel_reader.proofs.Prelude.{◌+◌, ◌*◌, ◌<◌, ◌≤◌, ◌-◌, length, map, view, entry_view, Infix, Member, words, StepReads, ReadOutcome, Row, Tail, Suffix, Listed, Item, Mapped, Entry}
 use Rattle.cel_reader.proofs.Ranks.{rank}
 use Rattle.cel_reader.proofs.reader.+reader.Given as goal

@@ -1,3 +1,4 @@
+-- Proof obligations of `read` (src/source.rt).
 use Rattle.cel_reader.proofs.Prelude.{Err, ap, arith, err_from_is_err_and}
 use Rattle.cel_reader.proofs.Told.{only_of, told_text, told_at, tokens_fail, tokens_placed, placed_text, same_error, no_error}
 use Rattle.cel_reader.proofs.WellFormedTrees.{told_formed}

@@ -1,3 +1,4 @@
+-- Proof obligations of `whole` (src/source.rt).
 use Rattle.cel_reader.proofs.Told.{told_none, told_ok, told_rest, told_fails, some_word}
 use Rattle.cel_reader.proofs.Places.{placed_none, placed_rest, placed_fails}
 use Rattle.cel_reader.proofs.source.whole.Goals as goal
