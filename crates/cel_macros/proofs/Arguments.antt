@@ -1,7 +1,7 @@
--- What a number of arguments says of their trees, and what the tests of the first ones say of all.
+-- The number of arguments and their trees, and what the tests of the first ones mean for all.
 use Rattle.cel_macros.proofs.Prelude.{◌≡◌, ◌<◌, true, List, [], ◌∷◌, length, get_or, map, Option, Some, Result, Ok, refl, arith, Expr, view, trees, Macro, MacroError, name_of, MacroFault, ArgumentCount, before, name_fault, three_fault, has_fault, fold_fault, refusal}
 
--- ---- how many arguments
+-- ---- the number of arguments
 
 pub has_of_none : (items : List Expr) → length items < 1 → has_fault true (trees (map view items)) ≡ Some ArgumentCount
 has_of_none [] h = refl
@@ -29,7 +29,7 @@ pub fold_of_three : (m : Macro) (items : List Expr) (x : Expr) → 2 < length it
 fold_of_three m (a ∷ b ∷ d ∷ []) x h g e = grind arith
 fold_of_three m _ x h g e = absurd (omega arith)
 
--- ---- tests one after another
+-- ---- tests in sequence
 
 pub then_tested : (a b : Option MacroFault) (u : Unit {0}) (r : Result (Unit {0}) MacroError) → Ok u ≡ refusal a → r ≡ refusal b → r ≡ refusal (before a b)
 then_tested a b u r h e = grind arith

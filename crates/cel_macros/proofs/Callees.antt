@@ -1,4 +1,4 @@
--- What a name names is written so, and is the function and the test of that name.
+-- A callee has the name that it was found by, and is the function and the test of that name.
 use Rattle.cel_macros.proofs.Prelude.{◌≡◌, ℕ, Bool, true, false, List, [], ◌∷◌, Option, Some, None, IfSome, bytes_eq, refl, ap, sym, ◌∙◌, arith, Function, TextTest, function_named, test_named, is_has, Callee, OfFunction, OfTest, Unknown, callee_name, callee_named, callee_of, function_in, test_in}
 use Rattle.cel_macros.specs.Functions.{function_name, test_name}
 use Rattle.cel_macros.specs.declared.function.Function.{TheVariants.Size, TheVariants.String as StringFunction, TheVariants.Dyn}
@@ -6,7 +6,7 @@ use Rattle.cel_macros.specs.declared.text_test.TextTest.{TheVariants.StartsWith,
 use Rattle.std.proofs.Common.{find, IsSome}
 use lib.Pointwise.{bytes_decides}
 
--- ---- what is found by a name has it
+-- ---- what is found by a name has that name
 
 pub weaker : {A : Type 0} (o : Option A) (P Q : A → Type 0) → ((a : A) → P a → Q a) → IfSome o P → IfSome o Q
 weaker o P Q h p = grind arith
@@ -23,7 +23,7 @@ test_back : (n : List ℕ) → IfSome (test_named n) (λ t. test_name t ≡ n)
 unfolding test_named
 test_back n = weaker (test_named n) _ _ (λ t e. (bytes_decides (test_name t) n).0 e) (found (λ t. bytes_eq (test_name t) n) (StartsWith ∷ EndsWith ∷ Contains ∷ []))
 
--- ---- a name names what is written so
+-- ---- a name denotes the callee that is written so
 
 back_by : (f : Option Function) (t : Option TextTest) (n : List ℕ) → IfSome f (λ x. function_name x ≡ n) → IfSome t (λ x. test_name x ≡ n)
     → callee_name (callee_of f t n) ≡ n
@@ -35,7 +35,7 @@ pub callee_back : (n : List ℕ) → callee_name (callee_named n) ≡ n
 unfolding callee_named
 callee_back n = back_by (function_named n) (test_named n) n (function_back n) (test_back n)
 
--- ---- it is the function and the test of that name, of which there is one at most
+-- ---- a name denotes at most one function or test
 
 function_by : (f : Option Function) (t : Option TextTest) (n : List ℕ) → function_in (callee_of f t n) ≡ f
 function_by (Some f) t n = refl
@@ -64,7 +64,7 @@ pub test_stays : (n : List ℕ) → test_in (callee_named n) ≡ test_named n
 unfolding callee_named
 test_stays n = test_by (function_named n) n (function_back n)
 
--- ---- the name of a function or a test names it again, and none is `has`
+-- ---- the name of a function or a test denotes it again, and none of them is `has`
 
 pub function_again : (c : Callee) → IsSome (function_in c) → callee_named (callee_name c) ≡ c
 unfolding callee_named function_named test_named

@@ -36,7 +36,7 @@ call_plain : (b : Bool) (k : Option (List ℕ)) (n : List ℕ) (inner c : Core) 
 unfolding plain_tree
 call_plain b k n inner c a e h p = grind (arith, has_back, callee_back)
 
--- a macro's list, variable and first expression
+-- the list, the variable and the first expression of a macro
 module _ (k : Option (List ℕ)) (n : List ℕ) (ca cx cp : Core) (a x p : Tree) (ek : IfSome k (λ i. tree.name i ≡ x)) (ha : plain_tree ca ≡ a) (hx : plain_tree cx ≡ x) (hp : plain_tree cp ≡ p) where
   fold_plain : (m : Option Macro) → IfSome m (λ m. macro_name m ≡ n)
       → plain_tree (method_or_fold m k n ca cx cp) ≡ tree.method a n (more_trees x (more_trees p no_trees))
@@ -93,7 +93,7 @@ call_means : (b : Bool) (k : Option (List ℕ)) (n : List ℕ) (inner c : Core) 
 unfolding fold_meaning
 call_means b k n inner c x y env hx hy = grind (arith, function_stays)
 
--- a macro's list and first expression
+-- the list and the first expression of a macro
 module _ (n : List ℕ) (ca cx cp : Core) (env : Environment) (x : ValueOrError) (p : List ℕ → Value → ValueOrError) (ha : fold_meaning ca env ≡ x) (hp : (i : List ℕ) (v : Value) → fold_meaning cp (bind i v env) ≡ p i v) where
   fold_means : (m : Option Macro) (k : Option (List ℕ)) → fold_meaning (method_or_fold m k n ca cx cp) env ≡ over_range m k p (range_of x)
   unfolding fold_meaning

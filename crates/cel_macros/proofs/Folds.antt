@@ -1,4 +1,4 @@
--- Each macro's fold gives what the macro means.
+-- The fold of each macro gives the meaning of the macro.
 use Rattle.cel_macros.proofs.Prelude.{◌≡◌, List, Option, Some, None, refl, arith, Value, ValueOrError, Macro, All, Exists, ExistsOne, Filter, Map, over_range, map_over_range, folded, folded_map, ℕ, true, false, Yes, No, truth}
 use Rattle.cel_macros.proofs.Quantified.{folds_behind}
 use Rattle.cel_macros.proofs.Kept.{folds_exists_one, folds_filter, folds_map, folds_map_where}

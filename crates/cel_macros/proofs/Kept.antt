@@ -1,4 +1,4 @@
--- What `exists_one`, `filter` and `map` keep from item to item.
+-- The results of `exists_one`, `filter` and `map` from item to item.
 use Rattle.cel_macros.proofs.Prelude.{◌≡◌, ℕ, ◌+◌, Bool, cond, List, [], ◌∷◌, ◌++◌, Option, Some, option_map, filter, nat_eq, pos, fold, map, refl, ap, ◌∙◌, append_assoc, append-nil, add-zero, arith, list_any, Value, ValueOrError, error, value, boolean, int, list, items_of, items_push, Truth, truth, with_value, values_in, list_or_error, ExistsOne, Filter, Map, is_yes, is_other, exists_one_of, filter_of, map_of, map_where_of, push_parts, step_of, start_of, end_of, map_step, folded_map}
 
 abbrev of_list : List Value → ValueOrError

@@ -1,3 +1,4 @@
+-- Proofs of cel_macros: the list of their modules.
 pub mod Quantified
 pub mod Kept
 pub mod Folds

@@ -1,16 +1,16 @@
--- What expansion makes of a call and a method, from their expanded parts.
+-- The expansion of a call and a method, from their expanded parts.
 use Rattle.cel_macros.proofs.Prelude.{◌≡◌, ℕ, ◌<◌, ◌≤◌, Bool, true, List, [], ◌∷◌, length, get_or, Option, is_some, map, refl, arith, Expr, Tree, Trees, no_trees, more_trees, view, trees, entries, name_of, field_name, Core, name, call, call_or_has, expanded, expanded_operand, expanded_trees, expanded_entries, callee_named, CodeCore, core_view, cores, core_entries, core_name, core_selection, has_or_call, call_with, call_of, IsPair, IsTriple, AreCallArguments, expanded_pair}
 use Rattle.cel_reader.specs.Tree as tree
 use Rattle.cel_macros.specs.Expanding.{method_of}
 use Rattle.cel_macros.proofs.Expansion.{variables_back}
 
--- ---- an expanded expression is a name, or a selection, where the plain one is
+-- ---- an expanded expression is a name or a selection if the source expression is
 
 name_stays : (x : Tree) → core_name (expanded x) ≡ name_of x
 unfolding expanded
 name_stays x = grind arith
 
--- of the macro `has` by what is selected, of a call by its argument
+-- by the selection for the macro `has`, by the argument for a call
 abbrev Selects : Core → Option (List ℕ) → Core → Type 0
 Selects a k inner = (b : Bool) (n : List ℕ) → has_or_call b (core_selection a) n a ≡ call_or_has b k n inner a
 

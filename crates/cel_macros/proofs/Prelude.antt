@@ -1,4 +1,4 @@
--- The names that these proofs cite of the library, of the crates below and of the definitions here. Declares nothing.
+-- The names that these proofs use, from the library, the crates below and these definitions. It declares nothing.
 pub use Rattle.std.proofs.Common.{Bool, FitsSigned, IfSome, List, None, Ok, Option, Result, Some, ℕ, ℤ, [], add-zero}
 pub use Rattle.std.proofs.Common.{ap, append-nil, append_assoc, arith, bytes_eq, cond, drop, false, filter, fold}
 pub use Rattle.std.proofs.Common.{get_or, if◌then◌else◌, int_rem, is_some, length, map, nat_eq, negsuc, option_map}

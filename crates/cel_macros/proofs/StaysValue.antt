@@ -1,4 +1,4 @@
--- What an expression means in an environment of values is a value or the error.
+-- An expression in an environment of values means a value or the error.
 use Rattle.cel_macros.proofs.Prelude.{◌≡◌, ℕ, zero, suc, ◌/◌, ◌%◌, ◌<◌, Bool, true, false, List, [], ◌∷◌, arith, Option, Some, IfSome, ℤ, pos, negsuc, int_rem, ◌+ℤ◌, ⊤, FitsSigned, w64, AllByRecursion, IsAscii, IsUtf8, digit_glyph, digits_onto, decimal, signed_decimal, IsUtf8-append, IsUtf8-from_ascii, IsAscii-nil, IsAscii-cons, Tree, Trees, no_trees, more_trees, TreeEntries, no_entries as no_tree_entries, more_entries, IsWellFormed, AreWellFormed, HasWellFormedEntries, BinaryOperator, UnaryOperator, Value, ValueOrError, error, Environment, bind, Truth, truth, of_truth, chosen, fits, int_or_error, int_part, is_zero, quotient, remainder, addend, Addend, Number, Text, Listed, NoAddend, sum_of_parts, on_values, container, index, entries_in, Function, Size, TextTest, size_of, string_of, method_of, function_named, test_texts, range_of, macro_named, is_map, is_has, is_variables, name_of, field_name, unary_of, binary_of, called, meaning, meanings, entry_meanings, operand_meaning, AreValues, IsValueOrError, NamesValues, AtSize, AtSizes, AtEntrySizes, TextsAndKeysStay, IntsStay}
 use Rattle.std.specs.Fmt.{digits}
 use Rattle.cel_reader.specs.Tree as tree
@@ -20,7 +20,7 @@ number_utf8 : (z : ℤ) → IsUtf8 (signed_decimal z)
 number_utf8 (pos n) = IsUtf8-from_ascii (decimal n) (decimal_ascii n)
 number_utf8 (negsuc n) = IsUtf8-from_ascii (45 ∷ decimal (suc n)) (IsAscii-cons 45 (decimal (suc n)) (omega arith) (decimal_ascii (suc n)))
 
--- what is kept of ints by arithmetic, and what a size is
+-- the property of ints that arithmetic keeps, and that of a size
 module _ (P : ℤ → Type 0) (S : Type 0) (fitting : (z : ℤ) → fits z ≡ true → P z) (resting : (a b : ℤ) → P a → P b → is_zero b ≡ false → P (int_rem a b))
     (sized : S → (n : ℕ) → P (pos n)) where
   abbrev Is : ValueOrError → Type 0

@@ -1,4 +1,4 @@
--- Parts of values, and what literals, macros and names make of values, are values.
+-- Parts of values are values, and so are the results of literals, macros and names.
 use Rattle.cel_macros.proofs.Prelude.{ℕ, suc, Bool, true, false, cond, List, [], ◌∷◌, map as each, filter, Option, Some, IfSome, arith, rules, ℤ, ⊤, slice_get, AllByRecursion, list_any, list_all, IsUtf8, Value, boolean, text, Items, no_items, item, entry, ValueOrError, error, value, list_of, items_of, keys_of, items_join, Ascend, find, inserted, inserted_in_order, Macro, All, Exists, ExistsOne, Filter, Map, Environment, bind, lookup, value_or_error, item_or_root, name_value, result_or_error, variable_value, Truth, truth, field_among, Container, Index, container, part_at, with_value, values_in, list_or_error, list_literal, text_part, entries_in, map_or_error, is_yes, is_no, is_other, where_true, map_of, macro_of, over_range, map_over_range, range_of, selected, IsValue, AreValues, AreEntryValues, IsValueOrError, NamesValues}
 use Rattle.std.specs.List.Sorted.{IsStrictlySortedBy}
 use Rattle.value_store.specs.Value.{Entries, no_entries}
@@ -8,7 +8,7 @@ no_keys : Ascend []
 unfolding IsStrictlySortedBy
 no_keys = tt
 
--- values whose ints are as P says
+-- values whose ints satisfy P
 module _ (P : ℤ → Type 0) where
   abbrev pub Is : ValueOrError → Type 0
   Is x = IsValueOrError P x

@@ -1,4 +1,4 @@
--- What expressions with parts in lists stand for.
+-- The plain data of expressions whose parts are in lists.
 use Rattle.cel_macros.proofs.Prelude.{◌≡◌, map, string_bytes, ap, sym, ◌∙◌, Vec, Box, String, Global, Expr, rolls-Call, rolls-Method, rolls-List, rolls-Map, fold-roll-Expr, Tree, view, view_step, trees, entries}
 use Rattle.cel_reader.specs.declared.expr.Expr as code
 use Rattle.cel_reader.specs.Tree as tree

@@ -1,23 +1,23 @@
--- Arithmetic on ints of 64 bits, and joining (cel-spec, Arithmetic Operators, Overflow).
+-- Arithmetic on 64-bit ints, and concatenation (cel-spec, Arithmetic Operators, Overflow).
 use Rattle.std.specs.Prelude.{ℕ, ℤ, pos, negsuc, ◌+ℤ◌, ◌-ℤ◌, ◌*ℤ◌, neg_ℤ, int_div, int_rem, ◌^◌, nat_lt, Bool, false, List, ◌++◌, Option}
 use Rattle.std.specs.Prelude.{Some, None, if◌then◌else◌}
 use Rattle.value_store.specs.Value.{ValueOrError, error, value, int, text, list, Items, items_join}
 
--- the whole number is an int of 64 bits
+-- whether an integer fits a signed 64-bit int
 abbrev pub fits : ℤ → Bool
 fits (pos n) = nat_lt n (2 ^ 63)
 fits (negsuc n) = nat_lt n (2 ^ 63)
 
--- overflow is the error
+-- the int as a result, or the error on overflow
 abbrev pub int_or_error : ℤ → ValueOrError
 int_or_error z = if fits z then value (int z) else error
 
--- the int, where the result is one
+-- the int, if the result is one
 abbrev pub int_part : ValueOrError → Option ℤ
 int_part (value (int z)) = Some z
 int_part _ = None
 
--- what f makes of the two ints; the error where an operand is no int
+-- f applied to two ints; the error if an operand is not an int
 abbrev pub on_ints : (ℤ → ℤ → ValueOrError) → Option ℤ → Option ℤ → ValueOrError
 on_ints f (Some a) (Some b) = f a b
 on_ints f _ _ = error
@@ -35,60 +35,61 @@ difference a b = int_or_error (a -ℤ b)
 abbrev pub product : ℤ → ℤ → ValueOrError
 product a b = int_or_error (a *ℤ b)
 
--- a / b, rounded toward zero; the error where b is 0, and for the least int by -1, which overflows
+-- a / b, rounded toward zero; the error if b is 0, and for the least int by -1, which overflows
 abbrev pub quotient : ℤ → ℤ → ValueOrError
 quotient a b = if is_zero b then error else int_or_error (int_div a b)
 
--- a % b, with the sign of a; the error wherever a / b is the error
+-- a % b, with the sign of a; the error whenever a / b is the error
 abbrev pub remainder : ℤ → ℤ → ValueOrError
 remainder a b = if is_zero b then error else (if fits (int_div a b) then value (int (int_rem a b)) else error)
 
--- a result as `+` sees it
+-- a result as an operand of `+`
 pub data Addend : Type 0 where
   Number : ℤ → Addend
   Text : List ℕ → Addend
   Listed : Items → Addend
   NoAddend : Addend
 
--- what `+` sees of a result: an int, a text, a list, or none of them
+-- the operand of `+` that a result is: an int, a text, a list, or none of them
 abbrev pub addend : ValueOrError → Addend
 addend (value (int z)) = Number z
 addend (value (text s)) = Text s
 addend (value (list is)) = Listed is
 addend _ = NoAddend
 
--- two ints added, overflow being the error; two texts or two lists, one behind the other; the error for all else
+-- the sum of two ints, or the error on overflow; the concatenation of two texts or two lists; the error for all else
 abbrev pub sum_of_parts : Addend → Addend → ValueOrError
 sum_of_parts (Number a) (Number b) = int_or_error (a +ℤ b)
 sum_of_parts (Text a) (Text b) = value (text (a ++ b))
 sum_of_parts (Listed a) (Listed b) = value (list (items_join a b))
 sum_of_parts _ _ = error
 
--- x + y: two ints added, or two texts or two lists joined (cel-spec, Arithmetic Operators, Overflow)
+-- x + y: the sum of two ints, or the concatenation of two texts or two lists
+-- (cel-spec, Arithmetic Operators, Overflow)
 abbrev pub sum_of : ValueOrError → ValueOrError → ValueOrError
 sum_of x y = sum_of_parts (addend x) (addend y)
 
--- x - y of two ints; the error where an operand is no int, or on overflow (cel-spec, Overflow)
+-- x - y of two ints; the error if an operand is not an int, or on overflow (cel-spec, Overflow)
 abbrev pub difference_of : ValueOrError → ValueOrError → ValueOrError
 difference_of x y = on_ints difference (int_part x) (int_part y)
 
--- x * y of two ints; the error where an operand is no int, or on overflow (cel-spec, Overflow)
+-- x * y of two ints; the error if an operand is not an int, or on overflow (cel-spec, Overflow)
 abbrev pub product_of : ValueOrError → ValueOrError → ValueOrError
 product_of x y = on_ints product (int_part x) (int_part y)
 
--- x / y of two ints; the error where an operand is no int, for a zero y, or on overflow (cel-spec, Overflow)
+-- x / y of two ints; the error if an operand is not an int, if y is 0, or on overflow (cel-spec, Overflow)
 abbrev pub quotient_of : ValueOrError → ValueOrError → ValueOrError
 quotient_of x y = on_ints quotient (int_part x) (int_part y)
 
--- x % y of two ints; the error where an operand is no int, and wherever x / y is the error (cel-spec, Overflow)
+-- x % y of two ints; the error if an operand is not an int, and whenever x / y is the error (cel-spec, Overflow)
 abbrev pub remainder_of : ValueOrError → ValueOrError → ValueOrError
 remainder_of x y = on_ints remainder (int_part x) (int_part y)
 
--- the int negated; the error where there is none, and for the least int, which overflows
+-- the negated int; the error without an int, and for the least int, which overflows
 abbrev pub negation : Option ℤ → ValueOrError
 negation (Some a) = int_or_error (neg_ℤ a)
 negation None = error
 
--- -x of an int; the error where x is no int, or on overflow (cel-spec, Overflow)
+-- -x of an int; the error if x is not an int, or on overflow (cel-spec, Overflow)
 abbrev pub negation_of : ValueOrError → ValueOrError
 negation_of x = negation (int_part x)

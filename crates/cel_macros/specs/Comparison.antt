@@ -5,17 +5,17 @@ use Rattle.value_store.specs.Equality.{equal}
 use Rattle.value_store.specs.Order.{less}
 use Rattle.value_store.specs.Lookup.{member}
 
--- a truth as a result; the error where there is none
+-- a bool as a result; the error if there is none
 abbrev pub truth_or_error : Option Bool → ValueOrError
 truth_or_error (Some b) = value (boolean b)
 truth_or_error None = error
 
--- what a test says of two values; the error where an operand is the error, or where the test says nothing
+-- a test of two values; the error if an operand is the error, or if the test is undefined
 abbrev pub on_values : (Value → Value → Option Bool) → ValueOrError → ValueOrError → ValueOrError
 on_values test (value a) (value b) = truth_or_error (test a b)
 on_values test _ _ = error
 
--- x == y of two values, deep; values of different kinds are unequal (cel-spec, Equality)
+-- x == y of two values, deeply; values of different kinds are unequal (cel-spec, Equality)
 abbrev pub equal_of : ValueOrError → ValueOrError → ValueOrError
 equal_of = on_values (λ a b. Some (equal a b))
 
@@ -27,19 +27,19 @@ unequal_of = on_values (λ a b. Some (not (equal a b)))
 abbrev pub less_of : ValueOrError → ValueOrError → ValueOrError
 less_of = on_values less
 
--- `a <= b` where b is not below a
+-- x <= y: whether y < x is false (cel-spec, Ordering)
 abbrev pub less_equal_of : ValueOrError → ValueOrError → ValueOrError
 less_equal_of = on_values (λ a b. option_map not (less b a))
 
--- `a > b` where b is below a
+-- x > y: y < x (cel-spec, Ordering)
 abbrev pub greater_of : ValueOrError → ValueOrError → ValueOrError
 greater_of = on_values (λ a b. less b a)
 
--- `a >= b` where a is not below b
+-- x >= y: whether x < y is false (cel-spec, Ordering)
 abbrev pub greater_equal_of : ValueOrError → ValueOrError → ValueOrError
 greater_equal_of = on_values (λ a b. option_map not (less a b))
 
--- x in y: the list y has an item equal to x, or the map y the text x as a key; the error for all else (cel-spec, List
--- of Standard Definitions)
+-- x in y: the list y has an item equal to x, or the map y has the text x as a key; the error for all
+-- else (cel-spec, List of Standard Definitions)
 abbrev pub member_of : ValueOrError → ValueOrError → ValueOrError
 member_of = on_values member

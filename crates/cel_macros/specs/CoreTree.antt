@@ -1,4 +1,4 @@
--- Expressions with their macros expanded: a fold remembers its macro.
+-- Expressions with their macros expanded: each fold records its macro.
 use Rattle.std.specs.Prelude.{ℕ, Bool, true, false, List, Option, Some, None}
 use Rattle.cel_reader.specs.Tree as tree
 use Rattle.cel_reader.specs.Tree.{Tree, Trees, TreeEntries, no_trees, more_trees, no_entries, more_entries}
@@ -9,8 +9,9 @@ use Rattle.cel_macros.specs.Callee.{Callee, callee_name, callee_named}
 use Rattle.cel_macros.specs.Macros.{macro_name, macro_named, has_name, variables_name, is_map, is_has, is_variables, name_of, field_name}
 
 mutual
-  -- an expanded expression: as one in the source, but that `variables.v`, `has(e.f)` and the macros over a range are forms;
-  -- a fold's iteration name stands between its macro and its range, and fold_map has a predicate before its transform
+  -- an expanded expression: like one in the source, except that `variables.v`, `has(e.f)` and the macros
+  -- over a range are forms of their own; a fold has its iteration name between its macro and its range,
+  -- and fold_map has a predicate before its transform
   pub data Core : Type 0 where
     literal : tree.Literal → Core
     name : List ℕ → Core
@@ -28,18 +29,18 @@ mutual
     fold : Macro → List ℕ → Core → Core → Core
     fold_map : List ℕ → Core → Core → Core → Core
 
-  -- expanded expressions one after another: the arguments of a call, or the elements of a list
+  -- a sequence of expanded expressions: the arguments of a call, or the elements of a list
   pub data Cores : Type 0 where
     no_cores : Cores
     more_cores : Core → Cores → Cores
 
-  -- the entries of a map one after another, each an expanded expression for its key and one for its value
+  -- a sequence of map entries, each an expanded expression for the key and one for the value
   pub data CoreEntries : Type 0 where
     no_core_entries : CoreEntries
     more_core_entries : Core → Core → CoreEntries → CoreEntries
 
 unfoldable mutual
-  -- the expression in the source that an expanded one comes from
+  -- the source expression of an expanded one
   pub plain_tree : Core → Tree
   plain_tree (literal l) = tree.literal l
   plain_tree (name n) = tree.name n
@@ -59,46 +60,48 @@ unfoldable mutual
       tree.method (plain_tree r) (macro_name Map)
       (more_trees (tree.name n) (more_trees (plain_tree p) (more_trees (plain_tree t) no_trees)))
 
-  -- the same of each of the expressions
+  -- the source expressions of expanded ones
   pub plain_trees : Cores → Trees
   plain_trees no_cores = no_trees
   plain_trees (more_cores a more) = more_trees (plain_tree a) (plain_trees more)
 
-  -- the same of each key and of each value
+  -- the source entries of expanded ones
   pub plain_entries : CoreEntries → TreeEntries
   plain_entries no_core_entries = no_entries
   plain_entries (more_core_entries k v more) = more_entries (plain_tree k) (plain_tree v) (plain_entries more)
 
--- one argument alone
+-- a single argument
 abbrev pub one_core : Core → Cores
 one_core a = more_cores a no_cores
 
--- the field f of a, or the variable f where a is the name `variables`
+-- the field f of a, or the variable f if a is the name `variables`
 abbrev pub selection : Bool → List ℕ → Core → Core
 selection true f a = variable f
 selection false f a = select a f
 
--- a call of n with one argument a: `has(inner.f)` where n is `has` and a selects the field f of inner, and else a call
+-- a call of n with one argument a: `has(inner.f)` if n is `has` and a selects the field f of inner, else a call
 abbrev pub call_or_has : Bool → Option (List ℕ) → List ℕ → Core → Core → Core
 call_or_has true (Some f) n inner a = has inner f
 call_or_has true None n inner a = call (callee_named n) (one_core a)
 call_or_has false f n inner a = call (callee_named n) (one_core a)
 
--- a method n of a with the arguments x and p: the macro of that name over a, where there is one and x is a name i; else a call
+-- a method n of a with the arguments x and p: the macro of that name over a, if
+-- there is one and x is a name i; else a call
 abbrev pub method_or_fold : Option Macro → Option (List ℕ) → List ℕ → Core → Core → Core → Core
 method_or_fold (Some m) (Some i) n a x p = fold m i a p
 method_or_fold (Some m) None n a x p = method a (callee_named n) (more_cores x (one_core p))
 method_or_fold None i n a x p = method a (callee_named n) (more_cores x (one_core p))
 
--- a method n of a with three arguments: `map` over a with predicate p and transform t, where n is `map` and x is a name i; else a call
+-- a method n of a with three arguments: `map` over a with predicate p and transform t, if
+-- n is `map` and x is a name i; else a call
 abbrev pub method_or_fold_map : Bool → Option (List ℕ) → List ℕ → Core → Core → Core → Core → Core
 method_or_fold_map true (Some i) n a x p t = fold_map i a p t
 method_or_fold_map true None n a x p t = method a (callee_named n) (more_cores x (more_cores p (one_core t)))
 method_or_fold_map false i n a x p t = method a (callee_named n) (more_cores x (more_cores p (one_core t)))
 
 unfoldable mutual
-  -- an expression with its macros expanded: `variables.f`, `has(e.f)`, and a macro over a range with as many arguments
-  -- as it takes, the first a name, become forms of their own, and all else stays
+  -- an expression with its macros expanded: `variables.f`, `has(e.f)`, and a macro over a range with the number of
+  -- arguments that it takes, the first a name, become forms of their own; everything else is kept
   pub expanded : Tree → Core
   expanded (tree.literal l) = literal l
   expanded (tree.name n) = name n
@@ -123,7 +126,7 @@ unfoldable mutual
       method (expanded a) (callee_named n)
       (more_cores (expanded x) (more_cores (expanded p) (more_cores (expanded t) (more_cores (expanded u) (expanded_trees more)))))
 
-  -- of `e.f` the expanded e; of all else null, which nothing uses
+  -- the expanded e of `e.f`; null for anything else, which is not used
   pub expanded_operand : Tree → Core
   expanded_operand (tree.select a f) = expanded a
   expanded_operand _ = literal tree.null

@@ -1,4 +1,4 @@
--- Expanded expressions as plain data, without where they lie in memory.
+-- Expanded expressions as plain data, independent of their layout in memory.
 use Rattle.std.specs.Prelude.{List, [], ◌∷◌, string_bytes, box_value}
 use Rattle.cel_reader.specs.Tree.{literal_view}
 use Rattle.cel_macros.specs.Callee.{callee_view}
@@ -9,17 +9,17 @@ use Rattle.cel_macros.specs.declared.core_tree.Core.TheOpen.{Core-F}
 use Rattle.cel_macros.specs.declared.core_tree.Core.TheOpen as layer
 use Rattle.cel_macros.specs.declared.core_tree.Core.TheFolds.{fold-Core}
 
--- the same expressions from a list of them
+-- the expressions of a list
 abbrev pub cores : List Core → Cores
 cores [] = no_cores
 cores (a ∷ more) = more_cores a (cores more)
 
--- the same entries from a list of keys and values
+-- the entries of a list of keys and values
 abbrev pub core_entries : List (Core × Core) → CoreEntries
 core_entries [] = no_core_entries
 core_entries (e ∷ es) = more_core_entries e.0 e.1 (core_entries es)
 
--- one layer, with what its children are seen as
+-- one layer of an expression as plain data, from its converted children
 abbrev pub core_step : Core-F Core → Core
 core_step (layer.Literal l) = literal (literal_view l)
 core_step (layer.Name n) = name (string_bytes n)
@@ -37,6 +37,6 @@ core_step (layer.Map more) = map (core_entries more.items)
 core_step (layer.Fold m n r p) = fold m (string_bytes n) (box_value r) (box_value p)
 core_step (layer.FoldMap n r p t) = fold_map (string_bytes n) (box_value r) (box_value p) (box_value t)
 
--- the expression that the code's one stands for
+-- an expression of the code as plain data
 abbrev pub core_view : CodeCore → Core
 core_view = fold-Core Core core_step

@@ -1,4 +1,4 @@
--- What the code's expressions with parts in lists stand for.
+-- The plain data of the code's expressions whose parts are in lists.
 use Rattle.std.proofs.Common.{◌≡◌, map, sym, ap, ◌∙◌}
 use Rattle.std.specs.declared.alloc.Global.{Global}
 use Rattle.std.specs.declared.vec.Vec.{Vec}
@@ -13,21 +13,21 @@ use Rattle.cel_macros.specs.CoreTree.{Core}
 use Rattle.cel_macros.specs.CoreView.{core_view, core_step, cores, core_entries}
 use Rattle.cel_macros.specs.Expanding.{core_pair}
 
--- a call stands for the call with what its arguments stand for
+-- the plain data of a call, from that of its arguments
 pub view_call : (callee : Callee) (arguments : Vec CodeCore Global)
     → core_view (code.Call callee arguments) ≡ node.call (callee_view callee) (cores (map core_view arguments.items))
 view_call callee arguments = ap core_view (sym (rolls-Call callee arguments)) ∙ fold-roll-Core Core core_step _
 
--- and so does a method
+-- the plain data of a method, from that of its operand and its arguments
 pub view_method : (of : Box CodeCore Global) (callee : Callee) (arguments : Vec CodeCore Global)
     → core_view (code.Method of callee arguments)
     ≡ node.method (core_view of.value) (callee_view callee) (cores (map core_view arguments.items))
 view_method of callee arguments = ap core_view (sym (rolls-Method of callee arguments)) ∙ fold-roll-Core Core core_step _
 
--- a list stands for the list of what its elements stand for
+-- the plain data of a list, from that of its elements
 pub view_list : (items : Vec CodeCore Global) → core_view (code.List items) ≡ node.list (cores (map core_view items.items))
 view_list items = ap core_view (sym (rolls-List items)) ∙ fold-roll-Core Core core_step _
 
--- a map stands for the map of what its keys and values stand for
+-- the plain data of a map, from that of its keys and values
 pub view_map : (pairs : Vec (CodeCore × CodeCore) Global) → core_view (code.Map pairs) ≡ node.map (core_entries (map core_pair pairs.items))
 view_map pairs = ap core_view (sym (rolls-Map pairs)) ∙ fold-roll-Core Core core_step _

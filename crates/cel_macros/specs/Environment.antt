@@ -1,14 +1,14 @@
--- What the names of an expression stand for (cel-spec, Name Resolution).
+-- The values of an expression's names (cel-spec, Name Resolution).
 use Rattle.std.specs.Prelude.{ℕ, Bool, List, [], ◌∷◌, Option, Some, None, if◌then◌else◌, bytes_eq, codes}
 use Rattle.cel_reader.specs.Words.{is_one_of}
 use Rattle.value_store.specs.Value.{Value, ValueOrError, error, value}
 
--- what the first binding of a name gives, where there is one
+-- the value of a name by its first binding, if any
 abbrev pub lookup : {A : Type 0} → List ℕ → List (List ℕ × A) → Option A
 lookup n [] = None
 lookup n (b ∷ more) = if bytes_eq b.0 n then Some b.1 else lookup n more
 
--- the value, and the error where there is none
+-- the value, or the error if there is none
 abbrev pub value_or_error : Option Value → ValueOrError
 value_or_error (Some v) = value v
 value_or_error None = error
@@ -21,44 +21,44 @@ pub record Roots : Type 0 where
   pub namespace_object : Value
   pub request : Value
 
--- the names that stand for them (ValidatingAdmissionPolicy v1)
+-- the names of these documents in expressions (ValidatingAdmissionPolicy v1)
 abbrev pub root_names : List (List ℕ)
 root_names = codes "object" ∷ codes "oldObject" ∷ codes "params" ∷ codes "namespaceObject" ∷ codes "request" ∷ []
 
--- whether a name is one of them
+-- whether a name is one of the roots
 unfoldable pub is_root : List ℕ → Bool
 is_root n = is_one_of root_names n
 
--- these names, each with the document that it stands for
+-- the roots' names with their documents
 abbrev pub root_bindings : Roots → List (List ℕ × Value)
 root_bindings r =
     (codes "object", r.object) ∷ (codes "oldObject", r.old_object) ∷ (codes "params", r.params) ∷
     (codes "namespaceObject", r.namespace_object) ∷ (codes "request", r.request) ∷ []
 
--- the roots; the iteration names that are in force, the innermost first; and the variables, each a value or the error
+-- the roots, the iteration names in scope (innermost first), and the variables, each a value or the error
 pub record Environment : Type 0 where
   pub roots : Roots
   pub items : List (List ℕ × Value)
   pub variables : List (List ℕ × ValueOrError)
 
--- an iteration name hides a root, and an inner one hides an outer one
+-- an iteration name hides a root of the same name
 abbrev pub item_or_root : Option Value → Option Value → ValueOrError
 item_or_root (Some v) root = value v
 item_or_root None root = value_or_error root
 
--- what a name stands for: an item, else a root, else the error (cel-spec, Name Resolution)
+-- the value of a name: an item, else a root, else the error (cel-spec, Name Resolution)
 unfoldable pub name_value : List ℕ → Environment → ValueOrError
 name_value n env = item_or_root (lookup n env.items) (lookup n (root_bindings env.roots))
 
--- the result, and the error where there is none
+-- the result, or the error if there is none
 abbrev pub result_or_error : Option ValueOrError → ValueOrError
 result_or_error (Some x) = x
 result_or_error None = error
 
--- what `variables.n` stands for
+-- the result of `variables.n`
 unfoldable pub variable_value : List ℕ → List (List ℕ × ValueOrError) → ValueOrError
 variable_value n variables = result_or_error (lookup n variables)
 
--- the environment inside a macro, where its iteration name stands for an item
+-- the environment inside a macro, in which the iteration name denotes an item
 abbrev pub bind : List ℕ → Value → Environment → Environment
 bind n v env = record env { items = (n, v) ∷ env.items }

@@ -1,4 +1,4 @@
--- What expansion makes of a call and of a method once their parts are expanded.
+-- Expansion of calls and methods whose parts are expanded.
 use Rattle.std.specs.Prelude.{◌≡◌, ℕ, Bool, true, false, List, [], ◌∷◌, Option, Some, None}
 use Rattle.cel_macros.specs.Callee.{callee_named}
 use Rattle.cel_macros.specs.Macros.{macro_named, is_map, is_has, variables_name}
@@ -10,18 +10,18 @@ use Rattle.cel_macros.specs.CoreView.{cores, core_view}
 use Rattle.cel_macros.specs.CoreTree.{Core, Cores, no_cores, more_cores, name, variable, select, has, call, method, fold_map}
 use Rattle.cel_macros.specs.CoreTree.{one_core, expanded, method_or_fold, method_or_fold_map}
 
--- the name that an iteration name is
+-- the iteration name, if the expression is a name
 abbrev pub core_name : Core → Option (List ℕ)
 core_name (name n) = Some n
 core_name _ = None
 
--- what a selection is of, and its field
+-- the operand and the field, if the expression is a selection
 abbrev pub core_selection : Core → Option (Core × List ℕ)
 core_selection (select a f) = Some (a, f)
 core_selection (variable f) = Some (name variables_name, f)
 core_selection _ = None
 
--- a call of n with one argument a: `has` where n is that name and a selects a field, and else a call
+-- a call of n with one argument a: `has` if n is that name and a selects a field, else a call
 abbrev pub has_or_call : Bool → Option (Core × List ℕ) → List ℕ → Core → Core
 has_or_call true (Some s) n a = has s.0 s.1
 has_or_call true None n a = call (callee_named n) (one_core a)
@@ -33,25 +33,25 @@ call_with b n no_cores = call (callee_named n) no_cores
 call_with b n (more_cores a no_cores) = has_or_call b (core_selection a) n a
 call_with b n (more_cores a (more_cores d more)) = call (callee_named n) (more_cores a (more_cores d more))
 
--- what a call of n becomes, once its arguments are expanded
+-- the expansion of a call of n with expanded arguments
 abbrev pub call_of : List ℕ → Cores → Core
 call_of n arguments = call_with (is_has n) n arguments
 
--- what a method n of a becomes, once its arguments are expanded
+-- the expansion of a method n of a with expanded arguments
 abbrev pub method_of : Core → List ℕ → Cores → Core
 method_of a n (more_cores x (more_cores p no_cores)) = method_or_fold (macro_named n) (core_name x) n a x p
 method_of a n (more_cores x (more_cores p (more_cores t no_cores))) = method_or_fold_map (is_map n) (core_name x) n a x p t
 method_of a n arguments = method a (callee_named n) arguments
 
--- two arguments, the first a name
+-- the arguments are two, the first a name
 abbrev pub IsPair : List Core → Type 0
 IsPair items = (i : List ℕ) × (p : Core) × (items ≡ name i ∷ p ∷ [])
 
--- three arguments, the first a name
+-- the arguments are three, the first a name
 abbrev pub IsTriple : List Core → Type 0
 IsTriple items = (i : List ℕ) × (p : Core) × (t : Core) × (items ≡ name i ∷ p ∷ t ∷ [])
 
--- arguments with which every method stays a call
+-- with these arguments every method remains a call
 abbrev pub AreCallArguments : List Core → Type 0
 AreCallArguments items = (a : Core) (n : List ℕ) → method_of a n (cores items) ≡ method a (callee_named n) (cores items)
 
@@ -61,14 +61,14 @@ HasShape Pair items = IsPair items
 HasShape Triple items = IsTriple items
 HasShape Other items = AreCallArguments items
 
--- the core of `map` with these three arguments
+-- c is `map` of a with these three arguments
 abbrev pub IsFoldMap : Core → Core → List Core → Type 0
 IsFoldMap c a items = (i : List ℕ) × (p : Core) × (t : Core) × (items ≡ name i ∷ p ∷ t ∷ []) × (c ≡ fold_map i a p t)
 
--- what a key and its value stand for, once they are expanded
+-- an expanded key and its value as plain data
 abbrev pub core_pair : CodeCore × CodeCore → Core × Core
 core_pair e = (core_view e.0, core_view e.1)
 
--- what a key and its value become
+-- the expansions of a key and its value
 abbrev pub expanded_pair : Expr × Expr → Core × Core
 expanded_pair e = (expanded (view e.0), expanded (view e.1))

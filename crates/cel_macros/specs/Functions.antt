@@ -8,54 +8,54 @@ use Rattle.cel_macros.specs.Literals.{text_part}
 use Rattle.cel_macros.specs.declared.function.Function.{Function, TheVariants.Size, TheVariants.String, TheVariants.Dyn}
 use Rattle.cel_macros.specs.declared.text_test.TextTest.{TextTest, TheVariants.StartsWith, TheVariants.EndsWith, TheVariants.Contains}
 
--- how a function is written
+-- the name of a function
 abbrev pub function_name : Function → List ℕ
 function_name Size = codes "size"
 function_name String = codes "string"
 function_name Dyn = codes "dyn"
 
--- the function of a name, where there is one
+-- the function with this name, if any
 unfoldable pub function_named : List ℕ → Option Function
 function_named n = find (λ f. bytes_eq (function_name f) n) (Size ∷ String ∷ Dyn ∷ [])
 
--- the int that counts a text's code points, a list's items or a map's entries; the error for all else
+-- the number of a text's code points, a list's items or a map's entries; the error for all else
 abbrev pub size_of : ValueOrError → ValueOrError
 size_of (value (text s)) = value (int (pos (code_points_of s)))
 size_of (value (list is)) = value (int (pos (length (list_of is))))
 size_of (value (map es)) = value (int (pos (length (keys_of es))))
 size_of _ = error
 
--- an int in decimal digits, with `-` where it is negative; a text as it is; the error for all else
+-- an int in decimal digits, with `-` if it is negative; a text unchanged; the error for all else
 abbrev pub string_of : ValueOrError → ValueOrError
 string_of (value (int z)) = value (text (signed_decimal z))
 string_of (value (text s)) = value (text s)
 string_of _ = error
 
--- what a function makes of its operand: `dyn` leaves it; the error where there is no such function
+-- a function applied to its operand; `dyn` returns it unchanged; the error if there is no such function
 abbrev pub function_of : Option Function → ValueOrError → ValueOrError
 function_of (Some Size) x = size_of x
 function_of (Some String) x = string_of x
 function_of (Some Dyn) x = x
 function_of None x = error
 
--- of the functions of one operand only `size` is a method too
+-- a function called as a method, which only `size` may be; the error otherwise
 abbrev pub method_of : Option Function → ValueOrError → ValueOrError
 method_of (Some Size) x = size_of x
 method_of (Some String) x = error
 method_of (Some Dyn) x = error
 method_of None x = error
 
--- how a test of two texts is written
+-- the name of a test of two texts
 abbrev pub test_name : TextTest → List ℕ
 test_name StartsWith = codes "startsWith"
 test_name EndsWith = codes "endsWith"
 test_name Contains = codes "contains"
 
--- the test of a name, where there is one
+-- the test with this name, if any
 unfoldable pub test_named : List ℕ → Option TextTest
 test_named n = find (λ t. bytes_eq (test_name t) n) (StartsWith ∷ EndsWith ∷ Contains ∷ [])
 
--- the part stands at some place of the text
+-- whether the part occurs in the text
 abbrev pub contains : List ℕ → List ℕ → Bool
 contains [] part = starts_with nat_eq [] part
 contains (b ∷ bs) part = starts_with nat_eq (b ∷ bs) part || contains bs part
@@ -66,11 +66,11 @@ holds_of StartsWith a b = starts_with nat_eq a b
 holds_of EndsWith a b = ends_with nat_eq a b
 holds_of Contains a b = contains a b
 
--- what the test says of two texts; the error where there is no such test, or an operand is no text
+-- a test of two texts; the error if there is no such test, or an operand is not a text
 abbrev pub test_texts : Option TextTest → Option (List ℕ) → Option (List ℕ) → ValueOrError
 test_texts (Some t) (Some a) (Some b) = value (boolean (holds_of t a b))
 test_texts _ _ _ = error
 
--- what a test says of x, which stands before the dot, and of its argument y
+-- a test of x, the operand before the dot, with the argument y
 abbrev pub text_test_of : Option TextTest → ValueOrError → ValueOrError → ValueOrError
 text_test_of t x y = test_texts t (text_part x) (text_part y)

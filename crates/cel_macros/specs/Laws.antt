@@ -1,4 +1,4 @@
--- What is proved of the definitions.
+-- The laws proved of the definitions.
 use Rattle.std.specs.Prelude.{◌≡◌, true}
 use Rattle.cel_reader.specs.Tree.{Tree}
 use Rattle.value_store.specs.Value.{Value, ValueOrError}
@@ -8,11 +8,11 @@ use Rattle.cel_macros.specs.Meaning.{meaning}
 use Rattle.cel_macros.specs.CoreTree.{plain_tree, expanded}
 use Rattle.cel_macros.specs.FoldMeaning.{fold_meaning, step_of, is_settled}
 
--- expansion loses nothing of the tree, and folds from the left give the macros' meaning
+-- expansion keeps the tree, and left folds give the meaning of the macros
 pub record ExpansionKeepsMeaning : Type 0 where
   pub plain : (e : Tree) → plain_tree (expanded e) ≡ e
   pub means : (e : Tree) (env : Environment) → fold_meaning (expanded e) env ≡ meaning e env
 
--- an answer that no further item changes lets a loop end
+-- a settled result is not changed by further items, so that a loop may end there
 abbrev pub SettledStays : Type 0
 SettledStays = (m : Macro) (f : Value → ValueOrError) (acc : ValueOrError) (v : Value) → is_settled m acc ≡ true → step_of m f acc v ≡ acc

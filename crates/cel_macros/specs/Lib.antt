@@ -1,3 +1,4 @@
+-- Definitions of cel_macros: the list of their modules.
 pub mod Environment
 pub mod Logic
 pub mod Arithmetic

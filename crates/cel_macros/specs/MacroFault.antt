@@ -1,4 +1,4 @@
--- The first macro that is not well formed, a node before its parts, parts from left to right.
+-- The first invalid macro: a node before its parts, parts from left to right.
 use Rattle.std.specs.Prelude.{ℕ, Bool, true, false, ◌||◌, List, Option, Some, None, Result, Ok, Err, if◌then◌else◌, bytes_eq}
 use Rattle.cel_reader.specs.Tree as tree
 use Rattle.cel_reader.specs.Tree.{Tree, Trees, TreeEntries, no_trees, more_trees, no_entries, more_entries}
@@ -7,40 +7,39 @@ use Rattle.cel_macros.specs.Environment.{is_root}
 use Rattle.cel_macros.specs.declared.macros.Macro.{Macro, TheVariants.All, TheVariants.Exists, TheVariants.ExistsOne, TheVariants.Filter, TheVariants.Map}
 use Rattle.cel_macros.specs.Macros.{macro_named, is_has, variables_name, name_of, field_name}
 
--- what is wrong with a macro: how many arguments it has, its iteration name, or that the argument of `has` selects no
--- field
+-- the faults of a macro: the number of its arguments, its iteration name, or an
+-- argument of `has` that selects no field
 pub data MacroFault : Type 0 where
   ArgumentCount : MacroFault
   IterationName : MacroFault
   NoSelection : MacroFault
 
--- the first fault, where there is one, and else a later one
+-- the first fault if there is one, else a later one
 abbrev pub before : Option MacroFault → Option MacroFault → Option MacroFault
 before (Some y) later = Some y
 before None later = later
 
--- whether a name must not be an iteration name: it is a root's, or `variables`
+-- whether a name may not be an iteration name: it is a root, or `variables`
 abbrev pub is_taken : List ℕ → Bool
 is_taken n = is_root n || bytes_eq variables_name n
 
--- an iteration name has to be a name that is not taken
+-- the fault of an iteration name that is no name, or one that is taken
 abbrev pub name_fault : Option (List ℕ) → Option MacroFault
 name_fault (Some n) = if is_taken n then Some IterationName else None
 name_fault None = Some IterationName
 
--- the argument of `has` has to select a field
+-- the fault of an argument of `has` that selects no field
 abbrev pub selection_fault : Option (List ℕ) → Option MacroFault
 selection_fault (Some f) = None
 selection_fault None = Some NoSelection
 
--- what is wrong with a call, which has a fault only where its name is `has`: that takes one argument, which selects a
--- field
+-- the fault of a call, which can have one only if its name is `has`: that takes one argument, which selects a field
 abbrev pub has_fault : Bool → Trees → Option MacroFault
 has_fault false arguments = None
 has_fault true (more_trees a no_trees) = selection_fault (field_name a)
 has_fault true _ = Some ArgumentCount
 
--- what is wrong with a macro of three arguments: `map` alone takes a third, and its first is an iteration name
+-- the fault of a macro with three arguments: only `map` takes a third, and the first must be an iteration name
 abbrev pub three_fault : Macro → Option (List ℕ) → Option MacroFault
 three_fault Map n = name_fault n
 three_fault All n = Some ArgumentCount
@@ -48,8 +47,8 @@ three_fault Exists n = Some ArgumentCount
 three_fault ExistsOne n = Some ArgumentCount
 three_fault Filter n = Some ArgumentCount
 
--- what is wrong with a method, which has a fault only where its name is a macro's: that takes two arguments, or three,
--- the first of them an iteration name
+-- the fault of a method, which can have one only if its name is a macro's: that takes two or three
+-- arguments, the first of them an iteration name
 abbrev pub fold_fault : Option Macro → Trees → Option MacroFault
 fold_fault None arguments = None
 fold_fault (Some m) (more_trees x (more_trees p no_trees)) = name_fault (name_of x)
@@ -57,7 +56,7 @@ fold_fault (Some m) (more_trees x (more_trees p (more_trees t no_trees))) = thre
 fold_fault (Some m) _ = Some ArgumentCount
 
 unfoldable mutual
-  -- the fault of the first macro that is not well formed, a node before its parts, parts from left to right
+  -- the fault of the first invalid macro: a node before its parts, parts from left to right
   pub macro_fault : Tree → Option MacroFault
   macro_fault (tree.literal l) = None
   macro_fault (tree.name n) = None
@@ -81,13 +80,13 @@ unfoldable mutual
   entries_fault no_entries = None
   entries_fault (more_entries k v more) = before (macro_fault k) (before (macro_fault v) (entries_fault more))
 
--- the number that each is refused by
+-- the error of a fault
 abbrev pub fault_error : MacroFault → MacroError
 fault_error ArgumentCount = WrongArgumentCount
 fault_error IterationName = InvalidIterationName
 fault_error NoSelection = HasWithoutSelection
 
--- the answer to a test for faults
+-- the result of the check for faults
 abbrev pub refusal : Option MacroFault → Result (Unit {0}) MacroError
 refusal None = Ok tt
 refusal (Some fault) = Err (fault_error fault)

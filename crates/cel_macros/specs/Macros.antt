@@ -9,7 +9,7 @@ use Rattle.cel_macros.specs.declared.macros.Macro.{Macro, TheVariants.All, TheVa
 use Rattle.cel_macros.specs.Logic.{Truth, Yes, No, Other, truth}
 use Rattle.cel_macros.specs.Literals.{list_literal, list_or_error}
 
--- how a macro over a range is written
+-- the name of a macro over a range
 abbrev pub macro_name : Macro → List ℕ
 macro_name All = codes "all"
 macro_name Exists = codes "exists"
@@ -21,11 +21,11 @@ macro_name Map = codes "map"
 abbrev pub macros : List Macro
 macros = All ∷ Exists ∷ ExistsOne ∷ Filter ∷ Map ∷ []
 
--- the macro over a range of this name, where there is one
+-- the macro over a range with this name, if any
 unfoldable pub macro_named : List ℕ → Option Macro
 macro_named n = find (λ m. bytes_eq (macro_name m) n) macros
 
--- how the macro is written that asks for a field
+-- the name of the macro that tests for a field
 abbrev pub has_name : List ℕ
 has_name = codes "has"
 
@@ -33,7 +33,7 @@ has_name = codes "has"
 abbrev pub variables_name : List ℕ
 variables_name = codes "variables"
 
--- whether a name is `map`; its macro has a transform, with or without a predicate before it
+-- whether a name is `map`, the macro with a transform and optionally a predicate before it
 unfoldable pub is_map : List ℕ → Bool
 is_map n = bytes_eq (macro_name Map) n
 
@@ -41,12 +41,12 @@ is_map n = bytes_eq (macro_name Map) n
 unfoldable pub is_has : List ℕ → Bool
 is_has n = bytes_eq has_name n
 
--- the name, where the expression is one
+-- the name, if the expression is one
 abbrev pub name_of : Tree → Option (List ℕ)
 name_of (tree.name n) = Some n
 name_of _ = None
 
--- the field that the expression selects, where it selects one
+-- the field, if the expression selects one
 abbrev pub field_name : Tree → Option (List ℕ)
 field_name (tree.select a f) = Some f
 field_name _ = None
@@ -56,7 +56,7 @@ unfoldable pub is_variables : Tree → Bool
 is_variables (tree.name n) = bytes_eq variables_name n
 is_variables _ = false
 
--- what a macro goes over: the items of a list, the keys of a map in byte order; nothing for all else
+-- the range of a macro: the items of a list, or the keys of a map in byte order; None for all else
 abbrev pub range_of : ValueOrError → Option (List Value)
 range_of (value (list is)) = Some (list_of is)
 range_of (value (map es)) = Some (each text (keys_of es))
@@ -68,47 +68,47 @@ is_yes Yes = true
 is_yes No = false
 is_yes Other = false
 
--- whether it is false
+-- whether a truth is false
 abbrev pub is_no : Truth → Bool
 is_no Yes = false
 is_no No = true
 is_no Other = false
 
--- whether it is neither
+-- whether a truth is neither
 abbrev pub is_other : Truth → Bool
 is_other Yes = false
 is_other No = false
 is_other Other = true
 
--- one false decides, else all are to be true
+-- one false decides, else all must be true
 abbrev pub all_of : List Truth → ValueOrError
 all_of ts = if list_any is_no ts then value (boolean false) else (if list_all is_yes ts then value (boolean true) else error)
 
--- one true decides, else all are to be false
+-- one true decides, else all must be false
 abbrev pub exists_of : List Truth → ValueOrError
 exists_of ts = if list_any is_yes ts then value (boolean true) else (if list_all is_no ts then value (boolean false) else error)
 
--- whether exactly one is true; the error where one is neither true nor false: nothing is absorbed
+-- whether exactly one is true; the error if one is neither true nor false: no error is absorbed
 abbrev pub exists_one_of : List Truth → ValueOrError
 exists_one_of ts = if list_any is_other ts then error else value (boolean (nat_eq (count_by is_yes ts) 1))
 
--- the items for which the predicate is true; an error where it is neither true nor false for one
+-- the result for the items whose predicate is true; the error if a predicate is neither true nor false
 abbrev pub where_true : (Value → Truth) → (List Value → ValueOrError) → List Value → ValueOrError
 where_true p result items = if list_any (λ x. is_other (p x)) items then error else result (filter (λ x. is_yes (p x)) items)
 
--- the list of the items for which the predicate is true; the error where it is neither true nor false for one
+-- the list of the items whose predicate is true; the error if a predicate is neither true nor false
 abbrev pub filter_of : (Value → Truth) → List Value → ValueOrError
 filter_of p items = where_true p (λ kept. list_or_error (Some kept)) items
 
--- the list of what f makes of each item; the error where that is the error for one
+-- the list of f applied to each item; the error if one of these is the error
 abbrev pub map_of : (Value → ValueOrError) → List Value → ValueOrError
 map_of f items = list_literal (each f items)
 
--- the list of what f makes of each item for which the predicate is true; the error where either is wrong for one
+-- the list of f applied to each item whose predicate is true; the error if a predicate or a transform is invalid
 abbrev pub map_where_of : (Value → Truth) → (Value → ValueOrError) → List Value → ValueOrError
 map_where_of p f items = where_true p (map_of f) items
 
--- a macro whose part gives this for each item
+-- a macro over items, with f as predicate or transform
 abbrev pub macro_of : Macro → (Value → ValueOrError) → List Value → ValueOrError
 macro_of All f items = all_of (each (λ x. truth (f x)) items)
 macro_of Exists f items = exists_of (each (λ x. truth (f x)) items)
@@ -116,12 +116,12 @@ macro_of ExistsOne f items = exists_one_of (each (λ x. truth (f x)) items)
 macro_of Filter f items = filter_of (λ x. truth (f x)) items
 macro_of Map f items = map_of f items
 
--- a macro over a range with what stands for its name, its part at a name and an item
+-- a macro over a range, with its predicate or transform by iteration name and item; the error if a part is missing
 abbrev pub over_range : Option Macro → Option (List ℕ) → (List ℕ → Value → ValueOrError) → Option (List Value) → ValueOrError
 over_range (Some m) (Some n) f (Some items) = macro_of m (f n) items
 over_range _ _ f _ = error
 
--- `map` with a predicate and a transform
+-- `map` with a predicate and a transform over a range; the error if a part is missing
 abbrev pub map_over_range : Bool → Option (List ℕ) → (List ℕ → Value → ValueOrError) → (List ℕ → Value → ValueOrError) → Option (List Value)
     → ValueOrError
 map_over_range true (Some n) p f (Some items) = map_where_of (λ x. truth (p n x)) (f n) items

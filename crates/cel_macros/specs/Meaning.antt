@@ -1,4 +1,4 @@
--- What an expression means in an environment: a value or the error, by cases on its tree (cel-spec, Evaluation).
+-- The meaning of an expression in an environment: a value or the error, by cases on its tree (cel-spec, Evaluation).
 use Rattle.std.specs.Prelude.{ℕ, Bool, true, false, List, [], ◌∷◌, Option, Some, None}
 use Rattle.cel_reader.specs.Tree as tree
 use Rattle.cel_reader.specs.Tree.{Tree, Trees, TreeEntries, no_trees, more_trees, no_entries, more_entries}
@@ -17,12 +17,12 @@ use Rattle.cel_macros.specs.Functions.{function_named, function_of, method_of, t
 use Rattle.cel_macros.specs.declared.function.Function.{Function}
 use Rattle.cel_macros.specs.Macros.{macro_named, is_map, is_has, is_variables, name_of, field_name, range_of, over_range, map_over_range}
 
--- an operator before its operand
+-- the result of a unary operator
 abbrev pub unary_of : UnaryOperator → ValueOrError → ValueOrError
 unary_of unary.Not x = not_of x
 unary_of unary.Negate x = negation_of x
 
--- an operator between its operands
+-- the result of a binary operator
 abbrev pub binary_of : BinaryOperator → ValueOrError → ValueOrError → ValueOrError
 binary_of binary.Or x y = or_of x y
 binary_of binary.And x y = and_of x y
@@ -39,19 +39,19 @@ binary_of binary.Multiply x y = product_of x y
 binary_of binary.Divide x y = quotient_of x y
 binary_of binary.Remainder x y = remainder_of x y
 
--- `variables.f`, or a field of what stands before the dot
+-- `variables.f`, or the field f of the operand x
 abbrev pub selected : Bool → List ℕ → ValueOrError → Environment → ValueOrError
 selected true f x env = variable_value f env.variables
 selected false f x env = field_of x f
 
--- `has(e.f)`, where x is what e means, or a function of y
+-- `has(e.f)`, where x is the meaning of e, or a function of y
 abbrev pub called : Bool → Option (List ℕ) → Option Function → ValueOrError → ValueOrError → ValueOrError
 called true (Some f) g x y = has_of x f
 called true None g x y = function_of g y
 called false f g x y = function_of g y
 
 unfoldable mutual
-  -- what an expression means in an environment: a value or the error
+  -- the meaning of an expression in an environment: a value or the error
   pub meaning : Tree → Environment → ValueOrError
   meaning (tree.literal l) env = literal_of l
   meaning (tree.name n) env = name_value n env
@@ -73,17 +73,17 @@ unfoldable mutual
       map_over_range (is_map n) (name_of x) (λ i v. meaning p (bind i v env)) (λ i v. meaning t (bind i v env)) (range_of (meaning a env))
   meaning (tree.method a n _) env = error
 
-  -- of `e.f` what e means; of all else the error, which nothing uses
+  -- the meaning of e in `e.f`; the error for anything else, which is not used
   pub operand_meaning : Tree → Environment → ValueOrError
   operand_meaning (tree.select a f) env = meaning a env
   operand_meaning _ env = error
 
-  -- what each of the expressions means
+  -- the meaning of each of the expressions
   pub meanings : Trees → Environment → List ValueOrError
   meanings no_trees env = []
   meanings (more_trees a more) env = meaning a env ∷ meanings more env
 
-  -- what each key and each value means
+  -- the meaning of each key and each value
   pub entry_meanings : TreeEntries → Environment → List (ValueOrError × ValueOrError)
   entry_meanings no_entries env = []
   entry_meanings (more_entries k v more) env = (meaning k env, meaning v env) ∷ entry_meanings more env

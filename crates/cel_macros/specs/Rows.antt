@@ -1,4 +1,4 @@
--- The worked rows of each family.
+-- The cases worked out by hand, all families together.
 pub mod Logic
 pub mod Arithmetic
 pub mod Comparison
@@ -14,7 +14,7 @@ use Rattle.cel_macros.specs.Rows.Literals.{LiteralsRows}
 use Rattle.cel_macros.specs.Rows.Macro.{MacroRows}
 use Rattle.cel_macros.specs.Rows.MacroFault.{MacroFaultRows}
 
--- the rows of each family stand
+-- the cases of each family hold
 pub record MeaningRowsHold : Type 0 where
   pub logic : LogicRows
   pub arithmetic : ArithmeticRows

@@ -1,4 +1,4 @@
--- Where its names stand for values, what an expression means is a value or the error (cel-spec, Values).
+-- An expression over names that denote values means a value or the error (cel-spec, Values).
 use Rattle.std.specs.Prelude.{◌≡◌, ℤ, Some, ⊤, FitsSigned}
 use Rattle.std.specs.Int.{w64}
 use Rattle.std.specs.List.{AllByRecursion}
@@ -16,8 +16,8 @@ use Rattle.cel_macros.specs.declared.function.Function.{TheVariants.Size}
 use Rattle.cel_macros.specs.Meaning.{meaning}
 
 abbrev mutual
-  -- a value whose ints are as P says, whose texts are in UTF-8, and whose maps have texts as keys in byte order, each
-  -- once
+  -- a value whose ints satisfy P, whose texts are UTF-8, and whose maps have texts as
+  -- keys in byte order without duplicates
   pub IsValue : (ℤ → Type 0) → Value → Type 0
   IsValue P null = ⊤
   IsValue P (boolean b) = ⊤
@@ -31,7 +31,7 @@ abbrev mutual
   AreValues P no_items = ⊤
   AreValues P (item v more) = IsValue P v × AreValues P more
 
-  -- its keys are texts, and what stands at them are values
+  -- each key is a text, and each value is such a value
   pub AreEntryValues : (ℤ → Type 0) → Entries → Type 0
   AreEntryValues P no_entries = ⊤
   AreEntryValues P (entry k v more) = IsUtf8 k × IsValue P v × AreEntryValues P more
@@ -41,7 +41,7 @@ abbrev pub IsValueOrError : (ℤ → Type 0) → ValueOrError → Type 0
 IsValueOrError P error = ⊤
 IsValueOrError P (value v) = IsValue P v
 
--- the roots, what iteration names stand for, and the variables
+-- the roots, the items of iteration names and the variables are such values
 pub record NamesValues (P : ℤ → Type 0) (env : Environment) : Type 0 where
   pub object : IsValue P env.roots.object
   pub old_object : IsValue P env.roots.old_object
@@ -52,7 +52,7 @@ pub record NamesValues (P : ℤ → Type 0) (env : Environment) : Type 0 where
   pub variables : AllByRecursion (λ b. IsValueOrError P b.1) env.variables
 
 abbrev mutual
-  -- where a function or a method of the expression is `size`, this holds
+  -- this holds if a function or a method of the expression is `size`
   pub AtSize : Type 0 → Tree → Type 0
   AtSize P (tree.literal l) = ⊤
   AtSize P (tree.name n) = ⊤
@@ -66,26 +66,26 @@ abbrev mutual
   AtSize P (tree.list items) = AtSizes P items
   AtSize P (tree.map es) = AtEntrySizes P es
 
-  -- so it is in each of the expressions
+  -- this holds if one of the expressions uses `size`
   pub AtSizes : Type 0 → Trees → Type 0
   AtSizes P no_trees = ⊤
   AtSizes P (more_trees a more) = AtSize P a × AtSizes P more
 
-  -- and in each key and each value
+  -- this holds if a key or a value uses `size`
   pub AtEntrySizes : Type 0 → TreeEntries → Type 0
   AtEntrySizes P no_tree_entries = ⊤
   AtEntrySizes P (more_entries k v more) = AtSize P k × AtSize P v × AtEntrySizes P more
 
--- no function and no method of it is `size`
+-- no function and no method of the expression is `size`
 abbrev pub HasNoSize : Tree → Type 0
 HasNoSize e = AtSize ⊥ e
 
--- texts stay in UTF-8, and keys in order, each once
+-- texts stay UTF-8, and keys stay in order without duplicates
 abbrev pub TextsAndKeysStay : Type 0
 TextsAndKeysStay = (e : Tree) (env : Environment) → IsWellFormed e → NamesValues (λ z. ⊤) env → IsValueOrError (λ z. ⊤) (meaning e env)
 
--- and where no size is taken, ints stay in 64 bits signed: a text, a list or a map of 2^63 parts has a greater size,
--- and nothing bounds them here
+-- without `size`, ints also stay signed 64-bit integers: nothing here bounds the parts of a text, a list or
+-- a map, and 2^63 of them would have a greater size
 abbrev pub IntsStay : Type 0
 IntsStay = (e : Tree) (env : Environment) → IsWellFormed e → HasNoSize e → NamesValues (FitsSigned w64) env
     → IsValueOrError (FitsSigned w64) (meaning e env)

@@ -1,4 +1,4 @@
--- Short words for the values and environments of the worked rows.
+-- Short notation for the values and environments of the cases worked out by hand.
 use Rattle.std.specs.Prelude.{◌≡◌, ℕ, ℤ, pos, List, [], ◌∷◌, true, false, codes}
 use Prim.Native.String.{String}
 use Rattle.cel_reader.specs.Tree.{Tree}
@@ -19,15 +19,15 @@ is_true = value (boolean true)
 abbrev pub is_false : ValueOrError
 is_false = value (boolean false)
 
--- the result that is this int
+-- this int as a result
 abbrev pub number : ℤ → ValueOrError
 number z = value (int z)
 
--- the result that is this text
+-- this text as a result
 abbrev pub word : String → ValueOrError
 word s = value (text (codes s))
 
--- the result that is the list of these values
+-- the list of these values as a result
 abbrev pub list_value : List Value → ValueOrError
 list_value vs = value (list (items_of vs))
 
@@ -60,6 +60,6 @@ review = record {
   variables = (codes "one", value (int (pos 1))) ∷ (codes "wrong", error) ∷ [];
 }
 
--- what the expression means in that review
+-- the expression has this meaning in that review
 abbrev pub Means : Tree → ValueOrError → Type 0
 Means e v = meaning e review ≡ v

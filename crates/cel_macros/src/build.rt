@@ -1,4 +1,4 @@
-//! Expanded expressions from their parts.
+//! Builds expanded expressions from their parts.
 
 ghost use Rattle.std.specs.Prelude.{◌≡◌, IfOk, string_bytes};
 ghost use Rattle.std.specs.Prelude as list;

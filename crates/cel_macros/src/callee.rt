@@ -1,4 +1,4 @@
-//! What calls and methods name.
+//! The callees of calls and methods.
 
 ghost use Rattle.std.specs.Prelude.{◌≡◌, IfOk};
 ghost use Rattle.cel_macros.specs.Callee.{callee_named, callee_view};
@@ -7,17 +7,17 @@ use crate::function::Function;
 use crate::text_test::TextTest;
 use std::alloc::{AllocError, Global};
 
-/// What a call or a method names.
+/// The callee of a call or a method.
 #[derive(Debug, Drop)]
 pub enum Callee {
     Function(Function),
     Test(TextTest),
-    /// A name of neither, which no type allows.
+    /// A name that is neither, for which no types are valid.
     Unknown(String),
 }
 
 impl Callee {
-    /// What this name names.
+    /// The callee with this name.
     #[tactic(auto, unfolding(crate::specs::Callee::callee_named))]
     pub(crate) fn of_name(alloc: Global, name: &str) -> Result<Callee, AllocError>
         ensures { IfOk result (λ c. callee_view c ≡ callee_named name.now) }

@@ -1,10 +1,10 @@
-//! Expressions without macros.
+//! Expressions with their macros expanded.
 
 use crate::callee::Callee;
 use crate::macros::Macro;
 use cel_reader::{BinaryOperator, Literal, UnaryOperator};
 
-/// An expression whose macros are expanded: each fold remembers its macro.
+/// An expression whose macros are expanded. Each fold records its macro.
 #[derive(Debug, Drop)]
 pub enum Core {
     Literal(Literal),
@@ -23,7 +23,7 @@ pub enum Core {
     Method(Box<Core>, Callee, Vec<Core>),
     Unary(UnaryOperator, Box<Core>),
     Binary(BinaryOperator, Box<Core>, Box<Core>),
-    /// A condition, what stands where it is true, and what stands where it is false.
+    /// A condition, the value if it is true, and the value if it is false.
     Ternary(Box<Core>, Box<Core>, Box<Core>),
     List(Vec<Core>),
     /// Keys and their values.

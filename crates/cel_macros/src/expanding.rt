@@ -56,8 +56,7 @@ fn boxed_expansion(alloc: Global, e: &Expr) -> Result<Box<Core>, AllocError>
     Ok(Box::new(alloc, core)?)
 }
 
-/// The expression with its macros expanded. Its parts are boxed where they are made, so that the
-/// frames on the host's stack stay small.
+/// The expression with its macros expanded. Its parts are boxed where they are made, to keep the stack frames small.
 #[cycle(expansion)]
 #[tactic(auto, using(crate::proofs::PartsExpanded::call_expanded, crate::proofs::PartsExpanded::each_entry_expanded, crate::proofs::PartsExpanded::each_expanded, crate::proofs::PartsExpanded::method_expanded, crate::proofs::Views::view_call, crate::proofs::Views::view_list, crate::proofs::Views::view_map, crate::proofs::Views::view_method), unfolding(crate::specs::CoreTree::expanded))]
 fn expansion(alloc: Global, e: &Expr) -> Result<Core, AllocError>
@@ -113,14 +112,13 @@ fn expansion(alloc: Global, e: &Expr) -> Result<Core, AllocError>
     }
 }
 
-/// The expression with its macros expanded. Else the error says what is wrong with the first macro
-/// that is not well formed, a node before its parts, parts from left to right: `WrongArgumentCount`
-/// for another number of arguments, `InvalidIterationName` for what may not be an iteration name,
-/// `HasWithoutSelection` for `has` of what is no selection.
+/// The expression with its macros expanded (cel-spec, Macros). The error is that of the first invalid macro, a
+/// node before its parts, parts from left to right: `WrongArgumentCount` for a number of arguments that the
+/// macro does not take, `InvalidIterationName` for an iteration name that is not allowed, `HasWithoutSelection`
+/// for `has` of an argument that is not a selection.
 ///
-/// The host's stack holds one frame for each level of the tree. The limit of open brackets does not
-/// bound these levels, since operators nest without brackets; the number of tokens of a text,
-/// 4,096, does. (cel-spec, Macros)
+/// The recursion uses one stack frame for each level of the tree. The limit of open brackets does not bound the
+/// levels, since operators nest without brackets; the limit of 4,096 tokens does.
 #[tactic(auto, using(crate::proofs::Expansion::expansion_means, crate::proofs::Expansion::expansion_plain))]
 pub fn expand(alloc: Global, e: Expr) -> Result<Core, MacroError>
     ensures refused { IfSome (macro_fault (view e)) (λ fault. result ≡ list.Err (fault_error fault)) }

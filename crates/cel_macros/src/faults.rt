@@ -1,4 +1,4 @@
-//! Macros that are not well formed.
+//! Checks for invalid macros.
 
 ghost use Rattle.std.specs.Prelude.{◌≡◌};
 ghost use Rattle.std.specs.Prelude as list;
@@ -11,7 +11,7 @@ use crate::macros::Macro;
 use crate::names::{is_has, is_taken, macro_named};
 use cel_reader::Expr;
 
-/// Refuses what is no iteration name.
+/// Refuses anything that is not a valid iteration name.
 fn test_name(name: &Expr) -> Result<(), MacroError>
     ensures { result ≡ refusal (name_fault (specs.name_of (view name.now))) }
 {
@@ -26,7 +26,7 @@ fn test_name(name: &Expr) -> Result<(), MacroError>
     }
 }
 
-/// Refuses an argument of `has` that is no selection.
+/// Refuses an argument of `has` that is not a selection.
 fn test_selection(argument: &Expr) -> Result<(), MacroError>
     ensures { result ≡ refusal (selection_fault (specs.field_name (view argument.now))) }
 {
@@ -47,7 +47,7 @@ fn test_has(arguments: &[Expr]) -> Result<(), MacroError>
     }
 }
 
-/// Refuses three arguments, of which this is the first, but of `map`.
+/// Refuses three arguments, with `name` the first, for any macro but `map`.
 fn test_three(found: Macro, name: &Expr) -> Result<(), MacroError>
     ensures { result ≡ refusal (three_fault found (specs.name_of (view name.now))) }
 {
@@ -71,7 +71,7 @@ fn test_fold(found: Macro, arguments: &[Expr]) -> Result<(), MacroError>
     }
 }
 
-/// Refuses a call that is no well-formed `has`.
+/// Refuses a call of `has` that is invalid.
 fn test_call(name: &str, arguments: &[Expr]) -> Result<(), MacroError>
     ensures { result ≡ refusal (has_fault (specs.is_has name.now) (trees (list.map view arguments.now))) }
 {
@@ -81,7 +81,7 @@ fn test_call(name: &str, arguments: &[Expr]) -> Result<(), MacroError>
     Ok(())
 }
 
-/// Refuses a method that is a macro and not a well-formed one.
+/// Refuses a method that is an invalid macro.
 fn test_method(name: &str, arguments: &[Expr]) -> Result<(), MacroError>
     ensures { result ≡ refusal (fold_fault (specs.macro_named name.now) (trees (list.map view arguments.now))) }
 {
@@ -91,7 +91,7 @@ fn test_method(name: &str, arguments: &[Expr]) -> Result<(), MacroError>
     }
 }
 
-/// Refuses the first of these with a macro that is not well formed.
+/// Refuses the first invalid macro in these expressions.
 #[cycle(faults)]
 #[tactic(auto, unfolding(crate::specs::MacroFault::macro_fault))]
 fn test_list(items: &[Expr]) -> Result<(), MacroError>
@@ -103,7 +103,7 @@ fn test_list(items: &[Expr]) -> Result<(), MacroError>
     Ok(())
 }
 
-/// Refuses the first key or value with a macro that is not well formed.
+/// Refuses the first invalid macro in these keys and values.
 #[cycle(faults)]
 #[tactic(auto, unfolding(crate::specs::MacroFault::macro_fault))]
 fn test_entries(pairs: &[(Expr, Expr)]) -> Result<(), MacroError>
@@ -116,8 +116,7 @@ fn test_entries(pairs: &[(Expr, Expr)]) -> Result<(), MacroError>
     Ok(())
 }
 
-/// Refuses the first macro that is not well formed: a node before its parts, parts from left to
-/// right.
+/// Refuses the first invalid macro: a node before its parts, parts from left to right.
 #[cycle(faults)]
 #[tactic(auto, unfolding(crate::specs::MacroFault::macro_fault))]
 pub(crate) fn test(e: &Expr) -> Result<(), MacroError>

@@ -1,4 +1,4 @@
-//! Macros from calls and methods whose parts are expanded.
+//! Builds macros from calls and methods whose parts are expanded.
 
 ghost use Rattle.std.specs.Prelude.{◌≡◌, IfOk, [], ◌∷◌, length, string_bytes};
 ghost use Rattle.std.specs.Prelude as list;
@@ -12,7 +12,7 @@ use crate::names::{VARIABLES, is_has, is_map, macro_named};
 use crate::shape::Shape;
 use std::alloc::{AllocError, Global};
 
-/// The call of `has`, which is the macro where its argument is a selection.
+/// The call of `has`, which is the macro if its argument is a selection.
 fn has_of(alloc: Global, name: &str, argument: Core) -> Result<Core, AllocError>
     ensures { IfOk result (λ c. core_view c ≡ has_or_call list.true (core_selection (core_view argument)) name.now (core_view argument)) }
 {
@@ -61,7 +61,7 @@ fn is_name(core: &Core) -> bool
     matches!(core, Core::Name(_))
 }
 
-/// The shape of arguments.
+/// The shape of the arguments.
 #[tactic(auto, using(crate::proofs::PartsExpanded::other_few, crate::proofs::PartsExpanded::other_many, crate::proofs::PartsExpanded::pair_shape, crate::proofs::PartsExpanded::triple_shape))]
 fn shape(arguments: &[Core]) -> Shape
     ensures { HasShape result (list.map core_view arguments.now) }
@@ -96,7 +96,7 @@ fn pair_parts(mut arguments: Vec<Core>) -> (String, Core)
     }
 }
 
-/// The macro of two arguments, or the method.
+/// The macro with two arguments, or the method.
 fn pair(alloc: Global, of: Box<Core>, name: &str, arguments: Vec<Core>) -> Result<Core, AllocError>
     requires { IsPair (list.map core_view arguments.items) }
     ensures { IfOk result (λ c. core_view c ≡ method_of (core_view of.value) name.now (cores (list.map core_view arguments.items))) }
@@ -110,7 +110,7 @@ fn pair(alloc: Global, of: Box<Core>, name: &str, arguments: Vec<Core>) -> Resul
     }
 }
 
-/// The macro `map` of three arguments.
+/// The macro `map` with three arguments.
 fn fold_map(alloc: Global, of: Box<Core>, mut arguments: Vec<Core>) -> Result<Core, AllocError>
     requires { IsTriple (list.map core_view arguments.items) }
     ensures { IfOk result (λ c. IsFoldMap (core_view c) (core_view of.value) (list.map core_view arguments.items)) }
@@ -124,7 +124,7 @@ fn fold_map(alloc: Global, of: Box<Core>, mut arguments: Vec<Core>) -> Result<Co
     }
 }
 
-/// The macro `map` of three arguments, or the method.
+/// The macro `map` with three arguments, or the method.
 fn triple(
     alloc: Global,
     of: Box<Core>,

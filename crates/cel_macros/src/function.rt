@@ -3,12 +3,12 @@
 ghost use Rattle.std.specs.Prelude.{◌≡◌};
 ghost use Rattle.cel_macros.specs.Functions.{function_named};
 
-/// A function of one operand. (cel-spec, List of Standard Definitions)
+/// A function of one operand (cel-spec, List of Standard Definitions).
 #[derive(Clone, Copy, Debug, PartialEq, Eq)]
 pub enum Function {
     /// The number of code points, items or entries.
     Size,
-    /// An int or a text as a text.
+    /// An int or a text, converted to a text.
     String,
     /// The operand itself, of type `dyn`.
     Dyn,

@@ -4,24 +4,24 @@ ghost use Rattle.cel_macros.specs.Rows.{MeaningRowsHold};
 ghost use Rattle.cel_macros.specs.Laws.{ExpansionKeepsMeaning, SettledStays};
 ghost use Rattle.cel_macros.specs.Values.{IntsStay, TextsAndKeysStay};
 
-/// Expressions that were worked by hand from cel-spec have the meanings that it gives them.
+/// The meanings of expressions that were worked out by hand from cel-spec.
 pub fn rows_stand()
     ensures { MeaningRowsHold }
 {}
 
-/// An expanded tree is the plain one again, and its folds give the plain one's meaning.
+/// Expansion keeps the source tree, and the folds of an expanded tree have the meaning of its macros.
 #[tactic(auto, using(crate::proofs::Expansion::expansion_means, crate::proofs::Expansion::expansion_plain))]
 pub fn expands()
     ensures { ExpansionKeepsMeaning }
 {}
 
-/// A fold's answer that is settled stays, so that a loop may end there.
+/// A settled result of a fold is not changed by further items, so that a loop may end there.
 pub fn settled_stays()
     ensures { SettledStays }
 {}
 
-/// In an environment of values a well-formed expression means a value or the error: its texts are
-/// in UTF-8, its keys in order, each once, and without `size` its ints have 64 bits.
+/// In an environment of values a well-formed expression means a value or the error: its texts are UTF-8, its keys are
+/// in order without duplicates, and without `size` its ints are signed 64-bit integers.
 #[tactic(auto, using(crate::proofs::StaysValue::ints_stay, crate::proofs::StaysValue::texts_stay))]
 pub fn values_stay()
     ensures texts { TextsAndKeysStay }

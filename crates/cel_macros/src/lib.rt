@@ -1,4 +1,4 @@
-//! CEL's macros as folds, and what expressions mean with and without them.
+//! CEL's macros as folds, and the meaning of expressions with and without macros.
 #![tactic(auto)]
 
 mod build;

@@ -6,7 +6,7 @@ ghost use Rattle.cel_macros.specs.declared.macro_error.MacroError.TheVariants.{M
 use std::alloc::AllocError;
 use thiserror::Error;
 
-/// Why an expression is not expanded.
+/// Why an expression cannot be expanded.
 #[derive(Clone, Copy, Debug, PartialEq, Eq, Error)]
 pub enum MacroError {
     /// A macro has a number of arguments that it does not take.
@@ -15,7 +15,7 @@ pub enum MacroError {
     /// An iteration name is not a plain identifier, or it is the name of a root or `variables`.
     #[error("an iteration name is no plain identifier, a root's name or `variables`")]
     InvalidIterationName,
-    /// The argument of `has` is not the selection of a field.
+    /// The argument of `has` does not select a field.
     #[error("the argument of `has` selects no field")]
     HasWithoutSelection,
     /// An allocation failed.

@@ -1,6 +1,6 @@
 //! Macros over a range.
 
-/// A macro of a range, an iteration name and a predicate or transform. (cel-spec, Macros)
+/// A macro with a range, an iteration name and a predicate or transform (cel-spec, Macros).
 #[derive(Clone, Copy, Debug, PartialEq, Eq)]
 pub enum Macro {
     /// Whether a predicate holds for all items.
@@ -11,6 +11,6 @@ pub enum Macro {
     ExistsOne,
     /// The items for which a predicate holds.
     Filter,
-    /// What a transform gives of each item.
+    /// The transform of each item.
     Map,
 }

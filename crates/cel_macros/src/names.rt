@@ -1,4 +1,4 @@
-//! The names that macros go by.
+//! The names of macros and of roots.
 
 ghost use Rattle.std.specs.Prelude.{◌≡◌};
 ghost use Rattle.cel_reader.specs.Tree.{view};
@@ -12,7 +12,7 @@ use cel_reader::Expr;
 /// The name before the dot of a variable.
 pub(crate) const VARIABLES: &str = "variables";
 
-/// The macro that a method of this name is.
+/// The macro with this method name.
 #[tactic(auto, unfolding(crate::specs::Macros::macro_named))]
 pub(crate) fn macro_named(name: &str) -> Option<Macro>
     ensures { result ≡ specs.macro_named name.now }
@@ -27,7 +27,7 @@ pub(crate) fn macro_named(name: &str) -> Option<Macro>
     }
 }
 
-/// Whether a function of this name is the macro `has`.
+/// Whether this function name is that of the macro `has`.
 #[tactic(auto, unfolding(crate::specs::Macros::is_has))]
 pub(crate) fn is_has(name: &str) -> bool
     ensures { result ≡ specs.is_has name.now }
@@ -35,7 +35,7 @@ pub(crate) fn is_has(name: &str) -> bool
     "has" == name
 }
 
-/// Whether a method of this name is the macro `map`.
+/// Whether this method name is that of the macro `map`.
 #[tactic(auto, unfolding(crate::specs::Macros::is_map))]
 pub(crate) fn is_map(name: &str) -> bool
     ensures { result ≡ specs.is_map name.now }
@@ -54,7 +54,7 @@ pub(crate) fn is_variables(e: &Expr) -> bool
     }
 }
 
-/// Whether the name is a root's.
+/// Whether the name is that of a root.
 #[tactic(auto, unfolding(crate::specs::Environment::is_root))]
 fn is_root(name: &str) -> bool
     ensures { result ≡ environment.is_root name.now }
@@ -66,7 +66,7 @@ fn is_root(name: &str) -> bool
         || name == "request"
 }
 
-/// Whether an iteration may not have this name.
+/// Whether the name may not be an iteration name.
 pub(crate) fn is_taken(name: &str) -> bool
     ensures { result ≡ is_taken name.now }
 {

@@ -1,11 +1,11 @@
-//! The shapes of arguments that macros go by.
+//! The shapes of arguments by which macros are recognized.
 
 /// The shape of a method's arguments.
 #[derive(Clone, Copy, Debug, PartialEq, Eq)]
 pub(crate) enum Shape {
-    /// A name and one more.
+    /// A name and one more argument.
     Pair,
-    /// A name and two more.
+    /// A name and two more arguments.
     Triple,
     /// Any other arguments.
     Other,

@@ -1,4 +1,4 @@
--- Arithmetic on ints, and joining, worked by hand.
+-- Arithmetic on ints, and concatenation, worked out by hand.
 use Rattle.std.specs.Prelude.{pos, negsuc, [], ◌∷◌}
 use Rattle.cel_reader.specs.Tree.{unary, binary}
 use Rattle.cel_reader.specs.declared.operator.BinaryOperator.TheVariants.{Add, Subtract, Multiply, Divide, Remainder}
@@ -7,7 +7,7 @@ use Rattle.value_store.specs.Value.{int, error}
 use Rattle.cel_reader.specs.Written.{num, neg, str, list_literal}
 use Rattle.cel_macros.specs.Written.{number, word, list_value, Means}
 
--- what expressions with operators on ints, and joining ones, mean in the review of the rows
+-- meanings of expressions with arithmetic operators and concatenation, in the review of `Written`
 pub record ArithmeticRows : Type 0 where
   -- 2 + 3
   pub sum : Means (binary Add (num 2) (num 3)) (number (pos 5))

@@ -1,4 +1,4 @@
--- Equality, order and membership, worked by hand.
+-- Equality, order and membership, worked out by hand.
 use Rattle.std.specs.Prelude.{[], ◌∷◌}
 use Rattle.cel_reader.specs.Tree.{binary}
 use Rattle.cel_reader.specs.declared.operator.BinaryOperator.TheVariants.{Less, LessEqual, GreaterEqual, Greater, Equal, NotEqual, In}
@@ -7,7 +7,7 @@ use Rattle.value_store.specs.Value.{error}
 use Rattle.cel_reader.specs.Written.{num, neg, str, bytes, yes, no, nothing, list_literal, map_literal}
 use Rattle.cel_macros.specs.Written.{is_true, is_false, Means}
 
--- what comparisons and tests for membership mean in the review of the rows
+-- meanings of comparisons and membership tests, in the review of `Written`
 pub record ComparisonRows : Type 0 where
   -- 1 == 'a'
   pub kinds_unequal : Means (binary Equal (num 1) (str "a")) is_false

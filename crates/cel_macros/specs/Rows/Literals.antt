@@ -1,4 +1,4 @@
--- Literals, functions and methods, worked by hand.
+-- Literals, functions and methods, worked out by hand.
 use Rattle.std.specs.Prelude.{pos, [], ◌∷◌}
 use Rattle.cel_reader.specs.Tree.{binary}
 use Rattle.cel_reader.specs.declared.operator.BinaryOperator.TheVariants.{And, Equal, Divide}
@@ -6,7 +6,7 @@ use Rattle.value_store.specs.Value.{int, list, no_items, item, error}
 use Rattle.cel_reader.specs.Written.{num, neg, str, bytes, yes, nothing, dot, call, method, list_literal, map_literal}
 use Rattle.cel_macros.specs.Written.{is_true, is_false, number, word, list_value, Means}
 
--- what literals, functions and methods mean in the review of the rows
+-- meanings of literals, functions and methods, in the review of `Written`
 pub record LiteralsRows : Type 0 where
   -- [1, 1/0]
   pub list_with_error : Means (list_literal ((num 1) ∷ (binary Divide (num 1) (num 0)) ∷ [])) error

@@ -1,4 +1,4 @@
--- Logical operators and the conditional, worked by hand.
+-- Logical operators and the conditional, worked out by hand.
 use Rattle.cel_reader.specs.Tree.{unary, binary, ternary}
 use Rattle.cel_reader.specs.declared.operator.BinaryOperator.TheVariants.{Or, And, Equal, Divide}
 use Rattle.cel_reader.specs.declared.operator.UnaryOperator.TheVariants.{Not}
@@ -7,7 +7,7 @@ use Rattle.std.specs.Prelude.{pos}
 use Rattle.cel_reader.specs.Written.{num, yes, no}
 use Rattle.cel_macros.specs.Written.{is_true, is_false, number, Means}
 
--- what logical operators and conditionals mean in the review of the rows
+-- meanings of logical operators and conditionals, in the review of `Written`
 pub record LogicRows : Type 0 where
   -- 1/0 == 1 || true
   pub or_absorbs_left : Means (binary Or (binary Equal (binary Divide (num 1) (num 0)) (num 1)) yes) is_true

@@ -1,4 +1,4 @@
--- Macros, worked by hand.
+-- Macros, worked out by hand.
 use Rattle.std.specs.Prelude.{[], ◌∷◌}
 use Rattle.cel_reader.specs.Tree.{binary, ternary}
 use Rattle.cel_reader.specs.declared.operator.BinaryOperator.TheVariants.{And, Greater, Equal, Add, Divide, Remainder}
@@ -6,7 +6,7 @@ use Rattle.value_store.specs.Value.{error}
 use Rattle.cel_reader.specs.Written.{num, str, yes, no, name, dot, call, method, list_literal, map_literal}
 use Rattle.cel_macros.specs.Written.{is_true, is_false, Means}
 
--- what macros over lists and maps mean in the review of the rows
+-- meanings of macros over lists and maps, in the review of `Written`
 pub record MacroRows : Type 0 where
   -- [0,2].exists(x, 4/x == 2)
   pub exists_absorbs : Means

@@ -1,4 +1,4 @@
--- Macros that are refused, worked by hand.
+-- Invalid macros, worked out by hand.
 use Rattle.std.specs.Prelude.{◌≡◌, [], ◌∷◌, Some, None}
 use Rattle.cel_reader.specs.Tree.{Tree, index, unary, binary, ternary}
 use Rattle.cel_reader.specs.declared.operator.BinaryOperator.TheVariants.{Add}

@@ -1,4 +1,4 @@
--- Names, fields and indices, worked by hand.
+-- Names, fields and indices, worked out by hand.
 use Rattle.std.specs.Prelude.{pos, [], ◌∷◌}
 use Rattle.cel_reader.specs.Tree.{index, binary}
 use Rattle.cel_reader.specs.declared.operator.BinaryOperator.TheVariants.{Or, And, LessEqual, Equal, Add}
@@ -6,7 +6,7 @@ use Rattle.value_store.specs.Value.{error}
 use Rattle.cel_reader.specs.Written.{num, neg, str, yes, nothing, name, dot, call, list_literal, map_literal}
 use Rattle.cel_macros.specs.Written.{variable, is_true, is_false, number, word, Means}
 
--- what names, fields and indices mean in the review of the rows
+-- meanings of names, fields and indices, in the review of `Written`
 pub record SelectionRows : Type 0 where
   -- object.spec.on && true
   pub stored_true : Means (binary And (dot (dot (name "object") "spec") "on") yes) is_true

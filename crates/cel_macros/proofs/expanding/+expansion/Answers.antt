@@ -1,3 +1,4 @@
+-- Proof obligations of the functions of the cycle `expansion` (src/expanding.rt).
 use Rattle.cel_macros.proofs.Prelude.{◌≡◌, map, string_bytes, ap, sym, ◌∙◌, IfOk-weaker, AllocError, view, trees, CodeCore, expanded, core_view, cores, call_of}
 use Rattle.cel_macros.specs.CoreTree as node
 use Rattle.cel_macros.proofs.PartsExpanded.{call_expanded, each_expanded}

@@ -1,3 +1,4 @@
+-- Loop invariants of the functions of the cycle `expansion` (src/expanding.rt).
 use Rattle.cel_macros.proofs.Prelude.{◌≡◌, take, view, expanded, core_view, core_pair, expanded_pair}
 use Rattle.std.specs.Prelude as list
 use Rattle.cel_macros.proofs.expanding.+expansion.Given as goal

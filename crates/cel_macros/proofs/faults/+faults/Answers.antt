@@ -1,3 +1,4 @@
+-- Proof obligations of the functions of the cycle `faults` (src/faults.rt).
 use Rattle.cel_macros.proofs.Prelude.{ap, sym, ◌∙◌, map, view, trees, macro_named, before, macro_fault, trees_fault, fold_fault, refusal}
 use Rattle.cel_macros.proofs.Arguments.{then_tested}
 use Rattle.cel_macros.proofs.Views.{view_method}

@@ -1,3 +1,4 @@
+-- Loop invariants of the functions of the cycle `faults` (src/faults.rt).
 use Rattle.cel_macros.proofs.Prelude.{◌≡◌, drop, view, trees, entries, trees_fault, entries_fault}
 use Rattle.std.specs.Prelude as list
 use Rattle.cel_macros.proofs.faults.+faults.Given as goal

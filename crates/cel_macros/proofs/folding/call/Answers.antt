@@ -1,3 +1,4 @@
+-- Proof obligations of `call` (src/folding.rt).
 use Rattle.cel_macros.proofs.Prelude.{◌≡◌, arith, sym, ◌∙◌, map, IfOk-weaker, AllocError, CodeCore, callee_named, is_has, call, core_view, cores, call_of}
 use Rattle.cel_macros.proofs.PartsExpanded.{call_of_many}
 use Rattle.cel_macros.proofs.folding.call.Goals as goal
