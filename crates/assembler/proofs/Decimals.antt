@@ -1,4 +1,4 @@
--- Digits that are read are those of their number.
+-- Digits that are read are the digits of their number.
 use Rattle.assembler.proofs.Prelude.{◌≡◌, ◌≢◌, ◌+◌, ◌*◌, ◌<◌, ℕ, List, [], ◌∷◌, ◌++◌, true, get_or, map, refl, sym, ap, ◌∙◌, arith, append_assoc, digits_of_step, all_below_base_digits_of, all_below_base_from_digits, digits_value_is, first_digits_of, number_after_ge, number_push, and_parts, false≢true, nat_tests, digit_value_digit, IsNumeralModel, digit_from_value, numerals_by_value, tells_all_ascii_digits, nat_eq, not, digit_value, AllBelowBase, digits_of, number_from_digits, all_ascii_digits, AllDigits, digits_value, decimal, bytes_digits, decimal_some, is_positive}
 use mathlib.Core.List.{append-nil}
 
@@ -7,7 +7,7 @@ one_more : (front : List ℕ) (d n : ℕ) → d < 10 → n ≡ number_from_digit
     → digits_of 10 (number_from_digits 10 (front ++ d ∷ [])) ≡ front ++ d ∷ []
 one_more front d n low e again some = grind (arith, number_push, digits_of_step)
 
--- digits with no zero before them are those of their number
+-- digits without leading zeros are the digits of their number
 goes_on : (rest front : List ℕ) → digits_of 10 (number_from_digits 10 front) ≡ front → 0 < number_from_digits 10 front → AllBelowBase 10 rest
     → digits_of 10 (number_from_digits 10 (front ++ rest)) ≡ front ++ rest
 goes_on [] front again some low = rw append-nil again
@@ -37,7 +37,7 @@ bytes_again (c ∷ cs) d =
     let h : 48 + digit_value c ≡ c = omega arith in
     (λ i. h i ∷ bytes_again cs d.1 i)
 
--- a list of digits that begins with no zero
+-- a list of digits that does not begin with zero
 led : (ds : List ℕ) → AllBelowBase 10 ds → 0 < get_or ds 0 0 → is_positive (map (λ d. 48 + d) ds) ≡ true
 led [] low some = absurd (omega arith)
 led (d ∷ ds) low some = grind (arith, own, bytes_digits, nat_tests)

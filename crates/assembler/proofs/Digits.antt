@@ -17,7 +17,7 @@ digit_again c e = (grind (arith, nat_tests), grind (arith, nat_tests))
 digit_is : (d : ℕ) → d < 16 → (is_hex_digit (hex_digit d) ≡ true) × (digit_value (hex_digit d) ≡ d)
 digit_is d low = (grind (arith, nat_tests), grind (arith, nat_tests))
 
--- hex digits are those of their number
+-- hex digits are the digits of their number
 
 one_more : (front : List ℕ) (c n : ℕ) → is_hex_digit c ≡ true → n ≡ digits_value 16 front → hex_digits (length front) n ≡ front
     → hex_digits (length (front ++ c ∷ [])) (digits_value 16 (front ++ c ∷ [])) ≡ front ++ c ∷ []
@@ -50,7 +50,7 @@ pub all_digits : (ds : List ℕ) → all_hex_digits ds ≡ true → AllDigits 16
 all_digits [] e = tt
 all_digits (c ∷ ds) e = let t = and_parts (is_hex_digit c) (all_hex_digits ds) e in ((digit_again c t.0).0, all_digits ds t.1)
 
--- and numbers those of their digits
+-- a number is that of its digits
 
 all_push : (ds : List ℕ) (c : ℕ) → all_hex_digits ds ≡ true → is_hex_digit c ≡ true → all_hex_digits (ds ++ c ∷ []) ≡ true
 all_push [] c e f = rw f refl
@@ -73,7 +73,7 @@ hex_value (suc k) n low =
 pub hex_injective : (k m n : ℕ) → m < 16 ^ k → n < 16 ^ k → hex_digits k m ≡ hex_digits k n → m ≡ n
 hex_injective k m n l h e = sym (hex_value k m l) ∙ ap (digits_value 16) e ∙ hex_value k n h
 
--- a word's text
+-- the text of a word
 
 pub same_digits : (text ds hs : List ℕ) → text ≡ 48 ∷ 120 ∷ ds → text ≡ 48 ∷ 120 ∷ hs → ds ≡ hs
 same_digits text ds hs e f = let h : 48 ∷ 120 ∷ ds ≡ 48 ∷ 120 ∷ hs = sym e ∙ f in append_cancel_left (48 ∷ 120 ∷ []) ds hs h

@@ -1,4 +1,4 @@
--- Texts that are joined from two, and what a word is not.
+-- Concatenations of two texts, and texts that are not words.
 use Rattle.assembler.proofs.Prelude.{◌≡◌, true, false, arith, ◌≢◌, ℕ, List, [], ◌∷◌, ◌++◌, Bool, length, refl, sym, ap, ◌∙◌, length-append, codes, false≢true, bytes_eq-Decides, bytes_eq, alu_text, atomic_text, comparison_text, mnemonic_text, width_text, AluOp, AtomicOp, Comparison, Width, IsAtomic, IsOfWidth, Mnemonic, Alu, Neg, Branch}
 
 pub either : {P : Type 0} (b : Bool) → (b ≡ true → P) → (b ≡ false → P) → P
@@ -10,7 +10,7 @@ tails x y xs ys e = cc
 pub heads : (x y : ℕ) (xs ys : List ℕ) → x ∷ xs ≡ y ∷ ys → x ≡ y
 heads x y xs ys e = cc
 
--- two texts that are equal have equal fronts where their ends are of one length
+-- two equal texts with ends of the same length have equal fronts
 pub same_fronts : (xs ys a b : List ℕ) → length a ≡ length b → xs ++ a ≡ ys ++ b → xs ≡ ys
 same_fronts [] [] a b l e = refl
 same_fronts [] (y ∷ ys) a b l e = absurd (omega (arith, ap length e, length-append ys b))

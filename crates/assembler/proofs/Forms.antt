@@ -4,7 +4,7 @@ use Rattle.assembler.proofs.Ends.{either}
 use mir.Syntax.{Width}
 use Rattle.assembler.proofs.Decimals.{decimal_again, positive_decimal}
 
--- what has the form is a number's text
+-- a text of this form is a number's text
 
 positive_said : (cs : List ℕ) → is_positive cs ≡ true → (n : ℕ) × (cs ≡ decimal (suc n))
 positive_said cs e =
@@ -60,7 +60,7 @@ no_offset cs f z e = false≢true (sym f ∙ ap is_offset e ∙ (grind (arith, d
 some : (n : ℕ) → 0 < length (decimal n)
 some n = either_empty (decimal n) (decimal_form n)
 
--- what `parse` gives at a number's text
+-- the result of `parse` for a number's text
 
 convert : {E : Type 0} (r : Result ℤ E) (P Q : Type 0) (x y : ℤ) → (P → Q) → (Q → P) → x ≡ y → OkIff r P x → OkIff r Q y
 convert h0 h1 h2 x y f g e h = grind (arith, Err)

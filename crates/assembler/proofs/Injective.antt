@@ -1,4 +1,4 @@
--- Each text names one thing.
+-- Each text denotes one thing.
 use Rattle.assembler.proofs.Prelude.{◌≡◌, ℕ, suc, ℤ, pos, negsuc, List, [], ◌∷◌, ◌++◌, map, Option, Some, None, sym, ap, arith, AllDigits, if◌then◌else◌, bytes_eq, decimal, offset_text, operand_text, register_text, signed_decimal, Register, Size, SwapWidth, Width, mnemonic_text, IsLabel, Operand, Imm, Reg, decimal_digits, decimal_injective, Mnemonic, Alu, Neg, SignExtend, ByteSwap, Ja, JaLong, Branch, Call, Exit, Load, LoadSigned, StoreImm, Store, Atomic, LoadWide, Slot}
 use Rattle.insn_codec.specs.declared.alu_op.AluOp.TheVariants as alu
 use Rattle.insn_codec.specs.declared.atomic_op.AtomicOp.TheVariants as atomic
@@ -16,7 +16,7 @@ use Rattle.insn_codec.specs.declared.mnemonic.Mnemonic.TheVariants.{CallLocal}
 no_minus : (n : ℕ) (cs : List ℕ) → decimal n ≡ 45 ∷ cs → ⊥
 no_minus n cs e = let d = decimal_digits n in let t : AllDigits 10 (45 ∷ cs) = rw e at d in omega (arith, t.0)
 
--- the first of these that has this text
+-- the first of these with this text
 abbrev find : {X : Type 0} → (X → List ℕ) → List X → List ℕ → Option X
 find f [] text = None
 find f (x ∷ xs) text = if bytes_eq text (f x) then Some x else find f xs text

@@ -12,7 +12,7 @@ use Rattle.assembler.specs.declared.lines.jump.Jump.TheVariants as jump_kind
 pub of_fits : (z : ℤ) → FitsSigned w16 z → fits_16 z ≡ true
 of_fits h0 h = grind arith
 
--- a jump that reaches is in range, and one in range reaches
+-- a jump fits its offset exactly if it is in range
 
 pub reaches_of : (j : Jump) (z : ℤ) → IsStatement (jump_by j z) → reaches j z ≡ true
 reaches_of h0 z h = grind arith
@@ -33,7 +33,7 @@ pub jump_out : (j : Jump) (z : ℤ) (goal : List ℕ) → goal ≡ offset_text z
     → ReadsOperands (jump_mnemonic j) (operands_text (jump_operands j goal)) (Err OutOfRange)
 jump_out j z goal e out = (statement (jump_by j z), has_line j z, mnemonic_is j z, operands_at j z goal e, out)
 
--- what it is with an offset that it has room for
+-- the jump with an offset that fits
 pub jump_said : (j : Jump) (z n : ℤ) (goal : List ℕ) (x : Statement) → goal ≡ offset_text z → z ≡ n → FitsSigned w32 n → JumpInRange j → Some x ≡ with_offset j n → (item_mnemonic (statement x) ≡ Some (jump_mnemonic j)) × (operands_text (jump_operands j goal) ≡ item_operands (statement x)) × HasLine (statement x) × InRange (statement x)
 jump_said j z n goal x e same fits h is = either (reaches j n)
     (λ near. let here : Some x ≡ Some (jump_by j n) = rw near at is in

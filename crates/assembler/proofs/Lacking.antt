@@ -1,13 +1,13 @@
--- Texts that are cut at the first byte of a kind.
+-- Texts that are split at the first byte of a kind.
 use Rattle.assembler.proofs.Prelude.{◌≡◌, ◌≢◌, ◌<◌, ℕ, zero, suc, List, [], ◌∷◌, ◌++◌, refl, sym, ◌∙◌, ap, subst, arith, length, get_or, Bool, true, false, eq-eqb, ◌==◌, ◌&&◌, not, and_parts, all_go_on, goes_on_name, HasNoByte}
 
--- what is nowhere is at no index
+-- a byte that does not occur is at no index
 pub lacks_at : (c : ℕ) (xs : List ℕ) → HasNoByte c xs → (i : ℕ) → i < length xs → get_or xs i 0 ≢ c
 lacks_at c [] h i lt = absurd (omega arith)
 lacks_at c (x ∷ xs) h zero lt = h.0
 lacks_at c (x ∷ xs) h (suc i) lt = lacks_at c xs h.1 i (omega arith)
 
--- what is at no index is nowhere
+-- a byte that is at no index does not occur
 pub lacks_from : (c : ℕ) (xs : List ℕ) → ((i : ℕ) → i < length xs → get_or xs i 0 ≢ c) → HasNoByte c xs
 lacks_from c [] h = tt
 lacks_from c (x ∷ xs) h = (h 0 (omega arith), lacks_from c xs (λ i lt. h (suc i) (omega arith)))
@@ -16,12 +16,12 @@ pub lacks_append : (c : ℕ) (xs ys : List ℕ) → HasNoByte c xs → HasNoByte
 lacks_append c [] ys h k = k
 lacks_append c (x ∷ xs) ys h k = (h.0, lacks_append c xs ys h.1 k)
 
--- where a byte stands, it is not lacking
+-- a byte that occurs is not lacking
 pub lacks_not : (c : ℕ) (xs ys : List ℕ) → HasNoByte c (xs ++ c ∷ ys) → ⊥
 lacks_not c [] ys h = h.0 refl
 lacks_not c (x ∷ xs) ys h = lacks_not c xs ys h.1
 
--- two texts that are equal are cut alike
+-- equal texts are split equally
 pub split_same : (c : ℕ) (xs ys vs ws : List ℕ) → HasNoByte c xs → HasNoByte c vs → xs ++ c ∷ ys ≡ vs ++ c ∷ ws → (xs ≡ vs) × (ys ≡ ws)
 split_same c [] ys [] ws h k e = (refl, cc)
 split_same c [] ys (v ∷ vs) ws h k e = absurd (k.0 (let p : c ≡ v = cc in sym p))
@@ -35,7 +35,7 @@ split_same c (x ∷ xs) ys (v ∷ vs) ws h k e =
 pub lacks_gone : (c : ℕ) (text xs ys : List ℕ) → HasNoByte c text → text ≡ xs ++ c ∷ ys → ⊥
 lacks_gone c text xs ys h e = lacks_not c xs ys (subst (λ t. HasNoByte c t) e h)
 
--- a test that computes
+-- a test for it that computes
 abbrev pub lacks : ℕ → List ℕ → Bool
 lacks c [] = true
 lacks c (x ∷ xs) = not (x == c) && lacks c xs

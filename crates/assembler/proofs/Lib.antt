@@ -1,3 +1,4 @@
+-- Proofs of assembler: the list of their modules.
 pub mod Decimals
 pub mod Digits
 pub mod Ends

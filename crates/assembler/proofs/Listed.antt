@@ -8,7 +8,7 @@ IsNoFeed b = b ≢ 10
 is_not : (x : ℕ) → x ≢ 10 → (x == 10) ≡ false
 is_not x ne = ne_eqb x 10 ne
 
--- a line that holds no line feed is cut off at its own
+-- a line without a line feed ends at its own
 cut_off : (text rest : List ℕ) → All IsNoFeed text → lines_of (text ++ 10 ∷ rest) ≡ text ∷ lines_of rest
 cut_off [] rest quiet = refl
 cut_off (x ∷ xs) rest quiet = rw (is_not x (quiet 0 0 (omega arith))) (ap (before_line x) (cut_off xs rest (All-tail IsNoFeed x xs quiet)))
@@ -51,7 +51,7 @@ all_after : (xs ys : List ℕ) → All (λ b. b < 256) (xs ++ ys) → All (λ b.
 all_after [] ys all = all
 all_after (x ∷ xs) ys all = all_after xs ys (All-tail (λ b. b < 256) x (xs ++ ys) all)
 
--- what is listed stands in the code, statement by statement
+-- the listed statements are in the code, one after another
 abbrev Stands : List ℕ → List Statement → Type 0
 Stands code xs = EachStatement xs × (code ≡ all_bytes xs)
 

@@ -1,4 +1,4 @@
--- Which bytes stand in a line's parts, and which do not.
+-- The bytes that occur in a line's parts, and those that do not.
 use Rattle.assembler.proofs.Prelude.{◌≡◌, ◌+◌, ◌≤◌, ℕ, ℤ, List, [], ◌∷◌, refl, arith, true, false, sym, ap, ◌∙◌, suc, pos, negsuc, ◌++◌, subst, ◌==◌, map, IsTrue, AllBelowBase, all_below_base_digits_of, address_text, decimal, offset_text, operand_text, place_text, register_text, Operand, Register, all_go_on, goes_on_name, IsLabel, begins_name, HasNoByte, is_plain, offset_plain, operand_plain, plain_append, register_plain, all_plain, and_parts, false≢true, nat_tests}
 use Rattle.assembler.proofs.Lacking.{apart, go_lacks, lacks_append}
 
@@ -33,7 +33,7 @@ go_decimal n = grind (arith, go_digits, all_below_base_digits_of)
 pub lacks_decimal : (c : ℕ) → goes_on_name c ≡ false → (n : ℕ) → HasNoByte c (decimal n)
 lacks_decimal c h n = go_lacks c h (decimal n) (go_decimal n)
 
--- a byte that stands between operands only
+-- a byte that occurs only between operands
 pub lacks_place : (c : ℕ) → is_plain c ≡ false → (91 == c) ≡ false → (93 == c) ≡ false → (r : Register) (z : ℤ) → HasNoByte c (place_text r z)
 lacks_place c f o k r z =
     (apart 91 c o, lacks_append c (address_text r z) (93 ∷ []) (plain_lacks c f (address_text r z) (plain_append (register_text r) (offset_text z) (register_plain r) (offset_plain z))) (apart 93 c k, tt))
@@ -44,7 +44,7 @@ lacks_operand c f o = plain_lacks c f (operand_text o) (operand_plain o)
 pub operand_lacks_comma : (o : Operand) → HasNoByte 44 (operand_text o)
 operand_lacks_comma o = lacks_operand 44 refl o
 
--- Addresses are cut at the sign, and stand between brackets.
+-- Addresses are split at the sign and are between brackets.
 
 pub plus_cut : (r : Register) (z : ℤ) (text front back : List ℕ) → ((xs ys : List ℕ) → HasNoByte 43 xs → text ≡ xs ++ 43 ∷ ys → (front ≡ xs) × (back ≡ 43 ∷ ys)) → (HasNoByte 43 text → true ≡ false) → text ≡ address_text r z → (front ≡ register_text r) × (back ≡ offset_text z)
 plus_cut r (pos n) text front back only none e = only (register_text r) (decimal n) (grind arith) e

@@ -1,4 +1,4 @@
--- A map that gives each label, named by one line, the slots before that line.
+-- A map from each label, defined by one line, to the number of slots before that line.
 use Rattle.assembler.proofs.Prelude.{◌≡◌, ℕ, ◌+◌, List, [], ◌∷◌, ◌++◌, Option, Some, None, refl, ◌∙◌, arith, true, rules, zero-add, ◌≤◌, sym, ap, subst, append_assoc, append-nil, length, Bool, if◌then◌else◌, bytes_eq-Decides, HasSlots, IsFreeIn, SourceItem, statement, label, jump, item_slots, slots_of, IsFree, names, label_slot_from, label_slot, GivesSlots, NamedAfter}
 use Rattle.std.specs.Prelude.{bytes_eq}
 use Rattle.assembler.proofs.Ends.{either}
@@ -10,7 +10,7 @@ pub slots_snoc : (before : List SourceItem) (i : SourceItem) → slots_of (befor
 slots_snoc [] i = omega arith
 slots_snoc (x ∷ xs) i = let e = slots_snoc xs i in omega (arith, e)
 
--- the first that there is
+-- the first one that is present
 abbrev pub or_else : Option ℕ → Option ℕ → Option ℕ
 or_else (Some x) y = Some x
 or_else None y = y
@@ -48,7 +48,7 @@ same_label (statement x) q e = absurd cc
 same_label (jump j name) q e = absurd cc
 same_label (label name) q e = ap label (same_name name q e)
 
--- a label with a place is named by a line, with as many slots before it
+-- a label with a slot is defined by a line with that many slots before it
 pub found : (items : List SourceItem) (from : ℕ) (q : List ℕ) (slot : ℕ) → label_slot_from from items q ≡ Some slot
     → (before : List SourceItem) × NamedAfter items q before × (slot ≡ from + slots_of before)
 found [] from q slot e = absurd cc
@@ -56,7 +56,7 @@ found (i ∷ is) from q slot e = either (names i q)
     (λ is_it. let here : Some from ≡ Some slot = rw is_it at e in ([], (is, ap (λ x. x ∷ is) (same_label i q is_it)), (let same : from ≡ slot = cc in omega (arith, same))))
     (λ other. let rest = found is (from + item_slots i) q slot (rw other at e) in (i ∷ rest.0, (rest.1.0, ap (λ x. i ∷ x) rest.1.1), (let k = rest.2 in omega (arith, k))))
 
--- no line names a label that has no place
+-- no line defines a label without a slot
 pub none_named : (before later : List SourceItem) (from : ℕ) (name : List ℕ) → label_slot_from from (before ++ label name ∷ later) name ≡ None → ⊥
 none_named [] later from name e = let k = rw (names_itself name) at e in cc
 none_named (i ∷ is) later from name e = either (names i name)
@@ -66,11 +66,11 @@ none_named (i ∷ is) later from name e = either (names i name)
 pub named_none : (items before : List SourceItem) (name : List ℕ) → NamedAfter items name before → label_slot items name ≡ None → ⊥
 named_none items before name n e = none_named before n.0 0 name (rw (n.1) at e)
 
--- a label that no earlier line names has the slots before its line
+-- the slot of a label that no earlier line defines is the number of slots before its line
 pub first_named : (before later : List SourceItem) (name : List ℕ) → label_slot before name ≡ None → label_slot (before ++ label name ∷ later) name ≡ Some (slots_of before)
 first_named before later name free = grind (arith, label_slot_append, or_else, zero-add, names_itself)
 
--- no label is named twice
+-- no label is defined twice
 abbrev pub Once : List SourceItem → List SourceItem → Type 0
 Once before [] = Unit {0}
 Once before (i ∷ is) = IsFree before i × Once (before ++ (i ∷ [])) is
@@ -79,7 +79,7 @@ pub once_at : (front before later : List SourceItem) (name : List ℕ) → Once 
 once_at front [] later name once = rw (append-nil front) once.0
 once_at front (i ∷ before) later name once = let k = once_at (front ++ (i ∷ [])) before later name once.1 in rw append_assoc at k
 
--- two lines that name a label, with none before that names it, are the same line
+-- two lines that define a label, each the first to do so, are the same line
 same_front : (before again later other : List SourceItem) (from : ℕ) (name : List ℕ) → before ++ label name ∷ later ≡ again ++ label name ∷ other
     → label_slot_from from before name ≡ None → label_slot_from from again name ≡ None → before ≡ again
 same_front [] [] later other from name e f g = refl
@@ -96,7 +96,7 @@ same_front (i ∷ before) (j ∷ again) later other from name e f g =
 free_at : (items before : List SourceItem) (name : List ℕ) → Once [] items → NamedAfter items name before → label_slot before name ≡ None
 free_at items before name once n = once_at [] before n.0 name (subst (λ x. Once [] x) n.1 once)
 
--- the places of labels that are named once are such a map
+-- the slots of labels that are defined once are such a map
 pub gives_slots : (items : List SourceItem) → Once [] items → GivesSlots (label_slot items) items
 gives_slots items once = record {
   gives = λ name before n. ap (λ x. label_slot x name) n.1 ∙ first_named before n.0 name (free_at items before name once n);
@@ -120,7 +120,7 @@ free_from labels items front is name (Some slot) g e p =
 pub free_of_map : (labels : List ℕ → Option ℕ) (items front is : List SourceItem) (i : SourceItem) → GivesSlots labels items → items ≡ front ++ i ∷ is → IsFree front i
 free_of_map labels items front is i g e = grind (arith, free_from)
 
--- where there is such a map, no label is named twice
+-- if there is such a map, no label is defined twice
 pub once_of : (labels : List ℕ → Option ℕ) (items front is : List SourceItem) → GivesSlots labels items → items ≡ front ++ is → Once front is
 once_of labels items front [] g e = tt
 once_of labels items front (i ∷ is) g e = (free_of_map labels items front is i g e, once_of labels items (front ++ (i ∷ [])) is g (e ∙ sym (append_assoc front (i ∷ []) is)))
@@ -130,7 +130,7 @@ same_place labels items q None None g e f = refl
 same_place labels items q (Some s) None g e f = let n = g.named q s e in absurd (named_none items n.0 q n.1 f)
 same_place labels items q o (Some slot) g e f = grind (arith, found, zero-add)
 
--- and it has the places of the labels
+-- the map has the slots of the labels
 pub has_slots : (labels : List ℕ → Option ℕ) (items : List SourceItem) → GivesSlots labels items → HasSlots labels items
 has_slots labels items g q = same_place labels items q (labels q) (label_slot items q) g refl refl
 
@@ -138,6 +138,6 @@ pub slots_append : (before later : List SourceItem) → slots_of (before ++ late
 slots_append [] later = sym (zero-add (slots_of later))
 slots_append (i ∷ before) later = let e = slots_append before later in omega (arith, e)
 
--- no place is past the slots
+-- no slot is past the last
 pub label_slot_bound : (items : List SourceItem) (q : List ℕ) (slot : ℕ) → label_slot items q ≡ Some slot → slot ≤ slots_of items
 label_slot_bound items q slot e = grind (arith, found, slots_append)

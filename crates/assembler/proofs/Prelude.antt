@@ -1,4 +1,4 @@
--- The names that these proofs cite of the library, of the crates below and of the definitions here. Declares nothing.
+-- The names that these proofs use, from the library, the crates below and these definitions. It declares nothing.
 pub use Rattle.std.proofs.Common.{All, Bool, Err, FitsSigned, IfSome, IsTrue, List, None, Ok, OnErr, Option, Result}
 pub use Rattle.std.proofs.Common.{Some, Vec, ℕ, ℤ, [], ap, append-nil, append_assoc, arith, codes, drop, eq-eqb}
 pub use Rattle.std.proofs.Common.{false, get_or, if◌then◌else◌, inl, inr, length, length-append, lit<, map, nat_eq}

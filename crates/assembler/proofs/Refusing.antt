@@ -1,15 +1,15 @@
--- The second pass refuses the first line whose label no line names, or is too far.
+-- The second pass refuses the first line whose label is not defined or too far away.
 use Rattle.assembler.proofs.Prelude.{◌≡◌, ◌⊎◌, ℕ, suc, ◌+◌, ℤ, List, [], ◌∷◌, ◌++◌, Option, Some, None, Result, Ok, Err, refl, sym, ◌∙◌, ap, subst, arith, true, false, inl, inr, length, length-append, append_assoc, append-nil, zero-add, FitsSigned, w16, both_ways, Statement, Assembles, refused as scan_refused, resolved as scanned, Scans, SourceItem, label, jump, item_slots, slots_of, reaches, label_slot, FirstRefused, IsJumpRefused, IsShort, NoneRefused, IsSourceRefused, unnamed, too_far, by_first_pass, by_label, after, and_then, bytes_of, code_bytes, jump_at, offset_to, line_statement, GivesSlots, AsmError, UnknownLabel, JumpTooFar, Jump}
 use Rattle.assembler.proofs.Ends.{either}
 use Rattle.assembler.proofs.JumpLines.{of_fits}
 use Rattle.assembler.proofs.Named.{found, gives_slots, named_none, slots_snoc}
 use Rattle.assembler.proofs.Sources.{once_scanned}
 
--- a jump that does not reach has 16 bits, and the offset does not fit them
+-- a jump that the offset does not fit has 16 bits, and the offset does not fit them
 out_of_reach : (j : Jump) (z : ℤ) → reaches j z ≡ false → IsShort j × (FitsSigned w16 z → ⊥)
 out_of_reach h0 z e = grind (arith, both_ways, of_fits, true)
 
--- what a line that the second pass refuses is refused for
+-- the second pass refuses a line only for its cause
 
 unnamed_at : (all front : List SourceItem) (j : Jump) (name : List ℕ) (e : AsmError) → label_slot all name ≡ None → UnknownLabel (suc (length front)) ≡ e → IsJumpRefused all front (jump j name) e
 unnamed_at all front j name e at is = subst (λ x. IsJumpRefused all front (jump j name) x) is (unnamed (λ before n. named_none all before name n at))
@@ -25,7 +25,7 @@ far_at all front j name target e at far is =
 cause_of : (all front : List SourceItem) (i : SourceItem) (e : AsmError) → line_statement (label_slot all) (suc (length front)) (slots_of front) i ≡ Err e → IsJumpRefused all front i e
 cause_of all front i e h = grind (arith, unnamed_at, either, far_at)
 
--- and what it refuses a line for that has a cause
+-- the second pass refuses a line whose cause holds
 
 no_place : (all : List SourceItem) (name : List ℕ) (target : Option ℕ) → label_slot all name ≡ target
     → ((before : List SourceItem) → (later : List SourceItem) × (all ≡ before ++ label name ∷ later) → ⊥) → target ≡ None
@@ -59,7 +59,7 @@ none_yet : (all : List SourceItem) → NoneRefused all []
 none_yet all [] i rest e at r = cc
 none_yet all (x ∷ front) i rest e at r = cc
 
--- the pass over the lines behind these ones
+-- the pass over the lines after these
 abbrev emitted_after : List SourceItem → List SourceItem → List SourceItem → Result (List ℕ) AsmError
 emitted_after all before items = code_bytes (label_slot all) (suc (length before)) (slots_of before) items
 
@@ -70,7 +70,7 @@ next_line all before i is = grind (arith, length-append, slots_snoc)
 after_refused : (bytes : List ℕ) (r : Result (List ℕ) AsmError) (e : AsmError) → after bytes r ≡ Err e → r ≡ Err e
 after_refused bytes r e h = grind arith
 
--- the pass ends at the first line with a cause
+-- the pass stops at the first invalid line
 
 -- the pass has reached these items
 record IsReached (all before rest : List SourceItem) : Type 0 where

@@ -1,9 +1,9 @@
--- What lines stand for, by the second pass and by the definition of a source.
+-- The bytes of lines, by the second pass and by the definition of a source.
 use Rattle.assembler.proofs.Prelude.{◌≡◌, ℕ, suc, ◌+◌, ◌≤◌, List, [], ◌∷◌, ◌++◌, Option, Some, None, Result, Ok, Err, refl, sym, ◌∙◌, ap, subst, arith, ◌<◌, length, map, drop, get_or, append_assoc, Statement, JumpInRange, jump_by, reaches, InRange, SourceItem, statement, label, jump, item_slots, slots_of, item_of, after, and_then, bytes_of, code_bytes, jump_at, offset_to, line_statement, StandFor, StandsFor, none, line, stated, named, jumped, AsmError, Jump, drop_more, Line, slot_limit}
 use Rattle.assembler.proofs.Ends.{either}
 use Rattle.assembler.proofs.JumpLines.{reaches_of}
 
--- no label's slot is past 65,536
+-- every label's slot is at most 65,536
 abbrev pub SlotsFit : (List ℕ → Option ℕ) → Type 0
 SlotsFit labels = (q : List ℕ) (slot : ℕ) → labels q ≡ Some slot → slot ≤ slot_limit
 
@@ -50,7 +50,7 @@ module _ (labels : List ℕ → Option ℕ) where
       let same : bytes_of x ++ more ≡ bytes = cc in
       subst (λ b. StandFor labels slot (i ∷ is) b) same (line (stands number slot i x may e) (rest more refl))
 
-  -- what the second pass writes is what the lines stand for
+  -- the second pass writes the bytes of the lines
   pub stand_of : (number slot : ℕ) (items : List SourceItem) (bytes : List ℕ) → SlotsFit labels → slot + slots_of items ≤ slot_limit → EachInRange items
       → code_bytes labels number slot items ≡ Ok bytes → StandFor labels slot items bytes
   stand_of number slot [] bytes fit room h e =
@@ -67,7 +67,7 @@ emit_line labels number slot i bytes (stated x) = (Some x, refl, refl)
 emit_line labels number slot i bytes (named name) = (None, refl, refl)
 emit_line labels number slot i bytes (jumped j name target at h) = (Some (jump_by j (offset_to slot target)), rw (at, reaches_of j (offset_to slot target) h) refl, refl)
 
--- and what the lines stand for is what it writes
+-- the bytes of the lines are those that the second pass writes
 pub emitted_of : (labels : List ℕ → Option ℕ) (number slot : ℕ) (items : List SourceItem) (bytes : List ℕ) → StandFor labels slot items bytes → code_bytes labels number slot items ≡ Ok bytes
 emitted_of labels number slot items bytes none = refl
 emitted_of labels number slot items bytes (line {i = i} {is = is} {bytes = front} {more = more} h rest) =
@@ -86,14 +86,14 @@ emitted_same labels others number slot (i ∷ is) h = grind (arith, emitted_same
 after_after : (out bytes : List ℕ) (r : Result (List ℕ) AsmError) → after out (after bytes r) ≡ after (out ++ bytes) r
 after_after out bytes h0 = grind (arith, Ok, append_assoc, Err)
 
--- a line at a slot is written: what it says, its slots and its bytes
+-- a line at a slot is written: its item, its slots and its bytes
 pub record IsWritten (labels : List ℕ → Option ℕ) (number slot n : ℕ) (i : SourceItem) (out new : List ℕ) : Type 0 where
   pub says : Option Statement
   pub is : line_statement labels number slot i ≡ Ok says
   pub slots : n ≡ item_slots i
   pub bytes : new ≡ out ++ bytes_of says
 
--- a line's bytes move from the rest to what is written
+-- a line's bytes move from the rest to the output
 pub emit_step : (labels : List ℕ → Option ℕ) (number slot n i : ℕ) (lines : List Line) (d : Line) (out new : List ℕ) → i < length lines
     → IsWritten labels number slot n (item_of (get_or lines i d)) out new
     → after new (code_bytes labels (number + 1) (slot + n) (map item_of (drop (i + 1) lines))) ≡ after out (code_bytes labels number slot (map item_of (drop i lines)))

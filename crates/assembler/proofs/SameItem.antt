@@ -1,4 +1,4 @@
--- A mnemonic and operands are those of one item.
+-- A mnemonic and operands determine one item.
 use Rattle.assembler.proofs.Prelude.{◌≡◌, ℕ, ℤ, pos, negsuc, List, [], ◌∷◌, ◌++◌, Some, inl, inr, refl, sym, ◌∙◌, ap, subst, Option, None, arith, Jump, jump_by, jump_mnemonic, jump_operands, operands_text, address_text, offset_text, operand_text, place_text, register_text, signed_decimal, Operand, Register, HasLine, SourceItem, statement, jump, HasNoByte, item_mnemonic, item_operands, operand_list, Mnemonic, append_cancel_right}
 use Rattle.insn_codec.specs.declared.insn.Insn.TheVariants as insn
 use Rattle.insn_codec.specs.declared.statement.Statement.TheVariants as statement_kind
@@ -10,7 +10,7 @@ use Rattle.assembler.proofs.JumpLines.{IsOfJump, JumpsBy, of_jump}
 use Rattle.assembler.proofs.Lacking.{split_same}
 use Rattle.assembler.proofs.NameBytes.{lacks_operand, lacks_place}
 
--- what an item of the mnemonic is; of a jump nothing is said, and `exit` has no operands
+-- the shape of an item with the mnemonic; jumps are left open, and `exit` has no operands
 abbrev Shape : Mnemonic → SourceItem → Type 0
 Shape (mnemonic.Alu op width) i = (dst : Register) × (operand : Operand) × (i ≡ statement (statement_kind.Insn (insn.Alu op width dst operand)))
 Shape (mnemonic.Neg width) i = (dst : Register) × (i ≡ statement (statement_kind.Insn (insn.Neg width dst)))
@@ -34,7 +34,7 @@ ShapeOf (Some m) i = Shape m i
 shape_of : (m : Mnemonic) (i : SourceItem) → item_mnemonic i ≡ Some m → Shape m i
 shape_of m i e = subst (λ o. ShapeOf o i) e (grind arith)
 
--- equal operands of what two items are
+-- equal operands of two items of known shape
 between : (i j v w : SourceItem) → i ≡ v → j ≡ w → item_operands i ≡ item_operands j → item_operands v ≡ item_operands w
 between i j v w p q e = sym (ap item_operands p) ∙ e ∙ ap item_operands q
 
@@ -44,7 +44,7 @@ listed_same xs ys vs ws h k e = grind (arith, split_same, tails)
 register_listed : (r s : Register) (ys ws : List ℕ) → operand_list (register_text r) ys ≡ operand_list (register_text s) ws → (r ≡ s) × (ys ≡ ws)
 register_listed r s ys ws e = grind arith
 
--- a minus is no plus
+-- a minus is not a plus
 no_plus : (r s : Register) (n m : ℕ) → address_text r (pos n) ≡ address_text s (negsuc m) → ⊥
 no_plus r s n m e = grind arith
 
@@ -71,7 +71,7 @@ target_of : (j : Jump) (i : SourceItem) → JumpsBy j i → (target : List ℕ) 
 target_of j i (inl p) = (offset_text p.0, ap item_operands p.1 ∙ sym (grind arith))
 target_of j i (inr p) = (p.0, ap item_operands p.1)
 
--- two jumps with one mnemonic and the same operands are one, with one target
+-- two jumps with the same mnemonic and the same operands are equal, with the same target
 jumps_same : (j l : Jump) (t u : List ℕ) → jump_mnemonic j ≡ jump_mnemonic l → operands_text (jump_operands j t) ≡ operands_text (jump_operands l u) → (j ≡ l) × (t ≡ u)
 jumps_same j l t u m e = grind (arith, compared_same)
 
@@ -116,6 +116,6 @@ same_shaped (mnemonic.StoreImm size) i j p q a b h k e =
     p.3 ∙ (λ x. statement (statement_kind.Insn (insn.StoreImm size (t.0 x) (t.1 x) (n x)))) ∙ sym q.3
 same_shaped _ i j p q a b h k e = grind (arith, register_listed, place_listed, between, register_injective, wide_injective)
 
--- a mnemonic and operands are those of one item
+-- a mnemonic and operands determine one item
 pub same_code : (m : Mnemonic) (i j : SourceItem) → item_mnemonic i ≡ Some m → item_mnemonic j ≡ Some m → HasLine i → HasLine j → item_operands i ≡ item_operands j → i ≡ j
 same_code m i j a b h k e = same_shaped m i j (shape_of m i a) (shape_of m j b) a b h k e

@@ -1,8 +1,8 @@
--- The first pass, step by step, and that it ends in one way.
+-- The first pass, step by step, and that its outcome is unique.
 use Rattle.assembler.proofs.Prelude.{◌≡◌, ℕ, suc, ◌+◌, ◌<◌, ◌≤◌, List, [], ◌∷◌, ◌++◌, Result, Ok, Err, refl, sym, subst, ap, arith, length, ◌⊎◌, Option, ◌∙◌, map, Scans, ended, next, formless, wide, twice, full, HasLine, InRange, SourceItem, item_slots, item_text, slots_of, item_of, IsFree, OneReading, LineReading, ReadsLine, says, out_of_range, no_form, AsmError, UnknownLine, NumberOutOfRange, DuplicateLabel, TooManySlots, Memory, common_steps, AddsLabel, FirstLineSays, FirstPass, HasSlots, IsFreeIn, ReadsAt, ScansOnlyTo, ReadsAs, Line, slot_limit}
 use Rattle.assembler.proofs.Named.{free_of, slots_snoc}
 
--- the line reads in no other way
+-- the line has no other reading
 abbrev pub NoOther : List ℕ → LineReading → Type 0
 NoOther line a = (b : LineReading) → ReadsLine line b → b ≡ a
 
@@ -21,7 +21,7 @@ only_formless line h (says i) k = absurd (h i k.1 k.0)
 only_formless line h out_of_range k = absurd (h k.0 k.2 k.1)
 only_formless line h no_form k = refl
 
--- what the pass behind these lines ends with, by how its first line reads
+-- the outcome of the pass after these lines, by the reading of its first line
 abbrev pub Ends : List SourceItem → List (List ℕ) → Result (List SourceItem) AsmError → LineReading → Type 0
 Ends before lines r (says i) =
     (IsFree before i → slots_of before + item_slots i ≤ slot_limit → Scans (before ++ (i ∷ [])) lines r)
@@ -44,7 +44,7 @@ after_line before line lines r a only (full i b f m) =
 pub after_all : (before : List SourceItem) (r : Result (List SourceItem) AsmError) → Scans before [] r → r ≡ Ok before
 after_all before r ended = refl
 
--- where each line reads in one way, the first pass has one answer
+-- if each line has one reading, the outcome of the first pass is unique
 pub one_scan : OneReading → (before : List SourceItem) (lines : List (List ℕ)) (r s : Result (List SourceItem) AsmError) → Scans before lines r → Scans before lines s → r ≡ s
 one_scan one before lines r s ended t = sym (after_all before s t)
 one_scan one before lines r s (next {line = line} {lines = more} i a f m k) t =
@@ -56,11 +56,11 @@ one_scan one before lines r s (twice {line = line} {lines = more} i a f) t =
 one_scan one before lines r s (full {line = line} {lines = more} i a f m) t =
     sym ((after_line before line more s (says i) (λ b h. one line b (says i) h a) t).2 f m)
 
--- after these lines the pass over the rest ends as the pass over all does
+-- after these lines, the pass over the rest has the outcome of the pass over all
 abbrev pub GoesOn : List SourceItem → List (List ℕ) → List (List ℕ) → Type 0
 GoesOn before rest lines = (r : Result (List SourceItem) AsmError) → (Scans before rest r → Scans [] lines r) × (Scans [] lines r → Scans before rest r)
 
--- nothing is read yet, or the first line said something
+-- nothing has been read yet, or the first line was valid
 abbrev pub Begun : List (List ℕ) → List (List ℕ) → Type 0
 Begun rest lines = (rest ≡ lines) ⊎ FirstLineSays lines
 
@@ -77,12 +77,12 @@ read_refused before line more rest lines number (NumberOutOfRange n) goes cut nu
     rw at (ends_with before line more rest lines (Err (NumberOutOfRange (suc (length before)))) goes cut (wide h.1.0) (λ s t. after_line before line more s out_of_range (only_wide line h.1.0 h.1.1) t))
 read_refused before line more rest lines number _ goes cut num h = absurd h
 
--- the pass over the rest goes on with this line
+-- the pass over the rest continues with this line
 pub record IsNext (before : List SourceItem) (line : List ℕ) (more rest lines : List (List ℕ)) : Type 0 where
   pub goes : GoesOn before rest lines
   pub cut : rest ≡ line ∷ more
 
--- it says this, behind lines with these labels
+-- the reading of a line after lines with these labels
 pub record IsRead (before : List SourceItem) (labels : List ℕ → Option ℕ) (l : Line) (line : List ℕ) : Type 0 where
   pub has : HasSlots labels before
   pub reads : ReadsAs line (Ok l)

@@ -1,10 +1,10 @@
--- Text is the source of exactly the code that assembling it answers, and the answer of both passes.
+-- A text is the source of exactly the code that assembling it returns, and the outcome of both passes is unique.
 use Rattle.assembler.proofs.Prelude.{◌≡◌, ℕ, ◌+◌, ◌≤◌, List, [], ◌∷◌, ◌++◌, Ok, refl, sym, ◌∙◌, subst, arith, append_assoc, append-nil, ◌≢◌, Result, Err, Vec, map, Assembles, resolved, refused, lines_of, Scans, ended, next, SourceItem, slots_of, item_of, label_slot, code_bytes, EachSays, Source, IfSome, OnErr, get_by_text, Global, AssembleReturns, SecondPass, FirstLineSays, FirstPass, IsAssemblyResult, OneReading, AsmError, Memory, Line, Scanned, slot_limit}
 use Rattle.assembler.proofs.Named.{Once, gives_slots, has_slots, label_slot_bound, once_of, slots_append}
 use Rattle.assembler.proofs.Resolving.{EachInRange, SlotsFit, emitted_of, emitted_same, stand_of}
 use Rattle.assembler.proofs.Scanning.{one_scan}
 
--- lines that say something each, with no label twice and few slots, are scanned
+-- valid lines without duplicate labels and with few enough slots are scanned
 pub scanned_of : (before : List SourceItem) (lines : List (List ℕ)) (items : List SourceItem) → EachSays lines items → Once before items
     → slots_of (before ++ items) ≤ slot_limit → Scans before lines (Ok (before ++ items))
 scanned_of before [] [] told once room = rw (append-nil before) ended
@@ -16,7 +16,7 @@ scanned_of before (line ∷ lines) (i ∷ is) told once room =
     next {before = before} {line = line} {lines = lines} {r = Ok (before ++ i ∷ is)} i told.0 once.0 (omega (arith, room, sum))
     (rw (sym e) (scanned_of (before ++ (i ∷ [])) lines is told.1 once.1 (rw e room)))
 
--- what the scan of these lines added
+-- the items that the scan of these lines added
 abbrev pub Added : List SourceItem → List (List ℕ) → List SourceItem → Type 0
 Added before lines items = (more : List SourceItem) × (items ≡ before ++ more) × EachSays lines more × Once before more
 
@@ -70,7 +70,7 @@ no_lines : (xs : List Line) → map item_of xs ≡ [] → xs ≡ []
 no_lines [] e = refl
 no_lines (x ∷ xs) e = absurd cc
 
--- where the first pass finds something, the first line says something
+-- if the first pass succeeds, the first line is valid
 first_says : (before : List SourceItem) (lines : List (List ℕ)) (items : List SourceItem) → Scans before lines (Ok items) → (items ≡ before → ⊥) → FirstLineSays lines
 first_says before lines items ended some = absurd (some refl)
 first_says before lines items (next i reads free room rest) some = (i, reads)
@@ -87,6 +87,6 @@ pub first_refused : (text : List ℕ) (e : AsmError) → FirstPass (lines_of tex
 first_refused text Memory h = h
 first_refused text _ h = refused h.0
 
--- where each line reads in one way, both passes have one answer
+-- if each line has one reading, the outcome of both passes is unique
 pub one_answer : OneReading → (lines : List (List ℕ)) (r s : Result (List ℕ) AsmError) → Assembles lines r → Assembles lines s → r ≡ s
 one_answer one lines r s h b = grind (arith, only_refused, one_scan)

@@ -1,4 +1,4 @@
--- Which items have a line, and that each line is read in one way.
+-- The items that have a line, and that each line has one reading.
 use Rattle.assembler.proofs.Prelude.{◌≡◌, ◌⊎◌, ℕ, ℤ, List, [], ◌∷◌, ◌++◌, Some, inl, inr, refl, sym, ◌∙◌, ap, subst, false, arith, Result, Ok, Err, codes, IfSome, place_text, Register, HasLine, IsLabel, SourceItem, item_text, statement, label, jump, InRange, item_of, HasNoByte, item_mnemonic, item_operands, operand_list, ReadsOperands, mnemonic_text, statement_mnemonic, jump_mnemonic, Mnemonic, append_cancel_right, is_plain, mnemonic_plain, offset_plain, register_plain, signed_decimal_plain, wide_plain, OneReading, says, out_of_range, no_form, ReadsAs, Line, LineError, NoForm, OutOfRange}
 use Rattle.assembler.proofs.Lacking.{apart, lacks_append, lacks_by, lacks_gone, split_same}
 use Rattle.assembler.proofs.NameBytes.{lacks_operand, lacks_place, name_plain, plain_lacks}
@@ -33,7 +33,7 @@ lacks_listed xs ys h k = lacks_append 58 xs (44 ∷ 32 ∷ ys) h (apart 44 58 re
 place_lacks_colon : (r : Register) (z : ℤ) → HasNoByte 58 (place_text r z)
 place_lacks_colon r z = lacks_place 58 refl refl refl r z
 
--- no operand holds a colon
+-- no operand contains a colon
 operands_lack_colon : (i : SourceItem) → HasLine i → HasNoByte 58 (item_operands i)
 operands_lack_colon i h =
     grind (arith, lacks_listed, plain_lacks, register_plain, lacks_operand, offset_plain, signed_decimal_plain, place_lacks_colon, wide_plain, name_lacks)
@@ -45,7 +45,7 @@ code_lacks_colon i m h e =
 named_lacks_space : (name : List ℕ) → IsLabel name → HasNoByte 32 (name ++ 58 ∷ [])
 named_lacks_space name h = lacks_append 32 name (58 ∷ []) (name_lacks 32 refl name h) (apart 58 32 refl, tt)
 
--- a line that ends with a colon is a label's
+-- a line that ends with a colon is that of a label
 pub label_only : (name : List ℕ) (i : SourceItem) → HasLine i → name ++ 58 ∷ [] ≡ item_text i → i ≡ label name
 label_only name i h e = elim (kind_of i) [
   | inl k ↦ absurd (lacks_gone 58 (item_text i) name [] (code_lacks_colon i k.0 h k.1) (sym e))
@@ -76,7 +76,7 @@ exit_only i h e = elim (kind_of i) [
   ]
 ]
 
--- a line without a space that is neither the exit's nor a label's says nothing
+-- a line without a space that is neither `exit` nor a label has no item
 pub nothing_only : (line : List ℕ) → HasNoByte 32 line → (line ≡ codes "exit" → ⊥) → ((name : List ℕ) → line ≡ name ++ 58 ∷ [] → ⊥) → (i : SourceItem) → HasLine i → line ≡ item_text i → ⊥
 nothing_only line space other colon i h e = grind arith
 
@@ -107,7 +107,7 @@ of_kind i j (inl k) h g e =
 of_kind i j (inr (inl p)) h g e = p ∙ sym (exit_only j g (sym (ap item_text p) ∙ e))
 of_kind i j (inr (inr n)) h g e = n.1 ∙ sym (label_only n.0 j g (sym (ap item_text n.1) ∙ e))
 
--- two things with one line are the same
+-- two items with the same line are equal
 pub same_line : (i j : SourceItem) → HasLine i → HasLine j → item_text i ≡ item_text j → i ≡ j
 same_line i j h g e = of_kind i j (kind_of i) h g e
 

@@ -1,9 +1,9 @@
--- The codes of the errors.
+-- Codes and lines of the errors.
 use Rattle.std.specs.Prelude.{ℕ, List, Option, None, Some, codes}
 use Rattle.assembler.specs.declared.asm_error.AsmError.{AsmError}
 use Rattle.assembler.specs.declared.asm_error.AsmError.TheVariants.{UnknownLine, NumberOutOfRange, UnknownLabel, DuplicateLabel, JumpTooFar, TooManySlots, Memory}
 
--- the code of a text that does not assemble: A1 to A6, or memory
+-- the code of a text that cannot be assembled: A1 to A6, or memory
 abbrev pub asm_error_code : AsmError → List ℕ
 asm_error_code (UnknownLine line) = codes "A1"
 asm_error_code (NumberOutOfRange line) = codes "A2"

@@ -1,4 +1,4 @@
--- The first pass: what the lines say, or the first that keeps the text from being a program.
+-- The first pass: the items of the lines, or the first line that is invalid.
 use Rattle.std.specs.Prelude.{ℕ, suc, ◌+◌, ◌<◌, ◌≤◌, List, [], ◌∷◌, ◌++◌, Result, Ok, Err, length}
 use Rattle.insn_codec.specs.Limits.{slot_limit}
 use Rattle.assembler.specs.Items.{SourceItem, item_slots, slots_of}
@@ -6,8 +6,8 @@ use Rattle.assembler.specs.Labels.{IsFree}
 use Rattle.assembler.specs.Reading.{ReadsLine, says, no_form, out_of_range}
 use Rattle.assembler.specs.declared.asm_error.AsmError.{AsmError, TheVariants.UnknownLine, TheVariants.NumberOutOfRange, TheVariants.DuplicateLabel, TheVariants.TooManySlots}
 
--- Scans before lines r: after lines that say `before`, the pass over these lines ends with r.
--- A line is tested for its form, its numbers, its label and the slots up to its end, in this order.
+-- Scans before lines r: after lines with the items `before`, the pass over these lines has the outcome r. A line is
+-- checked for its form, its numbers, its label and the slots up to its end, in this order.
 pub data Scans : List SourceItem → List (List ℕ) → Result (List SourceItem) AsmError → Type 0 where
   ended : {before : List SourceItem} → Scans before [] (Ok before)
   next : {before : List SourceItem} {line : List ℕ} {lines : List (List ℕ)} {r : Result (List SourceItem) AsmError} (i : SourceItem)

@@ -1,4 +1,4 @@
--- The two halves of a line with operands: its mnemonic, and what stands behind the space.
+-- The two halves of a line with operands: its mnemonic, and the operands after the space.
 use Rattle.std.specs.Prelude.{◌≡◌, ℕ, List, [], ◌∷◌, Option, Some, None, Result, Ok, Err}
 use Rattle.insn_codec.specs.Lines.{operands_text}
 use Rattle.insn_codec.specs.Statements.{statement_mnemonic, statement_operands}
@@ -8,16 +8,16 @@ use Rattle.assembler.specs.Jumps.{jump_mnemonic, jump_operands}
 use Rattle.assembler.specs.declared.lines.line.Line.{Line}
 use Rattle.assembler.specs.declared.lines.line_error.LineError.{LineError, TheVariants.NoForm, TheVariants.OutOfRange}
 
--- the byte stands nowhere in the text
+-- the byte does not occur in the text
 abbrev pub HasNoByte : ℕ → List ℕ → Type 0
 HasNoByte c [] = Unit {0}
 HasNoByte c (x ∷ xs) = (x ≡ c → ⊥) × HasNoByte c xs
 
--- two operands, with a comma and a space between them
+-- two operands, separated by a comma and a space
 abbrev pub operand_list : List ℕ → List ℕ → List ℕ
 operand_list x y = operands_text (x ∷ y ∷ [])
 
--- the mnemonic, where there are operands
+-- the mnemonic, if there are operands
 abbrev pub before_operands : List (List ℕ) → Mnemonic → Option Mnemonic
 before_operands [] m = None
 before_operands (x ∷ xs) m = Some m
@@ -28,13 +28,13 @@ item_mnemonic (statement x) = before_operands (statement_operands x) (statement_
 item_mnemonic (label name) = None
 item_mnemonic (jump j name) = Some (jump_mnemonic j)
 
--- its operands
+-- the operands of a line
 abbrev pub item_operands : SourceItem → List ℕ
 item_operands (statement x) = operands_text (statement_operands x)
 item_operands (label name) = []
 item_operands (jump j name) = operands_text (jump_operands j name)
 
--- what is read of the operands that stand behind a mnemonic
+-- the reading of the operands after a mnemonic
 abbrev pub ReadsOperands : Mnemonic → List ℕ → Result Line LineError → Type 0
 ReadsOperands m text (Ok l) =
     (item_mnemonic (item_of l) ≡ Some m) × (text ≡ item_operands (item_of l)) × HasLine (item_of l) × InRange (item_of l)

@@ -15,14 +15,14 @@ jump_mnemonic Long = mnemonic.JaLong
 jump_mnemonic CallLocal = mnemonic.CallLocal
 jump_mnemonic (Branch comparison width dst operand) = mnemonic.Branch comparison width
 
--- its operands, of which the last is the target: an offset, or the name of a label in its place
+-- the operands of a jump; the last is the target, an offset or the name of a label
 abbrev pub jump_operands : Jump → List ℕ → List (List ℕ)
 jump_operands Near target = target ∷ []
 jump_operands Long target = target ∷ []
 jump_operands CallLocal target = target ∷ []
 jump_operands (Branch comparison width dst operand) target = register_text dst ∷ operand_text operand ∷ target ∷ []
 
--- the number among its operands is in range
+-- the number among the operands is in range
 abbrev pub JumpInRange : Jump → Type 0
 JumpInRange (Branch comparison width dst operand) = IsOperand operand
 JumpInRange _ = Unit {0}
@@ -39,14 +39,14 @@ abbrev pub fits_16 : ℤ → Bool
 fits_16 (pos n) = nat_lt n 32768
 fits_16 (negsuc n) = nat_lt n 32768
 
--- the jump has room for the offset: `ja` and branches have 16 bits signed, `ja32` and `call_local` 32, which hold every
--- offset between two slots of a program (RFC 9669, section 4.3)
+-- whether the offset fits the jump: `ja` and branches have 16 bits signed, `ja32` and `call_local` 32, which hold
+-- every offset between two slots of a program (RFC 9669, section 4.3)
 abbrev pub reaches : Jump → ℤ → Bool
 reaches Near offset = fits_16 offset
 reaches Long offset = true
 reaches CallLocal offset = true
 reaches (Branch comparison width dst operand) offset = fits_16 offset
 
--- the jump with its offset, where it has room for it
+-- the jump with its offset, if the offset fits
 abbrev pub with_offset : Jump → ℤ → Option Statement
 with_offset j offset = if reaches j offset then Some (jump_by j offset) else None

@@ -1,3 +1,4 @@
+-- Definitions of assembler: the list of their modules.
 pub mod Jumps
 pub mod Items
 pub mod Reading

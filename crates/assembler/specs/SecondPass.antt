@@ -1,4 +1,4 @@
--- The second pass: the bytes of what the lines say, with the labels' slots for offsets.
+-- The second pass: the bytes of the items, with offsets for the labels.
 use Rattle.std.specs.Prelude.{ℕ, suc, ◌+◌, ℤ, pos, ◌-ℤ◌, List, [], ◌∷◌, ◌++◌, Option, Some, None, Result, Ok, Err}
 use Rattle.insn_codec.specs.Statements.{statement_bytes}
 use Rattle.insn_codec.specs.declared.statement.Statement.{Statement}
@@ -7,42 +7,42 @@ use Rattle.assembler.specs.Jumps.{with_offset}
 use Rattle.assembler.specs.declared.lines.jump.Jump.{Jump}
 use Rattle.assembler.specs.declared.asm_error.AsmError.{AsmError, TheVariants.UnknownLabel, TheVariants.JumpTooFar}
 
--- a jump's offset is the label's slot less the slot after the jump
+-- a jump's offset: the label's slot minus the slot after the jump
 abbrev pub offset_to : ℕ → ℕ → ℤ
 offset_to slot target = pos target -ℤ pos (suc slot)
 
--- the jump, or the refusal of its line, whose label is too far
+-- the jump, or the error of its line if the label is too far away
 abbrev pub in_reach : ℕ → Option Statement → Result (Option Statement) AsmError
 in_reach number None = Err (JumpTooFar number)
 in_reach number (Some x) = Ok (Some x)
 
--- the jump in this slot, on the line of this number, to the label's slot
+-- the jump in this slot, on the line with this number, to the label's slot
 abbrev pub jump_at : ℕ → ℕ → Jump → Option ℕ → Result (Option Statement) AsmError
 jump_at number slot j None = Err (UnknownLabel number)
 jump_at number slot j (Some target) = in_reach number (with_offset j (offset_to slot target))
 
--- what the line of this number, which begins at this slot, stands for
+-- the statement of the line with this number, which begins at this slot; none for a label
 abbrev pub line_statement : (List ℕ → Option ℕ) → ℕ → ℕ → SourceItem → Result (Option Statement) AsmError
 line_statement labels number slot (statement x) = Ok (Some x)
 line_statement labels number slot (label name) = Ok None
 line_statement labels number slot (jump j name) = jump_at number slot j (labels name)
 
--- the bytes of a statement; a label's line has none
+-- the bytes of a statement; none for a label's line
 abbrev pub bytes_of : Option Statement → List ℕ
 bytes_of None = []
 bytes_of (Some x) = statement_bytes x
 
--- the answer for the rest, with the bytes before it
+-- the outcome for the rest, with these bytes prepended
 abbrev pub after : List ℕ → Result (List ℕ) AsmError → Result (List ℕ) AsmError
 after bytes (Ok more) = Ok (bytes ++ more)
 after bytes (Err error) = Err error
 
--- a line's bytes before those of the rest, or the first refusal
+-- a line's bytes prepended to those of the rest, or the first error
 abbrev pub and_then : Result (Option Statement) AsmError → Result (List ℕ) AsmError → Result (List ℕ) AsmError
 and_then (Ok x) rest = after (bytes_of x) rest
 and_then (Err error) rest = Err error
 
--- the bytes of the lines from this one on, or the first line whose label is unknown or too far
+-- the bytes of the lines from this one on, or the error of the first line whose label is unknown or too far away
 abbrev pub code_bytes : (List ℕ → Option ℕ) → ℕ → ℕ → List SourceItem → Result (List ℕ) AsmError
 code_bytes labels number slot [] = Ok []
 code_bytes labels number slot (i ∷ is) =

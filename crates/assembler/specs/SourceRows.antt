@@ -1,4 +1,4 @@
--- Sources worked by hand: what their lines say, which numbers are in range, and where labels lead.
+-- Sources worked out by hand: the items of their lines, numbers in and out of range, and the targets of labels.
 use Rattle.std.specs.Prelude.{◌≡◌, ℤ, pos, negsuc, true, false, List, [], ◌∷◌, Ok, Err, codes}
 use Rattle.insn_codec.specs.declared.alu_op.AluOp.TheVariants.{Mov}
 use Rattle.insn_codec.specs.declared.comparison.Comparison.TheVariants.{Eq}
@@ -20,11 +20,11 @@ use Rattle.assembler.specs.declared.lines.jump.Jump.TheVariants.{Near, Long, Cal
 abbrev pub move_of : ℤ → SourceItem
 move_of n = statement (Insn (Alu Mov W64 R0 (Imm n)))
 
--- over an exit
+-- a jump forward over an exit
 abbrev pub forward : List SourceItem
 forward = jump Near (codes "end") ∷ statement (Insn Exit) ∷ label (codes "end") ∷ statement (Insn Exit) ∷ []
 
--- back over a wide load, by a long jump, a call and a branch
+-- jumps back over a wide load: a long jump, a call and a branch
 abbrev pub back : List SourceItem
 back =
     label (codes "a") ∷ statement (Insn (LoadWide R0 5)) ∷ jump Long (codes "a") ∷ jump CallLocal (codes "a")
@@ -34,7 +34,7 @@ pub record SourceRowsHold : Type 0 where
   pub forward_lines : EachSays (lines_of (codes "ja end\nexit\nend:\nexit\n")) forward
   pub forward_code : code_bytes (label_slot forward) 1 0 forward
       ≡ Ok (0x05 ∷ 0 ∷ 1 ∷ 0 ∷ 0 ∷ 0 ∷ 0 ∷ 0 ∷ 0x95 ∷ 0 ∷ 0 ∷ 0 ∷ 0 ∷ 0 ∷ 0 ∷ 0 ∷ 0x95 ∷ 0 ∷ 0 ∷ 0 ∷ 0 ∷ 0 ∷ 0 ∷ 0 ∷ [])
-  -- the last line may lack its line feed
+  -- the last line may lack a line feed
   pub back_lines : EachSays
       (lines_of (codes "a:\nlddw r0, 0x0000000000000005\nja32 a\ncall_local a\njeq64 r0, 0, a"))
       back
@@ -42,7 +42,7 @@ pub record SourceRowsHold : Type 0 where
   pub back_code : code_bytes (label_slot back) 1 0 back
       ≡ Ok (0x18 ∷ 0 ∷ 0 ∷ 0 ∷ 5 ∷ 0 ∷ 0 ∷ 0 ∷ 0 ∷ 0 ∷ 0 ∷ 0 ∷ 0 ∷ 0 ∷ 0 ∷ 0 ∷ 0x06 ∷ 0 ∷ 0 ∷ 0 ∷ 0xfd ∷ 0xff ∷ 0xff ∷ 0xff
       ∷ 0x85 ∷ 0x10 ∷ 0 ∷ 0 ∷ 0xfc ∷ 0xff ∷ 0xff ∷ 0xff ∷ 0x15 ∷ 0 ∷ 0xfb ∷ 0xff ∷ 0 ∷ 0 ∷ 0 ∷ 0 ∷ [])
-  -- `mov64 r0, 4294967296` has a line, and its number is out of range
+  -- `mov64 r0, 4294967296` has a line, but its number is out of range
   pub wide_has_line : HasLine (move_of (pos 4294967296))
   pub wide_is_out : InRange (move_of (pos 4294967296)) → ⊥
   pub past_the_greatest : InRange (move_of (pos 2147483648)) → ⊥
@@ -50,10 +50,10 @@ pub record SourceRowsHold : Type 0 where
   pub least : InRange (move_of (negsuc 2147483647))
   pub past_the_least : InRange (move_of (negsuc 2147483648)) → ⊥
   pub branch_out : InRange (jump (Branch Eq W64 R0 (Imm (pos 2147483648))) (codes "a")) → ⊥
-  -- a label is named once
+  -- a label is defined once
   pub named_twice : IsFree (label (codes "a") ∷ []) (label (codes "a")) → ⊥
   pub named_once : IsFree (label (codes "a") ∷ []) (label (codes "b"))
-  -- `ja away` alone, and a label that is too far
+  -- `ja away` without that label, and a label that is too far away
   pub unknown : code_bytes (label_slot (jump Near (codes "away") ∷ [])) 1 0 (jump Near (codes "away") ∷ []) ≡ Err (UnknownLabel 1)
   pub farthest : reaches Near (pos 32767) ≡ true
   pub too_far : reaches Near (pos 32768) ≡ false

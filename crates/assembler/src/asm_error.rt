@@ -6,7 +6,7 @@ ghost use Rattle.assembler.specs.declared.asm_error.AsmError.TheVariants.{Memory
 use std::alloc::{AllocError, AllocFailed};
 use thiserror::Error;
 
-/// Why a text does not assemble. The number of a variant is that of the line, counted from 1.
+/// Why a text cannot be assembled. The number in a variant is that of the line, counted from 1.
 #[derive(Clone, Copy, Debug, PartialEq, Eq, Error)]
 pub enum AsmError {
     /// The line is not an instruction, a slot or a label.
@@ -21,7 +21,7 @@ pub enum AsmError {
     /// An earlier line defines the same label.
     #[error("line {0} names a label a second time")]
     DuplicateLabel(usize),
-    /// The offset to the label is outside the 16 bits, signed, of the line's jump.
+    /// The offset to the label does not fit the signed 16 bits of the line's jump.
     #[error("line {0} jumps to a label that is too far away")]
     JumpTooFar(usize),
     /// The lines up to and including this one have more than 65,536 slots.

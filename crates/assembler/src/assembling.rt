@@ -11,15 +11,14 @@ use crate::passes::emit::emit;
 use crate::passes::scan::scan;
 use std::alloc::Global;
 
-/// The bytes of the code that the text is the source of, eight for each slot.
+/// The bytes of the code of which the text is the source, eight for each slot.
 ///
 /// # Errors
 ///
-/// The error of the first line that has one, and its first of these: `UnknownLine` (it has no
-/// form), `NumberOutOfRange`, `DuplicateLabel` (it names a label again), `TooManySlots` (the code
-/// has more than 65,536 slots). If no line has one of these, `UnknownLabel` or `JumpTooFar` of the
-/// first line whose label no line names, or is too far away. Memory where none is left; a first
-/// line that says nothing is refused before any is asked for.
+/// The error of the first line with one of these, and the first of them: `UnknownLine` (the line has no valid form),
+/// `NumberOutOfRange`, `DuplicateLabel` (an earlier line defines the label), `TooManySlots` (the code has more than
+/// 65,536 slots). If there is none, `UnknownLabel` or `JumpTooFar` of the first line whose label is not defined or
+/// too far away. `Memory` if an allocation fails; an invalid first line is reported before anything is allocated.
 pub fn assemble(alloc: Global, text: &str) -> Result<Vec<u8>, AsmError>
     ensures answers { AssembleReturns text.now result }
     ensures only { (r : Result (List ℕ) Refusal) → Assembles (lines_of text.now) r → IsAssemblyResult r result }

@@ -1,4 +1,4 @@
-//! Programs from their text: instructions by their mnemonics, with labels for jumps.
+//! Assembles programs from text: instructions by their mnemonics, with labels for jumps.
 #![tactic(auto)]
 
 mod asm_error;

@@ -1,4 +1,4 @@
-//! What lines say, read from their text.
+//! Parses source lines.
 
 pub(crate) mod accesses;
 pub(crate) mod arithmetic;

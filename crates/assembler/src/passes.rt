@@ -1,4 +1,4 @@
-//! The two passes: what the lines say and which slots their labels name, and the bytes.
+//! The two passes: the first parses the lines and finds the labels' slots, the second writes the bytes.
 
 pub(crate) mod cutting;
 pub(crate) mod emit;

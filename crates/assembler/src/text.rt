@@ -1,4 +1,4 @@
-//! The parts of a line, read from their text.
+//! Parses the parts of a line.
 
 pub(crate) mod affixes;
 pub(crate) mod cuts;

@@ -1,4 +1,4 @@
-//! Lines of loads, stores and slots, read behind the mnemonic.
+//! Lines of loads, stores and raw slots: the operands after the mnemonic.
 ghost use Rattle.assembler.specs.Forms.{ReadsOperands};
 ghost use Rattle.insn_codec.specs.declared.mnemonic.Mnemonic.TheVariants as mnemonic;
 
@@ -27,7 +27,7 @@ pub(crate) fn load(size: Size, text: &str) -> Result<Line<'_>, LineError>
     })))
 }
 
-/// A load that extends a sign.
+/// A sign-extending load.
 pub(crate) fn load_signed(size: SignedSize, text: &str) -> Result<Line<'_>, LineError>
     ensures { ReadsOperands (mnemonic.LoadSigned size) text.now result }
 {
@@ -45,7 +45,7 @@ pub(crate) fn load_signed(size: SignedSize, text: &str) -> Result<Line<'_>, Line
     })))
 }
 
-/// A store of a number.
+/// A store of an immediate.
 pub(crate) fn store_imm(size: Size, text: &str) -> Result<Line<'_>, LineError>
     ensures { ReadsOperands (mnemonic.StoreImm size) text.now result }
 {
@@ -103,7 +103,7 @@ pub(crate) fn atomic(op: AtomicOp, width: Width, text: &str) -> Result<Line<'_>,
     })))
 }
 
-/// A load of a constant of 64 bits.
+/// A load of a 64-bit constant.
 pub(crate) fn load_wide(text: &str) -> Result<Line<'_>, LineError>
     ensures { ReadsOperands mnemonic.LoadWide text.now result }
 {

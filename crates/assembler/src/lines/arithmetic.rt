@@ -1,4 +1,4 @@
-//! Lines of arithmetic, read behind the mnemonic.
+//! Lines of arithmetic: the operands after the mnemonic.
 ghost use Rattle.assembler.specs.Forms.{ReadsOperands};
 ghost use Rattle.insn_codec.specs.declared.mnemonic.Mnemonic.TheVariants as mnemonic;
 
@@ -27,7 +27,7 @@ pub(crate) fn alu(op: AluOp, width: Width, text: &str) -> Result<Line<'_>, LineE
     })))
 }
 
-/// The negative of a register.
+/// The negation of a register.
 pub(crate) fn neg(width: Width, text: &str) -> Result<Line<'_>, LineError>
     ensures { ReadsOperands (mnemonic.Neg width) text.now result }
 {
@@ -35,7 +35,7 @@ pub(crate) fn neg(width: Width, text: &str) -> Result<Line<'_>, LineError>
     Ok(Line::Statement(Statement::Insn(Insn::Neg { width, dst })))
 }
 
-/// A move that extends a sign.
+/// A sign-extending move.
 pub(crate) fn sign_extend(extension: Extension, text: &str) -> Result<Line<'_>, LineError>
     ensures { ReadsOperands (mnemonic.SignExtend extension) text.now result }
 {
@@ -47,7 +47,7 @@ pub(crate) fn sign_extend(extension: Extension, text: &str) -> Result<Line<'_>, 
     })))
 }
 
-/// The bytes of a register in another order.
+/// A byte swap of a register.
 pub(crate) fn byte_swap(
     order: ByteOrder,
     width: SwapWidth,

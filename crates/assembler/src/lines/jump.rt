@@ -11,7 +11,7 @@ pub(crate) enum Jump {
     Long,
     /// A call of the program's own function.
     CallLocal,
-    /// A jump where the comparison holds, with an offset of 16 bits.
+    /// A jump that is taken if the comparison holds, with an offset of 16 bits.
     Branch {
         comparison: Comparison,
         width: Width,
@@ -24,7 +24,7 @@ impl Jump {
     ghost use Rattle.std.specs.Prelude.{◌≡◌, Some, None, if◌then◌else◌};
     ghost use Rattle.assembler.specs.Jumps.{fits_16, with_offset as offset_added};
 
-    /// The jump with its offset, in slots from the next one on, where it has room for it.
+    /// The jump with its offset, in slots from the next one on, if the offset fits.
     pub(crate) fn with_offset(self, offset: i32) -> Option<Statement>
         ensures { result ≡ offset_added self offset }
     {
@@ -50,7 +50,7 @@ impl Jump {
         Some(Statement::Insn(insn))
     }
 
-    /// The offset in 16 bits, where it is no longer.
+    /// The offset in 16 bits, if it fits.
     fn short(offset: i32) -> Option<i16>
         ensures { result ≡ (if fits_16 offset then Some offset else None) }
     {

@@ -1,4 +1,4 @@
-//! Lines of jumps and calls, read behind the mnemonic.
+//! Lines of jumps and calls: the operands after the mnemonic.
 ghost use Rattle.std.specs.Prelude.{◌≡◌, ◌∷◌, [], ℕ, List};
 ghost use Rattle.insn_codec.specs.Lines.{operands_text};
 ghost use Rattle.insn_codec.specs.declared.mnemonic.Mnemonic.TheVariants as mnemonic;
@@ -15,7 +15,7 @@ use crate::text::shapes::comparison_and_target;
 use crate::text::targets::{Target, target_of};
 use insn_codec::{Comparison, Insn, Statement, Width};
 
-/// A jump or a call that has no operand but its target.
+/// A jump or a call whose only operand is its target.
 pub(crate) fn jump(jump: Jump, text: &str) -> Result<Line<'_>, LineError>
     requires alone { jump_operands jump text.now ≡ text.now ∷ [] }
     ensures { ReadsOperands (jump_mnemonic jump) text.now result }
@@ -24,7 +24,7 @@ pub(crate) fn jump(jump: Jump, text: &str) -> Result<Line<'_>, LineError>
     jump_to(jump, target)
 }
 
-/// A jump where the comparison holds.
+/// A jump that is taken if the comparison holds.
 pub(crate) fn branch(
     comparison: Comparison,
     width: Width,
@@ -49,7 +49,7 @@ pub(crate) fn branch(
     )
 }
 
-/// The jump to its target: the statement with the offset, or the jump to the name.
+/// The jump to its target: the statement with the offset, or a jump to the label.
 fn jump_to(jump: Jump, target: Target<'_>) -> Result<Line<'_>, LineError>
     requires range { JumpInRange jump }
     ensures { (goal : List ℕ) → TargetIs target.entry goal → ReadsOperands (jump_mnemonic jump) (operands_text (jump_operands jump goal)) result }

@@ -3,13 +3,13 @@
 use crate::lines::jump::Jump;
 use insn_codec::Statement;
 
-/// What a line of a program's text says.
+/// A parsed line.
 #[derive(Clone, Copy)]
 pub enum Line<'a> {
-    /// It stands for code, just as it is.
+    /// Code, exactly as written.
     Statement(Statement),
-    /// It gives the next slot this name.
+    /// A label for the next slot.
     Label(&'a str),
-    /// It jumps to the slot of this name.
+    /// A jump to the slot of this label.
     Jump(Jump, &'a str),
 }

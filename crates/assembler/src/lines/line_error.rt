@@ -1,9 +1,9 @@
-//! Why a line was not read.
+//! Why a line is invalid.
 
-/// Why a line does not say anything.
+/// Why a line is invalid.
 #[derive(Clone, Copy, Debug, PartialEq, Eq)]
 pub(crate) enum LineError {
-    /// Nothing has a line of this form.
+    /// The line has no valid form.
     NoForm,
     /// An immediate or an offset is out of its range.
     OutOfRange,

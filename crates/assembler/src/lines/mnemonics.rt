@@ -17,7 +17,7 @@ use insn_codec::{
     AluOp, AtomicOp, ByteOrder, Comparison, Extension, Mnemonic, SignedSize, Size, SwapWidth, Width,
 };
 
-/// The mnemonic of this text.
+/// The mnemonic with this text.
 pub(crate) fn mnemonic_of(word: &str) -> Option<Mnemonic>
     ensures { MatchOption result ((m : Mnemonic) → word.now ≡ mnemonic_text m → ⊥) (λ m. word.now ≡ mnemonic_text m) }
 {
@@ -92,7 +92,7 @@ fn atomic(word: &str) -> Option<Mnemonic>
     Some(Mnemonic::Atomic(op, width))
 }
 
-/// An atomic operation, and its width.
+/// An atomic operation and its width.
 fn atomic_of_width(text: &str) -> Option<(AtomicOp, Width)>
     ensures { MatchOption result ((op : AtomicOp) (width : Width) → text.now ≡ atomic_text op ++ width_text width → ⊥) (λ x. text.now ≡ atomic_text x.0 ++ width_text x.1) }
 {
@@ -115,7 +115,7 @@ fn of_width(word: &str) -> Option<Mnemonic>
     Some(Mnemonic::Branch(comparison, width))
 }
 
-/// What stands before a width, and the width.
+/// The text before a width, and the width.
 fn split_width(word: &str) -> Option<(&str, Width)>
     ensures { MatchOption result ((name : List ℕ) (width : Width) → word.now ≡ name ++ width_text width → ⊥) (λ x. word.now ≡ x.0.now ++ width_text x.1) }
 {

@@ -1,4 +1,4 @@
-//! A line of a program's text.
+//! Parses one source line.
 ghost use Rattle.std.specs.Prelude.{◌++◌, ◌∷◌, []};
 ghost use Rattle.assembler.specs.Forms.{ReadsOperands};
 ghost use Rattle.assembler.specs.LineAnswers.{ReadsAs};
@@ -13,7 +13,7 @@ use crate::lines::mnemonics::mnemonic_of;
 use crate::text::names::is_name;
 use insn_codec::{Insn, Mnemonic, Statement};
 
-/// What a line of a program's text says.
+/// Parses a line.
 pub(crate) fn read_line(line: &str) -> Result<Line<'_>, LineError>
     ensures reads { ReadsAs line.now result }
 {
@@ -32,7 +32,7 @@ pub(crate) fn read_line(line: &str) -> Result<Line<'_>, LineError>
     read_operands(mnemonic, operands)
 }
 
-/// The line of a label, by what stands before its colon.
+/// The line of a label, from the text before its colon.
 #[tactic(auto, using(crate::proofs::Whole::label_only))]
 fn label(name: &str) -> Result<Line<'_>, LineError>
     ensures { ReadsAs (name.now ++ 58 ∷ []) result }
@@ -44,7 +44,7 @@ fn label(name: &str) -> Result<Line<'_>, LineError>
     }
 }
 
-/// What stands behind a mnemonic and a space.
+/// The line with this mnemonic, from the text after the space.
 fn read_operands(mnemonic: Mnemonic, text: &str) -> Result<Line<'_>, LineError>
     ensures { ReadsOperands mnemonic text.now result }
 {

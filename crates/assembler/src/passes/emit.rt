@@ -1,4 +1,4 @@
-//! The second pass: the bytes of what the lines say.
+//! The second pass: the bytes of the lines.
 
 ghost use Rattle.std.specs.Prelude.{◌≡◌, ◌≢◌, ◌≤◌, [], ◌++◌, ℕ, List, IfSome, OnErr, OnOk, map};
 ghost use Rattle.std.specs.BTreeMap.{get_by_text};
@@ -15,7 +15,7 @@ use crate::passes::scan::slots;
 use insn_codec::{Statement, encode};
 use std::alloc::{AllocError, Global};
 
-/// What the line of this number, which begins at this slot, stands for.
+/// The statement of the line with this number, which begins at this slot; none for a label.
 ///
 /// # Errors
 ///
@@ -37,7 +37,7 @@ fn resolve(
     }
 }
 
-/// Appends the bytes that the statement stands for.
+/// Appends the bytes of the statement.
 fn push_statement(out: &mut Vec<u8>, statement: Option<Statement>) -> Result<(), AllocError>
     ensures { OnOk result (out.new.items ≡ out.old.items ++ bytes_of statement) }
 {
@@ -59,8 +59,7 @@ fn push_statement(out: &mut Vec<u8>, statement: Option<Statement>) -> Result<(),
 ///
 /// # Errors
 ///
-/// The error of the first line that has one: `UnknownLabel` if its label has no slot, `JumpTooFar`
-/// if it is too far away.
+/// The error of the first invalid line: `UnknownLabel` if its label has no slot, `JumpTooFar` if it is too far away.
 pub(crate) fn emit(alloc: Global, lines: &[Line<'_>], labels: &Labels) -> Result<Vec<u8>, AsmError>
     requires room { slots_of (map item_of lines.now) ≤ slot_limit }
     requires labels { (q : List ℕ) → IfSome (get_by_text labels.now q) (λ t. t ≤ slot_limit) }

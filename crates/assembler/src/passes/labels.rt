@@ -1,4 +1,4 @@
-//! Labels and the slots that they name.
+//! Labels and their slots.
 
 ghost use Rattle.std.specs.Prelude.{◌≡◌};
 ghost use Rattle.std.specs.BTreeMap.{get_by_text};
@@ -13,18 +13,18 @@ use std::collections::BTreeMap;
 /// The slot of each label.
 pub(crate) type Labels = BTreeMap<String, u32>;
 
-/// The slot that the label names.
+/// The slot of the label.
 pub(crate) fn slot_of(labels: &Labels, name: &str) -> Option<u32>
     ensures { result ≡ get_by_text labels.now name.now }
 {
     labels.get(name).copied()
 }
 
-/// Gives the label this slot, if the line names one. `number` is the line's, counted from 1.
+/// Gives the label this slot, if the line defines one. `number` is the line's, counted from 1.
 ///
 /// # Errors
 ///
-/// `DuplicateLabel` if the label has a slot already.
+/// `DuplicateLabel` if the label already has a slot.
 pub(crate) fn add_label(
     alloc: Global,
     labels: &mut Labels,

@@ -8,8 +8,7 @@ use crate::asm_error::AsmError;
 use crate::lines::jump::Jump;
 use insn_codec::Statement;
 
-/// The offset from a jump in this slot to the target's: the target's slot less the slot after the
-/// jump.
+/// The offset from a jump in this slot to the target: the target's slot minus the slot after the jump.
 fn offset_between(slot: u32, target: u32) -> i32
     requires slot { slot ≤ slot_limit }
     requires target { target ≤ slot_limit }
@@ -18,7 +17,7 @@ fn offset_between(slot: u32, target: u32) -> i32
     target as i32 - slot as i32 - 1
 }
 
-/// The jump in this slot, on the line of this number, to its label's slot.
+/// The jump in this slot, on the line with this number, to its label's slot.
 ///
 /// # Errors
 ///

@@ -1,4 +1,4 @@
-//! The first pass: what the lines say, and the labels' slots.
+//! The first pass: parses the lines and finds the labels' slots.
 
 ghost use Rattle.std.specs.Prelude.{◌≡◌};
 ghost use Rattle.assembler.specs.Answers.{FirstPass, ReadsAt};
@@ -15,16 +15,16 @@ use insn_codec::SLOT_LIMIT;
 use std::alloc::Global;
 use std::collections::BTreeMap;
 
-/// What the first pass finds in a text.
+/// The result of the first pass.
 #[derive(Drop)]
 pub(crate) struct Scanned<'a> {
-    /// What the lines say.
+    /// The parsed lines.
     pub(crate) lines: Vec<Line<'a>>,
     /// The labels' slots.
     pub(crate) labels: Labels,
 }
 
-/// What the line of this number says.
+/// Parses the line with this number.
 fn read_at(line: &str, number: usize) -> Result<Line<'_>, AsmError>
     ensures { ReadsAt line.now number result }
 {
@@ -35,7 +35,7 @@ fn read_at(line: &str, number: usize) -> Result<Line<'_>, AsmError>
     }
 }
 
-/// How many slots the line stands for.
+/// The number of slots of the line.
 pub(crate) fn slots(line: &Line<'_>) -> u32
     ensures { result ≡ item_slots (item_of line.now) }
 {
@@ -46,13 +46,13 @@ pub(crate) fn slots(line: &Line<'_>) -> u32
     }
 }
 
-/// What the lines of the text say, and the labels' slots.
+/// Parses the lines of the text and finds the labels' slots.
 ///
 /// # Errors
 ///
-/// The error of the first line that has one, and its first of these: `UnknownLine` (it has no
-/// form), `NumberOutOfRange`, `DuplicateLabel` (it names a label again), `TooManySlots` (the code
-/// has more than 65,536 slots).
+/// The error of the first line with one of these, and the first of them: `UnknownLine` (the line has no
+/// valid form), `NumberOutOfRange`, `DuplicateLabel` (an earlier line defines the label),
+/// `TooManySlots` (the code has more than 65,536 slots).
 pub(crate) fn scan(alloc: Global, text: &str) -> Result<Scanned<'_>, AsmError>
     ensures { FirstPass (lines_of text.now) result }
 {

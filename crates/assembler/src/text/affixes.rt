@@ -1,14 +1,14 @@
-//! Texts without their beginning or their end.
+//! Texts without a prefix or a suffix.
 ghost use Rattle.std.specs.Prelude.{◌≡◌, ◌++◌, ℕ, List, MatchOption};
 
-/// What follows the prefix.
+/// The text after the prefix.
 pub(crate) fn after<'a>(word: &'a str, prefix: &str) -> Option<&'a str>
     ensures { MatchOption result ((rest : List ℕ) → word.now ≡ prefix.now ++ rest → ⊥) (λ x. word.now ≡ prefix.now ++ x.now) }
 {
     word.strip_prefix(prefix)
 }
 
-/// What stands before the suffix.
+/// The text before the suffix.
 pub(crate) fn before<'a>(word: &'a str, suffix: &str) -> Option<&'a str>
     ensures { MatchOption result ((front : List ℕ) → word.now ≡ front ++ suffix.now → ⊥) (λ x. word.now ≡ x.now ++ suffix.now) }
 {

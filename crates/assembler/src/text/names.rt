@@ -2,8 +2,7 @@
 ghost use Rattle.std.specs.Prelude.{◌≡◌, ◌↔◌, true};
 ghost use Rattle.assembler.specs.Items.{IsLabel, all_go_on, begins_name, goes_on_name};
 
-/// Whether the text is an identifier: a letter or an underscore, and then any of letters,
-/// underscores and digits.
+/// Whether the text is an identifier: a letter or an underscore, followed by letters, underscores and digits.
 pub(crate) fn is_name(text: &str) -> bool
     ensures { (result ≡ true) ↔ IsLabel text.now }
 {

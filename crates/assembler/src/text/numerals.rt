@@ -8,13 +8,13 @@ ghost use Rattle.assembler.specs.Parts.{NumeralIs};
 /// A decimal number.
 #[derive(Clone, Copy, Debug, PartialEq, Eq)]
 pub(crate) enum Numeral {
-    /// One that fits 32 bits, signed.
+    /// A number that fits 32 bits signed.
     Small(i32),
-    /// One that does not.
+    /// A number that does not.
     Wide,
 }
 
-/// The number that stands as an immediate, as `12` or `-3`.
+/// The number of an immediate such as `12` or `-3`.
 pub(crate) fn immediate(text: &str) -> Option<Numeral>
     ensures { MatchOption result ((z : ℤ) → text.now ≡ signed_decimal z → ⊥) (λ n. (z : ℤ) × NumeralIs n z × (text.now ≡ signed_decimal z)) }
 {
@@ -25,7 +25,7 @@ pub(crate) fn immediate(text: &str) -> Option<Numeral>
     }
 }
 
-/// The number that stands as an offset, as `+12` or `-3`.
+/// The number of an offset such as `+12` or `-3`.
 pub(crate) fn offset(text: &str) -> Option<Numeral>
     ensures { MatchOption result ((z : ℤ) → text.now ≡ offset_text z → ⊥) (λ n. (z : ℤ) × NumeralIs n z × (text.now ≡ offset_text z)) }
 {
@@ -36,7 +36,7 @@ pub(crate) fn offset(text: &str) -> Option<Numeral>
     }
 }
 
-/// The number of a text that has the form of one.
+/// The number of a text that has the form of a number.
 fn number(text: &str) -> Numeral
     ensures { (z : ℤ) → (text.now ≡ signed_decimal z) ⊎ (text.now ≡ offset_text z) → NumeralIs result z }
 {
@@ -71,7 +71,7 @@ fn is_decimal(digits: &[u8]) -> bool
     digits == b"0".as_slice() || is_positive(digits)
 }
 
-/// Whether these are digits with no zero before them.
+/// Whether these are digits without leading zeros.
 fn is_positive(digits: &[u8]) -> bool
     ensures { result ≡ is_positive digits.now }
 {

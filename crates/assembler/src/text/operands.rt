@@ -8,16 +8,16 @@ use crate::text::numerals::{Numeral, immediate};
 use crate::text::registers::register;
 use insn_codec::Register;
 
-/// What an instruction takes besides its destination.
+/// The second operand of an instruction.
 #[derive(Clone, Copy, Debug, PartialEq, Eq)]
 pub(crate) enum Value {
-    /// The number that a register holds.
+    /// A register.
     Register(Register),
-    /// A number of the instruction's own.
+    /// An immediate.
     Number(Numeral),
 }
 
-/// The operand of this text: a register's name, or a number.
+/// The operand with this text: a register's name, or a number.
 pub(crate) fn operand(text: &str) -> Option<Value>
     ensures { MatchOption result ((o : Operand) → text.now ≡ operand_text o → ⊥) (λ v. (o : Operand) × ValueIs v o × (text.now ≡ operand_text o)) }
 {

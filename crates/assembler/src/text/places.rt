@@ -9,7 +9,7 @@ use crate::text::numerals::{Numeral, offset};
 use crate::text::registers::register;
 use insn_codec::Register;
 
-/// A place in memory, as `[r1+8]`: the register and the offset.
+/// A memory operand such as `[r1+8]`: the register and the offset.
 pub(crate) fn place(text: &str) -> Option<(Register, Numeral)>
     ensures { MatchOption result ((r : Register) (z : ℤ) → text.now ≡ place_text r z → ⊥) (λ x. (z : ℤ) × NumeralIs x.1 z × (text.now ≡ place_text x.0 z)) }
 {
@@ -18,7 +18,7 @@ pub(crate) fn place(text: &str) -> Option<(Register, Numeral)>
     address(inside)
 }
 
-/// A register and an offset, as `r1+8`.
+/// A register and an offset, such as `r1+8`.
 fn address(text: &str) -> Option<(Register, Numeral)>
     ensures { MatchOption result ((r : Register) (z : ℤ) → text.now ≡ address_text r z → ⊥) (λ x. (z : ℤ) × NumeralIs x.1 z × (text.now ≡ address_text x.0 z)) }
 {

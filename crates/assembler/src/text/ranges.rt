@@ -1,4 +1,4 @@
-//! Numbers in their ranges.
+//! Range checks of numbers.
 ghost use Rattle.std.specs.Prelude.{◌≡◌, ℤ, FitsSigned, MatchOption};
 ghost use Rattle.std.specs.Int.{w16, w32};
 ghost use Rattle.insn_codec.specs.Spelling.{IsOperand};
@@ -9,7 +9,7 @@ use crate::text::numerals::Numeral;
 use crate::text::operands::Value;
 use insn_codec::Operand;
 
-/// The number, if 16 bits hold it.
+/// The number, if it fits 16 bits.
 pub(crate) fn short(numeral: Numeral) -> Option<i16>
     ensures { MatchOption result ((z : ℤ) → NumeralIs numeral z → FitsSigned w16 z → ⊥) (λ n. FitsSigned w16 n × ((z : ℤ) → NumeralIs numeral z → z ≡ n)) }
 {
@@ -19,7 +19,7 @@ pub(crate) fn short(numeral: Numeral) -> Option<i16>
     }
 }
 
-/// The number, if 32 bits hold it.
+/// The number, if it fits 32 bits.
 pub(crate) fn long(numeral: Numeral) -> Option<i32>
     ensures { MatchOption result ((z : ℤ) → NumeralIs numeral z → FitsSigned w32 z → ⊥) (λ n. FitsSigned w32 n × ((z : ℤ) → NumeralIs numeral z → z ≡ n)) }
 {
@@ -29,7 +29,7 @@ pub(crate) fn long(numeral: Numeral) -> Option<i32>
     }
 }
 
-/// The operand, if it is a register or a number that 32 bits hold.
+/// The operand, if it is a register or a number that fits 32 bits.
 pub(crate) fn operand_in_range(value: Value) -> Option<Operand>
     ensures { MatchOption result ((o : Operand) → ValueIs value o → IsOperand o → ⊥) (λ p. IsOperand p × ((o : Operand) → ValueIs value o → o ≡ p)) }
 {

@@ -5,7 +5,7 @@ ghost use Rattle.insn_codec.specs.declared.register.Register.{Register};
 
 use insn_codec::Register;
 
-/// The register of this name, `r0` to `r10`.
+/// The register with this name, `r0` to `r10`.
 pub(crate) fn register(text: &str) -> Option<Register>
     ensures { MatchOption result ((r : Register) → text.now ≡ register_text r → ⊥) (λ r. text.now ≡ register_text r) }
 {

@@ -1,4 +1,4 @@
-//! Operands by their shapes.
+//! Operand lists by their shapes.
 ghost use Rattle.std.specs.Prelude.{◌≡◌, ◌<◌, ◌^◌, ℕ, ℤ, List, MatchOption};
 ghost use Rattle.insn_codec.specs.Lines.{offset_text, operand_text, place_text, register_text, signed_decimal, wide_text};
 ghost use Rattle.insn_codec.specs.declared.operand.Operand.{Operand};
@@ -17,7 +17,7 @@ use crate::text::targets::{Target, target_of};
 use crate::text::words::wide;
 use insn_codec::Register;
 
-/// A register and an operand, as `r1, 5`.
+/// A register and an operand, such as `r1, 5`.
 pub(crate) fn register_operand(text: &str) -> Option<(Register, Value)>
     ensures { MatchOption result
         ((r : Register) (o : Operand) → text.now ≡ operand_list (register_text r) (operand_text o) → ⊥)
@@ -29,7 +29,7 @@ pub(crate) fn register_operand(text: &str) -> Option<(Register, Value)>
     Some((dst, value))
 }
 
-/// Two registers, as `r1, r2`.
+/// Two registers, such as `r1, r2`.
 pub(crate) fn two_registers(text: &str) -> Option<(Register, Register)>
     ensures { MatchOption result
         ((r s : Register) → text.now ≡ operand_list (register_text r) (register_text s) → ⊥)
@@ -41,7 +41,7 @@ pub(crate) fn two_registers(text: &str) -> Option<(Register, Register)>
     Some((dst, src))
 }
 
-/// A register, an operand and the target of a jump, as `r1, 5, +2`.
+/// A register, an operand and the target of a jump, such as `r1, 5, +2`.
 #[tactic(auto, using(crate::proofs::NameBytes::operand_lacks_comma))]
 pub(crate) fn comparison_and_target(text: &str) -> Option<(Register, Value, Target<'_>)>
     ensures { MatchOption result
@@ -60,7 +60,7 @@ pub(crate) fn comparison_and_target(text: &str) -> Option<(Register, Value, Targ
     Some((dst, value, target))
 }
 
-/// A register and a place in memory, as `r1, [r2+8]`.
+/// A register and a memory operand, such as `r1, [r2+8]`.
 pub(crate) fn register_place(text: &str) -> Option<(Register, Register, Numeral)>
     ensures { MatchOption result
         ((r s : Register) (z : ℤ) → text.now ≡ operand_list (register_text r) (place_text s z) → ⊥)
@@ -72,7 +72,7 @@ pub(crate) fn register_place(text: &str) -> Option<(Register, Register, Numeral)
     Some((dst, src, offset))
 }
 
-/// A place in memory and a number, as `[r1+8], 5`.
+/// A memory operand and a number, such as `[r1+8], 5`.
 pub(crate) fn place_number(text: &str) -> Option<(Register, Numeral, Numeral)>
     ensures { MatchOption result
         ((r : Register) (z n : ℤ) → text.now ≡ operand_list (place_text r z) (signed_decimal n) → ⊥)
@@ -85,7 +85,7 @@ pub(crate) fn place_number(text: &str) -> Option<(Register, Numeral, Numeral)>
     Some((dst, offset, number))
 }
 
-/// A place in memory and a register, as `[r1+8], r2`.
+/// A memory operand and a register, such as `[r1+8], r2`.
 pub(crate) fn place_register(text: &str) -> Option<(Register, Numeral, Register)>
     ensures { MatchOption result
         ((r s : Register) (z : ℤ) → text.now ≡ operand_list (place_text r z) (register_text s) → ⊥)
@@ -97,7 +97,7 @@ pub(crate) fn place_register(text: &str) -> Option<(Register, Numeral, Register)
     Some((dst, offset, src))
 }
 
-/// A register and a word of 64 bits, as `r1, 0x0000000000000005`.
+/// A register and a 64-bit word, such as `r1, 0x0000000000000005`.
 pub(crate) fn register_word(text: &str) -> Option<(Register, u64)>
     ensures { MatchOption result
         ((r : Register) (w : ℕ) → w < 2 ^ 64 → text.now ≡ operand_list (register_text r) (wide_text w) → ⊥)

@@ -1,4 +1,4 @@
-//! What jumps go to.
+//! Targets of jumps.
 ghost use Rattle.std.specs.Prelude.{◌≡◌, ℤ, MatchOption};
 ghost use Rattle.insn_codec.specs.Lines.{offset_text};
 ghost use Rattle.assembler.specs.Items.{IsLabel};
@@ -7,16 +7,16 @@ ghost use Rattle.assembler.specs.Targets.{TargetIs};
 use crate::text::names::is_name;
 use crate::text::numerals::{Numeral, offset};
 
-/// What a jump goes to.
+/// The target of a jump.
 #[derive(Clone, Copy)]
 pub(crate) enum Target<'a> {
-    /// The slot so many slots from the next one on.
+    /// An offset in slots, from the next one on.
     Offset(Numeral),
-    /// The slot of this name.
+    /// The slot of this label.
     Name(&'a str),
 }
 
-/// The target of this text: an offset or a name.
+/// The target with this text: an offset or a name.
 pub(crate) fn target_of(text: &str) -> Option<Target<'_>>
     ensures { MatchOption result (((z : ℤ) → text.now ≡ offset_text z → ⊥) × (IsLabel text.now → ⊥)) (λ t. TargetIs t text.now) }
 {

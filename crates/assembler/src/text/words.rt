@@ -1,11 +1,11 @@
-//! Words of 64 bits.
+//! 64-bit words.
 ghost use Rattle.std.specs.Prelude.{◌≡◌, ◌<◌, ◌^◌, ℕ, MatchOption};
 ghost use Rattle.insn_codec.specs.Lines.{wide_text};
 ghost use Rattle.assembler.specs.Hex.{all_hex_digits, is_hex_digit};
 
 use crate::text::affixes::after;
 
-/// How many digits write 64 bits.
+/// The number of hex digits of 64 bits.
 const DIGITS: usize = 16;
 
 /// The word that is written as `0x` and its 16 digits, lower case.

@@ -1,3 +1,4 @@
+-- Proof obligations of `assemble` (src/assembling.rt).
 use Rattle.assembler.proofs.Sources.{answered, first_refused, labels_fit, only_answer}
 use Rattle.assembler.proofs.assembling.assemble.Goals as goal
 

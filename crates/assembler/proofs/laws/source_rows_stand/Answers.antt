@@ -1,3 +1,4 @@
+-- Proof obligations of `source_rows_stand` (src/laws.rt).
 use Rattle.assembler.proofs.Prelude.{rules, arith, refl, decimal, hex_digits}
 use Rattle.assembler.proofs.laws.source_rows_stand.Goals as goal
 

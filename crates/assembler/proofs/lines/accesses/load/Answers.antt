@@ -1,3 +1,4 @@
+-- Proof obligations of `load` (src/lines/accesses.rt).
 use Rattle.assembler.proofs.Prelude.{refl, statement}
 use Rattle.insn_codec.specs.declared.insn.Insn.TheVariants as insn
 use Rattle.insn_codec.specs.declared.statement.Statement.TheVariants as statement_kind

@@ -1,3 +1,4 @@
+-- Proof obligations of `branch` (src/lines/jumps.rt).
 use Rattle.assembler.proofs.JumpLines.{branch_out}
 use Rattle.assembler.proofs.lines.jumps.branch.Goals as goal
 

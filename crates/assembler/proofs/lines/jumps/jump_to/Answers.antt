@@ -1,3 +1,4 @@
+-- Proof obligations of `jump_to` (src/lines/jumps.rt).
 use Rattle.assembler.proofs.Prelude.{subst, ap, ◌∙◌, arith, w32, to_z-of_z, with_offset, TargetIs}
 use Rattle.assembler.proofs.JumpLines.{jump_out, jump_refused, jump_said}
 use Rattle.assembler.proofs.lines.jumps.jump_to.Goals as goal

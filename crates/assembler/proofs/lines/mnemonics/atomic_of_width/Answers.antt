@@ -1,3 +1,4 @@
+-- Proof obligations of `atomic_of_width` (src/lines/mnemonics.rt).
 use Rattle.assembler.proofs.Ends.{no_operation}
 use Rattle.assembler.proofs.lines.mnemonics.atomic_of_width.Goals as goal
 

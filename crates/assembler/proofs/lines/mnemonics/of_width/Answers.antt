@@ -1,3 +1,4 @@
+-- Proof obligations of `of_width` (src/lines/mnemonics.rt).
 use Rattle.assembler.proofs.Prelude.{codes}
 use Rattle.assembler.proofs.Ends.{differ, no_name, no_width}
 use Rattle.assembler.proofs.lines.mnemonics.of_width.Goals as goal

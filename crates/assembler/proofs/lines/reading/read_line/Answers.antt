@@ -1,3 +1,4 @@
+-- Proof obligations of `read_line` (src/lines/reading.rt).
 use Rattle.assembler.proofs.Prelude.{◌∷◌, ◌++◌, Some, None, lit<, sym, ◌∙◌, ap, bytes_eq-Decides, split_parts, strip_suffix_char, codes}
 use Rattle.assembler.proofs.Ends.{differ}
 use Rattle.assembler.proofs.Lacking.{lacks_from}

@@ -1,3 +1,4 @@
+-- Proof obligations of `next_line` (src/passes/cutting.rt).
 use Rattle.assembler.proofs.Prelude.{lit<, split_once_first}
 use Rattle.assembler.proofs.FirstLine.{first_line, last_line}
 use Rattle.assembler.proofs.passes.cutting.next_line.Goals as goal

@@ -1,3 +1,4 @@
+-- Proof obligations of `emit` (src/passes/emit.rt).
 use Rattle.assembler.proofs.Prelude.{sym, ◌∙◌, arith}
 use Rattle.assembler.proofs.Resolving.{emit_step, room_step}
 use Rattle.assembler.proofs.passes.emit.emit.Goals as goal

@@ -1,3 +1,4 @@
+-- Loop invariants of `emit` (src/passes/emit.rt).
 use Rattle.assembler.proofs.Prelude.{◌≡◌, ◌+◌, ◌≤◌, map, drop, get_by_text, item_of, slots_of, after, code_bytes, slot_limit}
 use Rattle.assembler.proofs.passes.emit.emit.Given as goal
 

@@ -1,7 +1,8 @@
+-- Proof obligations of `add_label` (src/passes/labels.rt).
 use Rattle.assembler.proofs.Prelude.{◌≡◌, string_bytes, sym, ◌∙◌, btree_map_updates_text, IfOk-at_ok}
 use Rattle.assembler.proofs.passes.labels.add_label.Goals as goal
 
--- the label had no slot, and the map changes at its name alone
+-- the label had no slot, and the map changes only at its name
 pub returns-in_ok-insert-in-None : goal.returns-in_ok-insert-in-None
 returns-in_ok-insert-in-None c =
     let key = IfOk-at_ok (λ s. string_bytes s ≡ c.in-Label.name.now) c.in_ok-key-in-None.was c.from_str.ensures.ok in

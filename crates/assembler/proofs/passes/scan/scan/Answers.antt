@@ -1,3 +1,4 @@
+-- Proof obligations of `scan` (src/passes/scan.rt).
 use Rattle.assembler.proofs.Prelude.{arith, inr, map, get_by_text, item_of}
 use Rattle.assembler.proofs.Named.{slots_after_label}
 use Rattle.assembler.proofs.Scanning.{all_scanned, count, full_refused, goes_on, items_snoc, label_refused, read_refused, slots_step}

@@ -1,3 +1,4 @@
+-- Loop invariants and measures of `scan` (src/passes/scan.rt).
 use Rattle.assembler.proofs.Prelude.{◌≡◌, ◌≤◌, length, map, IsUtf8, get_by_text, HasSlots, lines_of, item_of, slots_of, slot_limit}
 use Rattle.assembler.proofs.Scanning.{Begun, GoesOn}
 use Rattle.assembler.proofs.passes.scan.scan.Given as goal

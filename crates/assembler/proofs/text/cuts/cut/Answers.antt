@@ -1,3 +1,4 @@
+-- Proof obligations of `cut` (src/text/cuts.rt).
 use Rattle.assembler.proofs.Prelude.{◌∷◌, Some, None, lit<, sym, ◌∙◌, split_after, strip_prefix_char}
 use Rattle.assembler.proofs.Ends.{tails}
 use Rattle.assembler.proofs.Lacking.{lacks_at}

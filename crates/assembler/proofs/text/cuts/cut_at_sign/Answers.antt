@@ -1,3 +1,4 @@
+-- Proof obligations of `cut_at_sign` (src/text/cuts.rt).
 use Rattle.assembler.proofs.NameBytes.{plus_cut}
 use Rattle.assembler.proofs.text.cuts.cut_at_sign.Goals as goal
 

@@ -1,3 +1,4 @@
+-- Proof obligations of `cut_before` (src/text/cuts.rt).
 use Rattle.assembler.proofs.Prelude.{Some, None, ◌∙◌, ap, ◌∷◌, find_char, finds_char_after, drop_at_char}
 use Rattle.assembler.proofs.Lacking.{lacks_at, lacks_from, lacks_gone}
 use Rattle.assembler.proofs.text.cuts.cut_before.Goals as goal

@@ -1,3 +1,4 @@
+-- Loop invariants of `all_digits` (src/text/numerals.rt).
 use Rattle.assembler.proofs.Prelude.{◌≡◌, drop, all_ascii_digits}
 use Rattle.assembler.proofs.text.numerals.all_digits.Given as goal
 

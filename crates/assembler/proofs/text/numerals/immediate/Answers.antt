@@ -1,3 +1,4 @@
+-- Proof obligations of `immediate` (src/text/numerals.rt).
 use Rattle.assembler.proofs.Prelude.{◌∙◌, sym, ap, inl, is_immediate}
 use Rattle.assembler.proofs.Forms.{immediate_said, no_immediate}
 use Rattle.assembler.proofs.text.numerals.immediate.Goals as goal

@@ -1,3 +1,4 @@
+-- Proof obligations of `number` (src/text/numerals.rt).
 use Rattle.assembler.proofs.Prelude.{w32}
 use Rattle.assembler.proofs.Forms.{number_read, number_refused, parse_number}
 use Rattle.assembler.proofs.text.numerals.number.Goals as goal

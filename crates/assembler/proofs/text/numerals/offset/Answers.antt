@@ -1,3 +1,4 @@
+-- Proof obligations of `offset` (src/text/numerals.rt).
 use Rattle.assembler.proofs.Prelude.{◌∙◌, sym, ap, inr, is_offset}
 use Rattle.assembler.proofs.Forms.{offset_said, no_offset}
 use Rattle.assembler.proofs.text.numerals.offset.Goals as goal

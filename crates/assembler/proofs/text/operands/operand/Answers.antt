@@ -1,3 +1,4 @@
+-- Proof obligations of `operand` (src/text/operands.rt).
 use Rattle.assembler.proofs.Prelude.{refl, Imm}
 use Rattle.assembler.proofs.text.operands.operand.Goals as goal
 

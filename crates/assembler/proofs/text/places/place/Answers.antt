@@ -1,3 +1,4 @@
+-- Proof obligations of `place` (src/text/places.rt).
 use Rattle.assembler.proofs.Prelude.{◌∷◌, ◌++◌, [], Some, None, lit<, sym, ◌∙◌, arith, strip_prefix_char, strip_suffix_char, address_text, append_cancel_right}
 use Rattle.assembler.proofs.Ends.{tails}
 use Rattle.assembler.proofs.text.places.place.Goals as goal

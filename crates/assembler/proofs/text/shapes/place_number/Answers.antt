@@ -1,3 +1,4 @@
+-- Proof obligations of `place_number` (src/text/shapes.rt).
 use Rattle.assembler.proofs.Prelude.{refl, place_text, signed_decimal}
 use Rattle.assembler.proofs.NameBytes.{lacks_place}
 use Rattle.assembler.proofs.text.shapes.place_number.Goals as goal

@@ -1,3 +1,4 @@
+-- Proof obligations of `place_register` (src/text/shapes.rt).
 use Rattle.assembler.proofs.Prelude.{refl, place_text, register_text}
 use Rattle.assembler.proofs.NameBytes.{lacks_place}
 use Rattle.assembler.proofs.text.shapes.place_register.Goals as goal

@@ -1,3 +1,4 @@
+-- Proof obligations of `wide` (src/text/words.rt).
 use Rattle.assembler.proofs.Prelude.{◌∙◌, ap, arith, sym, Ok, all_hex_digits}
 use Rattle.assembler.proofs.Digits.{hex_again, not_wide, parse_hex, wide_refused}
 use Rattle.assembler.proofs.text.words.wide.Goals as goal
