@@ -1,4 +1,5 @@
--- What `decimal` writes, the number that it is read as, and numbers as the standard library prints them.
+-- The digits that `decimal` writes, the number that they are read as, and numbers
+-- as the standard library prints them.
 use Rattle.insn_codec.proofs.Prelude.{◌≡◌, ◌+◌, ◌<◌, ℕ, List, [], ◌∷◌, false, map, refl, sym, ap, ◌∙◌, arith, ℤ, FitsSigned, all_below_base_digits_of, digits_value_is, number_digits_of, nat_tests, nat_eq, digit_value, AllBelowBase, digits_of, AllDigits, digits_value, decimal, signed_decimal, decimal-digits_of, decimal_digit}
 use Rattle.std.proofs.Common.{w32}
 use Rattle.std.specs.Fmt as fmt
@@ -31,6 +32,6 @@ decimal_value n = grind (arith, decimal_zero, decimal_some, digits_value_is, val
 pub decimal_injective : (m n : ℕ) → decimal m ≡ decimal n → m ≡ n
 decimal_injective m n e = sym (decimal_value m) ∙ ap (digits_value 10) e ∙ decimal_value n
 
--- what `{}` writes of a number
+-- the text that `{}` writes for a number
 pub shown : (z : ℤ) → FitsSigned w32 z → fmt.signed_decimal z ≡ signed_decimal z
 shown z fits = grind (arith, decimal_digit, decimal_zero, decimal-digits_of, decimal_some)

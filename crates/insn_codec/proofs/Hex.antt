@@ -11,7 +11,7 @@ unfolding hex_digits
 hex_digits-zero zero = refl
 hex_digits-zero (suc k) = ap (λ (ds : List ℕ). ds ++ 48 ∷ []) (hex_digits-zero k) ∙ replicate-push k
 
--- the digits with zeros before them, up to k in front of acc
+-- the digits with leading zeros, k in all, before acc
 filled : ℕ → List ℕ → List ℕ → List ℕ
 filled k acc ds = replicate (k + length acc - length ds) 48 ++ ds
 
@@ -34,7 +34,7 @@ hex_digits-more : (j n : ℕ) → hex_digits (suc j) n ≡ hex_digits j (n / 16)
 unfolding hex_digits
 hex_digits-more j n = refl
 
--- the digits that the library prints before acc, with zeros before them
+-- the digits that the library prints before acc, with leading zeros
 digits_onto-filled : (k fuel n : ℕ) (acc : List ℕ) → 0 < k → k ≤ fuel → n < 16 ^ k → filled k acc (digits_onto fuel 16 false n acc) ≡ hex_digits k n ++ acc
 digits_onto-filled zero fuel n acc some fits small = absurd (omega arith)
 digits_onto-filled (suc j) zero n acc some fits small = absurd (omega arith)
@@ -57,6 +57,6 @@ digits-onto : (n : ℕ) → digits 16 false n ≡ digits_onto 64 16 false n []
 unfolding digits
 digits-onto n = refl
 
--- what `{:016x}` writes of a word
+-- the text that `{:016x}` writes for a word
 pub hex_word : (n : ℕ) → n < 2 ^ 64 → padded_integral (format_spec 32 0 4 16 (2 ^ 64 - 1)) false [] (digits 16 false n) ≡ hex_digits 16 n
 hex_word n small = search (rules, padded_integral-filled, digits-onto, digits_onto-filled, append-nil)

@@ -1,3 +1,4 @@
+-- Proofs of insn_codec: the list of their modules.
 pub mod Decimals
 pub mod Hex
 pub mod Plain

@@ -1,8 +1,8 @@
--- Which bytes do not stand in a line's parts, and that no line of a statement holds a line feed.
+-- Bytes that do not occur in a line's parts; a statement's line contains no line feed.
 use Rattle.insn_codec.proofs.Prelude.{◌≡◌, ◌/◌, ◌%◌, ◌<◌, ℕ, zero, suc, ℤ, List, [], ◌∷◌, ◌++◌, Bool, true, refl, arith, ◌∙◌, ◌≢◌, All, nat_eq, not, ◌&&◌, codes, list_all, AllDigits, and_from, and_parts, nat_tests, list_all-append, decimal, hex_digit, hex_digits, offset_text, operand_text, register_text, signed_decimal, wide_text, address_text, line_with, operands_text, place_text, mnemonic_text, Register, Operand, Mnemonic, All-nil, All-cons, NoLineFeed, statement_mnemonic, statement_operands, statement_text, Statement}
 use Rattle.insn_codec.proofs.Decimals.{decimal_digits}
 
--- none of the bytes that stand between parts: line feed, space, comma, colon and square brackets
+-- whether the byte is none of those between parts: line feed, space, comma, colon and square brackets
 abbrev pub is_plain : ℕ → Bool
 is_plain c = (not (nat_eq c 10) && not (nat_eq c 32)) && ((not (nat_eq c 44) && not (nat_eq c 58)) && (not (nat_eq c 91) && not (nat_eq c 93)))
 
@@ -80,7 +80,7 @@ offset z = plain (offset_text z) (offset_plain z)
 place : (r : Register) (z : ℤ) → Quiet (place_text r z)
 place r z = literal (codes "[") refl then (plain (address_text r z) (plain_append (register_text r) (offset_text z) (register_plain r) (offset_plain z)) then literal (codes "]") refl)
 
--- none of the operands holds one
+-- none of the operands contains a line feed
 abbrev AllQuiet : List (List ℕ) → Type 0
 AllQuiet [] = Unit {0}
 AllQuiet (x ∷ xs) = Quiet x × AllQuiet xs
@@ -97,7 +97,7 @@ line_quiet : (m : Mnemonic) (xs : List (List ℕ)) → AllQuiet xs → Quiet (li
 line_quiet m [] h = plain (mnemonic_text m) (mnemonic_plain m)
 line_quiet m (x ∷ xs) h = plain (mnemonic_text m) (mnemonic_plain m) then (literal (codes " ") refl then joined_quiet (x ∷ xs) h)
 
--- the test says it of each byte
+-- the test on each byte implies the property
 heard : (xs : List ℕ) → list_all is_quiet xs ≡ true → All (λ b. b ≢ 10) xs
 heard [] h = All-nil (λ b. b ≢ 10)
 heard (x ∷ xs) h = All-cons (λ b. b ≢ 10) x xs (grind (arith, h)) (heard xs (grind (arith, h)))

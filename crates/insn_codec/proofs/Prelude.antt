@@ -1,4 +1,4 @@
--- The names that these proofs cite of the library, of the crates below and of the definitions here. Declares nothing.
+-- The names that these proofs use, from the library, the crates below and these definitions. It declares nothing.
 pub use Rattle.std.proofs.Common.{All, Bool, Decides, FitsSigned, IfSome, List, None, Option, Some, ℕ, ℤ, [], ap}
 pub use Rattle.std.proofs.Common.{append-nil, append_assoc, arith, codes, drop, false, get_or, if◌then◌else◌, inl}
 pub use Rattle.std.proofs.Common.{inr, length, length-take-le, map, nat_eq, not, option_map, refl, replicate, rules}

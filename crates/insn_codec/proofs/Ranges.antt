@@ -1,3 +1,5 @@
+-- Encoding and decoding of a slot's fields: each instruction is the candidate of its own
+-- first slot, and the fields are in range.
 use Rattle.insn_codec.proofs.Prelude.{◌≡◌, ℕ, ◌+◌, ◌*◌, ◌/◌, ◌%◌, ◌^◌, ◌<◌, Some, refl, arith, Option, FitsSigned, w32, cast_signed, cast_unsigned, w16, of_z-to_z, arithmetic_at, atomic_at, branch_at, candidate_at, jump_at, memory_at, wide_at, ◌>>=◌, extends_at, register_number, register_of, atomic_width, operand_at, first_slot, IsInsn, IsOperand, Little, Eq, From8To32, Insn, Alu, Neg, SignExtend, ByteSwap, Jump, JumpLong, Branch, Call, CallLocal, Exit, Load, LoadSigned, StoreImm, Store, Atomic, LoadWide, Imm, Register, W32, IfSome, option_map, Bool, if◌then◌else◌, ◌==◌, alu_of, atomic_of, comparison_of, extension_of, order_of, signed_size_of, size_of_code, swap_of, IsSlot, Operand, Slot, Width}
 use Rattle.insn_codec.specs.declared.alu_op.AluOp.TheVariants as alu
 use Rattle.insn_codec.specs.declared.atomic_op.AtomicOp.TheVariants as atomic
@@ -5,7 +7,7 @@ use Rattle.insn_codec.specs.declared.signed_size.SignedSize.TheVariants as signe
 use Rattle.insn_codec.specs.declared.size.Size.TheVariants as size
 use Rattle.insn_codec.specs.declared.swap_width.SwapWidth.TheVariants as swap
 
--- each number of a register names it again
+-- the number of a register denotes it again
 register_again : (r : Register) → register_of (register_number r) ≡ Some r
 register_again r = grind arith
 
@@ -17,7 +19,7 @@ HighOf _ high = Unit {0}
 wide : (value : ℕ) → value < 2 ^ 64 → cast_unsigned w32 (cast_signed w32 (value % 2 ^ 32)) + 2 ^ 32 * (value / 2 ^ 32) ≡ value
 wide value h = rw (of_z-to_z w32 (value % 2 ^ 32) (omega arith)) (omega arith)
 
--- the fields of an instruction's first slot, with the high half of a wide one, name that instruction
+-- the fields of an instruction's first slot, with the high half of a wide one, denote that instruction
 pub candidate_at-first_slot : (i : Insn) (high : ℕ) → HighOf i high → candidate_at (first_slot i) high ≡ Some i
 unfolding candidate_at arithmetic_at jump_at branch_at memory_at atomic_at wide_at
 candidate_at-first_slot (LoadWide dst value) high h = rw (register_again dst, h.0, wide value h.1) refl
@@ -49,7 +51,7 @@ candidate_at-first_slot _ high h = simp register_again refl
 pub first_slot_fits : (i : Insn) → IsInsn i → IsSlot (first_slot i)
 first_slot_fits i h = grind arith
 
--- what the fields name is in range where they are
+-- what the fields denote is in range if the fields are
 
 either : {B : Type 0} (P : B → Type 0) (t : Bool) (x y : Option B) → IfSome x P → IfSome y P → IfSome (if t then x else y) P
 either P t x y p q = grind arith
@@ -60,7 +62,7 @@ bound P o f h = grind arith
 mapped : {A B : Type 0} (P : B → Type 0) (o : Option A) (f : A → B) → ((x : A) → P (f x)) → IfSome (option_map f o) P
 mapped P o f h = grind arith
 
--- where what an operand is put into is in range with it
+-- an instruction with an operand is in range if the operand is
 with_operand : (o : Option Operand) (f : Operand → Insn) → IfSome o IsOperand → ((x : Operand) → IsOperand x → IsInsn (f x)) → IfSome (o >>= λ x. Some (f x)) IsInsn
 with_operand o f q h = grind arith
 

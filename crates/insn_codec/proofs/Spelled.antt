@@ -1,7 +1,8 @@
+-- The instruction at the front of bytes is the one whose encoding they begin with.
 use Rattle.insn_codec.proofs.Prelude.{◌≡◌, ℕ, ◌+◌, ◌*◌, ◌^◌, ◌<◌, sym, subst, arith, List, ◌++◌, drop, FitsSigned, ◌≢◌, ◌%◌, Option, Some, None, refl, ◌∙◌, ap, All, slice_index, Bool, true, false, Decides, IfSome, nat_eq, if◌then◌else◌, w16, w32, from_le_bytes, w64, to_le_bytes, cases_lt, eqb-true, eq-eqb, false_from_ne_true, ne_eqb, get_or-drop, get_or_past, Slot, second_imm, slot_bytes, slot_of, IsSlot, starts_with, starts_is, ◌>>=◌, candidate_at, SpelledIsSpelling, spelled, BeginsWith, IsInsn, first_slot, more_bytes, on_hand, second_bytes, spelling, Insn}
 use Rattle.insn_codec.proofs.Ranges.{HighOf, candidate_at-first_slot, candidate_in_range, first_slot_fits}
 
--- the fields of a slot are read back from its bytes, whatever stands behind them
+-- the fields of a slot are read back from its bytes, with any bytes after them
 pub slot_of-slot_bytes : (s : Slot) (rest : List ℕ) → IsSlot s → slot_of (slot_bytes s ++ rest) ≡ s
 slot_of-slot_bytes s rest f = grind arith
 
@@ -14,7 +15,7 @@ below_32 a b c d e f g h = omega arith
 four_below : (n : ℕ) (text : List ℕ) → All (λ b. b < 256) text → from_le_bytes w32 (drop n text) < 2 ^ 32
 four_below n text small = below_32 _ _ _ _ (byte_after n text 0 small) (byte_after n text 1 small) (byte_after n text 2 small) (byte_after n text 3 small)
 
--- what is read from bytes is in range
+-- the fields read from bytes are in range
 pub offset_fits : (text : List ℕ) → All (λ b. b < 256) text → FitsSigned w16 (slot_of text).offset
 offset_fits text small = grind arith
 
@@ -24,7 +25,7 @@ imm_fits text small = grind arith
 pub second_imm_below : (text : List ℕ) → All (λ b. b < 256) text → second_imm text < 2 ^ 32
 second_imm_below text small = four_below 12 text small
 
--- the candidate, kept where the text begins with its spelling
+-- the candidate, kept if the text begins with its encoding
 abbrev kept : List ℕ → Insn → Option Insn
 kept text i = if starts_with nat_eq text (spelling i) then Some i else None
 
@@ -45,7 +46,7 @@ none_some i e = cc
 same_some : {A : Type 0} (i j : A) → Some i ≡ Some j → i ≡ j
 same_some i j e = cc
 
--- what is kept is the candidate, with its spelling in front
+-- what is kept is the candidate, with its encoding in front
 kept_is : (text : List ℕ) (o : Option Insn) (i : Insn) → (o >>= kept text) ≡ Some i → (o ≡ Some i) × BeginsWith (spelling i) text
 kept_is text None i e = absurd (none_some i e)
 kept_is text (Some j) i e = by (starts_with nat_eq text (spelling j)) refl e
@@ -90,7 +91,7 @@ spelled_is text small i =
 pub one_reading_of : (i j : Insn) (text : List ℕ) → IsInsn i → IsInsn j → BeginsWith (spelling i) text → BeginsWith (spelling j) text → i ≡ j
 one_reading_of i j text f g x y = same_some i j (sym (spelled_begins i text f x) ∙ spelled_begins j text g y)
 
--- the bytes behind the first slot do not matter to an opcode that is not a wide load's
+-- the bytes after the first slot matter only for the opcode of a wide load
 candidate_alone : (s : Slot) (high other : ℕ) → s.opcode ≢ 0x18 → candidate_at s high ≡ candidate_at s other
 unfolding candidate_at
 candidate_alone s high other n = rw (ne_eqb s.opcode 0x18 n) refl
@@ -99,10 +100,10 @@ pub spelled_alone : (first : ℕ) (second : Option ℕ) → first % 256 ≢ 0x18
 unfolding spelled
 spelled_alone first second n = grind (arith, candidate_alone)
 
--- the fields of the words, where the first one's slot was read
+-- the fields of the words, if the first one's slot has been read
 pub candidate_of_words : (s : Slot) (first : ℕ) (second : Option ℕ) (high : ℕ) → IsSlot s → slot_bytes s ≡ to_le_bytes w64 first → high ≡ from_le_bytes w32 (drop 4 (more_bytes second)) → candidate_at (slot_of (on_hand first second)) (second_imm (on_hand first second)) ≡ candidate_at s high
 candidate_of_words s first second high f e h = grind arith
 
--- words begin with the spelling of one slot where the first is its word
+-- words begin with the encoding of one slot if the first is its word
 pub one_begins : (front : List ℕ) (own first : ℕ) (more second : Option ℕ) → more ≡ None → on_hand own more ≡ front → own ≡ first → BeginsWith front (on_hand first second)
 one_begins front own first more second n e h = (more_bytes second, ap (λ x. x ++ more_bytes second) (ap (λ x. on_hand x None) (sym h) ∙ ap (on_hand own) (sym n) ∙ e))

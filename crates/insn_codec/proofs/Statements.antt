@@ -3,7 +3,7 @@ use Rattle.insn_codec.proofs.Prelude.{◌≡◌, ◌≢◌, ℕ, zero, suc, ◌*
 use Rattle.insn_codec.specs.declared.statement.Statement.TheVariants.{Insn}
 use Rattle.insn_codec.proofs.Spelled.{spelled_is}
 
--- a front of at most n bytes stands in the first n bytes
+-- a front of at most n bytes is within the first n bytes
 within : (n : ℕ) (front rest : List ℕ) → length front ≤ n → BeginsWith front (take n (front ++ rest))
 within n [] rest fits = (take n rest, refl)
 within zero (x ∷ front) rest fits = absurd (omega arith)
@@ -17,7 +17,7 @@ begins_within n front code fits b =
 begins_whole : (n : ℕ) (front code : List ℕ) → BeginsWith front (take n code) → BeginsWith front code
 begins_whole n front code b = (b.0 ++ drop n code, sym (take-append-drop n code) ∙ ap (λ (t : List ℕ). t ++ drop n code) b.1 ∙ append_assoc front b.0 (drop n code))
 
--- an instruction at the front, with what stands behind it
+-- an instruction at the front, followed by the rest
 insn_bytes : (i : Instruction) (code : List ℕ) → BeginsWith (spelling i) code → code ≡ spelling i ++ drop (8 * slot_count i) code
 insn_bytes i code b = b.1 ∙ ap (λ (t : List ℕ). spelling i ++ t) (sym (ap (drop (8 * slot_count i)) b.1 ∙ (grind arith)))
 
@@ -28,14 +28,14 @@ some_slot (b ∷ code) whole some = omega arith
 byte_at : (bytes : List ℕ) → All (λ b. b < 256) bytes → (k : ℕ) → get_or bytes k 0 < 256
 byte_at bytes small k = grind (arith, cases_lt, get_or_past)
 
--- a slot at the front, with what stands behind it
+-- a slot at the front, followed by the rest
 slot_bytes_back : (code : List ℕ) → All (λ b. b < 256) code → 8 ≤ length code → code ≡ to_be_bytes w64 (from_be_bytes w64 (take 8 code)) ++ drop 8 code
 slot_bytes_back code small long = grind (arith, be_bytes_8, length-take-le, byte_at, take-append-drop)
 
 word_below : (bytes : List ℕ) → ((k : ℕ) → get_or bytes k 0 < 256) → from_be_bytes w64 bytes < 2 ^ 64
 word_below bytes small = omega arith
 
--- by what the first sixteen bytes spell
+-- by the instruction that the first sixteen bytes encode
 stands : (code : List ℕ) (o : Option Instruction) → spelled (take 16 code) ≡ o → All (λ b. b < 256) code → 8 ≤ length code
     → IsStatement (insn_or_slot o code) × (code ≡ statement_bytes (insn_or_slot o code) ++ drop (8 * statement_slots (insn_or_slot o code)) code)
 stands code (Some i) e small long =

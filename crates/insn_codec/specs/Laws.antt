@@ -5,32 +5,32 @@ use Rattle.insn_codec.specs.Statements.{IsStatement, after_statement, statement_
 use Rattle.insn_codec.specs.declared.insn.Insn.{Insn as Instruction}
 use Rattle.insn_codec.specs.declared.statement.Statement.{Statement, TheVariants.Insn}
 
--- no bytes begin with the spellings of two instructions
+-- no bytes begin with the encodings of two instructions
 abbrev pub OneSpelling : Type 0
 OneSpelling = (i j : Instruction) (text : List ℕ) → IsInsn i → IsInsn j → BeginsWith (spelling i) text → BeginsWith (spelling j) text
     → i ≡ j
 
--- so many bytes are so many slots of eight, at least one
+-- the bytes fill this number of slots of eight bytes, at least one
 pub record FillsSlots (bytes : List ℕ) (slots : ℕ) : Type 0 where
   pub length_is : length bytes ≡ 8 * slots
   pub some : 1 ≤ slots
 
--- a spelling, and what a statement stands for, fills its slots
+-- the bytes of an instruction, and of a statement, fill its slots
 pub record SlotsAreFilled : Type 0 where
   pub by_insn : (i : Instruction) → FillsSlots (spelling i) (slot_count i)
   pub by_statement : (x : Statement) → FillsSlots (statement_bytes x) (statement_slots x)
 
--- the statement at the front of code stands there with its bytes, and where the code begins with an instruction's
--- spelling it is that instruction
+-- code begins with the bytes of its first statement, and if it begins with the encoding of an
+-- instruction, the statement is that instruction
 pub record StandsFirst (code : List ℕ) : Type 0 where
   pub in_range : IsStatement (statement_of code)
   pub bytes : code ≡ statement_bytes (statement_of code) ++ after_statement code
   pub chosen : (i : Instruction) → IsInsn i → BeginsWith (spelling i) code → statement_of code ≡ Insn i
 
--- so it is with all code of whole slots, if there is a first one
+-- `StandsFirst` holds of all non-empty code of whole slots
 abbrev pub StatementIsSpelled : Type 0
 StatementIsSpelled = (code : List ℕ) → All (λ b. b < 256) code → length code % 8 ≡ 0 → code ≢ [] → StandsFirst code
 
--- a statement's line is one line: none of its bytes is a line feed
+-- a statement's text is one line: none of its bytes is a line feed
 abbrev pub NoLineFeed : Type 0
 NoLineFeed = (x : Statement) → IsStatement x → All (λ b. b ≢ 10) (statement_text x)

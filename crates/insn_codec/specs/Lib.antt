@@ -1,3 +1,4 @@
+-- Definitions of insn_codec: the list of their modules.
 pub mod Limits
 pub mod Codes
 pub mod Families

@@ -1,4 +1,4 @@
--- Instructions with their lines, written out by hand from the page on programs as text.
+-- Instructions with their lines, written by hand from the page on programs as text.
 use Rattle.std.specs.Prelude.{◌≡◌, pos, negsuc, [], ◌∷◌, codes}
 use Prim.Native.String.{String}
 use Rattle.insn_codec.specs.Lines.{line_text}
@@ -19,7 +19,7 @@ use Rattle.insn_codec.specs.declared.statement.Statement.TheVariants.{Insn, Slot
 use Rattle.insn_codec.specs.declared.swap_width.SwapWidth.TheVariants as swap
 use Rattle.insn_codec.specs.declared.width.Width.TheVariants.{W32, W64}
 
--- the line of the instruction
+-- the text is the line of the instruction
 abbrev pub Reads : Instruction → String → Type 0
 Reads i text = line_text i ≡ codes text
 
@@ -63,7 +63,7 @@ pub record ArithmeticLinesHold : Type 0 where
   pub swap_32 : Reads (ByteSwap order.Swap swap.Bits32 R1) "swap32 r1"
   pub swap_64 : Reads (ByteSwap order.Swap swap.Bits64 R1) "swap64 r1"
 
--- jumps, calls and the end
+-- jumps, calls and the exit
 pub record JumpLinesHold : Type 0 where
   pub eq_of_32 : Reads (Branch comparison.Eq W32 R1 (Imm (negsuc 0)) (pos 0)) "jeq32 r1, -1, +0"
   pub gt_of_64 : Reads (Branch comparison.Gt W64 R1 (Reg R2) (pos 12)) "jgt64 r1, r2, +12"
@@ -117,7 +117,7 @@ pub record MemoryLinesHold : Type 0 where
   pub wide_load : Reads (LoadWide R1 0x9122334455667788) "lddw r1, 0x9122334455667788"
   pub wide_load_of_letters : Reads (LoadWide R0 0xabcdef) "lddw r0, 0x0000000000abcdef"
 
--- statements: a slot as its eight bytes, the first byte first, and lines with a line feed behind each
+-- statements: a slot as its eight bytes, the first byte first, and lines that each end with a line feed
 pub record StatementLinesHold : Type 0 where
   pub a_slot : statement_text (Slot 0x1800000000000001) ≡ codes ".slot 0x1800000000000001"
   pub bytes_of_a_slot : statement_bytes (Slot 0x1800000000000001) ≡ 0x18 ∷ 0 ∷ 0 ∷ 0 ∷ 0 ∷ 0 ∷ 0 ∷ 1 ∷ []

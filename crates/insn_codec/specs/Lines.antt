@@ -1,4 +1,4 @@
--- The text of an instruction: its mnemonic, a space, and its operands between commas.
+-- The text of an instruction: its mnemonic, a space, and its operands separated by commas.
 use Rattle.std.specs.Prelude.{ℕ, zero, suc, ◌+◌, ◌/◌, ◌%◌, ℤ, pos, negsuc, List, [], ◌∷◌, ◌++◌, codes, map, nat_eq, nat_lt, if◌then◌else◌}
 use Rattle.std.specs.Int.Digits.{digits_of}
 use Rattle.insn_codec.specs.Mnemonics.{mnemonic_text}
@@ -25,21 +25,21 @@ register_text register.R8 = codes "r8"
 register_text register.R9 = codes "r9"
 register_text register.R10 = codes "r10"
 
--- the decimal digits of a number, the highest first: 0 is `0`, and no other number begins with `0`
+-- the decimal digits of a number without leading zeros; 0 is `0`
 unfoldable pub decimal : ℕ → List ℕ
 decimal n = if nat_eq n 0 then codes "0" else map (λ d. 48 + d) (digits_of 10 n)
 
--- a number in decimal digits, with `-` before them where it is negative
+-- a number in decimal digits, with `-` if it is negative
 abbrev pub signed_decimal : ℤ → List ℕ
 signed_decimal (pos n) = decimal n
 signed_decimal (negsuc n) = 45 ∷ decimal (suc n)
 
--- a second operand: the register's name, or the immediate in decimal digits, with `-` where it is negative
+-- a second operand: the register's name, or the immediate in decimal digits, with `-` if it is negative
 abbrev pub operand_text : Operand → List ℕ
 operand_text (Imm n) = signed_decimal n
 operand_text (Reg r) = register_text r
 
--- an offset is a decimal number that always has its sign
+-- an offset in decimal digits, always with its sign
 abbrev pub offset_text : ℤ → List ℕ
 offset_text (pos n) = 43 ∷ decimal n
 offset_text (negsuc n) = 45 ∷ decimal (suc n)
@@ -48,12 +48,12 @@ offset_text (negsuc n) = 45 ∷ decimal (suc n)
 abbrev pub hex_digit : ℕ → ℕ
 hex_digit n = if nat_lt n 10 then 48 + n else 87 + n
 
--- the lowest so many hex digits of a number
+-- the lowest n hex digits of a number
 unfoldable pub hex_digits : ℕ → ℕ → List ℕ
 hex_digits zero n = []
 hex_digits (suc count) n = hex_digits count (n / 16) ++ hex_digit (n % 16) ∷ []
 
--- a number of 64 bits as `0x` and its 16 digits
+-- a 64-bit number as `0x` and its 16 digits
 abbrev pub wide_text : ℕ → List ℕ
 wide_text n = codes "0x" ++ hex_digits 16 n
 
@@ -61,17 +61,17 @@ wide_text n = codes "0x" ++ hex_digits 16 n
 abbrev pub address_text : Register → ℤ → List ℕ
 address_text base offset = register_text base ++ offset_text offset
 
--- the same between square brackets: what a load or a store goes to
+-- a memory operand: the address between square brackets
 abbrev pub place_text : Register → ℤ → List ℕ
 place_text base offset = codes "[" ++ (address_text base offset ++ codes "]")
 
--- operands with a comma and a space between them
+-- operands separated by a comma and a space
 abbrev pub operands_text : List (List ℕ) → List ℕ
 operands_text [] = []
 operands_text (x ∷ []) = x
 operands_text (x ∷ y ∷ ys) = x ++ (codes ", " ++ operands_text (y ∷ ys))
 
--- a mnemonic and, behind a space, the operands, where there are some
+-- a mnemonic and, after a space, the operands if there are any
 abbrev pub line_with : Mnemonic → List (List ℕ) → List ℕ
 line_with m [] = mnemonic_text m
 line_with m (x ∷ xs) = mnemonic_text m ++ (codes " " ++ operands_text (x ∷ xs))

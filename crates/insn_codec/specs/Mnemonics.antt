@@ -1,4 +1,4 @@
--- The word that a line begins with, as RFC 9669 names instructions, with the width or the size (sections 4 and 5).
+-- Mnemonics: the names of instructions in RFC 9669, with the width or the size (sections 4 and 5).
 use Rattle.std.specs.Prelude.{ℕ, List, ◌++◌, codes}
 use Rattle.insn_codec.specs.declared.width.Width.{Width, TheVariants.W32, TheVariants.W64}
 use Rattle.insn_codec.specs.declared.alu_op.AluOp.{AluOp, TheVariants.Add, TheVariants.Sub, TheVariants.Mul, TheVariants.Div, TheVariants.Sdiv, TheVariants.Or, TheVariants.And, TheVariants.Lsh, TheVariants.Rsh, TheVariants.Mod, TheVariants.Smod, TheVariants.Xor, TheVariants.Mov, TheVariants.Arsh}
@@ -21,7 +21,7 @@ abbrev pub width_text : Width → List ℕ
 width_text W32 = codes "32"
 width_text W64 = codes "64"
 
--- the names of the arithmetic operations in small letters (RFC 9669, section 4.1)
+-- the names of the arithmetic operations in lower case (RFC 9669, section 4.1)
 abbrev pub alu_text : AluOp → List ℕ
 alu_text Add = codes "add"
 alu_text Sub = codes "sub"
@@ -38,8 +38,8 @@ alu_text Xor = codes "xor"
 alu_text Mov = codes "mov"
 alu_text Arsh = codes "arsh"
 
--- the names of the atomic operations; an addition, or, and or xor that also fetches has `fetch_` before it (RFC 9669,
--- section 5.3)
+-- the names of the atomic operations; an addition, or, and or xor that also fetches is
+-- prefixed with `fetch_` (RFC 9669, section 5.3)
 abbrev pub atomic_text : AtomicOp → List ℕ
 atomic_text atomic.Add = codes "add"
 atomic_text atomic.Or = codes "or"
@@ -52,7 +52,7 @@ atomic_text atomic.FetchXor = codes "fetch_xor"
 atomic_text atomic.Exchange = codes "xchg"
 atomic_text atomic.CompareExchange = codes "cmpxchg"
 
--- the names of the conditional jumps in small letters (RFC 9669, section 4.3)
+-- the names of the conditional jumps in lower case (RFC 9669, section 4.3)
 abbrev pub comparison_text : Comparison → List ℕ
 comparison_text Eq = codes "jeq"
 comparison_text Gt = codes "jgt"
@@ -79,7 +79,7 @@ signed_size_text signed.B = codes "b"
 signed_size_text signed.H = codes "h"
 signed_size_text signed.W = codes "w"
 
--- how many bits a move with sign extension takes, and how many it fills (RFC 9669, section 4.1)
+-- the number of bits that a sign-extending move reads, and the number that it fills (RFC 9669, section 4.1)
 abbrev pub extension_text : Extension → List ℕ
 extension_text From8To32 = codes "8to32"
 extension_text From16To32 = codes "16to32"
@@ -87,20 +87,20 @@ extension_text From8To64 = codes "8to64"
 extension_text From16To64 = codes "16to64"
 extension_text From32To64 = codes "32to64"
 
--- what a byte swap converts to: little endian, big endian, or the reverse of what was there (RFC 9669, section 4.2)
+-- the target of a byte swap: little-endian, big-endian, or the reverse order (RFC 9669, section 4.2)
 abbrev pub order_text : ByteOrder → List ℕ
 order_text Little = codes "le"
 order_text Big = codes "be"
 order_text Swap = codes "swap"
 
--- how many bits a byte swap takes (RFC 9669, section 4.2)
+-- the number of bits that a byte swap orders (RFC 9669, section 4.2)
 abbrev pub swap_text : SwapWidth → List ℕ
 swap_text swap.Bits16 = codes "16"
 swap_text swap.Bits32 = codes "32"
 swap_text swap.Bits64 = codes "64"
 
--- a mnemonic: the operation, and behind it the width, the size or the bits where it has them; `.slot` is not the
--- standard's
+-- a mnemonic: the operation, followed by the width, the size or the bits if it has
+-- them; `.slot` is not part of the standard
 abbrev pub mnemonic_text : Mnemonic → List ℕ
 mnemonic_text (mnemonic.Alu op width) = alu_text op ++ width_text width
 mnemonic_text (mnemonic.Neg width) = codes "neg" ++ width_text width

@@ -1,4 +1,4 @@
--- The opcodes of RFC 9669, one slot for each, put together by hand from the digits in its tables.
+-- The opcodes of RFC 9669, one slot for each, assembled by hand from the digits in its tables.
 use Rattle.std.specs.Prelude.{◌≡◌, [], ◌∷◌, pos, Some}
 use Rattle.insn_codec.specs.Spelled.{spelled}
 use Rattle.insn_codec.specs.declared.alu_op.AluOp.TheVariants.{Add, Sub, Mul, Div, Sdiv, Or, And, Lsh, Rsh, Mod, Smod, Xor, Mov, Arsh}

@@ -1,8 +1,8 @@
--- Slots that spell no instruction, byte by byte, by what RFC 9669 has no instruction for.
+-- Slots that encode no instruction, byte by byte, since RFC 9669 defines none for them.
 use Rattle.std.specs.Prelude.{◌≡◌, ℕ, List, [], ◌∷◌, None}
 use Rattle.insn_codec.specs.Spelled.{spelled}
 
--- the bytes begin with the spelling of no instruction
+-- the bytes do not begin with the encoding of an instruction
 abbrev pub SpellsNothing : List ℕ → Type 0
 SpellsNothing bytes = spelled bytes ≡ None
 
@@ -37,8 +37,8 @@ pub record FieldsAreChecked : Type 0 where
   pub source_of_a_store_of_an_immediate : SpellsNothing (0x72 ∷ 0x21 ∷ 0x04 ∷ 0x00 ∷ 0x03 ∷ 0x00 ∷ 0x00 ∷ 0x00 ∷ [])
   pub immediate_of_a_store : SpellsNothing (0x7b ∷ 0x21 ∷ 0x04 ∷ 0x00 ∷ 0x03 ∷ 0x00 ∷ 0x00 ∷ 0x00 ∷ [])
 
--- arithmetic: codes 0xe and 0xf and an offset of 2 stand for nothing, a sign is extended from fewer bits than are filled, and
--- a swap is of 16, 32 or 64 bits (sections 4.1 and 4.2)
+-- arithmetic: codes 0xe and 0xf and an offset of 2 are not assigned, a sign is extended from fewer bits than are
+-- filled, and a swap is of 16, 32 or 64 bits (sections 4.1 and 4.2)
 pub record NoSuchArithmetic : Type 0 where
   pub arithmetic_code_fourteen : SpellsNothing (0xe7 ∷ 0x01 ∷ 0x00 ∷ 0x00 ∷ 0x03 ∷ 0x00 ∷ 0x00 ∷ 0x00 ∷ [])
   pub arithmetic_code_fifteen : SpellsNothing (0xf7 ∷ 0x01 ∷ 0x00 ∷ 0x00 ∷ 0x03 ∷ 0x00 ∷ 0x00 ∷ 0x00 ∷ [])
@@ -49,7 +49,8 @@ pub record NoSuchArithmetic : Type 0 where
   pub sign_extension_from_64_bits : SpellsNothing (0xbf ∷ 0x21 ∷ 0x40 ∷ 0x00 ∷ 0x00 ∷ 0x00 ∷ 0x00 ∷ 0x00 ∷ [])
   pub swap_of_8_bits : SpellsNothing (0xd7 ∷ 0x01 ∷ 0x00 ∷ 0x00 ∷ 0x08 ∷ 0x00 ∷ 0x00 ∷ 0x00 ∷ [])
 
--- jumps: codes 0xe and 0xf stand for nothing; a call and an exit are of class JMP alone, and take no register (section 4.3)
+-- jumps: codes 0xe and 0xf are not assigned; a call and an exit are in class JMP
+-- only, and use no register (section 4.3)
 pub record NoSuchJump : Type 0 where
   pub jump_code_fourteen : SpellsNothing (0xe5 ∷ 0x01 ∷ 0x04 ∷ 0x00 ∷ 0x03 ∷ 0x00 ∷ 0x00 ∷ 0x00 ∷ [])
   pub jump_code_fifteen : SpellsNothing (0xf5 ∷ 0x01 ∷ 0x04 ∷ 0x00 ∷ 0x03 ∷ 0x00 ∷ 0x00 ∷ 0x00 ∷ [])
@@ -60,9 +61,9 @@ pub record NoSuchJump : Type 0 where
   pub exit_by_register : SpellsNothing (0x9d ∷ 0x00 ∷ 0x00 ∷ 0x00 ∷ 0x00 ∷ 0x00 ∷ 0x00 ∷ 0x00 ∷ [])
   pub long_jump_by_a_register : SpellsNothing (0x0e ∷ 0x00 ∷ 0x00 ∷ 0x00 ∷ 0x01 ∷ 0x00 ∷ 0x00 ∷ 0x00 ∷ [])
 
--- loads, stores and atomic instructions: an immediate that is loaded has eight bytes, and its second slot holds its high half
--- alone; packets are not read; no store extends a sign; an atomic operation is on four or eight bytes, and an exchange
--- fetches (sections 5.1 to 5.5)
+-- loads, stores and atomic instructions: a loaded immediate has eight bytes, and its second slot contains only the
+-- high half; packet access is not supported; no store extends a sign; an atomic operation is on four or eight
+-- bytes, and an exchange fetches (sections 5.1 to 5.5)
 pub record NoSuchAccess : Type 0 where
   pub load_of_an_immediate_of_4_bytes : SpellsNothing
       (0x00 ∷ 0x01 ∷ 0x00 ∷ 0x00 ∷ 0x05 ∷ 0x00 ∷ 0x00 ∷ 0x00 ∷ 0x00 ∷ 0x00 ∷ 0x00 ∷ 0x00 ∷ 0x00 ∷ 0x00 ∷ 0x00 ∷ 0x00 ∷ [])

@@ -1,4 +1,4 @@
--- Slots byte by byte, and the instruction that each spells.
+-- Slots byte by byte, with the instruction that each encodes.
 use Rattle.std.specs.Prelude.{◌≡◌, [], ◌∷◌, pos, negsuc, Some, None}
 use Rattle.insn_codec.specs.Spelled.{spelled}
 use Rattle.insn_codec.specs.declared.alu_op.AluOp.TheVariants.{Add, Sdiv, Mov}
@@ -15,7 +15,7 @@ use Rattle.insn_codec.specs.declared.size.Size.TheVariants as size
 use Rattle.insn_codec.specs.declared.swap_width.SwapWidth.TheVariants as swap
 use Rattle.insn_codec.specs.declared.width.Width.TheVariants.{W32, W64}
 
--- some slots, byte by byte, and what each spells (RFC 9669, sections 3, 4 and 5)
+-- slots byte by byte, with the instruction that each encodes (RFC 9669, sections 3, 4 and 5)
 pub record SpellingRowsHold : Type 0 where
   pub mov_immediate : spelled (0xb7 ∷ 0x00 ∷ 0x00 ∷ 0x00 ∷ 0x05 ∷ 0x00 ∷ 0x00 ∷ 0x00 ∷ []) ≡ Some (Alu Mov W64 R0 (Imm (pos 5)))
   pub add_immediate : spelled (0x07 ∷ 0x00 ∷ 0x00 ∷ 0x00 ∷ 0x02 ∷ 0x00 ∷ 0x00 ∷ 0x00 ∷ []) ≡ Some (Alu Add W64 R0 (Imm (pos 2)))

@@ -1,4 +1,4 @@
--- Lines that stand for code, and the listing of code.
+-- Statements of a listing, and the listing of code.
 use Rattle.std.specs.Prelude.{◌≡◌, ℕ, ◌*◌, ◌^◌, ◌<◌, List, [], ◌∷◌, ◌++◌, take, drop, Option, Some, None}
 use Rattle.std.specs.Int.{w64, to_be_bytes, from_be_bytes}
 use Rattle.insn_codec.specs.Lines.{line_with, mnemonic_of, operands_of, wide_text}
@@ -9,41 +9,42 @@ use Rattle.insn_codec.specs.declared.mnemonic.Mnemonic.{Mnemonic}
 use Rattle.insn_codec.specs.declared.mnemonic.Mnemonic.TheVariants as mnemonic
 use Rattle.insn_codec.specs.declared.statement.Statement.{Statement, TheVariants.Insn, TheVariants.Slot}
 
--- what the line of a statement begins with: its instruction's mnemonic, or `.slot`
+-- the mnemonic of a statement's line: that of its instruction, or `.slot`
 abbrev pub statement_mnemonic : Statement → Mnemonic
 statement_mnemonic (Insn i) = mnemonic_of i
 statement_mnemonic (Slot word) = mnemonic.Slot
 
--- what follows it: the instruction's operands, or the slot's eight bytes as 16 hex digits, the first byte first
+-- the operands of a statement's line: those of its instruction, or the slot's eight
+-- bytes as 16 hex digits, the first byte first
 abbrev pub statement_operands : Statement → List (List ℕ)
 statement_operands (Insn i) = operands_of i
 statement_operands (Slot word) = wide_text word ∷ []
 
--- the line of a statement, without the line feed at its end
+-- the line of a statement, without its line feed
 abbrev pub statement_text : Statement → List ℕ
 statement_text x = line_with (statement_mnemonic x) (statement_operands x)
 
--- the bytes that a statement stands for
+-- the bytes of a statement
 abbrev pub statement_bytes : Statement → List ℕ
 statement_bytes (Insn i) = spelling i
 statement_bytes (Slot word) = to_be_bytes w64 word
 
--- how many slots it stands for
+-- the number of slots of a statement
 abbrev pub statement_slots : Statement → ℕ
 statement_slots (Insn i) = slot_count i
 statement_slots (Slot word) = 1
 
--- its numbers are in the ranges of their types
+-- the numbers of a statement fit their types
 abbrev pub IsStatement : Statement → Type 0
 IsStatement (Insn i) = IsInsn i
 IsStatement (Slot word) = word < 2 ^ 64
 
--- the instruction, where there is one, and else the first eight bytes of the code as a slot
+-- the instruction if there is one, else the first eight bytes of the code as a slot
 abbrev pub insn_or_slot : Option Instruction → List ℕ → Statement
 insn_or_slot (Some i) code = Insn i
 insn_or_slot None code = Slot (from_be_bytes w64 (take 8 code))
 
--- what stands at the front of code: the instruction that its slots spell, else its first slot
+-- the statement at the front of code: the instruction that its slots encode, else its first slot
 unfoldable pub statement_of : List ℕ → Statement
 statement_of code = insn_or_slot (spelled (take 16 code)) code
 
@@ -51,13 +52,13 @@ statement_of code = insn_or_slot (spelled (take 16 code)) code
 abbrev pub after_statement : List ℕ → List ℕ
 after_statement code = drop (8 * statement_slots (statement_of code)) code
 
--- the statements of code, one at each place from its front on
+-- the statements of code in order
 pub data Lists : List ℕ → List Statement → Type 0 where
   ended : Lists [] []
   place : {byte : ℕ} {bytes : List ℕ} {later : List Statement} → Lists (after_statement (byte ∷ bytes)) later
       → Lists (byte ∷ bytes) (statement_of (byte ∷ bytes) ∷ later)
 
--- their lines, each ended by a line feed
+-- the lines of statements, each ended by a line feed
 abbrev pub lines_text : List Statement → List ℕ
 lines_text [] = []
 lines_text (x ∷ xs) = statement_text x ++ 10 ∷ lines_text xs

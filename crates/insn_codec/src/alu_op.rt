@@ -1,3 +1,5 @@
+//! Arithmetic operations.
+
 ghost use Rattle.std.specs.Prelude.{◌≡◌, Some};
 ghost use Rattle.insn_codec.specs.Mnemonics.{alu_text};
 
@@ -8,13 +10,13 @@ use std::fmt;
 pub enum AluOp {
     /// The sum of the destination and the operand.
     Add,
-    /// The difference, the destination less the operand.
+    /// The difference: the destination minus the operand.
     Sub,
     /// The product.
     Mul,
-    /// The quotient of unsigned numbers, and 0 where the operand is 0.
+    /// The unsigned quotient; 0 if the operand is 0.
     Div,
-    /// The quotient of signed numbers, cut towards 0, and 0 where the operand is 0.
+    /// The signed quotient, truncated toward 0; 0 if the operand is 0.
     Sdiv,
     /// The bits that are set in either.
     Or,
@@ -22,25 +24,25 @@ pub enum AluOp {
     And,
     /// The destination, shifted left by the operand.
     Lsh,
-    /// The destination, shifted right by the operand, with zeros from the left.
+    /// The destination, shifted right by the operand; zeros come in from the left.
     Rsh,
-    /// The remainder of unsigned numbers, and the destination where the operand is 0.
+    /// The unsigned remainder; the destination if the operand is 0.
     Mod,
-    /// The remainder of signed numbers, and the destination where the operand is 0.
+    /// The signed remainder; the destination if the operand is 0.
     Smod,
-    /// The bits that are set in just one of both.
+    /// The bits that are set in exactly one of both.
     Xor,
     /// The operand.
     Mov,
-    /// The destination, shifted right by the operand, with its sign from the left.
+    /// The destination, shifted right by the operand; copies of its sign come in from the left.
     Arsh,
 }
 
 impl AluOp {
     ghost use Rattle.insn_codec.specs.Families.{alu_code, alu_of, alu_offset};
 
-    /// The operation of this code, which is the opcode's high four bits, and of this offset,
-    /// which tells signed division from unsigned.
+    /// The operation with this code, the opcode's high four bits, and this offset, which
+    /// distinguishes signed from unsigned division.
     pub(crate) fn of(code: u8, offset: i16) -> Option<AluOp>
         ensures { result ≡ alu_of code offset }
     {
@@ -83,7 +85,7 @@ impl AluOp {
         }
     }
 
-    /// What stands in the slot's offset field: 1 for signed division and remainder, or 0.
+    /// The slot's offset field: 1 for signed division and remainder, else 0.
     pub(crate) fn offset(self) -> i16
         ensures { result ≡ alu_offset self }
     {

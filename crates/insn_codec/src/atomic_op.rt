@@ -1,10 +1,12 @@
+//! Atomic operations.
+
 ghost use Rattle.std.specs.Prelude.{◌≡◌, Some};
 ghost use Rattle.insn_codec.specs.Mnemonics.{atomic_text};
 
 use std::fmt;
 
-/// What an atomic instruction makes of the word in memory, and which register gets the word that
-/// was there (RFC 9669, section 5.3).
+/// What an atomic instruction writes to the word in memory, and the register that
+/// receives the old word (RFC 9669, section 5.3).
 #[derive(Clone, Copy, Debug, PartialEq, Eq)]
 pub enum AtomicOp {
     /// The sum of the word and the source.
@@ -13,26 +15,26 @@ pub enum AtomicOp {
     Or = 0x40,
     /// The bits that are set in both.
     And = 0x50,
-    /// The bits that are set in just one of both.
+    /// The bits that are set in exactly one of both.
     Xor = 0xa0,
-    /// The sum; the source gets the old word.
+    /// The sum; the source receives the old word.
     FetchAdd = 0x01,
-    /// The bits that are set in either; the source gets the old word.
+    /// The bits that are set in either; the source receives the old word.
     FetchOr = 0x41,
-    /// The bits that are set in both; the source gets the old word.
+    /// The bits that are set in both; the source receives the old word.
     FetchAnd = 0x51,
-    /// The bits that are set in just one of both; the source gets the old word.
+    /// The bits that are set in exactly one of both; the source receives the old word.
     FetchXor = 0xa1,
-    /// The source; the source gets the old word.
+    /// The source; the source receives the old word.
     Exchange = 0xe1,
-    /// The source, where the word is R0; R0 gets the old word.
+    /// The source if the word equals R0; R0 receives the old word.
     CompareExchange = 0xf1,
 }
 
 impl AtomicOp {
     ghost use Rattle.insn_codec.specs.Families.{atomic_code, atomic_of};
 
-    /// The operation of this code, which stands in the slot's imm field.
+    /// The operation with this code, which is in the slot's imm field.
     pub(crate) fn of(code: i32) -> Option<AtomicOp>
         ensures { result ≡ atomic_of code }
     {

@@ -1,23 +1,25 @@
+//! Byte orders.
+
 ghost use Rattle.std.specs.Prelude.{◌≡◌, Some};
 ghost use Rattle.insn_codec.specs.Mnemonics.{order_text};
 
 use std::fmt;
 
-/// How a byte order instruction orders the bytes of its destination (RFC 9669, section 4.2).
+/// The conversion of a byte swap instruction (RFC 9669, section 4.2).
 #[derive(Clone, Copy, Debug, PartialEq, Eq)]
 pub enum ByteOrder {
     /// Between the host's order and little-endian.
     Little = 0xd4,
     /// Between the host's order and big-endian.
     Big = 0xdc,
-    /// The bytes are reversed, whatever the host's order is.
+    /// The bytes reversed, for any order of the host.
     Swap = 0xd7,
 }
 
 impl ByteOrder {
     ghost use Rattle.insn_codec.specs.Families.{order_of, order_opcode};
 
-    /// The order of this opcode.
+    /// The order with this opcode.
     pub(crate) fn of(opcode: u8) -> Option<ByteOrder>
         ensures { result ≡ order_of opcode }
     {

@@ -1,4 +1,4 @@
-//! Which instruction a slot's named fields say, before the others are looked at.
+//! Decoding by the fields that the opcode names; the other fields are checked afterwards.
 ghost use Rattle.std.specs.Prelude.{◌≡◌};
 ghost use Rattle.insn_codec.specs.Candidate.{arithmetic_at, atomic_at, branch_at, candidate_at, jump_at, memory_at, wide_at};
 
@@ -16,8 +16,8 @@ use crate::slot::Slot;
 use crate::swap_width::SwapWidth;
 use crate::width::Width;
 
-/// The one instruction that a slot of these fields can begin, by the opcode's class.
-/// `high` is the bits of the next slot's imm, which only a wide load names.
+/// The only instruction that a slot with these fields can begin, by the opcode's class. `high` is the
+/// next slot's imm, which only a wide load uses.
 #[tactic(auto, unfolding(crate::specs::Candidate::candidate_at))]
 pub(crate) fn candidate(slot: Slot, high: u32) -> Option<Insn>
     ensures { result ≡ candidate_at slot high }

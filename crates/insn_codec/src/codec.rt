@@ -1,4 +1,4 @@
-//! Instructions into words and words into instructions.
+//! Decodes words to instructions and encodes instructions as words.
 ghost use Rattle.std.specs.Prelude.{◌%◌, ◌≡◌, ◌≢◌, ◌↔◌, drop, None, Some, IfSome, IsTrue};
 ghost use Rattle.std.specs.Int.{w32, from_le_bytes};
 ghost use Rattle.insn_codec.specs.Spelled.{spelled};
@@ -9,19 +9,18 @@ use crate::candidate::candidate;
 use crate::insn::Insn;
 use crate::slot::Slot;
 
-/// The instruction that begins at the first word, if its slots spell one (RFC 9669, section 3).
-/// A word is a slot's eight bytes, read little-endian; `second` is the next slot's, if there is
-/// one.
+/// The instruction at the first word, if its slots encode one (RFC 9669, section 3). A word is a slot's eight bytes,
+/// read little-endian; `second` is the next slot's, if there is one.
 pub fn decode(first: u64, second: Option<u64>) -> Option<Insn>
     ensures is { result ≡ spelled (on_hand first second) }
     ensures found { IfSome result (λ i. BeginsWith (spelling i) (on_hand first second)) }
     ensures only { (i : Insn) → IsInsn i → BeginsWith (spelling i) (on_hand first second) → result ≡ Some i }
 
-    // Only an opcode of 0x18 makes the second word matter.
+    // The second word is used only for opcode 0x18.
     ensures alone { first % 256 ≢ 0x18 → result ≡ spelled (on_hand first None) }
 {
     let insn = candidate(Slot::of_word(first), high_part(second))?;
-    // The fields that the instruction does not name have to be 0.
+    // The fields that the instruction does not use must be 0.
     if spells(&insn, first, second) {
         Some(insn)
     } else {
@@ -29,7 +28,7 @@ pub fn decode(first: u64, second: Option<u64>) -> Option<Insn>
     }
 }
 
-/// The bits of the second slot's imm; 0 where there is no second slot.
+/// The bits of the second slot's imm; 0 without a second slot.
 fn high_part(second: Option<u64>) -> u32
     ensures { result ≡ from_le_bytes w32 (drop 4 (more_bytes second)) }
 {
@@ -42,7 +41,7 @@ fn high_part(second: Option<u64>) -> u32
     }
 }
 
-/// Whether the words begin with the instruction's spelling.
+/// Whether the words begin with the instruction's encoding.
 fn spells(insn: &Insn, first: u64, second: Option<u64>) -> bool
     ensures { IsTrue result ↔ BeginsWith (spelling insn.now) (on_hand first second) }
 {
@@ -55,14 +54,14 @@ fn spells(insn: &Insn, first: u64, second: Option<u64>) -> bool
         }
 }
 
-/// The words of the instruction's slots: of the one, or of both where it has two.
+/// The words of the instruction's one or two slots.
 pub fn encode(insn: &Insn) -> (u64, Option<u64>)
     ensures { on_hand result.0 result.1 ≡ spelling insn.now }
 {
     (insn.first_slot().word(), second_word(insn))
 }
 
-/// The word of the second slot, which only a wide load has: the high half of its value is the imm.
+/// The word of the second slot, which only a wide load has: the high half of its value as imm.
 fn second_word(insn: &Insn) -> Option<u64>
     ensures { more_bytes result ≡ second_bytes insn.now }
 {
@@ -75,7 +74,7 @@ fn second_word(insn: &Insn) -> Option<u64>
     }
 }
 
-/// The instruction again, out of its own words.
+/// Decodes the instruction's own encoding, which gives the instruction again.
 pub fn round_trip(insn: &Insn) -> Option<Insn>
     ensures { result ≡ Some insn.now }
 {

@@ -1,39 +1,41 @@
+//! Comparisons of conditional jumps.
+
 ghost use Rattle.std.specs.Prelude.{◌≡◌, Some};
 ghost use Rattle.insn_codec.specs.Mnemonics.{comparison_text};
 
 use std::fmt;
 
-/// When a branch is taken, of the destination and the operand (RFC 9669, section 4.3).
+/// The condition of a branch, on the destination and the operand (RFC 9669, section 4.3).
 #[derive(Clone, Copy, Debug, PartialEq, Eq)]
 pub enum Comparison {
     /// They are equal.
     Eq = 0x1,
-    /// The destination is greater, as unsigned numbers.
+    /// The destination is greater, unsigned.
     Gt = 0x2,
-    /// The destination is not less, as unsigned numbers.
+    /// The destination is greater or equal, unsigned.
     Ge = 0x3,
     /// Some bit is set in both.
     Set = 0x4,
     /// They are not equal.
     Ne = 0x5,
-    /// The destination is greater, as signed numbers.
+    /// The destination is greater, signed.
     Sgt = 0x6,
-    /// The destination is not less, as signed numbers.
+    /// The destination is greater or equal, signed.
     Sge = 0x7,
-    /// The destination is less, as unsigned numbers.
+    /// The destination is less, unsigned.
     Lt = 0xa,
-    /// The destination is not greater, as unsigned numbers.
+    /// The destination is less or equal, unsigned.
     Le = 0xb,
-    /// The destination is less, as signed numbers.
+    /// The destination is less, signed.
     Slt = 0xc,
-    /// The destination is not greater, as signed numbers.
+    /// The destination is less or equal, signed.
     Sle = 0xd,
 }
 
 impl Comparison {
     ghost use Rattle.insn_codec.specs.Families.{comparison_code, comparison_of};
 
-    /// The comparison of this code, which is the opcode's high four bits.
+    /// The comparison with this code, the opcode's high four bits.
     pub(crate) fn of(code: u8) -> Option<Comparison>
         ensures { result ≡ comparison_of code }
     {

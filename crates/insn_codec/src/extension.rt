@@ -1,29 +1,30 @@
+//! Sign extensions.
+
 ghost use Rattle.std.specs.Prelude.{◌≡◌, Some};
 ghost use Rattle.insn_codec.specs.Mnemonics.{extension_text};
 
 use crate::width::Width;
 use std::fmt;
 
-/// What a sign-extending move takes from the source and fills in the destination (RFC 9669, section
-/// 4.1).
+/// The bits that a sign-extending move reads from the source and fills in the destination (RFC 9669, section 4.1).
 #[derive(Clone, Copy, Debug, PartialEq, Eq)]
 pub enum Extension {
-    /// The low 8 bits, to 32; the high 32 bits become 0.
+    /// From the low 8 bits to 32; the high 32 bits become 0.
     From8To32,
-    /// The low 16 bits, to 32; the high 32 bits become 0.
+    /// From the low 16 bits to 32; the high 32 bits become 0.
     From16To32,
-    /// The low 8 bits, to 64.
+    /// From the low 8 bits to 64.
     From8To64,
-    /// The low 16 bits, to 64.
+    /// From the low 16 bits to 64.
     From16To64,
-    /// The low 32 bits, to 64.
+    /// From the low 32 bits to 64.
     From32To64,
 }
 
 impl Extension {
     ghost use Rattle.insn_codec.specs.Families.{extension_bits, extension_of, extension_width};
 
-    /// The extension to this width from this many bits, which stand in the slot's offset field.
+    /// The extension to this width from this number of bits, which is in the slot's offset field.
     pub(crate) fn of(width: Width, bits: i16) -> Option<Extension>
         ensures { result ≡ extension_of width bits }
     {
@@ -37,7 +38,7 @@ impl Extension {
         }
     }
 
-    /// How many bits it takes, as they stand in the slot's offset field.
+    /// The number of bits that it reads, as in the slot's offset field.
     pub(crate) fn bits(self) -> i16
         ensures { result ≡ extension_bits self }
     {

@@ -1,3 +1,5 @@
+//! The instructions of the machine.
+
 ghost use Rattle.std.specs.Prelude.{◌≡◌, ◌*◌, length, Some};
 ghost use Rattle.insn_codec.specs.Lines.{line_text, mnemonic_of};
 
@@ -27,24 +29,24 @@ pub enum Insn {
         dst: Register,
         operand: Operand,
     },
-    /// The register's negative (section 4.1).
+    /// The negation of a register (section 4.1).
     Neg {
         width: Width,
         dst: Register,
     },
-    /// A move that extends a sign (section 4.1).
+    /// A sign-extending move (section 4.1).
     SignExtend {
         extension: Extension,
         dst: Register,
         src: Register,
     },
-    /// The low bytes of a register in another order (section 4.2).
+    /// A byte swap of a register (section 4.2).
     ByteSwap {
         order: ByteOrder,
         width: SwapWidth,
         dst: Register,
     },
-    /// A jump by so many slots from the next one on (section 4.3).
+    /// A jump by an offset in slots from the next one on (section 4.3).
     Jump {
         offset: i16,
     },
@@ -52,7 +54,7 @@ pub enum Insn {
     JumpLong {
         offset: i32,
     },
-    /// A jump where the comparison holds (section 4.3).
+    /// A jump that is taken if the comparison holds (section 4.3).
     Branch {
         comparison: Comparison,
         width: Width,
@@ -60,15 +62,15 @@ pub enum Insn {
         operand: Operand,
         offset: i16,
     },
-    /// A call of the helper function of this number (section 4.3.1).
+    /// A call of the helper function with this number (section 4.3.1).
     Call {
         helper: i32,
     },
-    /// A call of the program's own function, by so many slots from the next one on (section 4.3.2).
+    /// A call of the program's own function, by an offset in slots from the next one on (section 4.3.2).
     CallLocal {
         offset: i32,
     },
-    /// The end of the function, or of the program, whose answer is R0 (section 4.3).
+    /// The end of the function, or of the program with R0 as its result (section 4.3).
     Exit,
     /// A load of the bytes at src + offset (section 5.1).
     Load {
@@ -77,7 +79,7 @@ pub enum Insn {
         src: Register,
         offset: i16,
     },
-    /// A load that extends a sign (section 5.2).
+    /// A sign-extending load (section 5.2).
     LoadSigned {
         size: SignedSize,
         dst: Register,
@@ -98,7 +100,7 @@ pub enum Insn {
         offset: i16,
         src: Register,
     },
-    /// A word at dst + offset that is read and written in one step, with a register (section 5.3).
+    /// An atomic read and write of the word at dst + offset, with a register (section 5.3).
     Atomic {
         op: AtomicOp,
         width: Width,
@@ -106,7 +108,7 @@ pub enum Insn {
         offset: i16,
         src: Register,
     },
-    /// A constant of 64 bits, in two slots (section 5.4).
+    /// A 64-bit constant, in two slots (section 5.4).
     LoadWide {
         dst: Register,
         value: u64,
@@ -116,7 +118,7 @@ pub enum Insn {
 impl Insn {
     ghost use Rattle.insn_codec.specs.Spelling.{IsInsn, first_slot, slot_count, spelling};
 
-    /// How many slots of eight bytes the instruction takes: 1, or 2 for a wide load.
+    /// The number of slots of the instruction: 1, or 2 for a wide load.
     pub fn slots(&self) -> u64
         ensures count { result ≡ slot_count self.now }
         ensures bytes { result * 8 ≡ length (spelling self.now) }
@@ -127,7 +129,7 @@ impl Insn {
         }
     }
 
-    /// The fields of the first slot, row by row; those that the instruction does not name are 0.
+    /// The fields of the first slot; unused fields are 0.
     pub(crate) fn first_slot(self) -> Slot
         ensures { result ≡ first_slot self }
     {
@@ -213,7 +215,7 @@ impl Insn {
         }
     }
 
-    /// The word that the instruction's line begins with.
+    /// The mnemonic of the instruction's line.
     fn mnemonic(self) -> Mnemonic
         ensures { result ≡ mnemonic_of self }
     {
@@ -241,7 +243,7 @@ impl Insn {
         }
     }
 
-    /// Its numbers are in the ranges of their types, as laws on instructions ask.
+    /// The numbers of an instruction fit their fields, as the laws on instructions require.
     pub fn in_range(self)
         ensures { IsInsn self }
     {}

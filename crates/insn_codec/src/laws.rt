@@ -1,4 +1,4 @@
-//! Laws of instructions and statements, each the clause of a function that does nothing.
+//! Laws of instructions and statements, each proved as the contract of an empty function.
 ghost use Rattle.insn_codec.specs.Laws.{NoLineFeed, OneSpelling, SlotsAreFilled, StatementIsSpelled};
 ghost use Rattle.insn_codec.specs.LineRows.{ArithmeticLinesHold, JumpLinesHold, MemoryLinesHold, StatementLinesHold};
 ghost use Rattle.insn_codec.specs.OpcodeRows.{ArithmeticCodesHold, JumpCodesHold, MemoryCodesHold};
@@ -6,24 +6,24 @@ ghost use Rattle.insn_codec.specs.RefusedRows.{FieldsAreChecked, NoSuchAccess, N
 ghost use Rattle.insn_codec.specs.Rows.{SpellingRowsHold};
 ghost use Rattle.insn_codec.specs.Spelled.{SpelledIsSpelling};
 
-/// No bytes begin with the spellings of two instructions, so each has one, and none begins
-/// another's.
+/// No bytes begin with the encodings of two instructions, so that each instruction has one
+/// encoding, and none is a prefix of another.
 pub fn one_reading()
     ensures { OneSpelling }
 {}
 
-/// Reading by the fields finds what the spellings say, at any bytes.
+/// Decoding by the fields agrees with the encodings, for any bytes.
 pub fn spelled_is_spelling()
     ensures { SpelledIsSpelling }
 {}
 
-/// Rows of the instruction table, and slots that spell nothing, byte by byte.
+/// Instructions, and slots that encode none, byte by byte.
 #[tactic(auto, unfolding(crate::specs::Spelled::spelled, crate::specs::Candidate::candidate_at, crate::specs::Candidate::arithmetic_at, crate::specs::Candidate::jump_at, crate::specs::Candidate::branch_at, crate::specs::Candidate::memory_at, crate::specs::Candidate::atomic_at, crate::specs::Candidate::wide_at))]
 pub fn rows_stand()
     ensures { SpellingRowsHold }
 {}
 
-/// The opcode of each operation, comparison, size and mode, put together by hand.
+/// The opcode of each operation, comparison, size and mode, assembled by hand.
 #[tactic(auto, unfolding(crate::specs::Spelled::spelled, crate::specs::Candidate::candidate_at, crate::specs::Candidate::arithmetic_at, crate::specs::Candidate::jump_at, crate::specs::Candidate::branch_at, crate::specs::Candidate::memory_at, crate::specs::Candidate::atomic_at, crate::specs::Candidate::wide_at))]
 pub fn opcodes_stand()
     ensures arithmetic { ArithmeticCodesHold }
@@ -31,8 +31,7 @@ pub fn opcodes_stand()
     ensures memory { MemoryCodesHold }
 {}
 
-/// Slots that spell no instruction: what each breaks of the standard is the only thing wrong with
-/// it.
+/// Slots that encode no instruction; each violates exactly one rule of the standard.
 #[tactic(auto, unfolding(crate::specs::Spelled::spelled, crate::specs::Candidate::candidate_at, crate::specs::Candidate::arithmetic_at, crate::specs::Candidate::jump_at, crate::specs::Candidate::branch_at, crate::specs::Candidate::memory_at, crate::specs::Candidate::atomic_at, crate::specs::Candidate::wide_at))]
 pub fn refusals_stand()
     ensures fields { FieldsAreChecked }
@@ -50,14 +49,13 @@ pub fn lines_stand()
     ensures statements { StatementLinesHold }
 {}
 
-/// The bytes of an instruction, and of a statement, are eight for each of its slots, of which it
-/// has at least one.
+/// The bytes of an instruction, and of a statement, are eight for each of its slots, of which it has at least one.
 pub fn slots_are_filled()
     ensures { SlotsAreFilled }
 {}
 
-/// Code of whole slots begins with the bytes of its first statement: of the instruction that
-/// its slots spell, or of its first slot.
+/// Code of whole slots begins with the bytes of its first statement: the instruction
+/// that its slots encode, or its first slot.
 #[tactic(auto, using(crate::proofs::Statements::is_spelled))]
 pub fn statement_is_spelled()
     ensures { StatementIsSpelled }

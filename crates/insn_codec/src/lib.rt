@@ -1,4 +1,4 @@
-//! The machine's instructions: the one spelling of each in 64-bit words, and back.
+//! The machine's instructions and their encoding in 64-bit words.
 #![tactic(auto)]
 
 mod alu_op;

@@ -1,3 +1,5 @@
+//! Mnemonics of a program's text.
+
 ghost use Rattle.std.specs.Prelude.{Some};
 ghost use Rattle.insn_codec.specs.Mnemonics.{mnemonic_text};
 
@@ -12,22 +14,22 @@ use crate::swap_width::SwapWidth;
 use crate::width::Width;
 use std::fmt;
 
-/// The word that a line begins with: what it does, and at which width (RFC 9669, sections 4 and 5).
+/// The first word of a line: the operation and its width or size (RFC 9669, sections 4 and 5).
 #[derive(Clone, Copy, Debug, PartialEq, Eq)]
 pub enum Mnemonic {
-    /// Arithmetic, as `add64`.
+    /// Arithmetic, such as `add64`.
     Alu(AluOp, Width),
-    /// The negative of a register, as `neg64`.
+    /// The negation of a register, such as `neg64`.
     Neg(Width),
-    /// A move that extends a signed number, as `movsx8to32`.
+    /// A sign-extending move, such as `movsx8to32`.
     SignExtend(Extension),
-    /// The bytes of a register in another order, as `be16`.
+    /// A byte swap, such as `be16`.
     ByteSwap(ByteOrder, SwapWidth),
     /// A jump with an offset of 16 bits, `ja`.
     Ja,
     /// A jump with an offset of 32 bits, `ja32`.
     JaLong,
-    /// A jump where the comparison holds, as `jeq32`.
+    /// A conditional jump, such as `jeq32`.
     Branch(Comparison, Width),
     /// A call of a helper by its number, `call`.
     Call,
@@ -35,17 +37,17 @@ pub enum Mnemonic {
     CallLocal,
     /// The end of the program or of its function, `exit`.
     Exit,
-    /// A load of an unsigned number, as `ldxb`.
+    /// A load of an unsigned number, such as `ldxb`.
     Load(Size),
-    /// A load of a signed number, as `ldxsb`.
+    /// A load of a signed number, such as `ldxsb`.
     LoadSigned(SignedSize),
-    /// A store of a number, as `stb`.
+    /// A store of an immediate, such as `stb`.
     StoreImm(Size),
-    /// A store of a register, as `stxb`.
+    /// A store of a register, such as `stxb`.
     Store(Size),
-    /// An atomic operation on memory, as `atomic_fetch_add64`.
+    /// An atomic operation on memory, such as `atomic_fetch_add64`.
     Atomic(AtomicOp, Width),
-    /// A load of 64 bits that the program holds, `lddw`.
+    /// A load of a 64-bit constant, `lddw`.
     LoadWide,
     /// A slot by its bytes, `.slot`.
     Slot,

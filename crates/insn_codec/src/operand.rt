@@ -1,3 +1,5 @@
+//! Second operands of instructions.
+
 ghost use Rattle.std.specs.Prelude.{◌≡◌, Some};
 ghost use Rattle.insn_codec.specs.Lines.{operand_text};
 
@@ -18,7 +20,7 @@ pub enum Operand {
 impl Operand {
     ghost use Rattle.insn_codec.specs.Codes.{operand_at, operand_flag, operand_imm, operand_src};
 
-    /// The operand that a slot's flag and fields say; the number of a register can be too high.
+    /// The operand of a slot's flag and fields; `None` if the register's number is too high.
     pub(crate) fn at(slot: Slot) -> Option<Operand>
         ensures { result ≡ operand_at slot }
     {
@@ -29,7 +31,7 @@ impl Operand {
         }
     }
 
-    /// The flag that says in an opcode, worth 8 there, which of the two it is.
+    /// The opcode's flag for a register operand: 8, or 0 for an immediate.
     pub(crate) fn flag(self) -> u8
         ensures { result ≡ operand_flag self }
     {
@@ -39,7 +41,7 @@ impl Operand {
         }
     }
 
-    /// What stands in the slot's src field.
+    /// The operand in the slot's src field.
     pub(crate) fn src(self) -> u8
         ensures { result ≡ operand_src self }
     {
@@ -49,7 +51,7 @@ impl Operand {
         }
     }
 
-    /// What stands in the slot's imm field.
+    /// The operand in the slot's imm field.
     pub(crate) fn imm(self) -> i32
         ensures { result ≡ operand_imm self }
     {

@@ -1,3 +1,5 @@
+//! Registers.
+
 ghost use Rattle.std.specs.Prelude.{◌≡◌, Some};
 ghost use Rattle.insn_codec.specs.Lines.{register_text};
 
@@ -23,7 +25,7 @@ pub enum Register {
 impl Register {
     ghost use Rattle.insn_codec.specs.Codes.{register_number, register_of};
 
-    /// The register that a slot's field of four bits names; the numbers from 11 on name none.
+    /// The register with the number in a slot's four-bit field, if it is at most 10.
     pub fn of(number: u8) -> Option<Register>
         ensures { result ≡ register_of number }
     {
@@ -43,7 +45,7 @@ impl Register {
         }
     }
 
-    /// The number that names the register in a slot, from 0 to 10.
+    /// The register's number in a slot, from 0 to 10.
     pub fn number(self) -> u8
         ensures { result ≡ register_number self }
     {

@@ -1,9 +1,11 @@
+//! Sizes of sign-extending loads.
+
 ghost use Rattle.std.specs.Prelude.{◌≡◌, Some};
 ghost use Rattle.insn_codec.specs.Mnemonics.{signed_size_text};
 
 use std::fmt;
 
-/// How many bytes a sign-extending load reads (RFC 9669, section 5.2).
+/// The number of bytes that a sign-extending load reads (RFC 9669, section 5.2).
 #[derive(Clone, Copy, Debug, PartialEq, Eq)]
 pub enum SignedSize {
     /// One byte.
@@ -17,7 +19,7 @@ pub enum SignedSize {
 impl SignedSize {
     ghost use Rattle.insn_codec.specs.Families.{signed_size_code, signed_size_of};
 
-    /// The size of this code, which is the two bits of the opcode that are worth 8 and 16.
+    /// The size with this code, bits 3 and 4 of the opcode.
     pub(crate) fn of(code: u8) -> Option<SignedSize>
         ensures { result ≡ signed_size_of code }
     {

@@ -1,9 +1,11 @@
+//! Sizes of loads and stores.
+
 ghost use Rattle.std.specs.Prelude.{◌≡◌, Some};
 ghost use Rattle.insn_codec.specs.Mnemonics.{size_text};
 
 use std::fmt;
 
-/// How many bytes a load or a store moves (RFC 9669, section 5).
+/// The number of bytes that a load or a store moves (RFC 9669, section 5).
 #[derive(Clone, Copy, Debug, PartialEq, Eq)]
 pub enum Size {
     /// One byte.
@@ -19,7 +21,7 @@ pub enum Size {
 impl Size {
     ghost use Rattle.insn_codec.specs.Families.{size_code, size_of_code};
 
-    /// The size of this code, which is the two bits of the opcode that are worth 8 and 16.
+    /// The size with this code, bits 3 and 4 of the opcode.
     pub(crate) fn of(code: u8) -> Option<Size>
         ensures { result ≡ size_of_code code }
     {

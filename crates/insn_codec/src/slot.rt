@@ -1,10 +1,11 @@
+//! The fields of a slot, and their packing into a word.
+
 ghost use Rattle.std.specs.Prelude.{◌≡◌, ◌<◌};
 ghost use Rattle.std.specs.Int.{w64, to_le_bytes};
 
 use crate::register::Register;
 
-/// The fields of one slot of eight bytes (RFC 9669, section 3); `dst` and `src` have four bits
-/// each.
+/// The fields of one slot of eight bytes (RFC 9669, section 3). `dst` and `src` have four bits each.
 #[derive(Clone, Copy, Debug, PartialEq, Eq)]
 pub struct Slot {
     pub opcode: u8,
@@ -19,7 +20,7 @@ impl Slot {
     ghost use Rattle.insn_codec.specs.Codes.{register_number};
     ghost use Rattle.insn_codec.specs.Slots.{IsSlot, slot_bytes, slot_with};
 
-    /// The slot of these fields.
+    /// The slot with these fields.
     pub(crate) fn with(opcode: u8, dst: u8, src: u8, offset: i16, imm: i32) -> Slot
         ensures { result ≡ slot_with opcode dst src offset imm }
     {
@@ -32,14 +33,14 @@ impl Slot {
         }
     }
 
-    /// The slot of these fields, between two registers.
+    /// The slot with these fields, from two registers.
     pub(crate) fn between(opcode: u8, dst: Register, src: Register, offset: i16, imm: i32) -> Slot
         ensures { result ≡ slot_with opcode (register_number dst) (register_number src) offset imm }
     {
         Slot::with(opcode, dst.number(), src.number(), offset, imm)
     }
 
-    /// The fields of the slot whose bytes, read little-endian, are the word.
+    /// The fields of the slot whose bytes, read little-endian, are this word.
     pub(crate) fn of_word(word: u64) -> Slot
         ensures bytes { slot_bytes result ≡ to_le_bytes w64 word }
         ensures ranges { IsSlot result }
@@ -84,7 +85,7 @@ impl Slot {
         ])
     }
 
-    /// Whether it is a move whose offset says how many bits it extends (RFC 9669, section 4.1).
+    /// Whether a move has an offset other than 0, the number of bits that it extends (RFC 9669, section 4.1).
     pub(crate) fn extends(self) -> bool
         ensures { result ≡ extends_at self }
     {

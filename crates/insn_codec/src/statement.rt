@@ -1,4 +1,4 @@
-//! What a line of a program's text stands for.
+//! Statements of a program's text.
 ghost use Rattle.std.specs.Prelude.{◌≡◌, Some};
 ghost use Rattle.insn_codec.specs.Statements.{IsStatement, statement_slots, statement_text};
 
@@ -6,18 +6,17 @@ use crate::insn::Insn;
 use crate::texts::WideText;
 use std::fmt;
 
-/// A line that stands for code: an instruction, or any slot by its bytes.
+/// A line with code: an instruction, or any slot by its bytes.
 #[derive(Clone, Copy, Debug, PartialEq, Eq)]
 pub enum Statement {
     /// An instruction, in its one or two slots.
     Insn(Insn),
-    /// A slot: its eight bytes in the order in which they are stored, read as one big-endian
-    /// number.
+    /// A slot: its eight bytes in storage order, read as one big-endian number.
     Slot(u64),
 }
 
 impl Statement {
-    /// How many slots of eight bytes it stands for: 1, or 2 for a wide load.
+    /// The number of slots of the statement: 1, or 2 for a wide load.
     pub fn slots(&self) -> u64
         ensures { result ≡ statement_slots self.now }
     {
@@ -27,7 +26,7 @@ impl Statement {
         }
     }
 
-    /// Its numbers are in the ranges of their types, as laws on statements ask.
+    /// The numbers of a statement fit their fields, as the laws on statements require.
     pub fn in_range(self)
         ensures { IsStatement self }
     {}

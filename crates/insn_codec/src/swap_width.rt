@@ -1,9 +1,11 @@
+//! Widths of byte swaps.
+
 ghost use Rattle.std.specs.Prelude.{◌≡◌, Some};
 ghost use Rattle.insn_codec.specs.Mnemonics.{swap_text};
 
 use std::fmt;
 
-/// How many low bits a byte order instruction orders (RFC 9669, section 4.2); the others become 0.
+/// The number of low bits that a byte swap orders (RFC 9669, section 4.2); the others become 0.
 #[derive(Clone, Copy, Debug, PartialEq, Eq)]
 pub enum SwapWidth {
     /// 16 bits.
@@ -17,7 +19,7 @@ pub enum SwapWidth {
 impl SwapWidth {
     ghost use Rattle.insn_codec.specs.Families.{swap_bits, swap_of};
 
-    /// The width of this many bits, which stand in the slot's imm field.
+    /// The width with this number of bits, which is in the slot's imm field.
     pub(crate) fn of(bits: i32) -> Option<SwapWidth>
         ensures { result ≡ swap_of bits }
     {
@@ -29,7 +31,7 @@ impl SwapWidth {
         }
     }
 
-    /// How many bits it is, as they stand in the slot's imm field.
+    /// The number of bits, as in the slot's imm field.
     pub(crate) fn bits(self) -> i32
         ensures { result ≡ swap_bits self }
     {

@@ -1,11 +1,11 @@
-//! Numbers, numbers of 64 bits, offsets and places in memory in print.
+//! Text of numbers, 64-bit words, offsets and addresses.
 ghost use Rattle.std.specs.Prelude.{Some};
 ghost use Rattle.insn_codec.specs.Lines.{address_text, offset_text, signed_decimal, wide_text};
 
 use crate::register::Register;
 use std::fmt;
 
-/// A number, shown as its decimal digits, with `-` where it is negative.
+/// A number, shown as decimal digits, with `-` if it is negative.
 #[derive(Clone, Copy)]
 pub(crate) struct NumberText(pub(crate) i32);
 
@@ -19,7 +19,7 @@ impl fmt::Display for NumberText {
     }
 }
 
-/// An offset in slots or bytes, shown as a decimal number that always has its sign.
+/// An offset in slots or bytes, shown as decimal digits, always with its sign.
 #[derive(Clone, Copy)]
 pub(crate) struct OffsetText(pub(crate) i32);
 
@@ -36,7 +36,7 @@ impl fmt::Display for OffsetText {
     }
 }
 
-/// A register and an offset in bytes, shown as `r1+8`.
+/// A register and an offset in bytes, shown like `r1+8`.
 #[derive(Clone, Copy)]
 pub(crate) struct AddressText(pub(crate) Register, pub(crate) i16);
 
@@ -50,7 +50,7 @@ impl fmt::Display for AddressText {
     }
 }
 
-/// A number of 64 bits, shown as `0x` and its 16 lower-case hex digits.
+/// A 64-bit number, shown as `0x` and its 16 lower-case hex digits.
 #[derive(Clone, Copy)]
 pub(crate) struct WideText(pub(crate) u64);
 

@@ -1,12 +1,14 @@
+//! Operand widths.
+
 ghost use Rattle.std.specs.Prelude.{◌≡◌, Some};
 ghost use Rattle.insn_codec.specs.Mnemonics.{width_text};
 
 use std::fmt;
 
-/// How many bits of its operands an instruction computes on.
+/// The number of bits of its operands that an instruction uses.
 #[derive(Clone, Copy, Debug, PartialEq, Eq)]
 pub enum Width {
-    /// The low 32 bits; what arithmetic writes has its high 32 bits 0.
+    /// The low 32 bits; arithmetic sets the high 32 bits of its result to 0.
     W32,
     /// All 64 bits.
     W64,
@@ -36,8 +38,7 @@ impl Width {
         }
     }
 
-    /// The width that the opcode of an atomic instruction says, if it is one (RFC 9669, section
-    /// 5.3).
+    /// The width of an atomic instruction's opcode, if it is one (RFC 9669, section 5.3).
     pub(crate) fn of_atomic(opcode: u8) -> Option<Width>
         ensures { result ≡ atomic_width opcode }
     {

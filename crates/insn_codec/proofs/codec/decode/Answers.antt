@@ -1,3 +1,4 @@
+-- Proof obligations of `decode` (src/codec.rt).
 use Rattle.insn_codec.proofs.Prelude.{◌≡◌, ℕ, ◌%◌, ◌≢◌, Option, Some, None, sym, refl, ◌∙◌, iff_false, spelled, BeginsWith, IsInsn, on_hand, spelling, Insn}
 use Rattle.insn_codec.proofs.Spelled.{candidate_of_words, spelled_alone, spelled_begins, spelled_none, spelled_other, spelled_some}
 use Rattle.insn_codec.proofs.codec.decode.Goals as goal

@@ -1,3 +1,4 @@
+-- Proof obligations of `round_trip` (src/codec.rt).
 use Rattle.insn_codec.proofs.Prelude.{[], append-nil, sym, ◌∙◌}
 use Rattle.insn_codec.proofs.codec.round_trip.Goals as goal
 

@@ -1,3 +1,4 @@
+-- Proof obligations of `spells` (src/codec.rt).
 use Rattle.insn_codec.proofs.Prelude.{refl}
 use Rattle.insn_codec.proofs.Spelled.{one_begins}
 use Rattle.insn_codec.proofs.codec.spells.Goals as goal
