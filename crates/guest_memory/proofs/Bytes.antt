@@ -1,4 +1,4 @@
--- Lists of bytes that are laid over others.
+-- Lists of bytes that overwrite others.
 use Rattle.guest_memory.proofs.Prelude.{◌≡◌, ℕ, zero, suc, ◌%◌, ◌/◌, ◌<◌, length, refl, ap, arith, All, All-cons, All-nil, low_bytes}
 
 pub length_low : (n w : ℕ) → length (low_bytes n w) ≡ n

@@ -13,7 +13,7 @@ low_byte b w h = grind arith
 high_bytes : (b w : ℕ) → b < 256 → (b + 256 * w) / 256 ≡ w
 high_bytes b w h = grind arith
 
--- the i-th byte of the word that bytes make
+-- the i-th byte of the word of these bytes
 pub byte_of-word_of : (bs : List ℕ) (i : ℕ) → All (λ b. b < 256) bs → i < length bs → byte_of (word_of bs) i ≡ get_or bs i 0
 byte_of-word_of [] i bytes inside = absurd (omega arith)
 byte_of-word_of (b ∷ bs) zero bytes inside = byte_of-zero (b + 256 * word_of bs) ∙ low_byte b (word_of bs) (All-head (λ b. b < 256) b bs bytes)
@@ -22,7 +22,7 @@ byte_of-word_of (b ∷ bs) (suc i) bytes inside =
     ∙ ap (λ (w : ℕ). byte_of w i) (high_bytes b (word_of bs) (All-head (λ b. b < 256) b bs bytes))
     ∙ byte_of-word_of bs i (All-tail (λ b. b < 256) b bs bytes) (omega arith)
 
--- the i-th of the low bytes
+-- the i-th of the low bytes of a word
 pub get_or-low_bytes : (n w i : ℕ) → i < n → get_or (low_bytes n w) i 0 ≡ byte_of w i
 get_or-low_bytes zero w i inside = absurd (omega arith)
 get_or-low_bytes (suc n) w zero inside = sym (byte_of-zero w)

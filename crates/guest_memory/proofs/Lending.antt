@@ -1,4 +1,4 @@
--- What is lent of the constants.
+-- Borrowed ranges of the constants.
 use Rattle.guest_memory.proofs.Prelude.{◌≡◌, ℕ, ◌+◌, ◌-◌, ◌<◌, ◌≤◌, List, length, get_or, Option, Some, sym, ap, ◌∙◌, arith, length-drop, IsSome, ◌↔◌, slice_get, cases_lt, nat_tests, slice_get-get_or, Memory, Constants, IsMemory, base_of, byte_at, part, place_of, constants_of, LentIsBytes, AllStandIn, length-take-le}
 use Rattle.guest_memory.proofs.Places.{HasPlace, all_stand}
 use Rattle.guest_memory.proofs.Map.{byte_at-region}
@@ -7,7 +7,7 @@ use Rattle.guest_memory.proofs.Reading.{length-part, get_or-part}
 abbrev place : Memory → ℕ → ℕ → Option ℕ
 place m address n = place_of (base_of Constants) (length m.constants) address n
 
--- bytes were lent: they are those of the constants from a place on
+-- borrowed bytes are those of the constants from an offset on
 pub record Lends (m : Memory) (address n : ℕ) (lent : List ℕ) : Type 0 where
   pub at : ℕ
   pub place_is : HasPlace (base_of Constants) (length m.constants) address n at

@@ -1,3 +1,4 @@
+-- Proofs of guest_memory: the list of their modules.
 pub mod Bytes
 pub mod Start
 pub mod Digits

@@ -21,7 +21,7 @@ pub byte_at-region : (r : Region) (m : Memory) (address : ℕ) → IsMemory m �
 unfolding byte_at
 byte_at-region r m address is stands = grind (arith, le-leb, slice_get-get_or, slice_get_past)
 
--- memories that have the same byte in each region at an address
+-- memories whose regions have the same byte at an address
 pub byte_at-same : (m other : Memory) (address : ℕ) → ((r : Region) → byte_from (base_of r) (bytes_in r other) address ≡ byte_from (base_of r) (bytes_in r m) address) → byte_at other address ≡ byte_at m address
 unfolding byte_at
 byte_at-same m other address same = cc (same Stack, same Scratch, same Verdict, same Constants)

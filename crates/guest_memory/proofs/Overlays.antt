@@ -1,4 +1,4 @@
--- The bytes of a list that is laid over another.
+-- The bytes of a list after some of them are overwritten.
 use Rattle.guest_memory.proofs.Prelude.{◌≡◌, ℕ, ◌+◌, ◌<◌, ◌≤◌, List, length, get_or, Some, sym, ap, ◌∙◌, arith, inl, inr, length-append, length-drop, get_or-drop, get_or-take, All, slice_get, ◌⊎◌, get_or-append, cases_lt, length-take-le, get_or-append_right, All-take, All-drop, All-append, slice_get-get_or, slice_get_past, overlay}
 
 module _ (old : List ℕ) (at : ℕ) (bytes : List ℕ) (fits : at + length bytes ≤ length old) where
@@ -11,7 +11,7 @@ module _ (old : List ℕ) (at : ℕ) (bytes : List ℕ) (fits : at + length byte
   get_or-overlay_outside : (i : ℕ) → (i < at) ⊎ (at + length bytes ≤ i) → get_or (overlay old at bytes) i 0 ≡ get_or old i 0
   get_or-overlay_outside i h = grind (arith, length-take-le, get_or-append, get_or-take, get_or-append_right, get_or-drop)
 
-  -- no byte changes but those that it lies on
+  -- only the overwritten bytes change
   pub slice_get-overlay_outside : (i : ℕ) → (i < at) ⊎ (at + length bytes ≤ i) → slice_get (overlay old at bytes) i ≡ slice_get old i
   slice_get-overlay_outside i outside =
       let whole = length-overlay in

@@ -1,4 +1,4 @@
--- Bytes in pages.
+-- Bytes as pages.
 use Rattle.guest_memory.proofs.Prelude.{◌≡◌, ℕ, zero, suc, ◌+◌, ◌-◌, ◌*◌, ◌<◌, ◌≤◌, List, [], ◌∷◌, ◌++◌, length, take, drop, get_or, replicate, refl, sym, ap, ◌∙◌, arith, length-append, append_assoc, append-nil, zero-add, length-drop, common_steps, take-append-le, drop-append-le, drop_all, replicate-append-replicate, drop-append-add, take-append-add, set, AllZip, overlay, part, joined, Page}
 
 pub joined_length : (ps : List Page) → length (joined ps) ≡ 256 * length ps
@@ -24,7 +24,7 @@ part_front a b n i h = grind (arith, common_steps)
 part_back : (a b : List ℕ) (n i m j : ℕ) → length a ≡ m → j ≡ m + i → part (a ++ b) j n ≡ part b i n
 part_back a b n i m j h e = ap (take n) (drop_back a b m i j h e)
 
--- over the end of a and the start of b
+-- across the end of a and the start of b
 part_across : (a b : List ℕ) (n i m k : ℕ) → length a ≡ m → i ≤ m → n ≡ m - i + k → k ≤ length b → part (a ++ b) i n ≡ drop i a ++ take k b
 part_across a b n i m k h le e most =
     let l = length-drop i a in
@@ -52,7 +52,7 @@ joined_zeros (p ∷ ps) (suc n) l z =
     let whole : 256 + 256 * n ≡ 256 * suc n = omega arith in
     rw (z 0 p (omega arith), joined_zeros ps n (omega arith) (λ i e inside. z (suc i) e (omega arith)), replicate-append-replicate {A = ℕ} 256 (256 * n) 0) (ap (λ (k : ℕ). replicate k 0) whole)
 
--- a part that lies in one page
+-- a range within one page
 pub part_one : (ps : List Page) (k n i j : ℕ) (d : Page) → k < length ps → i + n ≤ 256 → j ≡ 256 * k + i → part (joined ps) j n ≡ part (get_or ps k d).bytes.value i n
 part_one [] k n i j d h le e = absurd (omega arith)
 part_one (p ∷ ps) zero n i j d h le e =
@@ -61,7 +61,7 @@ part_one (p ∷ ps) zero n i j d h le e =
 part_one (p ∷ ps) (suc k) n i j d h le e =
     part_back p.bytes.value (joined ps) n (256 * k + i) 256 j p.full (omega arith) ∙ part_one ps k n i (256 * k + i) d (omega arith) le refl
 
--- a part that lies in two
+-- a range across two pages
 pub part_two : (ps : List Page) (k i m j : ℕ) (d e : Page) → suc k < length ps → i ≤ 256 → m ≤ 256 → j ≡ 256 * k + i
     → part (joined ps) j (256 - i + m) ≡ drop i (get_or ps k d).bytes.value ++ take m (get_or ps (suc k) e).bytes.value
 part_two [] k i m j d e h le most ej = absurd (omega arith)
@@ -81,15 +81,15 @@ joined_one (p ∷ ps) zero i j d new bytes h le e is =
 joined_one (p ∷ ps) (suc k) i j d new bytes h le e is =
     ap (λ (xs : List ℕ). p.bytes.value ++ xs) (joined_one ps k i (256 * k + i) d new bytes (omega arith) le refl is) ∙ sym (overlay_back p.bytes.value (joined ps) (256 * k + i) 256 j bytes p.full (omega arith))
 
--- two pages side by side, from before a write that goes over their border to after it: `x` is laid over the first from
--- a place on to its end, `y` over the second from its start on
+-- two consecutive pages before and after a write across their border: `x` overwrites the end of the first
+-- page from a position on, `y` the start of the second
 pub record AreOverlaid (first second low high : Page) (at : ℕ) (x y : List ℕ) : Type 0 where
   pub to_end : at + length x ≡ 256
   pub short : length y ≤ 256
   pub low_is : low.bytes.value ≡ overlay first.bytes.value at x
   pub high_is : high.bytes.value ≡ overlay second.bytes.value 0 y
 
--- two pages side by side are written
+-- two consecutive pages are written
 pub joined_two : (ps : List Page) (k i : ℕ) (d e low high : Page) (x y : List ℕ) → suc k < length ps
     → AreOverlaid (get_or ps k d) (get_or ps (suc k) e) low high i x y → joined (set (set ps k low) (suc k) high) ≡ overlay (joined ps) (256 * k + i) (x ++ y)
 joined_two [] k i d e low high x y h are = absurd (omega arith)
@@ -109,12 +109,12 @@ joined_kept [] k d new h e = absurd (omega arith)
 joined_kept (p ∷ ps) zero d new h e = rw e
 joined_kept (p ∷ ps) (suc k) d new h e = ap (λ (xs : List ℕ). p.bytes.value ++ xs) (joined_kept ps k d new (omega arith) e)
 
--- the same, by the pages themselves
+-- a range across two pages, by the pages themselves
 pub part_pages : (ps : List Page) (k i m : ℕ) (low high : Page) → low ≡ get_or ps k low → high ≡ get_or ps (suc k) high → suc k < length ps → i ≤ 256
     → m ≤ 256 → part (joined ps) (256 * k + i) (256 - i + m) ≡ drop i low.bytes.value ++ take m high.bytes.value
 part_pages ps k i m low high l h inside first most =
     part_two ps k i m (256 * k + i) low high inside first most refl ∙ (λ t. drop i (sym l t).bytes.value ++ take m (sym h t).bytes.value)
 
--- the whole of what stands in front
+-- the whole of the front
 pub part_whole : (front rest : List ℕ) (n m : ℕ) → length front ≡ n → m ≡ n → part (take m (front ++ rest)) 0 n ≡ front
 part_whole front rest n m l e = grind (arith, common_steps)

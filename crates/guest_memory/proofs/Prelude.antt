@@ -1,4 +1,4 @@
--- The names that these proofs cite of the library, of the crates below and of the definitions here. Declares nothing.
+-- The names that these proofs use, from the library, the crates below and these definitions. It declares nothing.
 pub use Rattle.std.proofs.Common.{All, Bool, Err, IsOk, IsSome, List, None, Ok, Option, Some, ℕ, [], ap, arith, drop}
 pub use Rattle.std.proofs.Common.{false, get_or, get_or-drop, get_or-take, if◌then◌else◌, inl, inr, length}
 pub use Rattle.std.proofs.Common.{length-append, length-drop, min, nat_le, refl, replicate, slice_get, subst, suc}

@@ -1,4 +1,4 @@
--- What loads answer.
+-- Results of loads.
 use Rattle.guest_memory.proofs.Prelude.{◌≡◌, ℕ, ◌+◌, ◌<◌, ◌≤◌, ◌^◌, List, length, get_or, Some, Ok, Err, arith, length-drop, get_or-drop, get_or-take, All, IsOk, ◌↔◌, length-take-le, Memory, Region, IsMemory, bytes_in, base_of, byte_at, word_of, part, size_bytes, read_of, ReadIsBytes, StandInOne, byte_of, F3, Size, le-leb, nat_tests, common_steps, slice_get-get_or, slice_get_past}
 use Rattle.guest_memory.proofs.Digits.{byte_of-word_of, word_of-bound}
 use Rattle.guest_memory.proofs.Places.{HasPlace, where_stands, one_region}
@@ -15,7 +15,7 @@ get_or-part bytes at n i h = grind (arith, get_or-take, get_or-drop)
 pub all-part : (bytes : List ℕ) (at n : ℕ) → All (λ b. b < 256) bytes → All (λ b. b < 256) (part bytes at n)
 all-part bytes at n all = grind (arith, common_steps)
 
--- a word was loaded: its bytes are those of a region from a place on
+-- a word was loaded: its bytes are those of a region from an offset on
 pub record Loads (m : Memory) (address n word : ℕ) : Type 0 where
   pub region : Region
   pub at : ℕ

@@ -1,4 +1,4 @@
--- Words that are put into bytes and read back. Crates above cite these.
+-- Words that are written to bytes and read back. Crates above use these.
 use Rattle.guest_memory.proofs.Prelude.{◌≡◌, ℕ, ◌+◌, ◌-◌, ◌*◌, ◌^◌, ◌<◌, ◌≤◌, List, length, get_or, drop, Ok, sym, ap, ◌∙◌, arith, subst, length-drop, get_or-drop, get_or-take, length-append, All, min, cases_lt, ext_get_or, length-take, get_or-append_right, length-take-le, Memory, Region, Stack, Scratch, Verdict, Constants, IsMemory, base_of, bytes_in, with_bytes, word_of, low_bytes, part, overlay, HasWord, WordsArePut, WordsAreAccessed, put_word, word_in, read_of, write_of, Dw, get_or-append, common_steps}
 use Rattle.guest_memory.proofs.Bytes.{length_low, all-low_bytes}
 use Rattle.guest_memory.proofs.Digits.{word_of-bound}
@@ -22,7 +22,7 @@ module _ (bytes : List ℕ) (i w : ℕ) (room : HasWord bytes i) where
   unfolding put_word
   all-put_word all = all-overlay bytes (8 * i) (low_bytes 8 w) fits all (all-low_bytes 8 w)
 
-  -- the word that was put
+  -- the word that was written
   pub put_word-same : w < 2 ^ 64 → word_in (put_word bytes i w) i ≡ w
   unfolding word_in put_word
   put_word-same small = grind (arith, common_steps)
@@ -65,8 +65,8 @@ module _ (m : Memory) (r : Region) (i w : ℕ) (room : HasWord (bytes_in r m) i)
   abbrev after : Memory
   after = with_bytes r (put_word (bytes_in r m) i w) m
 
-  -- a fact about the bytes of every region before the word was put, and about those with the word, is one about every
-  -- region after it
+  -- a fact about the bytes of every region before the write, and about those with the
+  -- word, holds for every region after it
   each_region : (P : Region → List ℕ → Type 0) → P r (put_word (bytes_in r m) i w) → (other : Region) → P other (bytes_in other m) → P other (bytes_in other after)
   each_region P put other old = grind arith
 

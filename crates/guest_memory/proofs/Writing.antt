@@ -1,4 +1,4 @@
--- What stores leave.
+-- The memory after stores.
 use Rattle.guest_memory.proofs.Prelude.{◌≡◌, ℕ, ◌+◌, ◌-◌, ◌<◌, ◌≤◌, List, length, get_or, Some, Ok, Err, ap, ◌∙◌, arith, length-append, length-drop, All, IsOk, ◌↔◌, ◌⊎◌, cases_lt, Memory, Region, Stack, Scratch, Verdict, Constants, IsMemory, IsWritable, is_writable, bytes_in, base_of, byte_at, byte_from, low_bytes, overlay, region_of, size_bytes, write_at, write_of, WriteIsBytes, AllStandIn, StandInOne, byte_of, F3, F4, Size, nat_tests, length-take-le}
 use Rattle.guest_memory.proofs.Bytes.{length_low, all-low_bytes}
 use Rattle.guest_memory.proofs.Digits.{get_or-low_bytes}
@@ -7,7 +7,7 @@ use Rattle.guest_memory.proofs.Map.{byte_at-region, byte_at-same, byte_from-belo
 use Rattle.guest_memory.proofs.Overlays.{get_or-overlay_inside, slice_get-overlay_outside, all-overlay}
 use Rattle.guest_memory.proofs.Reading.{some_bytes}
 
--- bytes were stored in a region that can be written, and the other regions are as before
+-- bytes were stored in a writable region, and the other regions are unchanged
 pub record Stores (m after : Memory) (address n : ℕ) (bytes : List ℕ) : Type 0 where
   pub region : Region
   pub at : ℕ
@@ -63,7 +63,7 @@ module _ (m after : Memory) (address n : ℕ) (bytes : List ℕ) (fits : length 
   pub kept_byte : (other : ℕ) → (other < address) ⊎ (address + n ≤ other) → byte_at after other ≡ byte_at m other
   kept_byte other outside = grind (arith, byte_at-same, region_kept)
 
--- ---- when a store is made
+-- ---- when a store succeeds
 
 abbrev AllWritable : ℕ → ℕ → Type 0
 AllWritable address n = (i : ℕ) → i < n → IsWritable (address + i)

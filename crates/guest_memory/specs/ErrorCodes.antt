@@ -1,4 +1,4 @@
--- The codes of the faults.
+-- Codes of the faults.
 use Rattle.std.specs.Prelude.{ℕ, List, codes}
 use Rattle.guest_memory.specs.declared.fault.Fault.{Fault}
 use Rattle.guest_memory.specs.declared.fault.Fault.TheVariants.{F1, F2, F3, F4, F5, F6, F7, F8, F9}

@@ -1,3 +1,4 @@
+-- Definitions of guest_memory: the list of their modules.
 pub mod ErrorCodes
 pub mod Memory
 pub mod Word

@@ -1,9 +1,10 @@
--- Where an access is in a region of pages.
+-- The position of an access in a region of pages.
 use Rattle.std.specs.Prelude.{◌≡◌, ℕ, ◌+◌, ◌*◌, ◌≤◌, Some, None, ⊤}
 use Rattle.guest_memory.specs.Access.{place_of}
 use Rattle.guest_memory.specs.declared.page_span.PageSpan.{PageSpan, TheVariants.Within, TheVariants.Across, TheVariants.Beyond}
 
--- n bytes from an address on are in one page of a region of this base and length, or their first is not in the region
+-- n bytes at an address are in one page of a region with this base and length, or
+-- cross pages, or begin outside the region
 abbrev pub IsPageSpan : ℕ → ℕ → ℕ → ℕ → PageSpan → Type 0
 IsPageSpan base len address n (Within page from) =
     (place_of base len address n ≡ Some (256 * page + from)) × (256 * page + 256 ≤ len) × (from + n ≤ 256)

@@ -1,8 +1,8 @@
--- Bytes in pages.
+-- Bytes as pages.
 use Rattle.std.specs.Prelude.{ℕ, List, [], ◌∷◌, ◌++◌}
 use Rattle.guest_memory.specs.declared.page.Page.{Page}
 
--- the bytes of all pages, one page after the other
+-- the bytes of all pages, in order
 abbrev pub joined : List Page → List ℕ
 joined [] = []
 joined (p ∷ ps) = p.bytes.value ++ joined ps

@@ -1,4 +1,4 @@
--- Loads and stores worked by hand.
+-- Loads and stores worked out by hand.
 use Rattle.std.specs.Prelude.{◌≡◌, ℕ, [], ◌∷◌, Result, Ok, Err, IsOk}
 use Rattle.guest_memory.specs.Memory.{Memory, start_memory}
 use Rattle.guest_memory.specs.Access.{read_of, stores_of, write_of}
@@ -6,11 +6,11 @@ use Rattle.guest_memory.specs.declared.fault.Fault as fault
 use Rattle.guest_memory.specs.declared.fault.Fault.TheVariants.{F3, F4}
 use Rattle.guest_memory.specs.declared.size.Size.{Size, TheVariants.B, TheVariants.H, TheVariants.Dw}
 
--- a program's memory with no constants
+-- a program's memory without constants
 abbrev pub empty : Memory
 empty = start_memory []
 
--- what a load answers after a store
+-- the result of a load after a store
 abbrev pub read_after : Result Memory fault.Fault → ℕ → Size → Result ℕ fault.Fault
 read_after (Ok m) address size = read_of m address size
 read_after (Err f) address size = Err f

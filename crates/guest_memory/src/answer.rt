@@ -1,25 +1,25 @@
-//! What a store answers.
+//! The result of a store.
 ghost use Rattle.std.specs.Prelude.{◌≡◌};
 ghost use Rattle.guest_memory.specs.Answers.{answer_of};
 
 use crate::fault::Fault;
 use crate::write_error::WriteError;
 
-/// What a store answers, in one byte, so that no memory is laid out for it.
+/// The result of a store, in one byte, so that it is returned in a register.
 #[derive(Clone, Copy)]
 pub enum Answer {
-    /// It is made.
+    /// The store was made.
     Made,
-    /// Its bytes would not all stand in one region.
+    /// Its bytes would not all be in one region.
     Outside,
-    /// Its bytes all lie in the constants.
+    /// Its bytes are all in the constants.
     Constant,
-    /// The host has no memory for it.
+    /// An allocation failed.
     NoMemory,
 }
 
 impl Answer {
-    /// The same with its error.
+    /// The result with its error.
     #[inline(always)]
     pub fn result(self) -> Result<(), WriteError>
         ensures { result ≡ answer_of self }

@@ -1,4 +1,4 @@
-//! Memory in pages, which copies share.
+//! Memory in pages that copies share.
 ghost use Rattle.std.specs.Prelude.{◌≡◌, length, replicate, IfOk, None};
 ghost use Rattle.guest_memory.specs.Answers.{answer_of, word_or_outside};
 ghost use Rattle.guest_memory.specs.Access.{place_of, read_of, size_bytes, write_of, StoreReturns};
@@ -28,8 +28,7 @@ pub const VERDICT: u64 = 0x3_0000_0000;
 /// The first address of the constants.
 pub const CONSTANTS: u64 = 0x4_0000_0000;
 
-/// Memory that shares its pages and its constants with its copies. A store copies a page of 256
-/// bytes that others share.
+/// Memory that shares its pages and its constants with its copies. A store copies a shared page of 256 bytes first.
 #[derive(Drop)]
 pub struct Guest {
     stack: Region<16>,
@@ -38,8 +37,7 @@ pub struct Guest {
     constants: Rc<Vec<u8>>,
 }
 
-/// Where `n` bytes from `addr` on begin in a region of `len` bytes from `base` on, if all of them
-/// stand there.
+/// The offset of `n` bytes at `addr` in a region of `len` bytes from `base` on, if all of them are in it.
 #[inline(always)]
 fn place(base: u64, len: usize, addr: u64, n: u64) -> Option<usize>
     ensures { result ≡ place_of base len addr n }
@@ -55,7 +53,7 @@ fn place(base: u64, len: usize, addr: u64, n: u64) -> Option<usize>
     }
 }
 
-/// The constants, to be shared. The error says that there is no memory for them.
+/// The constants in shared ownership.
 fn shared(alloc: Global, constants: &[u8]) -> Result<Rc<Vec<u8>>, AllocError>
     ensures { IfOk result (λ block. block.value.items ≡ constants.now) }
 {
@@ -66,10 +64,9 @@ fn shared(alloc: Global, constants: &[u8]) -> Result<Rc<Vec<u8>>, AllocError>
     Ok(block)
 }
 
-/// Loads and stores that are not in one page of the stack, which are rare: out of the way of those
-/// that are.
+/// Loads and stores that are not within one page of the stack. They are rare, so they are kept out of the fast path.
 impl Guest {
-    /// The word of a load over the border of a page of the stack, if one region has its bytes.
+    /// The word of a load that crosses pages of the stack, if one region has its bytes.
     #[tactic(auto, unfolding(crate::specs::Access::read_of))]
     #[cold]
     #[inline(never)]
@@ -88,7 +85,7 @@ impl Guest {
         }
     }
 
-    /// The word of a load whose bytes do not all stand on the stack, if one region has them.
+    /// The word of a load whose bytes are not all on the stack, if one region has them.
     #[tactic(auto, unfolding(crate::specs::Access::read_of))]
     #[cold]
     #[inline(never)]
@@ -115,7 +112,7 @@ impl Guest {
         None
     }
 
-    /// A store over the border of a page of the stack.
+    /// A store that crosses pages of the stack.
     #[tactic(auto, unfolding(crate::specs::Access::write_of))]
     #[cold]
     #[inline(never)]
@@ -143,7 +140,7 @@ impl Guest {
         self.write_above(addr, size, word)
     }
 
-    /// A store whose bytes would not all stand on the stack.
+    /// A store whose bytes would not all be on the stack.
     #[tactic(auto, unfolding(crate::specs::Access::write_of))]
     #[cold]
     #[inline(never)]
@@ -183,7 +180,7 @@ impl Guest {
     }
 }
 
-/// The answer to a load: the word, if there is one.
+/// The result of a load: the word if there is one, else `F3`.
 #[inline(always)]
 fn loaded(word: Option<u64>) -> Result<u64, Fault>
     ensures { result ≡ word_or_outside word }

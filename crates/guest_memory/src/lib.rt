@@ -1,5 +1,4 @@
-//! The memory that a BPF program sees: regions of bytes at fixed addresses, read and written by
-//! the machine.
+//! The memory of a BPF program: regions of bytes at fixed addresses, read and written by the machine.
 #![tactic(auto)]
 
 mod answer;

@@ -8,10 +8,10 @@ use crate::words::{put_word, word_at};
 use std::alloc::{AllocError, Global};
 use std::rc::Rc;
 
-/// How many bytes a page has.
+/// The number of bytes of a page.
 pub const PAGE_LENGTH: usize = 256;
 
-/// 256 bytes, which a page and its clones share until one of them is written.
+/// A page of 256 bytes that it shares with its clones until one of them is written.
 #[derive(Drop)]
 pub struct Page {
     pub bytes: Rc<[u8; 256]>,
@@ -28,7 +28,7 @@ impl Clone for Page {
 }
 
 impl Page {
-    /// A page of zeros. The error says that there is no memory for it.
+    /// A page of zeros.
     pub fn of_zeros(alloc: Global) -> Result<Page, AllocError>
         ensures { IfOk result (λ page. page.bytes.value ≡ replicate 256 0) }
     {
@@ -38,7 +38,7 @@ impl Page {
         Ok(Page { bytes })
     }
 
-    /// The number whose bytes stand from `at` on, the lowest first.
+    /// The number with its bytes from `at` on, the least significant first.
     #[inline(always)]
     pub fn word_at(&self, at: usize, size: Size) -> u64
         requires { at + size_bytes size ≤ 256 }
@@ -47,7 +47,7 @@ impl Page {
         word_at(&self.bytes[..], at, size)
     }
 
-    /// Puts the low bytes of a word from `at` on, in a copy of the bytes if others share them.
+    /// Writes the low bytes of a word from `at` on, to a copy of the bytes if they are shared.
     #[inline(always)]
     pub fn put_word(&mut self, at: usize, size: Size, word: u64) -> Result<(), AllocError>
         requires { at + size_bytes size ≤ 256 }
@@ -63,7 +63,7 @@ impl Page {
         }
     }
 
-    /// The same in a copy of the bytes, which others share.
+    /// Writes the low bytes of a word from `at` on, to a copy of the shared bytes.
     #[cold]
     #[inline(never)]
     fn put_word_in_copy(&mut self, at: usize, size: Size, word: u64) -> Result<(), AllocError>
@@ -76,7 +76,7 @@ impl Page {
         Ok(())
     }
 
-    /// Lays bytes over those from `at` on, in a copy of them if others share them.
+    /// Overwrites the bytes from `at` on, in a copy if they are shared.
     pub fn put(&mut self, at: usize, bytes: &[u8]) -> Result<(), AllocError>
         requires { at + length bytes.now ≤ 256 }
         ensures ok { OnOk result (self.new.bytes.value ≡ overlay self.old.bytes.value at bytes.now) }

@@ -1,4 +1,4 @@
-//! A region of bytes that can be written.
+//! A writable region of bytes.
 ghost use Rattle.std.specs.Prelude.{◌≡◌, ◌+◌, ◌*◌, ◌%◌, ◌≤◌, length, replicate, IfOk, OnOk, OnErr};
 ghost use Rattle.guest_memory.specs.Access.{size_bytes};
 ghost use Rattle.guest_memory.specs.PageSpans.{IsPageSpan};
@@ -13,7 +13,7 @@ use std::alloc::AllocError;
 use std::array;
 use std::marker::Model;
 
-/// `N` pages of 256 bytes, which copies share until one of them writes a page.
+/// `N` pages of 256 bytes that copies share until one of them writes a page.
 #[derive(Drop)]
 pub struct Region<const N: usize> {
     pages: [Page; N],
@@ -31,8 +31,11 @@ impl<const N: usize> Model for Region<N> {
 }
 
 impl<const N: usize> Region<N> {
-    /// Zeros: each page is a clone of the given one. The error says that no more clones can be
-    /// counted.
+    /// A region of zeros, each page a clone of the given one.
+    ///
+    /// # Errors
+    ///
+    /// `AllocError` if no more clones can be counted.
     pub fn zeroed(zero: &ZeroPage) -> Result<Region<N>, AllocError>
         requires { N ≤ 256 }
         ensures { IfOk result (λ region. region ≡ replicate (256 * N) 0) }
@@ -41,7 +44,7 @@ impl<const N: usize> Region<N> {
         Ok(Region { pages })
     }
 
-    /// The same bytes, in the same pages.
+    /// A copy that shares the pages.
     pub fn copy(&self) -> Result<Region<N>, AllocError>
         ensures { IfOk result (λ copy. copy ≡ self.now) }
     {
@@ -49,7 +52,7 @@ impl<const N: usize> Region<N> {
         Ok(Region { pages })
     }
 
-    /// How many bytes it has.
+    /// The number of bytes.
     #[tactic(auto, using(crate::proofs::PagedBytes::joined_length))]
     #[inline(always)]
     pub fn len(&self) -> usize
@@ -60,8 +63,8 @@ impl<const N: usize> Region<N> {
         self.pages[..].len() * PAGE_LENGTH
     }
 
-    /// Where an access is in a region from `base` on. An address below the region is past its end
-    /// as well, since the difference wraps.
+    /// The position of an access in the region, which begins at `base`. For an address below the region
+    /// the difference wraps and is past the end too.
     #[inline(always)]
     pub fn page_span(&self, base: u64, addr: u64, size: Size) -> PageSpan
         requires { base % 256 ≡ 0 }
@@ -79,7 +82,7 @@ impl<const N: usize> Region<N> {
         PageSpan::Within { page, from }
     }
 
-    /// The number whose bytes stand in a page from `from` on, the lowest first.
+    /// The number with its bytes in a page from `from` on, the least significant first.
     #[tactic(auto, using(crate::proofs::PagedBytes::joined_length))]
     #[inline(always)]
     pub fn word_in(&self, page: usize, from: usize, size: Size) -> u64
@@ -90,7 +93,7 @@ impl<const N: usize> Region<N> {
         word_in(&self.pages, page, from, size)
     }
 
-    /// The number whose bytes stand from `at` on, the lowest first.
+    /// The number with its bytes from `at` on, the least significant first.
     pub fn word_at(&self, at: usize, size: Size) -> u64
         requires { at + size_bytes size ≤ length self.now }
         ensures { result ≡ word_of (part self.now at (size_bytes size)) }
@@ -98,8 +101,7 @@ impl<const N: usize> Region<N> {
         word_at(&self.pages, at, size)
     }
 
-    /// Puts the low bytes of a word into a page from `from` on. If an allocation fails, all is
-    /// unchanged.
+    /// Writes the low bytes of a word to a page from `from` on. If an allocation fails, all is unchanged.
     #[tactic(auto, using(crate::proofs::PagedBytes::joined_length))]
     #[inline(always)]
     pub fn put_in(
@@ -118,7 +120,7 @@ impl<const N: usize> Region<N> {
         Ok(())
     }
 
-    /// Puts the low bytes of a word from `at` on. If an allocation fails, all is unchanged.
+    /// Writes the low bytes of a word from `at` on. If an allocation fails, all is unchanged.
     pub fn put_word(&mut self, at: usize, size: Size, word: u64) -> Result<(), AllocError>
         requires { at + size_bytes size ≤ length self.old }
         ensures ok { OnOk result (self.new ≡ overlay self.old at (low_bytes (size_bytes size) word)) }

@@ -1,11 +1,11 @@
-//! Words and their bytes, the lowest first.
+//! Words and their bytes, the least significant first.
 ghost use Rattle.std.specs.Prelude.{◌≡◌, ◌+◌, ◌≤◌, length};
 ghost use Rattle.guest_memory.specs.Access.{size_bytes};
 ghost use Rattle.guest_memory.specs.Word.{low_bytes, overlay, part, word_of};
 
 use crate::size::Size;
 
-/// The number whose bytes stand from `at` on.
+/// The number with its bytes from `at` on.
 #[inline(always)]
 pub fn word_at(bytes: &[u8], at: usize, size: Size) -> u64
     requires { at + size_bytes size ≤ length bytes.now }
@@ -30,7 +30,7 @@ fn bytes_at<const N: usize>(bytes: &[u8], at: usize) -> [u8; N]
     copy
 }
 
-/// Puts the low bytes of a word from `at` on.
+/// Writes the low bytes of a word from `at` on.
 #[inline(always)]
 pub fn put_word<const N: usize>(bytes: &mut [u8; N], at: usize, size: Size, word: u64)
     requires most { N ≤ 65536 }
@@ -45,7 +45,7 @@ pub fn put_word<const N: usize>(bytes: &mut [u8; N], at: usize, size: Size, word
     }
 }
 
-/// Lays bytes over those from `at` on.
+/// Overwrites the bytes from `at` on.
 #[inline(always)]
 fn put<const N: usize>(bytes: &mut [u8; N], at: usize, others: &[u8])
     requires most { N ≤ 65536 }

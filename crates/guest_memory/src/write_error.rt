@@ -6,6 +6,6 @@ use crate::fault::Fault;
 pub enum WriteError {
     /// The store is not allowed: `F3` or `F4`.
     Fault(Fault),
-    /// An allocation of the host failed.
+    /// An allocation failed.
     Memory,
 }

@@ -1,3 +1,4 @@
+-- Proof obligations of `gather` (src/pages.rt).
 use Rattle.guest_memory.proofs.Prelude.{◌≡◌, ◌-◌, ◌≤◌, ◌++◌, length, drop, take, ap, arith, length-drop, take_all}
 use Rattle.guest_memory.proofs.pages.gather.Goals as goal
 

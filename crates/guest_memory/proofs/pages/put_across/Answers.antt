@@ -1,3 +1,4 @@
+-- Proof obligations of `put_across` (src/pages.rt).
 use Rattle.guest_memory.proofs.Prelude.{◌<◌, suc, ℕ, List, length, arith, add-one, ◌∙◌, ap, refl, overlay}
 use Rattle.guest_memory.proofs.PagedBytes.{joined_two}
 use Rattle.guest_memory.proofs.pages.put_across.Goals as goal

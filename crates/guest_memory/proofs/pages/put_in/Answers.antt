@@ -1,3 +1,4 @@
+-- Proof obligations of `put_in` (src/pages.rt).
 use Rattle.guest_memory.proofs.Prelude.{rules, ◌+◌, ◌*◌, arith, refl, size_bytes}
 use Rattle.guest_memory.proofs.Bytes.{length_low}
 use Rattle.guest_memory.proofs.PagedBytes.{joined_one, joined_kept}

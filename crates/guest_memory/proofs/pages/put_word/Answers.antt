@@ -1,3 +1,4 @@
+-- Proof obligations of `put_word` (src/pages.rt).
 use Rattle.guest_memory.proofs.Prelude.{arith}
 use Rattle.guest_memory.proofs.PagedBytes.{joined_length}
 use Rattle.guest_memory.proofs.pages.put_word.Goals as goal

@@ -1,3 +1,4 @@
+-- Proof obligations of `word_across` (src/pages.rt).
 use Rattle.guest_memory.proofs.Prelude.{◌≡◌, ◌++◌, ◌-◌, ℕ, List, [], ◌∷◌, ◌∙◌, ap, length, take, drop, length-take-le, word_of, size_bytes}
 use Rattle.guest_memory.proofs.PagedBytes.{part_whole}
 use Rattle.guest_memory.proofs.pages.word_across.Goals as goal

@@ -1,3 +1,4 @@
+-- Proof obligations of `word_at` (src/pages.rt).
 use Rattle.guest_memory.proofs.Prelude.{◌+◌, ◌*◌, ◌-◌, ◌/◌, ◌%◌, ◌≡◌, arith, add-one, ap, sym, ◌∙◌, part, word_of, size_bytes, joined}
 use Rattle.guest_memory.proofs.PagedBytes.{joined_length, part_pages}
 use Rattle.guest_memory.proofs.pages.word_at.Goals as goal

@@ -1,3 +1,4 @@
+-- Proof obligations of `word_in` (src/pages.rt).
 use Rattle.guest_memory.proofs.Prelude.{◌+◌, ◌*◌, ap, sym, ◌∙◌, refl, part, word_of, size_bytes, Page}
 use Rattle.guest_memory.proofs.PagedBytes.{part_one}
 use Rattle.guest_memory.proofs.pages.word_in.Goals as goal

@@ -1,3 +1,4 @@
+-- Proof obligations of `GuestRegions::of_constants` (src/guest.rt).
 use Rattle.guest_memory.proofs.Start.{started}
 use Rattle.guest_memory.proofs.guest.GuestRegions.of_constants.Goals as goal
 

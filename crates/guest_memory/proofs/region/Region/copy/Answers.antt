@@ -1,3 +1,4 @@
+-- Proof obligations of `Region::copy` (src/region.rt).
 use Rattle.guest_memory.proofs.PagedBytes.{joined_same}
 use Rattle.guest_memory.proofs.region.Region.copy.Goals as goal
 

@@ -1,3 +1,4 @@
+-- Proof obligations of `Region::page_span` (src/region.rt).
 use Rattle.guest_memory.proofs.Prelude.{arith, refl}
 use Rattle.guest_memory.proofs.Places.{place_beyond, place_in_page}
 use Rattle.guest_memory.proofs.Reading.{some_bytes}

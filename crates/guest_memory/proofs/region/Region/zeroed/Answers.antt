@@ -1,3 +1,4 @@
+-- Proof obligations of `Region::zeroed` (src/region.rt).
 use Rattle.guest_memory.proofs.Prelude.{rules}
 use Rattle.guest_memory.proofs.PagedBytes.{joined_zeros}
 use Rattle.guest_memory.proofs.region.Region.zeroed.Goals as goal
