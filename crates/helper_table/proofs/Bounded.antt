@@ -1,4 +1,4 @@
--- Parts of bounded values, and values that are made of them.
+-- Parts of bounded values, and values built from them.
 use Rattle.helper_table.proofs.Prelude.{◌≡◌, ◌+◌, ◌≤◌, ℕ, suc, List, length, Option, Some, refl, arith, IfSome, slice_get, option_map, joined, key_at, part_at, push_of, pushed, put_in, put_of, find, inserted, Value, list, map, Items, no_items, item, Entries, no_entries, entry, ValueOrError, list_of, keys_of, values_of, items_push, items_join, value_under, IsBounded, AreItemsBounded, AreEntriesBounded, IsResultBounded}
 
 mutual
@@ -67,7 +67,7 @@ pushed_bounded n x y u b c e = grind (arith, push_bounded)
 
 -- ---- maps
 
--- one entry more, and none longer
+-- one more entry, no longer than the bound
 record IsLonger (n : ℕ) (old new : Entries) : Type 0 where
   length_is : length (keys_of new) ≡ length (keys_of old) + 1
   bounded : AreEntriesBounded n new

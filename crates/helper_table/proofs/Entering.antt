@@ -38,7 +38,7 @@ enters_among _ _ x = refl
 value_seen : (x : ValueOrError) → is_value (outcome_view x) ≡ is_some (value_at (Some x))
 value_seen x = grind arith
 
--- where a map can be entered
+-- when an entry can be added to a map
 pub enters : (m k x : Option ValueOrError) (s t : Seen) → option_map outcome_view k ≡ Some s → option_map outcome_view x ≡ Some t
     → (is_new_key (entries_at m) (text_part s) && is_value t) ≡ is_some (entered m k x)
 enters m k x s t e f = grind (arith, value_seen, enters_among)

@@ -1,4 +1,4 @@
--- A text stands in another exactly where the search finds it.
+-- A text contains another exactly if the search finds it.
 use Rattle.helper_table.proofs.Prelude.{◌≡◌, ℕ, suc, List, [], ◌∷◌, length, take, Option, Some, None, true, sym, ap, ⊎_elim, arith, length-take, cases_Bool, or_cases, or_left, or_right, starts_with, is_some, nat_eq, OccursAt, FindsNeedle, OccursAt-part, OccursAt-from_part, contains}
 use lib.Pointwise.{bytes_decides}
 

@@ -1,3 +1,4 @@
+-- Proofs of helper_table: the list of their modules.
 pub mod Placing
 pub mod Unplaced
 pub mod Seeing

@@ -1,4 +1,4 @@
--- Looking up a key in what stands at a reference.
+-- Lookup of a key in the value at a reference.
 use Rattle.helper_table.proofs.Prelude.{◌≡◌, ℕ, List, Option, Some, None, true, ap, ◌∙◌, arith, ◌<◌, length, [], subst, option_map, option_and_then, is_some, IsSome, find_place, has_key_place, entries_at, part_at, key_at, find, place_of_key, Entries, ValueOrError, null, text, list, map, value, list_of, keys_of, value_under, slice_get-get_or, outcome_view, sees_list, sees_map, count_by-le-length, code_points_of}
 
 pub finds : (key : List ℕ) (es : Option Entries) → is_some es ≡ true → IsSome (option_map (place_of_key key) es)
@@ -16,7 +16,7 @@ part_is_there o key i f = ap is_some (part_is_value o key i f) ∙ there key i (
 pub no_value : (key : List ℕ) (m : Option Entries) → None ≡ option_and_then (place_of_key key) m → option_and_then (find key) m ≡ None
 no_value key m f = grind (arith, find_place)
 
--- ---- items and keys by their places
+-- ---- items and keys by their positions
 
 module _ (i n : ℕ) where
   pub item_there : (o : Option ValueOrError) → option_map outcome_view o ≡ Some (sees_list n) → i < n → is_some (part_at o i) ≡ true

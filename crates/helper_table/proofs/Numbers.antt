@@ -1,4 +1,4 @@
--- The number of a helper as a place in the list of helpers.
+-- The number of a helper as an index into the list of helpers.
 use Rattle.helper_table.proofs.Prelude.{◌≡◌, ◌-◌, ◌≤◌, ℕ, zero, suc, Some, ap, ◌∙◌, sym, arith, slice_get-get_or, slice_index_or, helpers, numbered, Helper}
 
 pub numbered_at : (n : ℕ) (other : Helper) → 1 ≤ n → n ≤ 23 → Some (slice_index_or helpers (n - 1) other) ≡ numbered n

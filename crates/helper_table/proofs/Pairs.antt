@@ -1,10 +1,10 @@
--- Which two operands the tests of the store are for.
+-- The operand pairs that the tests of the store are defined for.
 use Rattle.helper_table.proofs.Prelude.{◌≡◌, Option, Some, None, Bool, false, ◌&&◌, arith, ◌+◌, length, true, length-append, option_map, is_some, less_at, member_at, pushed, joined, Seen, outcome_view, seen_size, ValueOrError, Value, Items, no_items, item, list_of, items_join, is_value, is_list, have_order, may_be_in, can_join, sequence, named}
 
 pub nothing : (o : Option Bool) → false ≡ is_some o → None ≡ o
 nothing o e = grind arith
 
--- what holds of what is seen holds of what stands there
+-- what holds of the outlines holds of the values
 pair : {A : Type 0} (test : Seen → Seen → Bool) (at : Option ValueOrError → Option ValueOrError → Option A) → ((x y : ValueOrError) → test (outcome_view x) (outcome_view y) ≡ is_some (at (Some x) (Some y))) → (a b : Option ValueOrError) (s t : Seen) → option_map outcome_view a ≡ Some s → option_map outcome_view b ≡ Some t → test s t ≡ is_some (at a b)
 pair test at same a b s t e f = grind arith
 
@@ -29,7 +29,7 @@ join_length : (is js : Items) → length (list_of is) + length (list_of js) ≡ 
 join_length no_items js = omega arith
 join_length (item v is) js = grind (arith, join_length is js)
 
--- what is joined of two operands
+-- the concatenation of two operands
 record Joins (s t : Seen) (v : Option Value) : Type 0 where
   pub can : can_join s t ≡ is_some v
   pub outcome : can_join s t ≡ true → named v (seen_size s + seen_size t) ≡ sequence v

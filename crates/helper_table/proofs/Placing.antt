@@ -1,4 +1,4 @@
--- What placing a value leaves.
+-- The values after one is placed.
 use Rattle.helper_table.proofs.Prelude.{◌≡◌, ℕ, suc, List, [], ◌∷◌, ◌++◌, length, refl, ◌⊎◌, arith, length-append, ◌+◌, Bool, true, first_values, place, placed, IsCanonicalAt, Contents, charge_limit, Value, null, boolean, ValueOrError, value, Names, ExtendsValues, PlacedIsNamed, PlacedExtends, Follows, if◌then◌else◌, nat_le, F8, RowOutcome, Plain, Named, Refused, Leaves, Halts, answer_among, charged}
 
 seam : (vs : List ValueOrError) (x : ValueOrError) → Names (vs ++ x ∷ []) (length vs) x
@@ -31,7 +31,7 @@ named_among vs rest e v = grind (arith, seam)
 pub placed_is_named : PlacedIsNamed
 placed_is_named old v store = named_among old.values store.more store.values_are v
 
--- the first four values stay
+-- the first four values are kept
 pub record Begins (vs : List ValueOrError) : Type 0 where
   pub rest : List ValueOrError
   pub is : vs ≡ first_values ++ rest
@@ -42,9 +42,9 @@ longer vs rest y e = grind arith
 pub begins : (vs rest : List ValueOrError) → vs ≡ first_values ++ rest → (v : Value) → Begins (placed vs v)
 begins vs rest e v = grind arith
 
--- ---- what a call leaves follows what was there
+-- ---- the contents after a call follow those before
 
--- a call that left something stayed within the limit, and left its word and its values
+-- a call that was not stopped stayed within the limit, and returned its word and its values
 pub record Left (test : Bool) (w word : ℕ) (contents new : Contents) : Type 0 where
   pub within : test ≡ true
   pub word_is : w ≡ word

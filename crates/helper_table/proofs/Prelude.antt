@@ -1,4 +1,4 @@
--- The names that these proofs cite of the library, of the crates below and of the definitions here. Declares nothing.
+-- The names that these proofs use, from the library, the crates below and these definitions. It declares nothing.
 pub use Rattle.std.proofs.Common.{All, Bool, Err, FitsSigned, IfSome, IsSome, List, None, Option, Some, ℕ, [], ap}
 pub use Rattle.std.proofs.Common.{arith, bytes_eq, false, if◌then◌else◌, is_some, length, length-append, length-take}
 pub use Rattle.std.proofs.Common.{lit<, max, nat_eq, nat_le, not, option_and_then, option_map, refl, slice_get}

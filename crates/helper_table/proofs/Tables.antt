@@ -1,4 +1,4 @@
--- Calls answer words, and leave tables.
+-- Calls return words, and leave tables.
 use Rattle.helper_table.proofs.Prelude.{◌≡◌, ◌+◌, ◌<◌, ◌≤◌, ◌^◌, ℕ, zero, suc, List, [], ◌∷◌, ◌++◌, length, Option, Some, lit<, arith, All-append, All-cons, All-head, All-nil, All-tail, get_or_from_slice_get, slice_get_within, w64, cast_signed, All, FitsSigned, slice_index, nat_le, option_and_then, entries_at, joined, part_at, pushed, put_in, text_at, Contents, charge_limit, place, placed, Seen, sees_list, sees_map, outcome_view, Value, text, list, Items, ValueOrError, value, entered, grown, is_key, join_row, list_new_row, map_new_row, push_row, put_row, sequence, bytes_at, on_lent, on_range, on_value, on_values, r1, r2, r3, row_numbered, row_of, contains_row, ends_row, equal_row, less_row, member_row, starts_row, int_new_row, int_of_row, kind_row, not_row, text_const_row, text_of_int_row, Follows, count_row, field_row, has_row, index_row, item_or_key, item_row, part_by, size_row, value_under, of_number, place_part, text_part, RowOutcome, Plain, Named, Refused, Leaves, answer_among, charged, found, AreItemsBounded, IsBounded, IsResultBounded, IsTable, TablesAreKept, Helper}
 use Rattle.helper_table.proofs.Bounded.{joined_items, key_text_bounded, looser, looser_items, part_bounded, pushed_bounded, put_in_bounded, under_bounded}
 use Rattle.helper_table.proofs.Entering.{unless}
@@ -6,7 +6,7 @@ use Rattle.helper_table.proofs.Placing.{Left, left, outcome_follows}
 use Rattle.helper_table.proofs.Maps.{few_code_points}
 use Rattle.helper_table.specs.declared.helper.Helper.TheVariants as helper
 
--- what a row may say where no part is longer than n: a word, or a value whose parts are no longer than n and its cost
+-- an outcome fits the bound n: a word, or a value bounded by n and its cost
 abbrev IsFit : ℕ → RowOutcome → Type 0
 IsFit n (Plain word added) = word < 2 ^ 64
 IsFit n (Named v added) = IsBounded (n + (1 + added)) v
@@ -67,7 +67,7 @@ module _ (n : ℕ) (small : n ≤ charge_limit) where
   unfolding count_row
   count_fits x b = grind arith
 
--- ---- texts, lists and maps that are made
+-- ---- texts, lists and maps that are built
 
 sequence_fits : (n : ℕ) (o : Option Value) → ((is : Items) → o ≡ Some (list is) → AreItemsBounded n is) → IsFit n (sequence o)
 sequence_fits n o b = grind (arith, looser_items, lit<)
@@ -112,7 +112,7 @@ module _ (n : ℕ) (small : n ≤ charge_limit) (vs : List ValueOrError) (all : 
   numbered_fits : (o : Option Helper) → IsFit n (row_numbered o args vs constants)
   numbered_fits o = grind (arith, row_fits)
 
--- ---- what a call leaves
+-- ---- the contents after a call
 
 all_looser : (n m : ℕ) (vs : List ValueOrError) → n ≤ m → All (IsResultBounded n) vs → All (IsResultBounded m) vs
 all_looser n m vs h all = grind (arith, looser)

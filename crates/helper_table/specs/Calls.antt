@@ -1,4 +1,4 @@
--- A call: its helper's row on its operands, after the tests of its number and its arguments.
+-- A call: the row of its helper on its operands, after the checks of its number and its arguments.
 use Rattle.std.specs.Prelude.{ℕ, ℤ, List, Option, Some, None, slice_get, slice_index}
 use Rattle.guest_memory.specs.Access.{constants_of}
 use Rattle.guest_memory.specs.Memory.{start_memory}
@@ -14,7 +14,7 @@ use Rattle.helper_table.specs.Outcome.{RowOutcome, Refused, HelperAnswer, answer
 use Rattle.helper_table.specs.declared.helper.Helper.{Helper}
 use Rattle.helper_table.specs.declared.helper.Helper.TheVariants as helper
 
--- the first argument of a call: the word of the register R1; the arguments are those of R1 to R5
+-- the first argument of a call: the word in R1; the arguments are those in R1 to R5
 abbrev pub r1 : List ℕ → ℕ
 r1 args = slice_index args 0
 
@@ -26,33 +26,33 @@ r2 args = slice_index args 1
 abbrev pub r3 : List ℕ → ℕ
 r3 args = slice_index args 2
 
--- a row on an operand; where a reference is none, that is the fault
+-- a row on an operand; F6 if the reference is invalid
 abbrev pub on_operand : Option ValueOrError → (ValueOrError → RowOutcome) → RowOutcome
 on_operand (Some x) row = row x
 on_operand None row = Refused F6
 
--- a row on what stands at a reference: a place in the list of values, the first being 0
+-- a row on the value at a reference, an index into the list of values
 abbrev pub on_value : List ValueOrError → ℕ → (ValueOrError → RowOutcome) → RowOutcome
 on_value vs h row = on_operand (slice_get vs h) row
 
--- a row on what stands at two references, of which the first is tested first
+-- a row on the values at two references; the first is checked first
 abbrev pub on_values : List ValueOrError → ℕ → ℕ → (ValueOrError → ValueOrError → RowOutcome) → RowOutcome
 on_values vs a b row = on_value vs a (λ x. on_value vs b (row x))
 
--- the n bytes of the constants from an address on, if none lies outside
+-- the n bytes of the constants at an address, if all are in the constants
 abbrev pub bytes_at : List ℕ → ℕ → ℕ → Option (List ℕ)
 bytes_at constants address n = constants_of (start_memory constants) address n
 
--- a row on bytes; where some lie outside, that is the fault
+-- a row on bytes of the constants; F3 if some are outside
 abbrev pub on_lent : Option (List ℕ) → (List ℕ → RowOutcome) → RowOutcome
 on_lent (Some bytes) row = row bytes
 on_lent None row = Refused F3
 
--- a row on the n bytes of the constants from an address on
+-- a row on the n bytes of the constants at an address
 abbrev pub on_range : List ℕ → ℕ → ℕ → (List ℕ → RowOutcome) → RowOutcome
 on_range constants address n row = on_lent (bytes_at constants address n) row
 
--- each helper with its operands: references are tested before ranges
+-- the row of each helper on its operands; references are checked before ranges
 unfoldable pub row_of : Helper → List ℕ → List ValueOrError → List ℕ → RowOutcome
 row_of helper.Kind args vs constants = on_value vs (r1 args) kind_row
 row_of helper.IntOf args vs constants = on_value vs (r1 args) int_of_row
@@ -78,19 +78,19 @@ row_of helper.Count args vs constants = on_value vs (r1 args) count_row
 row_of helper.TextOfInt args vs constants = on_value vs (r1 args) text_of_int_row
 row_of helper.Not args vs constants = on_value vs (r1 args) not_row
 
--- a helper's row; where no helper has the number, that is the fault
+-- the row of a helper; F5 if the number is unknown
 abbrev pub row_numbered : Option Helper → List ℕ → List ValueOrError → List ℕ → RowOutcome
 row_numbered (Some h) args vs constants = row_of h args vs constants
 row_numbered None args vs constants = Refused F5
 
--- what helper `id` says of these arguments
+-- the outcome of helper `id` for these arguments
 abbrev pub outcome_of : ℤ → List ℕ → List ValueOrError → List ℕ → RowOutcome
 outcome_of id args vs constants = row_numbered (of_number id) args vs constants
 
--- what it answers among these values
+-- the result of the helper among these values
 abbrev pub helper_row : ℤ → List ℕ → List ValueOrError → List ℕ → HelperAnswer
 helper_row id args vs constants = answer_among vs (outcome_of id args vs constants)
 
--- what its call leaves
+-- the end of a call: its word and the contents after it, or the fault
 abbrev pub call_end : ℤ → List ℕ → Contents → List ℕ → CallEnd
 call_end id args old constants = charged (helper_row id args old.values constants) old.charge

@@ -1,4 +1,4 @@
--- The rows that compare two values, and answer a truth.
+-- The rows that compare two values, and return a bool.
 use Rattle.std.specs.Prelude.{ℕ, Bool, ◌||◌, List, [], ◌∷◌, Option, Some, None, nat_eq}
 use Rattle.std.specs.List.{starts_with, ends_with}
 use Rattle.value_store.specs.Calls.{equal_at, less_at, member_at}
@@ -12,7 +12,7 @@ use Rattle.helper_table.specs.Outcome.{RowOutcome, truth}
 unfoldable pub equal_row : ValueOrError → ValueOrError → RowOutcome
 equal_row a b = truth (equal_at (Some a) (Some b))
 
--- the order of two ints, of two texts by code points, and of two truths, false below true
+-- the order of two ints, of two texts by code points, and of two bools, false less than true
 unfoldable pub less_row : ValueOrError → ValueOrError → RowOutcome
 less_row a b = truth (less_at (Some a) (Some b))
 
@@ -20,13 +20,13 @@ less_row a b = truth (less_at (Some a) (Some b))
 unfoldable pub member_row : ValueOrError → ValueOrError → RowOutcome
 member_row x c = truth (member_at (Some x) (Some c))
 
--- what a test says of two texts
+-- a test of two texts
 abbrev pub on_texts : (List ℕ → List ℕ → Bool) → Option (List ℕ) → Option (List ℕ) → Option Bool
 on_texts test (Some s) (Some t) = Some (test s t)
 on_texts test (Some s) None = None
 on_texts test None t = None
 
--- whether a test holds of two texts; the error where one is none
+-- whether a test holds for two texts; the error if one is not a text
 abbrev pub text_row : (List ℕ → List ℕ → Bool) → ValueOrError → ValueOrError → RowOutcome
 text_row test a b = truth (on_texts test (text_part (outcome_view a)) (text_part (outcome_view b)))
 
@@ -38,12 +38,12 @@ starts_row = text_row (starts_with nat_eq)
 unfoldable pub ends_row : ValueOrError → ValueOrError → RowOutcome
 ends_row = text_row (ends_with nat_eq)
 
--- the part stands at some place of the text
+-- whether the part occurs in the text
 abbrev pub contains : List ℕ → List ℕ → Bool
 contains [] part = starts_with nat_eq [] part
 contains (b ∷ bs) part = starts_with nat_eq (b ∷ bs) part || contains bs part
 
--- what a test asks of two texts
+-- the definition of each test
 abbrev pub test_of : TextTest → List ℕ → List ℕ → Bool
 test_of Starts = starts_with nat_eq
 test_of Ends = ends_with nat_eq

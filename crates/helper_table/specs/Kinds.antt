@@ -1,10 +1,10 @@
--- For which operands the calls of a store are, told by what is seen of them.
+-- The operands that the calls of a store are defined for, by their outlines.
 use Rattle.std.specs.Prelude.{ℕ, Bool, true, false, not, List, Option, Some, None}
 use Rattle.value_store.specs.Lookup.{has_key}
 use Rattle.value_store.specs.Seen.{Seen, sees_error, sees_bool, sees_int, sees_text, sees_list, sees_map}
 use Rattle.value_store.specs.Value.{Entries}
 
--- a map
+-- a map, whose entries can be looked up
 abbrev pub has_entries : Seen → Bool
 has_entries (sees_map n) = true
 has_entries _ = false
@@ -14,14 +14,14 @@ abbrev pub is_value : Seen → Bool
 is_value sees_error = false
 is_value _ = true
 
--- two ints, two texts or two truths
+-- two ints, two texts or two bools
 abbrev pub have_order : Seen → Seen → Bool
 have_order (sees_bool a) (sees_bool b) = true
 have_order (sees_int y) (sees_int z) = true
 have_order (sees_text s) (sees_text t) = true
 have_order _ _ = false
 
--- a value for a list, a text for a map
+-- a value and a list, or a text and a map
 abbrev pub may_be_in : Seen → Seen → Bool
 may_be_in x (sees_list n) = is_value x
 may_be_in (sees_text s) (sees_map n) = true
@@ -38,13 +38,13 @@ abbrev pub is_list : Seen → Bool
 is_list (sees_list n) = true
 is_list _ = false
 
--- a text that is not yet a key of a map
+-- the text is not yet a key of the map
 abbrev pub is_new_key : Option Entries → Option (List ℕ) → Bool
 is_new_key (Some es) (Some key) = not (has_key key es)
 is_new_key (Some es) None = false
 is_new_key None key = false
 
--- a test was made, and it failed
+-- the test was made and failed
 abbrev pub is_absent : Option Bool → Bool
 is_absent (Some b) = not b
 is_absent None = false

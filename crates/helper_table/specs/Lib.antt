@@ -1,3 +1,4 @@
+-- Definitions of helper_table: the list of their modules.
 pub mod Numbers
 pub mod Operands
 pub mod Outcome

@@ -1,4 +1,4 @@
--- Calls worked by hand, on the error, fifteen values and five constants.
+-- Calls worked out by hand, on the error, fifteen values and five constants.
 use Rattle.std.specs.Prelude.{◌≡◌, ℕ, zero, suc, ◌+◌, pos, negsuc, true, List, [], ◌∷◌, ◌++◌, codes}
 use Rattle.guest_memory.specs.declared.fault.Fault.TheVariants.{F3, F5, F6, F8}
 use Rattle.value_store.specs.Placing.{first_values}
@@ -23,7 +23,7 @@ three = list (item (int (pos 7)) (item (boolean true) (item null no_items)))
 abbrev pub two : Value
 two = map (entry (codes "k") (int (pos 9)) (entry (codes "t") (boolean true) no_entries))
 
--- the error, null, false and true stand at 0 to 3, and these from 4 on
+-- the error, null, false and true at 0 to 3, and these from 4 on
 abbrev pub values : List ValueOrError
 values =
     first_values
@@ -41,19 +41,19 @@ values =
     ∷ value (nested 254)
     ∷ [])
 
--- the bytes k, t, those of é, and one that begins nothing in UTF-8
+-- the bytes k, t, those of é, and one that is not valid in UTF-8
 abbrev pub constants : List ℕ
 constants = 107 ∷ 116 ∷ 195 ∷ 169 ∷ 255 ∷ []
 
--- their first address
+-- the first address of the constants
 abbrev pub base : ℕ
 base = 0x4_0000_0000
 
--- what the helper with a number says of these arguments
+-- the outcome of the helper with this number for these arguments
 abbrev pub says : ℕ → List ℕ → RowOutcome
 says number args = outcome_of (pos number) args values constants
 
--- what the helpers say that ask for a kind, or turn words, texts and truths into others
+-- outcomes of the helpers for kinds and conversions
 pub record ConversionRows : Type 0 where
   -- 1, kind
   pub kind_error : says 1 (0 ∷ []) ≡ Plain 0 0
@@ -84,7 +84,7 @@ pub record ConversionRows : Type 0 where
   pub not_true : says 23 (3 ∷ []) ≡ Plain 2 0
   pub not_null : says 23 (1 ∷ []) ≡ Plain 0 0
 
--- what the helpers say that look something up
+-- outcomes of the helpers for lookups
 pub record LookupRows : Type 0 where
   -- 5, field
   pub field_there : says 5 (7 ∷ base ∷ 1 ∷ []) ≡ Named (int (pos 9)) 0
@@ -122,7 +122,7 @@ pub record LookupRows : Type 0 where
   pub count_map : says 21 (7 ∷ []) ≡ Plain 2 0
   pub count_text : says 21 (5 ∷ []) ≡ Plain 0xffff_ffff_ffff_ffff 0
 
--- what the helpers say that compare
+-- outcomes of the helpers for comparisons
 pub record ComparisonHelperRows : Type 0 where
   -- 9, equal
   pub equal_same : says 9 (6 ∷ 6 ∷ []) ≡ Plain 3 0
@@ -160,7 +160,7 @@ pub record ComparisonHelperRows : Type 0 where
   pub member_int_key : says 15 (4 ∷ 7 ∷ []) ≡ Plain 0 0
   pub member_of_text : says 15 (10 ∷ 5 ∷ []) ≡ Plain 0 0
 
--- what the helpers say that make texts, lists and maps
+-- outcomes of the helpers that make texts, lists and maps
 pub record BuildingRows : Type 0 where
   -- 11, join
   pub join_texts : says 11 (10 ∷ 9 ∷ []) ≡ Named (text (codes "ak")) 2
@@ -185,25 +185,25 @@ pub record BuildingRows : Type 0 where
   pub put_in_list : says 19 (6 ∷ 10 ∷ 4 ∷ []) ≡ Plain 0 1
   pub put_too_deep : says 19 (7 ∷ 10 ∷ 15 ∷ []) ≡ Refused F8
 
--- what calls are charged, and which are stopped
+-- the charges of calls, and the calls that are stopped
 pub record CallRows : Type 0 where
   pub number_zero : says 0 [] ≡ Refused F5
   pub number_24 : says 24 (99 ∷ []) ≡ Refused F5
   pub number_negative : outcome_of (negsuc 0) [] values constants ≡ Refused F5
-  -- a reference that is one too large, in each place
+  -- a reference that is one too large, for each argument
   pub first_reference : says 1 (16 ∷ []) ≡ Refused F6
   pub second_reference : says 9 (4 ∷ 16 ∷ []) ≡ Refused F6
   pub third_reference : says 19 (7 ∷ 10 ∷ 16 ∷ []) ≡ Refused F6
-  -- a reference is tested before a range
+  -- a reference is checked before a range
   pub reference_before_range : says 5 (16 ∷ 0 ∷ 1 ∷ []) ≡ Refused F6
-  -- true has its reference; an int is placed behind the last value
+  -- true has its fixed reference; an int is appended
   pub true_is_shared : helper_row (pos 5) (7 ∷ (base + 1) ∷ 1 ∷ []) values constants ≡ Gives 3 values 1
   pub int_is_placed : helper_row (pos 3) (5 ∷ []) values constants ≡ Gives 16 (values ++ value (int (pos 5)) ∷ []) 1
-  -- the charge may reach its limit and not pass it
+  -- the charge may reach its limit but not exceed it
   pub charge_reached : charged (Gives 7 [] 1) 16777215 ≡ Leaves 7 (record { values = []; charge = 16777216 })
   pub charge_passed : charged (Gives 7 [] 2) 16777215 ≡ Halts F8
 
--- the rows of each kind stand
+-- the cases of each family hold
 pub record HelperRowsHold : Type 0 where
   pub conversions : ConversionRows
   pub lookups : LookupRows

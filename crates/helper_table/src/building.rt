@@ -18,10 +18,10 @@ use crate::placement::Placement;
 use guest_memory::Fault;
 use value_store::{Shape, ValueStore};
 
-/// The greatest depth of a list or a map that is made.
+/// The maximum depth of a list or a map that is made.
 const DEPTH_LIMIT: u64 = 255;
 
-/// Two texts or two lists.
+/// Whether these are two texts or two lists.
 fn can_join(x: Shape<'_>, y: Shape<'_>) -> bool
     ensures { result ≡ can_join (shape_view x.entry) (shape_view y.entry) }
 {
@@ -31,7 +31,7 @@ fn can_join(x: Shape<'_>, y: Shape<'_>) -> bool
     )
 }
 
-/// Bytes, items or entries.
+/// The number of bytes, items or entries.
 fn size(shape: Shape<'_>) -> u64
     ensures { result ≡ seen_size (shape_view shape.entry) }
 {
@@ -66,7 +66,7 @@ fn join_plan(a: u64, b: u64, x: Shape<'_>, y: Shape<'_>) -> HelperEffect<'static
     }
 }
 
-/// Helper 11: two texts or two lists, one behind the other.
+/// Helper 11: the concatenation of two texts or two lists.
 #[tactic(auto, unfolding(crate::specs::Building::join_row))]
 pub(crate) fn join<V: ValueStore>(table: &V, a: u64, b: u64) -> Result<HelperEffect<'static>, Fault>
     ensures means { means (V.values table.now) result ≡ on_values (V.values table.now) a b join_row }
@@ -95,7 +95,7 @@ pub(crate) fn map_new() -> Result<HelperEffect<'static>, Fault>
     Ok(HelperEffect::free(Placement::Map))
 }
 
-/// Whether a list or a map with a value more is within the depth.
+/// Whether a list or a map with one more value is within the depth limit.
 fn is_within_depth<V: ValueStore>(table: &V, c: u64, x: u64) -> bool
     requires c { c < length (V.values table.now) }
     requires x { x < length (V.values table.now) }
@@ -105,14 +105,14 @@ fn is_within_depth<V: ValueStore>(table: &V, c: u64, x: u64) -> bool
     container <= DEPTH_LIMIT && part < DEPTH_LIMIT
 }
 
-/// A list and a value.
+/// Whether these are a list and a value.
 fn can_push(list: Shape<'_>, item: Shape<'_>) -> bool
     ensures { result ≡ is_list (shape_view list.entry) && is_value (shape_view item.entry) }
 {
     matches!(list, Shape::List(_)) && is_value(item)
 }
 
-/// What adds to a list or a map, if it can: 1 more is charged also where nothing is added.
+/// The effect of adding to a list or a map, if it is possible: 1 more is charged even if nothing is added.
 fn growth(
     placement: Placement<'static>,
     can_grow: bool,
@@ -136,7 +136,7 @@ fn growth(
     })
 }
 
-/// Helper 17: a list with a value behind its items.
+/// Helper 17: a list with a value appended.
 pub(crate) fn push<V: ValueStore>(table: &V, l: u64, x: u64) -> Result<HelperEffect<'static>, Fault>
     ensures means { means (V.values table.now) result ≡ on_values (V.values table.now) l x push_row }
     ensures can { CanFollow (V.values table.now) result }
@@ -150,7 +150,7 @@ pub(crate) fn push<V: ValueStore>(table: &V, l: u64, x: u64) -> Result<HelperEff
     )
 }
 
-/// A text that is not yet a key of a map.
+/// Whether the text is not yet a key of the map.
 fn is_new_key<V: ValueStore>(table: &V, m: u64, key: Shape<'_>) -> bool
     ensures { result ≡ is_new_key (entries_at (slice_get (V.values table.now) m)) (text_part (shape_view key.entry)) }
 {
@@ -160,21 +160,21 @@ fn is_new_key<V: ValueStore>(table: &V, m: u64, key: Shape<'_>) -> bool
     }
 }
 
-/// The test was made, and it failed.
+/// Whether the test was made and failed.
 fn is_absent(test: Option<bool>) -> bool
     ensures { result ≡ is_absent test }
 {
     matches!(test, Some(false))
 }
 
-/// A text that is not yet a key of a map, and a value.
+/// Whether these are a map, a text that is not yet one of its keys, and a value.
 fn can_put<V: ValueStore>(table: &V, m: u64, key: Shape<'_>, value: Shape<'_>) -> bool
     ensures { result ≡ is_new_key (entries_at (slice_get (V.values table.now) m)) (text_part (shape_view key.entry)) && is_value (shape_view value.entry) }
 {
     is_new_key(table, m, key) && is_value(value)
 }
 
-/// Helper 19: a map with a text at a value, where the text is not yet one of its keys.
+/// Helper 19: a map with one more entry, whose key is a text that the map does not have yet.
 pub(crate) fn put<V: ValueStore>(
     table: &V,
     m: u64,

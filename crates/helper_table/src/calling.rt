@@ -1,4 +1,4 @@
-//! A call of a helper: its effect, and how it is carried out.
+//! Calls of helpers: the effect of a call, and how it is carried out.
 ghost use Rattle.std.specs.Prelude.{◌≡◌, ℕ, false, IsOk};
 ghost use Rattle.helper_table.specs.Calls.{row_of, outcome_of, call_end};
 ghost use Rattle.helper_table.specs.Outcome.{answer_among, charged};
@@ -20,7 +20,7 @@ use itoa::Buffer;
 use std::alloc::AllocError;
 use value_store::{CHARGE_LIMIT, ValueStore};
 
-/// What the row of a helper says of these arguments.
+/// The effect of a helper's row on these arguments.
 #[tactic(auto, unfolding(crate::specs::Calls::row_of, crate::specs::Comparisons::starts_row, crate::specs::Comparisons::ends_row, crate::specs::Comparisons::contains_row))]
 fn effect_of<'a, V: ValueStore, M: Regions>(
     helper: Helper,
@@ -61,8 +61,7 @@ fn effect_of<'a, V: ValueStore, M: Regions>(
     }
 }
 
-/// The word of a placement. The error says that the host has no memory for the value that is
-/// placed.
+/// The word of a placement, after its value is placed.
 fn word_of<V: ValueStore>(table: &mut V, placement: Placement<'_>) -> Result<u64, AllocError>
     requires { CanDo (V.values table.old) placement }
     ensures done { (added : ℕ) → TakesEffect (outcome_by (V.values table.old) placement.entry added) result (V.values table.old) (V.values table.new) }
@@ -101,16 +100,16 @@ fn perform<V: ValueStore>(table: &mut V, effect: HelperEffect<'_>) -> Result<Hel
     Ok(HelperEnd::Word(word))
 }
 
-/// Calls helper `id` on the words of the registers R1 to R5: its row of the helper table, among the
-/// values of the store and the constants of the memory. It ends with a word, and the store has the
-/// value that the row places and was charged for the call; or it stops by the fault that the row
-/// names, and the store is as before: `F5` for an unknown number, `F6` for a reference that is
-/// none, `F3` for a range that lies outside the constants, `F8` for a charge or a depth above its
-/// limit, in this order.
+/// Calls helper `id` on the words of the registers R1 to R5: its row of the helper table, on the values of the
+/// store and the constants of the memory. If the call returns a word, the value of the row has been placed in
+/// the store and the call charged. If it is stopped by a fault, the store is unchanged: `F5` for an unknown
+/// number, `F6` for an invalid reference, `F3` for a range that is not completely in the constants, `F8` for a
+/// charge or a depth above its limit, checked in this order.
 ///
-/// The error says that the host has no memory for a value that is to come behind the last, and then
-/// the store is as before too. A call that stops, or that answers a plain word or the reference of
-/// null, false or true, asks for none.
+/// # Errors
+///
+/// `AllocError` if the allocation for an appended value fails; the store is then unchanged. A call that is stopped,
+/// or that returns a plain word or the reference of null, false or true, allocates nothing.
 pub fn call<V: ValueStore, M: Regions>(
     id: i32,
     args: [u64; 5],

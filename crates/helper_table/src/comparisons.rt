@@ -1,4 +1,4 @@
-//! The helpers that compare two values, and answer a truth.
+//! The helpers that compare two values, and return a bool.
 ghost use Rattle.std.specs.Prelude.{◌≡◌, ◌&&◌, slice_get, is_some};
 ghost use Rattle.helper_table.specs.Calls.{on_values};
 ghost use Rattle.helper_table.specs.Comparisons.{equal_row, less_row, member_row, on_texts, test_of, text_row};
@@ -51,7 +51,7 @@ pub(crate) fn equal<V: ValueStore>(
     Ok(HelperEffect::truth(truth))
 }
 
-/// Two ints, two texts or two truths.
+/// Whether these are two ints, two texts or two bools.
 fn have_order(x: Shape<'_>, y: Shape<'_>) -> bool
     ensures { result ≡ have_order (shape_view x.entry) (shape_view y.entry) }
 {
@@ -63,7 +63,7 @@ fn have_order(x: Shape<'_>, y: Shape<'_>) -> bool
     )
 }
 
-/// The order of two operands, if they have one.
+/// Whether the first operand is less than the second, if they have an order.
 fn order<V: ValueStore>(table: &V, a: u64, b: u64, ordered: bool) -> Option<bool>
     requires { ordered ≡ is_some (less_at (slice_get (V.values table.now) a) (slice_get (V.values table.now) b)) }
     ensures { result ≡ less_at (slice_get (V.values table.now) a) (slice_get (V.values table.now) b) }
@@ -75,7 +75,7 @@ fn order<V: ValueStore>(table: &V, a: u64, b: u64, ordered: bool) -> Option<bool
     }
 }
 
-/// Helper 10: whether the first of two values is below the second.
+/// Helper 10: whether the first of two values is less than the second.
 #[tactic(auto, using(crate::proofs::Pairs::less_pair), unfolding(crate::specs::Comparisons::less_row))]
 pub(crate) fn less<V: ValueStore>(table: &V, a: u64, b: u64) -> Result<HelperEffect<'static>, Fault>
     ensures means { means (V.values table.now) result ≡ on_values (V.values table.now) a b less_row }
@@ -87,7 +87,7 @@ pub(crate) fn less<V: ValueStore>(table: &V, a: u64, b: u64) -> Result<HelperEff
     Ok(HelperEffect::truth(truth))
 }
 
-/// A value for a list, a text for a map.
+/// Whether these are a value and a list, or a text and a map.
 fn may_be_in(x: Shape<'_>, c: Shape<'_>) -> bool
     ensures { result ≡ may_be_in (shape_view x.entry) (shape_view c.entry) }
 {
@@ -98,7 +98,7 @@ fn may_be_in(x: Shape<'_>, c: Shape<'_>) -> bool
     }
 }
 
-/// Membership, if the second operand may have the first.
+/// Membership, if the second operand is defined for the first.
 fn membership<V: ValueStore>(table: &mut V, x: u64, c: u64, may_be: bool) -> Option<bool>
     requires { may_be ≡ is_some (member_at (slice_get (V.values table.old) x) (slice_get (V.values table.old) c)) }
     ensures answer { result ≡ member_at (slice_get (V.values table.old) x) (slice_get (V.values table.old) c) }
@@ -112,7 +112,7 @@ fn membership<V: ValueStore>(table: &mut V, x: u64, c: u64, may_be: bool) -> Opt
     }
 }
 
-/// Helper 15: whether a value is an item of a list, or a text a key of a map.
+/// Helper 15: whether a value is an item of a list, or a text is a key of a map.
 #[tactic(auto, using(crate::proofs::Pairs::member_pair), unfolding(crate::specs::Comparisons::member_row))]
 pub(crate) fn member<V: ValueStore>(
     table: &mut V,
@@ -131,7 +131,7 @@ pub(crate) fn member<V: ValueStore>(
     Ok(HelperEffect::truth(truth))
 }
 
-/// Whether a test holds of two texts.
+/// Whether a test holds for two texts.
 #[tactic(auto, using(crate::proofs::Finding::finds_part))]
 fn holds(test: TextTest, text: &[u8], part: &[u8]) -> bool
     ensures { result ≡ test_of test text.now part.now }
@@ -143,7 +143,7 @@ fn holds(test: TextTest, text: &[u8], part: &[u8]) -> bool
     }
 }
 
-/// What a test says of two texts, if they are.
+/// The result of a test, if both are texts.
 fn on_texts(test: TextTest, x: Shape<'_>, y: Shape<'_>) -> Option<bool>
     ensures { result ≡ on_texts (test_of test) (text_part (shape_view x.entry)) (text_part (shape_view y.entry)) }
 {

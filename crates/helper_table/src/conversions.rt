@@ -1,4 +1,4 @@
-//! The helpers that ask for the kind of a value, or turn words, texts and truths into others.
+//! The helpers for the kind of a value, and for conversions between words, texts and bools.
 ghost use Rattle.std.specs.Prelude.{◌≡◌, not, option_map, List};
 ghost use Rattle.helper_table.specs.Calls.{on_value, on_range};
 ghost use Rattle.helper_table.specs.Conversions.{kind_number, int_word, decimal_of, kind_row, int_of_row, int_new_row, text_const_row, text_of_int_row, not_row};
@@ -57,7 +57,7 @@ pub(crate) fn int_of<V: ValueStore>(table: &V, h: u64) -> Result<HelperEffect<'s
     Ok(HelperEffect::word(int_word(shape)))
 }
 
-/// Helper 3: the int that a word is, read as signed.
+/// Helper 3: the word as an int, read as signed.
 #[tactic(auto, unfolding(crate::specs::Conversions::int_new_row))]
 pub(crate) fn int_new(word: u64) -> Result<HelperEffect<'static>, Fault>
     ensures means { (vs : List ValueOrError) → means vs result ≡ int_new_row word }
@@ -128,7 +128,7 @@ fn other_truth(shape: Shape<'_>) -> Option<bool>
     }
 }
 
-/// Helper 23: the other truth.
+/// Helper 23: the negation of a bool.
 #[tactic(auto, unfolding(crate::specs::Conversions::not_row))]
 pub(crate) fn not<V: ValueStore>(table: &V, h: u64) -> Result<HelperEffect<'static>, Fault>
     ensures means { means (V.values table.now) result ≡ on_value (V.values table.now) h not_row }

@@ -4,15 +4,15 @@ ghost use Rattle.helper_table.specs.Numbers.{numbered, of_number};
 
 use crate::operands::place_of;
 
-/// A helper. Its arguments are the words of the registers R1 to R5: references of values, words,
-/// and addresses and lengths of ranges of constants.
+/// A helper. Its arguments are the words of the registers R1 to R5: references to values, words, and
+/// addresses and lengths of ranges of the constants.
 #[derive(Clone, Copy, Debug, PartialEq, Eq)]
 pub(crate) enum Helper {
     /// The kind of a value.
     Kind,
     /// An int as a word.
     IntOf,
-    /// The int that a word is, read as signed.
+    /// A word as an int, read as signed.
     IntNew,
     /// The text in a range of constants.
     TextConst,
@@ -26,37 +26,37 @@ pub(crate) enum Helper {
     Size,
     /// Whether two values are equal.
     Equal,
-    /// Whether the first of two values is below the second.
+    /// Whether the first of two values is less than the second.
     Less,
-    /// Two texts or two lists, one after the other.
+    /// The concatenation of two texts or two lists.
     Join,
     /// Whether a text begins with another.
     Starts,
     /// Whether a text ends with another.
     Ends,
-    /// Whether a text stands in another.
+    /// Whether a text contains another.
     Contains,
     /// Whether a value is an item of a list, or a key of a map.
     Member,
     /// An empty list.
     ListNew,
-    /// A list with one item more.
+    /// A list with one more item.
     Push,
     /// An empty map.
     MapNew,
-    /// A map with one entry more.
+    /// A map with one more entry.
     Put,
-    /// An item of a list, or a key of a map, at a place.
+    /// An item of a list, or a key of a map, at a position.
     Item,
     /// The number of items or entries, as a word.
     Count,
     /// The decimal text of an int.
     TextOfInt,
-    /// The other truth.
+    /// The negation of a bool.
     Not,
 }
 
-/// The helpers in the order of their numbers, the first being helper 1.
+/// The helpers in the order of their numbers, starting with helper 1.
 const HELPERS: [Helper; 23] = [
     Helper::Kind,
     Helper::IntOf,
@@ -84,7 +84,7 @@ const HELPERS: [Helper; 23] = [
 ];
 
 impl Helper {
-    /// The helper with a number, if one has it.
+    /// The helper with a number, if any.
     #[tactic(auto, unfolding(crate::specs::Numbers::of_number))]
     pub(crate) fn of_number(id: i32) -> Option<Helper>
         ensures { result ≡ of_number id }

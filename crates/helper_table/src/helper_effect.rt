@@ -1,11 +1,11 @@
-//! What a row says of its operands.
+//! The effect of a row on its operands.
 ghost use Rattle.std.specs.Prelude.{◌≡◌};
 ghost use Rattle.helper_table.specs.Outcome.{truth_word};
 ghost use Rattle.helper_table.specs.declared.placement.Placement.TheVariants as placement;
 
 use crate::placement::Placement;
 
-/// What is to be done for a call, and what it adds to the charge of 1.
+/// What a call has to do, and what it adds to the charge of 1.
 #[derive(Clone, Copy)]
 pub(crate) struct HelperEffect<'a> {
     pub(crate) placement: Placement<'a>,
@@ -13,7 +13,7 @@ pub(crate) struct HelperEffect<'a> {
 }
 
 impl<'a> HelperEffect<'a> {
-    /// Nothing is added to the charge.
+    /// An effect that adds nothing to the charge.
     pub(crate) fn free(placement: Placement<'a>) -> HelperEffect<'a>
         ensures placement { result.placement ≡ placement.entry }
         ensures added { result.added ≡ 0 }
@@ -24,7 +24,7 @@ impl<'a> HelperEffect<'a> {
         }
     }
 
-    /// A word, at nothing more.
+    /// A word, with nothing added to the charge.
     pub(crate) fn word(word: u64) -> HelperEffect<'a>
         ensures placement { result.placement ≡ placement.Word word }
         ensures added { result.added ≡ 0 }
@@ -32,7 +32,7 @@ impl<'a> HelperEffect<'a> {
         HelperEffect::free(Placement::Word(word))
     }
 
-    /// The reference of a truth; where there is none, that of the error.
+    /// The reference of a bool, or of the error if there is none.
     pub(crate) fn truth(answer: Option<bool>) -> HelperEffect<'a>
         ensures placement { result.placement ≡ placement.Word (truth_word answer) }
         ensures added { result.added ≡ 0 }

@@ -1,11 +1,11 @@
-//! What a call of a helper answers.
+//! The result of a call of a helper.
 use guest_memory::Fault;
 
-/// How a call of a helper ends.
+/// The end of a call of a helper.
 #[derive(Clone, Copy, Debug, PartialEq, Eq)]
 pub enum HelperEnd {
-    /// With a word, for the register R0.
+    /// A word, for the register R0.
     Word(u64),
-    /// By a fault, which stops the program.
+    /// A fault, which stops the program.
     Stop(Fault),
 }

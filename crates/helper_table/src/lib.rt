@@ -1,5 +1,4 @@
-//! The helpers that a BPF program calls: the rows of the helper table, over any store of values and
-//! any memory.
+//! The helpers that a BPF program calls: the rows of the helper table, for any store of values and any memory.
 #![tactic(auto)]
 
 mod building;

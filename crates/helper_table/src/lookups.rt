@@ -1,4 +1,4 @@
-//! The helpers that look something up in a map, a list or a text.
+//! The helpers that look up a part of a map, a list or a text.
 ghost use Rattle.std.specs.Prelude.{◌≡◌, ◌<◌, ◌^◌, ℕ, Some, IfSome, List, is_some, option_and_then, option_map, slice_get};
 ghost use Rattle.helper_table.specs.Calls.{on_value, on_values, on_range};
 ghost use Rattle.helper_table.specs.Lookups.{value_under, part_by, size_part, size_found, item_or_key, count_word, field_row, has_row, index_row, size_row, item_row, count_row};
@@ -17,7 +17,7 @@ use guest_memory::{Fault, Regions};
 use text_kernels::code_points;
 use value_store::{Shape, ValueStore};
 
-/// The place of a map's entry at a key.
+/// The position of a map's entry at a key.
 fn place_under<V: ValueStore>(table: &V, m: u64, key: &[u8]) -> Option<u64>
     ensures { result ≡ option_and_then (place_of_key key.now) (entries_at (slice_get (V.values table.now) m)) }
 {
@@ -28,7 +28,7 @@ fn place_under<V: ValueStore>(table: &V, m: u64, key: &[u8]) -> Option<u64>
     }
 }
 
-/// A map's value at a key, to be placed; the word of the error where there is none.
+/// A map's value at a key, to be placed; the word of the error if there is none.
 fn part_under<V: ValueStore>(table: &V, m: u64, key: &[u8]) -> HelperEffect<'static>
     ensures means { outcome_by (V.values table.now) result.placement result.added ≡ found (value_under (slice_get (V.values table.now) m) key.now) }
     ensures can { CanDo (V.values table.now) result.placement }
@@ -85,7 +85,7 @@ pub(crate) fn has<V: ValueStore, M: Regions>(
     Ok(HelperEffect::truth(has_key(table, m, key)))
 }
 
-/// A list's item at a place, to be placed.
+/// A list's item at a position, to be placed.
 #[tactic(auto, using(crate::proofs::Maps::item_there, std::proofs::lemmas::Option::slice_get_past))]
 fn item_plan(l: u64, count: u64, place: Option<u64>) -> HelperEffect<'static>
     ensures means { (vs : List ValueOrError)
@@ -99,7 +99,7 @@ fn item_plan(l: u64, count: u64, place: Option<u64>) -> HelperEffect<'static>
     }
 }
 
-/// A map's key at a place, to be placed.
+/// A map's key at a position, to be placed.
 #[tactic(auto, using(crate::proofs::Maps::key_there, std::proofs::lemmas::Option::slice_get_past))]
 fn key_plan(m: u64, count: u64, i: u64) -> HelperEffect<'static>
     ensures means { (vs : List ValueOrError) → option_map outcome_view (slice_get vs m) ≡ Some (sees_map count) → outcome_by vs result.placement result.added ≡ found (key_at (slice_get vs m) i) }
@@ -148,7 +148,7 @@ pub(crate) fn index<V: ValueStore>(
     Ok(part_plan(table, x, container, place))
 }
 
-/// Code points, items or entries.
+/// The number of code points, items or entries.
 #[tactic(auto, using(crate::proofs::Maps::few_code_points))]
 fn size_part(shape: Shape<'_>) -> Option<u64>
     requires { seen_size (shape_view shape) < 2 ^ 63 }
@@ -184,7 +184,7 @@ pub(crate) fn size<V: ValueStore>(table: &V, h: u64) -> Result<HelperEffect<'sta
     Ok(size_plan(size_part(shape)))
 }
 
-/// A list's item, or a map's key, at a place, to be placed.
+/// A list's item, or a map's key, at a position, to be placed.
 fn item_or_key_plan(h: u64, shape: Shape<'_>, i: u64) -> HelperEffect<'static>
     ensures means { (vs : List ValueOrError)
         → option_map outcome_view (slice_get vs h) ≡ Some (shape_view shape.entry)
@@ -198,7 +198,7 @@ fn item_or_key_plan(h: u64, shape: Shape<'_>, i: u64) -> HelperEffect<'static>
     }
 }
 
-/// Helper 20: a list's item, or a map's key, at a place.
+/// Helper 20: a list's item, or a map's key, at a position.
 #[tactic(auto, unfolding(crate::specs::Lookups::item_row))]
 pub(crate) fn item<V: ValueStore>(table: &V, h: u64, i: u64) -> Result<HelperEffect<'static>, Fault>
     ensures means { means (V.values table.now) result ≡ on_value (V.values table.now) h (λ x. item_row x i) }

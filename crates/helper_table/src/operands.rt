@@ -1,4 +1,4 @@
-//! The operands of a call: what stands at a reference, and the bytes of a range of constants.
+//! The operands of a call: the value at a reference, and the bytes of a range of constants.
 ghost use Rattle.std.specs.Prelude.{◌≡◌, ◌<◌, ◌^◌, IfOk, OnOk, MatchResult, is_some, slice_get, length};
 ghost use Rattle.guest_memory.specs.declared.fault.Fault.TheVariants.{F3};
 ghost use Rattle.helper_table.specs.Calls.{bytes_at};
@@ -11,7 +11,7 @@ ghost use Rattle.value_store.specs.Seen.{shape_view, seen_size};
 use guest_memory::{Fault, Regions};
 use value_store::{Shape, ValueStore};
 
-/// What stands at a reference. The error is `F6` where nothing does.
+/// The outline of the value at a reference, or `F6` if the reference is invalid.
 #[tactic(auto, using(std::proofs::lemmas::Option::slice_get_within))]
 pub(crate) fn operand<V: ValueStore>(table: &V, h: u64) -> Result<Shape<'_>, Fault>
     ensures sees { Sees result (slice_get (V.values table.now) h) }
@@ -21,7 +21,7 @@ pub(crate) fn operand<V: ValueStore>(table: &V, h: u64) -> Result<Shape<'_>, Fau
     table.at(h).ok_or(Fault::F6)
 }
 
-/// The bytes of a range of constants. The error is `F3` where one of them lies outside.
+/// The bytes of a range of constants, or `F3` if one of them is outside.
 #[tactic(auto, unfolding(guest_memory::specs::Access::constants_of, guest_memory::specs::Memory::start_memory))]
 pub(crate) fn range<M: Regions>(memory: &M, addr: u64, len: u64) -> Result<&[u8], Fault>
     ensures { let lent = bytes_at (M.bytes memory.now).constants addr len in MatchResult result (λ bytes. lent ≡ Some bytes.now) (λ f. (f ≡ F3) × (lent ≡ None)) }
@@ -29,7 +29,7 @@ pub(crate) fn range<M: Regions>(memory: &M, addr: u64, len: u64) -> Result<&[u8]
     memory.constants(addr, len).ok_or(Fault::F3)
 }
 
-/// Whether a map stands at a reference.
+/// Whether the value at a reference is a map.
 pub(crate) fn is_map<V: ValueStore>(table: &V, h: u64) -> bool
     ensures { result ≡ is_some (entries_at (slice_get (V.values table.now) h)) }
 {
@@ -45,7 +45,7 @@ pub(crate) fn has_entries(shape: Shape<'_>) -> bool
     matches!(shape, Shape::Map(_))
 }
 
-/// The place that an int is, if it is one.
+/// The position that an int denotes, if the operand is one.
 pub(crate) fn place_part(shape: Shape<'_>) -> Option<u64>
     ensures { result ≡ place_part (shape_view shape.entry) }
 {
@@ -55,14 +55,14 @@ pub(crate) fn place_part(shape: Shape<'_>) -> Option<u64>
     }
 }
 
-/// A place in a list; none stands before the first.
+/// The position in a list; `None` if negative.
 pub(crate) fn place_of(i: i64) -> Option<u64>
     ensures { result ≡ place_of i }
 {
     if i >= 0 { Some(i as u64) } else { None }
 }
 
-/// A value, and not the error.
+/// Whether this is a value, not the error.
 pub(crate) fn is_value(shape: Shape<'_>) -> bool
     ensures { result ≡ is_value (shape_view shape.entry) }
 {

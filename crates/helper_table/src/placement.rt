@@ -1,9 +1,9 @@
-//! What is done for a call that answers a word.
+//! What a call that returns a word has to place.
 
-/// How the word of a call comes about. References and places are those of the store.
+/// How the word of a call is obtained. References and positions are those of the store.
 #[derive(Clone, Copy)]
 pub(crate) enum Placement<'a> {
-    /// It is this word.
+    /// The word is given.
     Word(u64),
     /// An int is placed.
     Int(i64),
@@ -15,14 +15,14 @@ pub(crate) enum Placement<'a> {
     Part(u64, u64),
     /// A key of a map is placed.
     Key(u64, u64),
-    /// Two texts or lists are placed, one behind the other.
+    /// The concatenation of two texts or lists is placed.
     Join(u64, u64),
     /// An empty list is placed.
     List,
     /// An empty map is placed.
     Map,
-    /// A list with one item more is placed.
+    /// A list with one more item is placed.
     Push(u64, u64),
-    /// A map with one entry more is placed.
+    /// A map with one more entry is placed.
     Put(u64, u64, u64),
 }

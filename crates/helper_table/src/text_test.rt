@@ -1,6 +1,6 @@
 //! The tests of two texts.
 
-/// What is asked of two texts.
+/// A test of two texts.
 #[derive(Clone, Copy)]
 pub(crate) enum TextTest {
     /// The first starts with the second.

@@ -1,3 +1,4 @@
+-- Proof obligations of `push` (src/building.rt).
 use Rattle.helper_table.proofs.Prelude.{sym, ◌∙◌, slice_get, pushed, grown, push_row}
 use Rattle.helper_table.proofs.Depths.{grows, push_depth_at}
 use Rattle.helper_table.proofs.Pairs.{push_pair}

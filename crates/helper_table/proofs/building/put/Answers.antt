@@ -1,3 +1,4 @@
+-- Proof obligations of `put` (src/building.rt).
 use Rattle.helper_table.proofs.Prelude.{sym, ◌∙◌, Some, slice_get, put_in, entered, grown, put_row, on_operand}
 use Rattle.helper_table.proofs.Depths.{grows}
 use Rattle.helper_table.proofs.Entering.{enters, enters_by, is_put, put_there}

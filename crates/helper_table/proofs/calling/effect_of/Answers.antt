@@ -1,3 +1,4 @@
+-- Proof obligations of `effect_of` (src/calling.rt).
 use Rattle.helper_table.proofs.calling.effect_of.Goals as goal
 
 pub returns-in-IntNew-clause-can : goal.returns-in-IntNew-clause-can

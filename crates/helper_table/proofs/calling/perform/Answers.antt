@@ -1,3 +1,4 @@
+-- Proof obligations of `perform` (src/calling.rt).
 use Rattle.helper_table.proofs.Prelude.{err_from_is_err_and}
 use Rattle.helper_table.proofs.Performing.{kept, effect_adds}
 use Rattle.helper_table.proofs.calling.perform.Goals as goal

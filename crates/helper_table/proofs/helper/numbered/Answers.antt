@@ -1,3 +1,4 @@
+-- Proof obligations of `numbered` (src/helper.rt).
 use Rattle.helper_table.proofs.Numbers.{numbered_at}
 use Rattle.helper_table.proofs.helper.numbered.Goals as goal
 

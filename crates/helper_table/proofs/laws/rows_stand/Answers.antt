@@ -1,3 +1,4 @@
+-- Proof obligations of `rows_stand` (src/laws.rt).
 use Rattle.std.specs.Fmt.{digits}
 use Rattle.std.specs.Str.{is_utf8, chars}
 use lib.Utf8.{encode}

@@ -1,3 +1,4 @@
+-- Proof obligations of `part_under` (src/lookups.rt).
 use Rattle.helper_table.proofs.Prelude.{sym, ap, ◌∙◌, slice_get, entries_at, found}
 use Rattle.helper_table.proofs.Maps.{part_is_value, part_is_there, no_value}
 use Rattle.helper_table.proofs.Seeing.{worded}
