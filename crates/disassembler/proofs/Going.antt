@@ -17,12 +17,13 @@ none_left (byte ∷ bytes) e = absurd cc
 some_left : (code after : List ℕ) → length after < length code → code ≡ [] → ⊥
 some_left code after less e = grind arith
 
--- what is behind the next statement
+-- the code after the next statement
 pub record IsBehind (code after : List ℕ) : Type 0 where
   pub is : after ≡ after_statement code
   pub shorter : length after < length code
 
--- whatever lists the rest, behind the text so far, lists the code; so it is after one more line
+-- if any listing of the rest, appended to the text so far, completes the code's
+-- listing, this also holds after one more line
 pub goes : (code rest after out longer more : List ℕ) → ((t : List ℕ) → Listing rest t → Listing code (out ++ t)) → IsBehind rest after
     → longer ≡ (out ++ statement_text (statement_of rest)) ++ 10 ∷ [] → Listing after more → Listing code (longer ++ more)
 goes code rest after out longer more so_far behind line later =

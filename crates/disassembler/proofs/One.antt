@@ -2,7 +2,7 @@
 use Rattle.disassembler.proofs.Prelude.{◌≡◌, ℕ, zero, suc, ◌<◌, ◌≤◌, List, [], ◌∷◌, length, refl, sym, ◌∙◌, ap, arith, SlotsAreFilled, Listing, Lists, after_statement, lines_text, statement_of, ended, place, Statement, OneListing}
 use Rattle.disassembler.proofs.Going.{none_left, placed}
 
--- what lists code begins with the statement at its front
+-- a listing of code begins with the statement at its front
 abbrev Begun : List ℕ → List Statement → Type 0
 Begun [] xs = xs ≡ []
 Begun (byte ∷ bytes) [] = ⊥
@@ -28,7 +28,7 @@ same (x ∷ xs) (y ∷ ys) (byte ∷ bytes) p q =
 goes_on : SlotsAreFilled → (byte : ℕ) (bytes : List ℕ) → length (after_statement (byte ∷ bytes)) < length (byte ∷ bytes)
 goes_on filled byte bytes = grind arith
 
--- a listing of code of so many bytes at most
+-- a listing of code with at most n bytes
 listed : SlotsAreFilled → (n : ℕ) (code : List ℕ) → length code ≤ n → (text : List ℕ) × Listing code text
 listed filled n [] fits = ([], none_left [] refl)
 listed filled zero (byte ∷ bytes) fits = absurd (omega arith)

@@ -1,4 +1,4 @@
--- The names that these proofs cite of the library, of the crates below and of the definitions here. Declares nothing.
+-- The names that these proofs use, from the library, the crates below and these definitions. It declares nothing.
 pub use Rattle.std.proofs.Common.{List, None, Option, Some, ℕ, [], ap, append-nil, append_assoc, arith, drop, get_or}
 pub use Rattle.std.proofs.Common.{length, refl, rules, string_bytes, subst, suc, sym, take, zero, ◌%◌, ◌++◌, ◌<◌, ◌∙◌}
 pub use Rattle.std.proofs.Common.{◌∷◌, ◌≡◌, ◌≤◌}

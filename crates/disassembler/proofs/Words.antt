@@ -5,7 +5,7 @@ use Rattle.insn_codec.specs.declared.statement.Statement.TheVariants.{Insn}
 big_is : (code : List ℕ) → 8 ≤ length code → big_number 8 code ≡ from_be_bytes w64 (take 8 code)
 big_is code long = grind arith
 
--- the words at hand are the first sixteen bytes
+-- the available words are the first sixteen bytes
 pub on_hand_is : (code : List ℕ) (n : ℕ) (o : Option ℕ) → 8 ≤ length code → ((k : ℕ) → get_or code k 0 < 256) → n ≡ little_number 8 code
     → more_bytes o ≡ take 8 (drop 8 code) → on_hand n o ≡ take 16 code
 on_hand_is code n o long small first second = grind arith

@@ -1,4 +1,4 @@
--- What `listing` and `line_at` return.
+-- Results of `listing` and `line_at`.
 use Rattle.std.specs.Prelude.{◌≡◌, ℕ, ◌*◌, ◌/◌, ◌%◌, List, length, drop, Option, Some, None, Result, Ok, Err, String, string_bytes}
 use Rattle.std.specs.Prelude.{if◌then◌else◌, ◌==◌, nat_lt, not}
 use Rattle.std.specs.Global.{Global}
@@ -6,26 +6,26 @@ use Rattle.insn_codec.specs.Limits.{slot_limit}
 use Rattle.disassembler.specs.declared.dis_error.DisError.{DisError, TheVariants.PartialSlot, TheVariants.CodeTooLong, TheVariants.Memory}
 use Rattle.insn_codec.specs.Statements.{Listing, statement_of, statement_slots, statement_text}
 
--- why code has no listing: it is no whole number of slots, else it has more than 65,536
+-- why code has no listing: its length is not a whole number of slots, else it has more than 65,536
 abbrev pub refusal_of : List ℕ → Option DisError
 refusal_of code =
     if not (length code % 8 == 0) then Some PartialSlot
     else (if nat_lt slot_limit (length code / 8) then Some CodeTooLong
     else None)
 
--- an error is the code's refusal, and memory is asked for only where there is none
+-- the error is the code's refusal; an allocation may fail only if there is none
 abbrev pub ListingFails : List ℕ → DisError → Type 0
 ListingFails code PartialSlot = refusal_of code ≡ Some PartialSlot
 ListingFails code CodeTooLong = refusal_of code ≡ Some CodeTooLong
 ListingFails code Memory = refusal_of code ≡ None
 
--- the answer is the code's listing, or why there is none
+-- the result is the code's listing, or why there is none
 abbrev pub GivesListing : List ℕ → Result (String Global) DisError → Type 0
 GivesListing code (Ok text) = (refusal_of code ≡ None) × Listing code (string_bytes text)
 GivesListing code (Err error) = ListingFails code error
 
--- the answer is the line of the statement that stands in the code from the slot on and the statement's slots, or why
--- there is no listing
+-- the result is the line of the statement at this slot of the code, with the number
+-- of its slots, or why there is no listing
 abbrev pub GivesLine : List ℕ → ℕ → Result (String Global × ℕ) DisError → Type 0
 GivesLine code slot (Ok line) =
     (refusal_of code ≡ None)

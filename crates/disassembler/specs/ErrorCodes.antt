@@ -1,4 +1,4 @@
--- The codes of the errors.
+-- Codes of the errors.
 use Rattle.std.specs.Prelude.{ℕ, List, codes}
 use Rattle.disassembler.specs.declared.dis_error.DisError.{DisError}
 use Rattle.disassembler.specs.declared.dis_error.DisError.TheVariants.{PartialSlot, CodeTooLong, Memory}

@@ -1,4 +1,4 @@
--- Code has one listing.
+-- Each code has one listing.
 use Rattle.std.specs.Prelude.{◌≡◌, ℕ, List}
 use Rattle.insn_codec.specs.Statements.{Listing}
 

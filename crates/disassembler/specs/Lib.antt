@@ -1,3 +1,4 @@
+-- Definitions of disassembler: the list of their modules.
 pub mod Answers
 pub mod ErrorCodes
 pub mod Laws

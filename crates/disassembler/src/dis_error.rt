@@ -6,7 +6,7 @@ ghost use Rattle.disassembler.specs.declared.dis_error.DisError.TheVariants.{Mem
 use std::alloc::AllocError;
 use thiserror::Error;
 
-/// Why code has no listing, and no line of one.
+/// Why code has no listing, and no line of a listing.
 #[derive(Clone, Copy, Debug, PartialEq, Eq, Error)]
 pub enum DisError {
     /// The length of the code is not a multiple of 8 bytes, the length of a slot.

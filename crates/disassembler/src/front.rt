@@ -6,7 +6,7 @@ ghost use Rattle.insn_codec.specs.Statements.{after_statement, statement_of, sta
 use byteorder::{BigEndian, ByteOrder, LittleEndian};
 use insn_codec::{Statement, decode};
 
-/// The statement at the front of the code and the code after it, if there is any code.
+/// The statement at the front of the code and the code after it, unless the code is empty.
 pub(crate) fn first_statement(code: &[u8]) -> Option<(Statement, &[u8])>
     requires whole { length code.now % 8 ≡ 0 }
     ensures found { MatchOption result (code.now ≡ []) (λ x. (x.0 ≡ statement_of code.now) × (x.1.now ≡ after_statement code.now)) }
@@ -20,7 +20,7 @@ pub(crate) fn first_statement(code: &[u8]) -> Option<(Statement, &[u8])>
     Some((statement, after))
 }
 
-/// What the slots at the front spell, or the first slot where they spell nothing.
+/// The instruction that the slots at the front encode, or the first slot if they encode none.
 pub(crate) fn statement_at(code: &[u8]) -> Statement
     requires whole { length code.now % 8 ≡ 0 }
     requires some { 8 ≤ length code.now }

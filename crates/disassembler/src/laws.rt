@@ -1,4 +1,4 @@
-//! Laws of listings, each the clause of a function that does nothing.
+//! Laws of listings, each proved as the contract of an empty function.
 ghost use Rattle.disassembler.specs.Laws.{OneListing};
 ghost use Rattle.disassembler.specs.Rows.{ListingRowsHold};
 
@@ -12,7 +12,7 @@ pub fn one_listing()
     slots_are_filled();
 }
 
-/// Listings that were made by hand.
+/// Listings worked out by hand.
 pub fn rows_stand()
     ensures { ListingRowsHold }
 {}

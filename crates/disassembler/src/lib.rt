@@ -1,4 +1,4 @@
-//! Machine code as text: its listing, and single lines of it.
+//! Disassembles machine code: whole listings, and single lines of them.
 #![tactic(auto)]
 
 mod dis_error;

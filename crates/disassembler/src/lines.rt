@@ -7,8 +7,8 @@ use crate::front::{first_statement, statement_at};
 use insn_codec::SLOT_LIMIT;
 use std::alloc::Global;
 
-/// The listing of the code: the line of each statement from the front on, each ended by a line
-/// feed. Code of no whole number of slots is refused first, then code of more than 65,536 slots.
+/// The listing of the code: the line of each statement in order, each ended by a line feed.
+/// `PartialSlot` is checked first, then `CodeTooLong`.
 pub fn listing(alloc: Global, code: &[u8]) -> Result<String, DisError>
     ensures { GivesListing code.now result }
 {
@@ -27,8 +27,8 @@ pub fn listing(alloc: Global, code: &[u8]) -> Result<String, DisError>
     Ok(text)
 }
 
-/// The line of the statement that stands in the code from this slot on, without a line feed, and
-/// how many slots the statement takes. All of the code is judged, as for its listing.
+/// The line of the statement at this slot of the code, without a line feed, and the number of its
+/// slots. The whole code is checked as for its listing.
 pub fn line_at(alloc: Global, code: &[u8], slot: u64) -> Result<(String, u64), DisError>
     requires inside { refusal_of code.now ≡ None → slot < length code.now / 8 }
     ensures { GivesLine code.now slot result }
@@ -43,7 +43,7 @@ pub fn line_at(alloc: Global, code: &[u8], slot: u64) -> Result<(String, u64), D
     Ok((line, statement.slots()))
 }
 
-/// Whether the code has a listing.
+/// Checks that the code has a listing.
 fn judge(code: &[u8]) -> Result<(), DisError>
     ensures { MatchResult result (λ _. refusal_of code.now ≡ None) (ListingFails code.now) }
 {

@@ -1,3 +1,4 @@
+-- Proof obligations of `statement_at` (src/front.rt).
 use Rattle.disassembler.proofs.Prelude.{ap, arith, sym, ◌∙◌, spelled}
 use Rattle.disassembler.proofs.Words.{is_insn, is_slot, on_hand_is}
 use Rattle.disassembler.proofs.front.statement_at.Goals as goal

@@ -1,3 +1,4 @@
+-- Proof obligations of `rows_stand` (src/laws.rt).
 use Rattle.disassembler.proofs.Prelude.{refl, arithmetic_at, branch_at, candidate_at, jump_at, memory_at, wide_at, decimal, hex_digits, spelled, statement_of, ended, place}
 use Rattle.disassembler.proofs.laws.rows_stand.Goals as goal
 

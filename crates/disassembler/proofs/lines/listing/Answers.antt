@@ -1,3 +1,4 @@
+-- Proof obligations of `listing` (src/lines.rt).
 use Rattle.disassembler.proofs.Prelude.{◌≡◌, ℕ, List, [], ◌∷◌, ◌++◌, ap, ◌∙◌, rules, arith, string_bytes, common_steps, statement_text}
 use Rattle.disassembler.proofs.Going.{goes, whole}
 use Rattle.disassembler.proofs.lines.listing.Goals as goal

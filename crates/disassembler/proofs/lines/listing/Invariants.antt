@@ -1,3 +1,4 @@
+-- Loop invariants and measures of `listing` (src/lines.rt).
 use Rattle.disassembler.proofs.Prelude.{◌≡◌, ℕ, ◌%◌, List, ◌++◌, length, string_bytes, Listing}
 use Rattle.disassembler.proofs.lines.listing.Given as goal
 
