@@ -1,3 +1,4 @@
+-- Proofs of text_kernels: the list of their modules.
 pub mod Masks
 pub mod Pairs
 pub mod Runs

@@ -1,4 +1,4 @@
--- A mask that is computed lane by lane is held to a test at each of the 256 bytes.
+-- A mask that is computed lane by lane agrees with a test at each of the 256 bytes.
 use Rattle.text_kernels.proofs.Prelude.{◌≡◌, ℕ, ◌%◌, ◌^◌, ◌≤◌, Bool, true, List, [], ◌∷◌, map, length, refl, ap, ap₂, ◌∙◌, arith, w8, Fits, mask_l-mod, length-map, agree_below, agree_below_at}
 use lib.Lanes.{mask_l, top, Each1}
 

@@ -1,4 +1,4 @@
--- What two lists begin with in common, as a run before the first place at which they differ.
+-- The common prefix of two lists, as a run before the first position at which they differ.
 use Rattle.text_kernels.proofs.Prelude.{◌≡◌, ℕ, ◌+◌, ◌<◌, ◌≤◌, Bool, true, false, not, cond, ◌==◌, List, [], ◌∷◌, ◌++◌, map, length, drop, refl, sym, ap, ap₂, ◌∙◌, arith, chunk-drop, length-chunk, length-zip2, first_difference_of}
 use lib.Lanes.{chunk, mask_l, zip2}
 use lib.Count.{count_trailing_zeros}

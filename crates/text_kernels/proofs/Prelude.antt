@@ -1,4 +1,4 @@
--- The names that these proofs cite of the library, of the crates below and of the definitions here. Declares nothing.
+-- The names that these proofs use, from the library, the crates below and these definitions. It declares nothing.
 pub use Rattle.std.proofs.Common.{Bool, Equal, Fits, Greater, Less, List, Ordering, ℕ, [], ap, ap₂, arith, bit_or}
 pub use Rattle.std.proofs.Common.{cond, drop, encode_utf8, encode_utf8_all, eqb, false, inl, inr, length, map}
 pub use Rattle.std.proofs.Common.{nat_cmp, nat_lt, not, refl, replicate, sym, take, true, w8, ◌%◌, ◌*◌, ◌++◌, ◌+◌}

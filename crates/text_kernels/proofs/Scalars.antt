@@ -34,7 +34,7 @@ leads b (inr h) = grind (arith, nat_tests)
 goes_on : (n : ℕ) → is_leading (next n) ≡ false
 goes_on n = grind (arith, nat_tests)
 
--- a character's bytes have one that leads
+-- exactly one byte of a character leads
 counted : (c : ℕ) (more : List ℕ) → code_points_of (encode_utf8 c ++ more) ≡ 1 + code_points_of more
 counted c more = by (encoded c)
   where
@@ -56,7 +56,7 @@ pub count : (characters : List ℕ) → code_points_of (encode_utf8_all characte
 count [] = refl
 count (c ∷ more) = counted c (encode_utf8_all more) ∙ (ap (λ n. 1 + n) (count more) ∙ omega arith)
 
--- where the quotients by 64 are told, and then the remainders, so are the numbers
+-- the order of two numbers, from the order of their quotients by 64, then of their remainders
 digits_by : (x y : ℕ) (r s : Ordering) → MatchOrdering r (x / 64 < y / 64) (x / 64 ≡ y / 64) (y / 64 < x / 64)
     → MatchOrdering s (x % 64 < y % 64) (x % 64 ≡ y % 64) (y % 64 < x % 64) → ordering_then r s ≡ nat_cmp x y
 digits_by x y Less s h k = nat_cmp_is x y Less (omega (arith, h))
@@ -79,12 +79,12 @@ in_turn : (a b c : Ordering) → ordering_then a (ordering_then b c) ≡ orderin
 in_turn Less b c = refl
 in_turn _ b c = refl
 
--- the quotients by 64, and then what goes on a character, are told as the numbers
+-- the order of the quotients by 64 and of the continuation bytes is that of the numbers
 last : (x y : ℕ) (o : Ordering) → ordering_then (nat_cmp (x / 64) (y / 64)) (ordering_then (nat_cmp (next x) (next y)) o) ≡ ordering_then (nat_cmp x y) o
 last x y o = ap (λ b. ordering_then (nat_cmp (x / 64) (y / 64)) (ordering_then b o)) (shifted 128 (x % 64) (y % 64)) ∙
     (in_turn (nat_cmp (x / 64) (y / 64)) (nat_cmp (x % 64) (y % 64)) o ∙ ap (λ r. ordering_then r o) (digits x y))
 
--- a first byte whose number is told, and what follows
+-- the order from the first bytes, then from the bytes that follow
 led : (n a b x y : ℕ) (o : Ordering) → a ≡ x / 64 → b ≡ y / 64 → ordering_then (nat_cmp (n + a) (n + b)) (ordering_then (nat_cmp (next x) (next y)) o)
     ≡ ordering_then (nat_cmp x y) o
 led n a b x y o e f =

@@ -1,4 +1,4 @@
--- Bytes and texts with what the scans give for them, written out.
+-- Bytes and texts with the results of the scans, worked out by hand.
 use Rattle.std.specs.Prelude.{◌≡◌, ℕ, true, false, List, [], ◌∷◌, codes}
 use Rattle.text_kernels.specs.Scans.{is_continuation, is_leading, code_points_of, first_difference_of, is_special, is_plain, skip_plain_of}
 
@@ -7,7 +7,7 @@ abbrev pub four_characters : List ℕ
 four_characters = 0x61 ∷ 0xc3 ∷ 0xa9 ∷ 0xe2 ∷ 0x82 ∷ 0xac ∷ 0xf0 ∷ 0x9f ∷ 0x98 ∷ 0x80 ∷ []
 
 pub record ScanRowsStand : Type 0 where
-  -- 10xxxxxx goes on a character; 0xxxxxxx, 110xxxxx, 1110xxxx and 11110xxx begin one
+  -- 10xxxxxx continues a character; 0xxxxxxx, 110xxxxx, 1110xxxx and 11110xxx begin one
   pub last_of_one_byte : is_continuation 0x7f ≡ false
   pub first_continuation : is_continuation 0x80 ≡ true
   pub last_continuation : is_continuation 0xbf ≡ true

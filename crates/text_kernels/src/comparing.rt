@@ -5,7 +5,7 @@ ghost use Rattle.text_kernels.specs.Scans.{first_difference_of};
 
 use std::simd::prelude::*;
 
-/// The first place at which the two differ, or the shorter one's length if there is none.
+/// The first position at which the two differ, or the shorter one's length if there is none.
 pub fn first_difference(left: &[u8], right: &[u8]) -> usize
     ensures { result ≡ first_difference_of left.now right.now }
 {
@@ -24,7 +24,7 @@ pub fn first_difference(left: &[u8], right: &[u8]) -> usize
     at + differ_slowly(&left[at..], &right[at..])
 }
 
-// A bit for each place, set where the two differ.
+// A bit for each position, set if the two differ there.
 #[inline(always)]
 fn differing(left: u8x32, right: u8x32) -> u64
     ensures { result ≡ mask_l (zip2 (λ x y. not (x == y)) left right) }

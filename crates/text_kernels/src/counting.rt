@@ -5,8 +5,8 @@ ghost use Rattle.text_kernels.specs.Scans.{code_points_of, is_leading};
 
 use std::simd::prelude::*;
 
-/// How many of the bytes lie outside `0x80..=0xbf`, the bytes that go on a character: of
-/// well-formed UTF-8 its code points (RFC 3629, section 3).
+/// The number of bytes outside `0x80..=0xbf`, the bytes that continue a character. In well-formed UTF-8 this
+/// is the number of code points (RFC 3629, section 3).
 pub fn code_points(bytes: &[u8]) -> usize
     ensures { result ≡ code_points_of bytes.now }
 {
@@ -19,7 +19,7 @@ pub fn code_points(bytes: &[u8]) -> usize
     count + count_slowly(&bytes[at..])
 }
 
-// Of the 32 bytes from `at` on.
+// The number of code points that begin in the 32 bytes from `at` on.
 #[inline(always)]
 fn count_in_block(bytes: &[u8], at: usize) -> usize
     requires { at + 32 ≤ length bytes.now }
@@ -28,7 +28,7 @@ fn count_in_block(bytes: &[u8], at: usize) -> usize
     leading(u8x32::from_slice(&bytes[at..])).count_ones() as usize
 }
 
-// A bit for each byte, set where it begins a character.
+// A bit for each byte, set if it begins a character.
 #[inline(always)]
 fn leading(lanes: u8x32) -> u64
     ensures { result ≡ mask_l (map is_leading lanes) }

@@ -1,16 +1,16 @@
-//! The laws of the scans, proved as the contract of an empty function.
+//! The laws of the scans, proved as the contracts of empty functions.
 
 ghost use Rattle.text_kernels.specs.Characters.{CountsCharacters, OrdersAsCharacters};
 ghost use Rattle.text_kernels.specs.Rows.{ScanRowsStand};
 
-/// Of a text in UTF-8 the code points are counted, and two are ordered as their characters are
-/// (RFC 3629, sections 1 and 3).
+/// In UTF-8 texts the code points are counted correctly, and two texts are ordered as their
+/// characters are (RFC 3629, sections 1 and 3).
 pub fn characters()
     ensures count { CountsCharacters }
     ensures order { OrdersAsCharacters }
 {}
 
-/// Bytes and texts with what the scans give for them.
+/// Bytes and texts with the results of the scans.
 pub fn rows_stand()
     ensures { ScanRowsStand }
 {}

@@ -5,8 +5,8 @@ ghost use Rattle.text_kernels.specs.Scans.{is_special, skip_plain_of};
 
 use std::simd::prelude::*;
 
-/// How many bytes come before the first `"`, `'`, `\`, line feed or carriage return: all of them,
-/// if there is none.
+/// The number of bytes before the first `"`, `'`, `\`, line feed or carriage
+/// return, or of all bytes if there is none.
 pub fn skip_plain(bytes: &[u8]) -> usize
     ensures { result ≡ skip_plain_of bytes.now }
 {
@@ -21,7 +21,7 @@ pub fn skip_plain(bytes: &[u8]) -> usize
     at + skip_slowly(&bytes[at..])
 }
 
-// A bit for each byte, set where it is special.
+// A bit for each byte, set if it is special.
 #[inline(always)]
 fn special(lanes: u8x32) -> u64
     ensures { result ≡ mask_l (map is_special lanes) }

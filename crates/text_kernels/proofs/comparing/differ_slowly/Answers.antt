@@ -1,3 +1,4 @@
+-- Proof obligations of `differ_slowly` (src/comparing.rt).
 use Rattle.text_kernels.proofs.Prelude.{drop, ◌==◌, arith, length-drop, common_prefix_len-le}
 use Rattle.text_kernels.proofs.comparing.differ_slowly.Goals as goal
 

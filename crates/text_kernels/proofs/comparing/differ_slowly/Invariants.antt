@@ -1,3 +1,4 @@
+-- Loop invariants and measures of `differ_slowly` (src/comparing.rt).
 use Rattle.text_kernels.proofs.Prelude.{◌≡◌, ◌+◌, ◌-◌, ◌≤◌, drop, length, first_difference_of}
 use Rattle.text_kernels.proofs.comparing.differ_slowly.Given as goal
 

@@ -1,3 +1,4 @@
+-- Proof obligations of `differing` (src/comparing.rt).
 use Rattle.text_kernels.proofs.Prelude.{ap, ◌%◌, ◌^◌, ◌∙◌, sym, arith, w8, tops_compared, mask_l-mod, length-zip2}
 use lib.Lanes.{mask_l, zip2}
 use Rattle.text_kernels.proofs.Pairs.{differ}

@@ -1,3 +1,4 @@
+-- Proof obligations of `first_difference` (src/comparing.rt).
 use Rattle.text_kernels.proofs.Prelude.{length, take, drop, ◌-◌, ◌==◌, sym, ap, ◌∙◌, arith, length-take, common_prefix_len-le}
 use lib.Count.{count_trailing_zeros}
 use Rattle.text_kernels.proofs.Pairs.{same_through, differ_within}

@@ -1,3 +1,4 @@
+-- Loop invariants and measures of `first_difference` (src/comparing.rt).
 use Rattle.text_kernels.proofs.Prelude.{◌≡◌, ◌+◌, ◌-◌, ◌≤◌, drop, length, first_difference_of}
 use Rattle.text_kernels.proofs.comparing.first_difference.Given as goal
 

@@ -1,3 +1,4 @@
+-- Proof obligations of `code_points` (src/counting.rt).
 use Rattle.text_kernels.proofs.Prelude.{◌≡◌, ◌+◌, ℕ, List, cond, drop, ap, ◌∙◌, arith, chunk-drop, sum_by-append, count_by-le-length, is_leading, code_points_of}
 use lib.Lanes.{chunk}
 use Rattle.text_kernels.proofs.counting.code_points.Goals as goal

@@ -1,3 +1,4 @@
+-- Loop invariants and measures of `code_points` (src/counting.rt).
 use Rattle.text_kernels.proofs.Prelude.{◌≡◌, ◌+◌, ◌-◌, ◌≤◌, drop, length, code_points_of}
 use Rattle.text_kernels.proofs.counting.code_points.Given as goal
 

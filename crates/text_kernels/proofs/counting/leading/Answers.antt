@@ -1,3 +1,4 @@
+-- Proof obligations of `leading` (src/counting.rt).
 use Rattle.text_kernels.proofs.Prelude.{refl, arith, zip2_splat, splat_is_map, zip2_of_maps, is_leading}
 use Rattle.text_kernels.proofs.Masks.{masked}
 use Rattle.text_kernels.proofs.counting.leading.Goals as goal

@@ -1,3 +1,4 @@
+-- Proof obligations of `characters` (src/laws.rt).
 use Rattle.text_kernels.proofs.Scalars.{count, order}
 use Rattle.text_kernels.proofs.laws.characters.Goals as goal
 

@@ -1,3 +1,4 @@
+-- Proof obligations of `skip_plain` (src/skipping.rt).
 use Rattle.text_kernels.proofs.Prelude.{length, take, drop, ◌+◌, ◌-◌, sym, ap, ◌∙◌, arith, chunk-drop, length-chunk, length-take, prefix_len-le-length, is_special, is_plain, skip_plain_of}
 use lib.Lanes.{chunk}
 use lib.Count.{count_trailing_zeros}

@@ -1,3 +1,4 @@
+-- Loop invariants and measures of `skip_slowly` (src/skipping.rt).
 use Rattle.text_kernels.proofs.Prelude.{◌≡◌, ◌+◌, ◌-◌, ◌≤◌, drop, length, skip_plain_of}
 use Rattle.text_kernels.proofs.skipping.skip_slowly.Given as goal
 

@@ -1,3 +1,4 @@
+-- Proof obligations of `special` (src/skipping.rt).
 use Rattle.text_kernels.proofs.Prelude.{◌≡◌, ℕ, List, map, length, replicate, refl, arith, cond, eqb, bit_or, zip2_splat, zip2_of_maps, is_special}
 use lib.Lanes.{zip2}
 use Rattle.text_kernels.proofs.Masks.{masked}
