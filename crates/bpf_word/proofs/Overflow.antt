@@ -1,4 +1,4 @@
--- Sums of words, and when they are those of the signed numbers. Crates above cite these.
+-- Sums of words, and when they are those of the signed numbers. Crates above use these.
 use Rattle.bpf_word.proofs.Prelude.{◌≡◌, ℕ, ◌<◌, ◌^◌, arith, true, false, ints, holds_of, IsSigned, SumsOverflow, exact_sum, wrapped_sum, signed_of, Sge, Slt}
 
 module _ (a b : ℕ) (ha : a < 2 ^ 64) (hb : b < 2 ^ 64) where

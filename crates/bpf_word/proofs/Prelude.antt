@@ -1,4 +1,4 @@
--- The names that these proofs cite of the library, of the crates below and of the definitions here. Declares nothing.
+-- The names that these proofs use, from the library, the crates below and these definitions. It declares nothing.
 pub use Rattle.std.proofs.Common.{FitsSigned, ℕ, ℤ, ap, arith, false, int_div, pos, refl, rules, sym, true}
 pub use Rattle.std.proofs.Common.{unsigned_abs, ◌%◌, ◌*◌, ◌+◌, ◌-ℤ◌, ◌-◌, ◌<◌, ◌^◌, ◌∙◌, ◌≡◌, ◌≤◌}
 pub use Rattle.std.proofs.Math.Nat.{div-le_self, mod-lt}

@@ -1,4 +1,4 @@
--- A result is a word of the width of its operation.
+-- The result of an operation is a word of the operation's width.
 use Rattle.bpf_word.proofs.Prelude.{ℕ, ◌+◌, ◌*◌, ◌<◌, ◌^◌, ◌%◌, arith, mod-lt, div-le_self, pow_pos, or_lt, xor_lt, and_lt, ℤ, operated, word_of, AluOp, Add, Mul, Div, Sdiv, Or, And, Lsh, Rsh, Mod, Smod, Xor, Mov}
 
 pub word_below : (bits : ℕ) (z : ℤ) → word_of bits z < 2 ^ bits

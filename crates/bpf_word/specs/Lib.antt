@@ -1,3 +1,4 @@
+-- Definitions of bpf_word: the list of their modules.
 pub mod Arithmetic
 pub mod Bytes
 pub mod Comparisons

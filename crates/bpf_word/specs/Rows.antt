@@ -9,7 +9,7 @@ use Rattle.bpf_word.specs.declared.alu_op.AluOp.TheVariants.{Add, Sub, Mul, Div,
 use Rattle.bpf_word.specs.declared.signed_size.SignedSize.TheVariants.{B, H, W}
 use Rattle.bpf_word.specs.declared.swap_width.SwapWidth.TheVariants.{Bits16, Bits32, Bits64}
 
--- an operation with its operands in each row, and its result
+-- operations on two operands, with their results
 pub record WordRowsHold : Type 0 where
   pub add_wraps : alu64_of Add 0xffff_ffff_ffff_ffff 1 ≡ 0
   pub add_wraps_of_32 : alu32_of Add 0xffff_ffff 1 ≡ 0
@@ -70,7 +70,7 @@ pub record WordRowsHold : Type 0 where
   pub swap_of_32 : swap_of Bits32 0x1234 ≡ 0x3412_0000
   pub swap_of_64 : swap_of Bits64 0x0123_4567_89ab_cdef ≡ 0xefcd_ab89_6745_2301
 
--- a comparison of two words in each row, and whether it holds; 0xffff_ffff_ffff_ffff is -1 where words are read as signed
+-- comparisons of two words, and whether they hold; 0xffff_ffff_ffff_ffff is -1 if words are read as signed
 pub record ComparisonRowsHold : Type 0 where
   pub equal : holds_of Eq 1 1 ≡ true
   pub equal_not : holds_of Eq 1 2 ≡ false

@@ -1,7 +1,6 @@
 //! The operations on two words.
 
-/// What an arithmetic instruction computes from its destination and its operand
-/// (RFC 9669, section 4.1).
+/// The operation of an arithmetic instruction on its destination and its operand (RFC 9669, section 4.1).
 #[derive(Clone, Copy, Debug, PartialEq, Eq)]
 pub enum AluOp {
     /// The sum, which wraps.
@@ -22,7 +21,7 @@ pub enum AluOp {
     And,
     /// The bits of either.
     Or,
-    /// The bits of one alone.
+    /// The bits of exactly one.
     Xor,
     /// A shift to the left, by the operand modulo the width.
     Lsh,

@@ -4,8 +4,8 @@ ghost use Rattle.bpf_word.specs.Bytes.{swap_of};
 
 use crate::swap_width::SwapWidth;
 
-/// The low `width` of a word with its bytes in the reverse order; the bits above are zero
-/// (RFC 9669, section 4.2).
+/// The low bits of a word, `width` of them, with their bytes reversed; the bits
+/// above are zero (RFC 9669, section 4.2).
 #[tactic(auto, unfolding(crate::specs::Bytes::swap_of))]
 pub fn swap(width: SwapWidth, word: u64) -> u64
     ensures { result ≡ swap_of width word }

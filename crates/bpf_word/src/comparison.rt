@@ -1,6 +1,6 @@
 //! The comparisons of two words.
 
-/// What a conditional jump asks of its two words (RFC 9669, section 4.3).
+/// The comparison of a conditional jump (RFC 9669, section 4.3).
 #[derive(Clone, Copy, Debug, PartialEq, Eq)]
 pub enum Comparison {
     /// They are equal.

@@ -1,4 +1,4 @@
-//! Laws of the definitions, each the clause of a function that does nothing.
+//! Laws of the definitions, each proved as the contract of an empty function.
 ghost use Rattle.bpf_word.specs.Halves.{UpperHalfIsZero};
 ghost use Rattle.bpf_word.specs.Operations.{ComparisonsTell, OperationsAre, ResultsAreWords};
 ghost use Rattle.bpf_word.specs.Overflow.{SumsOverflow};
@@ -22,26 +22,26 @@ pub fn upper_half_is_zero()
     ensures { UpperHalfIsZero }
 {}
 
-/// What a move, a sum and an exclusive or of 64 bits are.
+/// A 64-bit move, sum and exclusive or.
 #[tactic(auto, unfolding(crate::specs::Arithmetic::alu64_of, crate::specs::Arithmetic::operated))]
 pub fn operations_are()
     ensures { OperationsAre }
 {}
 
-/// The comparisons by equality tell equal words from others.
+/// The comparisons by equality distinguish equal words from others.
 #[tactic(auto, unfolding(crate::specs::Comparisons::holds_of))]
 pub fn comparisons_tell()
     ensures { ComparisonsTell }
 {}
 
-/// What is computed from words is a word of 64 bits.
+/// The result of an operation on words is a 64-bit word.
 #[tactic(auto, using(crate::proofs::Widths::operated_below, crate::proofs::Widths::word_below), unfolding(crate::specs::Arithmetic::alu64_of, crate::specs::Signs::sext_of, crate::specs::Bytes::swap_of))]
 pub fn results_are_words()
     ensures { ResultsAreWords }
 {}
 
-/// A sum of words is the sum of the signed numbers that they are exactly where two signed
-/// comparisons say so; else that sum has no word.
+/// The sum of two words is the sum of their signed numbers exactly if two signed
+/// comparisons hold; otherwise that sum has no word.
 #[tactic(auto, using(crate::proofs::Overflow::sums_overflow))]
 pub fn sums_overflow()
     ensures { SumsOverflow }

@@ -1,4 +1,4 @@
-//! The sizes of the signed numbers that words hold.
+//! The sizes of sign extensions.
 
 /// The size of the signed number that a sign extension reads from a word (RFC 9669, section 4.1).
 #[derive(Clone, Copy, Debug, PartialEq, Eq)]

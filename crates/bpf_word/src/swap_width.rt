@@ -1,6 +1,6 @@
-//! The parts of a word that a byte swap reads.
+//! The widths of byte swaps.
 
-/// How many of a word's low bits a byte swap reverses by bytes (RFC 9669, section 4.2).
+/// The number of a word's low bits that a byte swap reverses (RFC 9669, section 4.2).
 #[derive(Clone, Copy, Debug, PartialEq, Eq)]
 pub enum SwapWidth {
     /// The low 16 bits.

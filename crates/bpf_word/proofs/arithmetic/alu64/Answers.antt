@@ -1,3 +1,4 @@
+-- Proof obligations of `alu64` (src/arithmetic.rt).
 use Rattle.bpf_word.proofs.Prelude.{alu64_of, operated}
 use Rattle.bpf_word.proofs.Casts.{difference_is}
 use Rattle.bpf_word.proofs.arithmetic.alu64.Goals as goal

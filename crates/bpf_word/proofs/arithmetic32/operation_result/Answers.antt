@@ -1,3 +1,4 @@
+-- Proof obligations of `operation_result` (src/arithmetic32.rt).
 use Rattle.bpf_word.proofs.Prelude.{operated}
 use Rattle.bpf_word.proofs.Casts.{difference_is}
 use Rattle.bpf_word.proofs.arithmetic32.operation_result.Goals as goal

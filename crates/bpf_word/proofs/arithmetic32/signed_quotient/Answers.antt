@@ -1,3 +1,4 @@
+-- Proof obligations of `signed_quotient` (src/arithmetic32.rt).
 use Rattle.bpf_word.proofs.Prelude.{rules, arith, ◌∙◌, w32, operated}
 use Rattle.bpf_word.proofs.Casts.{nonzero_is, quotient_is}
 use Rattle.bpf_word.proofs.arithmetic32.signed_quotient.Goals as goal

@@ -1,3 +1,4 @@
+-- Proof obligations of `signed_remainder` (src/arithmetic32.rt).
 use Rattle.bpf_word.proofs.Prelude.{rules, w32}
 use Rattle.bpf_word.proofs.Casts.{nonzero_is}
 use Rattle.bpf_word.proofs.arithmetic32.signed_remainder.Goals as goal

@@ -1,3 +1,4 @@
+-- Proof obligations of `signed_remainder` (src/arithmetic64.rt).
 use Rattle.bpf_word.proofs.Prelude.{rules, w64}
 use Rattle.bpf_word.proofs.Casts.{nonzero_is}
 use Rattle.bpf_word.proofs.arithmetic64.signed_remainder.Goals as goal
