@@ -1,4 +1,4 @@
--- What the tests for the faults say in numbers.
+-- The checks for faults, in numbers.
 use Rattle.loader.proofs.Prelude.{◌≡◌, ◌≤◌, ◌==◌, ℕ, ◌+◌, ◌*◌, Bool, false, not, ◌||◌, List, length, take, arith, if◌then◌else◌, Result, Ok, Err, ltb-false, le-ltb, nat_tests, bytes_eq-Decides, bytes_eq, Image, First, Second, magic, version_in, slots_in, constants_in, is_bad_count, is_too_short, has_other_magic, has_bad_slots, has_long_constants, has_other_length, contents_in, image_in, LoadError, slot_limit, constants_limit}
 
 -- the file has no fault
@@ -9,7 +9,7 @@ pub record HasNoFault (file : List ℕ) : Type 0 where
   pub constants : has_long_constants file ≡ false
   pub whole : has_other_length file ≡ false
 
--- the same in numbers
+-- the file has no fault, in numbers
 pub record HasShape (file : List ℕ) : Type 0 where
   pub magic_is : take 8 file ≡ magic (version_in file)
   pub some_slots : 1 ≤ slots_in file
@@ -20,7 +20,7 @@ pub record HasShape (file : List ℕ) : Type 0 where
 same_bytes : (xs ys : List ℕ) → not (bytes_eq xs ys) ≡ false → xs ≡ ys
 same_bytes xs ys h = (bytes_eq-Decides xs ys).0 (grind arith)
 
--- a list that is the magic of a version is that of the version that it is first compared with, or of the other
+-- a list that is the magic of a version: of the one that is compared first, or of the other
 version_of : (xs : List ℕ) (first : Bool) → bytes_eq xs (magic First) ≡ first → not (first || bytes_eq xs (magic Second)) ≡ false → xs ≡ magic (if first then First else Second)
 version_of xs first e h = grind (arith, same_bytes)
 
@@ -52,7 +52,7 @@ pub holds : (file : List ℕ) → HasNoFault file → image_in file ≡ Ok (cont
 unfolding image_in
 holds file f = grind arith
 
--- an image was read: the test was passed
+-- an image was read, so the check passed
 pub record Passes (b : Bool) (r : Result Image LoadError) (c : Image) : Type 0 where
   pub test : b ≡ false
   pub rest : r ≡ Ok c
@@ -60,7 +60,7 @@ pub record Passes (b : Bool) (r : Result Image LoadError) (c : Image) : Type 0 w
 pub passes : (b : Bool) (e : LoadError) (r : Result Image LoadError) (c : Image) → (if b then Err e else r) ≡ Ok c → Passes b r c
 passes b e r c h = grind arith
 
--- a file that holds an image has no fault, and holds its contents
+-- a file that is read as an image has no fault, and the image has its contents
 pub record HasContents (file : List ℕ) (c : Image) : Type 0 where
   pub no_fault : HasNoFault file
   pub are : contents_in file ≡ c

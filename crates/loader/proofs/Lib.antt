@@ -1,3 +1,4 @@
+-- Proofs of loader: the list of their modules.
 pub mod Numbers
 pub mod Faults
 pub mod RoundTrip

@@ -1,4 +1,4 @@
--- The names that these proofs cite of the library, of the crates below and of the definitions here. Declares nothing.
+-- The names that these proofs use, from the library, the crates below and these definitions. It declares nothing.
 pub use Rattle.std.proofs.Common.{Bool, Err, List, Ok, Result, ℕ, [], ap, arith, drop, false, if◌then◌else◌, length}
 pub use Rattle.std.proofs.Common.{length-append, length-drop, not, suc, sym, take, zero, ◌*◌, ◌++◌, ◌+◌, ◌/◌, ◌==◌}
 pub use Rattle.std.proofs.Common.{◌||◌, ◌∙◌, ◌∷◌, ◌≡◌, ◌≤◌}

@@ -1,11 +1,11 @@
--- What is read and written again is the same.
+-- Reading and writing are inverse to each other.
 use Rattle.loader.proofs.Prelude.{◌≡◌, ◌≤◌, ℕ, zero, suc, ◌+◌, ◌*◌, ◌/◌, List, [], ◌∷◌, ◌++◌, length, take, drop, sym, ap, ◌∙◌, arith, length-append, length-drop, Ok, if◌then◌else◌, take-append-drop, drop-drop, take_all, length-take-le, take-append_seam, drop-append_seam, take-length, mul-div_cancel_left, bytes_eq, little_number, little_bytes, Image, IsImage, AreBytes, Version, First, Second, magic, version_in, slots_in, constants_in, contents_in, file_of, image_in}
 use Rattle.loader.proofs.Numbers.{number_back}
 use Rattle.loader.proofs.Faults.{HasNoFault, HasShape, shape_of, no_fault, holds}
 
 -- ---- a file without a fault is the file of its contents
 
--- a list from place i on: the next n items, and what follows
+-- a list from index i on: the next n items, and the rest
 cut : (i n : ℕ) (xs : List ℕ) → drop i xs ≡ take n (drop i xs) ++ drop (i + n) xs
 cut i n xs = sym (take-append-drop n (drop i xs)) ∙ ap (λ (ys : List ℕ). take n (drop i xs) ++ ys) (drop-drop n i xs)
 
@@ -35,7 +35,7 @@ constants_next : (file : List ℕ) → 16 ≤ length file → AreBytes file → 
 unfolding constants_in
 constants_next file h bytes = four 12 file h bytes
 
--- the rest of a text behind its first part may be written otherwise
+-- the rest of a text after its first part may be replaced by an equal one
 behind : (text part rest other : List ℕ) → text ≡ part ++ rest → rest ≡ other → text ≡ part ++ other
 behind text part rest other is same = is ∙ ap (λ (xs : List ℕ). part ++ xs) same
 
@@ -62,9 +62,9 @@ file_image file f =
     let p = parts_of file s in
     omega arith
 
--- ---- the file of an image holds it
+-- ---- the file of an image is read as it
 
--- the fields of a file as it is written
+-- the fields of a written file
 pub record HasFields (c : Image) : Type 0 where
   pub slots : slots_in (file_of c) ≡ length c.code / 8
   pub constants : constants_in (file_of c) ≡ length c.constants

@@ -1,4 +1,4 @@
--- Code and constants make an image exactly within the limits.
+-- Code and constants make an image exactly if they are within the limits.
 use Rattle.loader.proofs.Prelude.{◌≡◌, arith, Ok, Image, IsImage, image_from}
 
 pub made : (c : Image) → IsImage c → image_from c.version c.code c.constants ≡ Ok c

@@ -1,10 +1,10 @@
--- What an answer says.
+-- Results of the loader.
 use Rattle.std.specs.Prelude.{◌≡◌, Result, Ok, Err}
 use Rattle.loader.specs.Contents.{Image}
 use Rattle.loader.specs.declared.load_error.LoadError.{LoadError}
 use Rattle.loader.specs.declared.load_error.LoadError.TheVariants.{TooShort, UnknownMagic, BadSlotCount, ConstantsTooLong, BadLength, Memory}
 
--- the answer is the one that is due, or that there is no memory
+-- the result is the one that is due, or an allocation failed
 abbrev pub Loads : Result Image LoadError → Result Image LoadError → Type 0
 Loads due (Ok image) = due ≡ Ok image
 Loads due (Err TooShort) = due ≡ Err TooShort

@@ -1,4 +1,4 @@
--- The codes of the errors.
+-- Codes of the errors.
 use Rattle.std.specs.Prelude.{ℕ, List, codes}
 use Rattle.loader.specs.declared.load_error.LoadError.{LoadError}
 use Rattle.loader.specs.declared.load_error.LoadError.TheVariants.{TooShort, UnknownMagic, BadSlotCount, ConstantsTooLong, BadLength, Memory}

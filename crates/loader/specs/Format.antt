@@ -1,6 +1,6 @@
--- The file of an image. It has the eight bytes CELBPF01 or, where the image has version 2, CELBPF02,
--- the number of slots of the code, the number of bytes of the constants, the code at 8 bytes a slot,
--- and the constants, with nothing after them. Each number has four bytes, the lowest first.
+-- The file format of an image: the eight bytes CELBPF01, or CELBPF02 for version 2; the number of slots of the
+-- code; the number of bytes of the constants; the code with 8 bytes per slot; and the constants, with nothing after
+-- them. Each number has four bytes in little-endian order.
 use Rattle.std.specs.Prelude.{ℕ, ◌+◌, ◌*◌, ◌/◌, ◌%◌, Bool, not, ◌||◌, nat_eq, nat_lt, if◌then◌else◌, List, [], ◌∷◌, ◌++◌, length, take}
 use Rattle.std.specs.Prelude.{drop, Result, Ok, Err, codes}
 use Rattle.std.specs.Str.{bytes_eq}
@@ -11,7 +11,7 @@ use Rattle.loader.specs.Contents.{Image, version_number}
 use Rattle.loader.specs.declared.load_error.LoadError.{LoadError, TheVariants.TooShort, TheVariants.UnknownMagic, TheVariants.BadSlotCount, TheVariants.ConstantsTooLong, TheVariants.BadLength}
 use Rattle.loader.specs.declared.version.Version.{Version, TheVariants.First, TheVariants.Second}
 
--- what each file of a version begins with: this text and the version's digit
+-- the first bytes of each file of a version: this text and the version's digit
 unfoldable pub magic : Version → List ℕ
 magic version = codes "CELBPF0" ++ ((48 + version_number version) ∷ [])
 
@@ -21,11 +21,11 @@ file_of c =
     magic c.version
     ++ (little_bytes 4 (length c.code / 8) ++ (little_bytes 4 (length c.constants) ++ (c.code ++ c.constants)))
 
--- whether a file begins as the files of a version do
+-- whether a file begins with the first bytes of a version
 abbrev pub has_magic : Version → List ℕ → Bool
 has_magic version file = bytes_eq (take 8 file) (magic version)
 
--- the version of a file that begins as the files of one do
+-- the version of a file that begins with the first bytes of one
 abbrev pub version_in : List ℕ → Version
 version_in file = if has_magic First file then First else Second
 
@@ -37,37 +37,37 @@ slots_in file = little_number 4 (drop 8 file)
 unfoldable pub constants_in : List ℕ → ℕ
 constants_in file = little_number 4 (drop 12 file)
 
--- no image has that many slots
+-- whether no image has this many slots
 abbrev pub is_bad_count : ℕ → Bool
 is_bad_count slots = nat_eq slots 0 || nat_lt slot_limit slots
 
--- no image has that many bytes of constants
+-- whether no image has this many bytes of constants
 abbrev pub is_too_long : ℕ → Bool
 is_too_long constants = nat_lt constants_limit constants
 
--- the causes for which a file holds no image, in the order in which they count
+-- the causes for which a file is refused, in the order in which they are checked
 
--- it has fewer than the 16 bytes before the code
+-- the file has fewer than the 16 bytes before the code
 abbrev pub is_too_short : List ℕ → Bool
 is_too_short file = nat_lt (length file) 16
 
--- it begins as no version's files do
+-- the file begins with the first bytes of no version
 abbrev pub has_other_magic : List ℕ → Bool
 has_other_magic file = not (has_magic First file || has_magic Second file)
 
--- no image has as many slots as it states
+-- the file states a number of slots that no image has
 abbrev pub has_bad_slots : List ℕ → Bool
 has_bad_slots file = is_bad_count (slots_in file)
 
--- no image has as many bytes of constants as it states
+-- the file states a number of bytes of constants that no image has
 abbrev pub has_long_constants : List ℕ → Bool
 has_long_constants file = is_too_long (constants_in file)
 
--- it has more or fewer bytes than it states
+-- the file is longer or shorter than it states
 abbrev pub has_other_length : List ℕ → Bool
 has_other_length file = not (nat_eq (length file) (16 + 8 * slots_in file + constants_in file))
 
--- the version, the code and the constants where a file that has none of these causes holds them
+-- the version, the code and the constants of a file that is not refused
 abbrev pub contents_in : List ℕ → Image
 contents_in file = record {
   version = version_in file;
@@ -75,7 +75,7 @@ contents_in file = record {
   constants = take (constants_in file) (drop (16 + 8 * slots_in file) file);
 }
 
--- the image that a file holds, or the first cause for which it holds none
+-- the image of a file, or the first cause for which the file is refused
 unfoldable pub image_in : List ℕ → Result Image LoadError
 image_in file =
     if is_too_short file then Err TooShort
@@ -85,11 +85,11 @@ image_in file =
     else (if has_other_length file then Err BadLength
     else Ok (contents_in file)))))
 
--- the code ends within a slot
+-- whether the code ends within a slot
 abbrev pub has_part_of_slot : List ℕ → Bool
 has_part_of_slot code = not (nat_eq (length code % 8) 0)
 
--- the image of a version with some code and constants, or the first cause for which they are none
+-- the image of a version with this code and these constants, or the first cause for which they are refused
 unfoldable pub image_from : Version → List ℕ → List ℕ → Result Image LoadError
 image_from version code constants =
     if has_part_of_slot code then Err BadLength

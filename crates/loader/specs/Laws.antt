@@ -6,16 +6,16 @@ use Rattle.loader.specs.Format.{image_in, image_from, file_of, is_bad_count, is_
 use Rattle.loader.specs.declared.load_error.LoadError.TheVariants.{TooShort, UnknownMagic, BadSlotCount, ConstantsTooLong, BadLength, Memory}
 use Rattle.loader.specs.declared.version.Version.TheVariants.{First, Second}
 
--- a file that holds an image is the file of that image, which keeps the limits
+-- a file that is read as an image is the file of that image, which is within the limits
 abbrev pub HoldsItsFile : Type 0
 HoldsItsFile =
     (file : List ℕ) (c : Image) → AreBytes file → image_in file ≡ Ok c → (file ≡ file_of c) × IsImage c
 
--- the file of an image within the limits holds that image
+-- the file of an image within the limits is read as that image
 abbrev pub ReadsBack : Type 0
 ReadsBack = (c : Image) → IsImage c → image_in (file_of c) ≡ Ok c
 
--- code and constants make an image of either version exactly where they keep the limits
+-- code and constants make an image of either version exactly if they are within the limits
 abbrev pub KeepsTheLimits : Type 0
 KeepsTheLimits = (c : Image) → (image_from c.version c.code c.constants ≡ Ok c) ↔ IsImage c
 
@@ -24,7 +24,7 @@ abbrev three_slots : List ℕ
 three_slots =
     0xb7 ∷ 0 ∷ 0 ∷ 0 ∷ 5 ∷ 0 ∷ 0 ∷ 0 ∷ 7 ∷ 0 ∷ 0 ∷ 0 ∷ 2 ∷ 0 ∷ 0 ∷ 0 ∷ 0x95 ∷ 0 ∷ 0 ∷ 0 ∷ 0 ∷ 0 ∷ 0 ∷ 0 ∷ []
 
--- files that were read by hand
+-- files that were decoded by hand
 pub record ImageFileRowsHold : Type 0 where
   pub program : image_in (codes "CELBPF01" ++ (3 ∷ 0 ∷ 0 ∷ 0 ∷ 0 ∷ 0 ∷ 0 ∷ 0 ∷ three_slots))
       ≡ Ok (record { version = First; code = three_slots; constants = [] })
@@ -39,13 +39,13 @@ pub record ImageFileRowsHold : Type 0 where
   pub second_file : file_of (record { version = Second; code = three_slots; constants = [] })
       ≡ codes "CELBPF02" ++ (3 ∷ 0 ∷ 0 ∷ 0 ∷ 0 ∷ 0 ∷ 0 ∷ 0 ∷ three_slots)
   pub fifteen_bytes : image_in (codes "CELBPF01" ++ (3 ∷ 0 ∷ 0 ∷ 0 ∷ 0 ∷ 0 ∷ 0 ∷ [])) ≡ Err TooShort
-  -- all 16 bytes are there, and what they promise is not
+  -- all 16 bytes of the head are there, but not what it states
   pub sixteen_bytes : image_in (codes "CELBPF01" ++ (3 ∷ 0 ∷ 0 ∷ 0 ∷ 0 ∷ 0 ∷ 0 ∷ 0 ∷ [])) ≡ Err BadLength
   pub other_letters : image_in (codes "CELBPG01" ++ (3 ∷ 0 ∷ 0 ∷ 0 ∷ 0 ∷ 0 ∷ 0 ∷ 0 ∷ three_slots)) ≡ Err UnknownMagic
   pub short_before_magic : image_in (codes "CELBPF03") ≡ Err TooShort
   pub magic_before_slots : image_in (codes "CELBPF03" ++ (0 ∷ 0 ∷ 0 ∷ 0 ∷ 0 ∷ 0 ∷ 0 ∷ 0 ∷ [])) ≡ Err UnknownMagic
   pub slots_before_constants : image_in (codes "CELBPF01" ++ (0 ∷ 0 ∷ 0 ∷ 0 ∷ 1 ∷ 0 ∷ 0x10 ∷ 0 ∷ [])) ≡ Err BadSlotCount
-  -- 65,536 slots and 1,048,576 bytes of constants may be there
+  -- 65,536 slots and 1,048,576 bytes of constants are allowed
   pub most_slots : image_in (codes "CELBPF01" ++ (0 ∷ 0 ∷ 1 ∷ 0 ∷ 0 ∷ 0 ∷ 0 ∷ 0 ∷ [])) ≡ Err BadLength
   pub most_constants : image_in (codes "CELBPF01" ++ (1 ∷ 0 ∷ 0 ∷ 0 ∷ 0 ∷ 0 ∷ 0x10 ∷ 0 ∷ [])) ≡ Err BadLength
   pub one_byte_more : image_in (codes "CELBPF01" ++ (3 ∷ 0 ∷ 0 ∷ 0 ∷ 0 ∷ 0 ∷ 0 ∷ 0 ∷ (three_slots ++ 7 ∷ []))) ≡ Err BadLength
@@ -53,7 +53,7 @@ pub record ImageFileRowsHold : Type 0 where
       ≡ Ok (record { version = First; code = three_slots; constants = 7 ∷ 9 ∷ [] })
   pub file_with_constants : file_of (record { version = First; code = three_slots; constants = 7 ∷ 9 ∷ [] })
       ≡ codes "CELBPF01" ++ (3 ∷ 0 ∷ 0 ∷ 0 ∷ 2 ∷ 0 ∷ 0 ∷ 0 ∷ (three_slots ++ 7 ∷ 9 ∷ []))
-  -- code and constants alone
+  -- code and constants without a file
   pub made : image_from Second three_slots (7 ∷ []) ≡ Ok (record { version = Second; code = three_slots; constants = 7 ∷ [] })
   pub part_of_a_slot : image_from First (take 23 three_slots) [] ≡ Err BadLength
   pub part_of_a_slot_alone : image_from First (7 ∷ []) [] ≡ Err BadLength

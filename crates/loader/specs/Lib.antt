@@ -1,3 +1,4 @@
+-- Definitions of loader: the list of their modules.
 pub mod Limits
 pub mod Contents
 pub mod Format

@@ -1,6 +1,6 @@
--- The limits of an image, beside that of its slots.
+-- The limit of an image's constants; that of its slots is in insn_codec.
 use Rattle.std.specs.Prelude.{ℕ}
 
--- the most bytes of constants: 2 ^ 20
+-- the maximum number of bytes of constants: 2 ^ 20
 abbrev pub constants_limit : ℕ
 constants_limit = 1048576

@@ -1,4 +1,4 @@
-//! The fields of an image's file, and the causes for which a file holds no image.
+//! The fields of an image's file, and the causes for which a file is refused.
 
 ghost use Rattle.std.specs.Prelude.{◌≡◌, ◌≤◌, length, false};
 ghost use Rattle.byteorder.specs.Endian.{little_bytes};
@@ -9,7 +9,7 @@ use crate::version::Version;
 use byteorder::{ByteOrder, LittleEndian};
 use insn_codec::SLOT_LIMIT;
 
-/// The length in bytes of what stands before the code.
+/// The length of the head, the bytes before the code.
 pub const HEAD: usize = 16;
 
 /// The number of slots that the file states.
@@ -51,7 +51,7 @@ pub fn is_too_short(file: &[u8]) -> bool
     file.len() < HEAD
 }
 
-/// Whether the file begins as those of this version do.
+/// Whether the file begins with the first bytes of this version.
 fn has_magic(file: &[u8], version: Version) -> bool
     requires { 16 ≤ length file.now }
     ensures { result ≡ format.has_magic version file.now }
@@ -59,7 +59,7 @@ fn has_magic(file: &[u8], version: Version) -> bool
     &file[..8] == version.magic().as_slice()
 }
 
-/// Whether the file begins with other bytes than the files of both versions.
+/// Whether the file begins with the first bytes of neither version.
 pub fn has_other_magic(file: &[u8]) -> bool
     requires { 16 ≤ length file.now }
     ensures { result ≡ format.has_other_magic file.now }
@@ -67,7 +67,7 @@ pub fn has_other_magic(file: &[u8]) -> bool
     !(has_magic(file, Version::First) || has_magic(file, Version::Second))
 }
 
-/// The version of a file that begins as those of one do.
+/// The version of a file that begins with the first bytes of one.
 pub fn version_in(file: &[u8]) -> Version
     requires { 16 ≤ length file.now }
     ensures { result ≡ format.version_in file.now }
@@ -87,7 +87,7 @@ pub fn has_bad_slots(file: &[u8]) -> bool
     is_bad_count(u64::from(slots_in(file)))
 }
 
-/// Whether the file states more constants than an image has.
+/// Whether the file states more constants than an image may have.
 pub fn has_long_constants(file: &[u8]) -> bool
     requires { 16 ≤ length file.now }
     ensures { result ≡ format.has_long_constants file.now }
@@ -95,7 +95,7 @@ pub fn has_long_constants(file: &[u8]) -> bool
     is_too_long(u64::from(constants_in(file)))
 }
 
-/// Whether the file is not as long as its head says.
+/// Whether the length of the file differs from the one that its head states.
 pub fn has_other_length(file: &[u8]) -> bool
     requires { 16 ≤ length file.now }
     ensures { result ≡ format.has_other_length file.now }
@@ -104,7 +104,7 @@ pub fn has_other_length(file: &[u8]) -> bool
     file.len() as u64 != stated
 }
 
-/// The four bytes of a number, the lowest first.
+/// The four bytes of a number in little-endian order.
 pub fn number_bytes(number: u32) -> [u8; 4]
     ensures { result ≡ little_bytes 4 number }
 {

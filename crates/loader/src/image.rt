@@ -17,8 +17,8 @@ use crate::version::Version;
 use std::alloc::{AllocError, Global};
 use std::marker::Model;
 
-/// What the machine runs: 1 to 65,536 slots of code, 8 bytes each, and at most 1,048,576 bytes of
-/// constants. The bytes of the code are not judged. Images of version 2 run as those of version 1.
+/// A program for the machine: 1 to 65,536 slots of code with 8 bytes each, and at most 1,048,576 bytes of constants.
+/// The code is not checked for valid instructions. Images of version 2 run like those of version 1.
 #[derive(Debug, Drop)]
 pub struct Image {
     version: Version,
@@ -37,13 +37,12 @@ impl Model for Image {
 }
 
 impl Image {
-    /// The image that a file's bytes hold. Else the error says which fault counts first, in the
-    /// order of [`LoadError`], or that there is no memory for the image.
+    /// The image of a file's bytes. The error is the first of the faults in the order of [`LoadError`], or `Memory`.
     #[tactic(auto, unfolding(crate::specs::Format::image_in))]
     pub fn read(alloc: Global, file: &[u8]) -> Result<Image, LoadError>
         ensures loads { Loads (image_in file.now) result }
         ensures whole { IfOk result (λ image. file.now ≡ file_of image) }
-        // Memory is asked for only where there is an image to hold.
+        // Nothing is allocated for a file that is refused.
         ensures memory { result ≡ Err Memory → IsOk (image_in file.now) }
     {
         if is_too_short(file) {
@@ -64,7 +63,7 @@ impl Image {
         Ok(Image::parts(alloc, file)?)
     }
 
-    /// The version, the code and the constants of a file that has no fault.
+    /// The version, the code and the constants of a file without faults.
     fn parts(alloc: Global, file: &[u8]) -> Result<Image, AllocError>
         requires head { 16 ≤ length file.now }
         requires slots { format.has_bad_slots file.now ≡ false }
@@ -81,18 +80,16 @@ impl Image {
         })
     }
 
-    /// The image of version 1 of this code, 8 bytes a slot, and these constants. It takes no
-    /// memory, and what it refuses it drops: `BadLength` for code that ends within a slot, else
-    /// `BadSlotCount` for no slots or too many, else `ConstantsTooLong` for constants that are too
-    /// long.
+    /// The image of version 1 with this code, 8 bytes per slot, and these constants. Allocates nothing, and drops its
+    /// arguments if it refuses them: `BadLength` for code that ends within a slot, else `BadSlotCount` for no slots
+    /// or too many, else `ConstantsTooLong` for constants that are too long.
     pub fn new(code: Vec<u8>, constants: Vec<u8>) -> Result<Image, LoadError>
         ensures { result ≡ image_from First code.items constants.items }
     {
         Image::of_version(Version::First, code, constants)
     }
 
-    /// The image of version 2 of this code and these constants, with the refusals of
-    /// [`Image::new`].
+    /// The image of version 2 with this code and these constants, with the errors of [`Image::new`].
     pub fn new_2(code: Vec<u8>, constants: Vec<u8>) -> Result<Image, LoadError>
         ensures { result ≡ image_from Second code.items constants.items }
     {
@@ -119,7 +116,7 @@ impl Image {
         })
     }
 
-    /// The bytes of the image's file. The error says that there is no memory for them.
+    /// The bytes of the image's file.
     #[tactic(auto, unfolding(crate::specs::Format::file_of))]
     pub fn write(&self) -> Result<Vec<u8>, AllocError>
         ensures { IfOk result (λ file. file.items ≡ file_of self.now) }
@@ -141,7 +138,7 @@ impl Image {
         self.version.number()
     }
 
-    /// The code, 8 bytes a slot.
+    /// The code, with 8 bytes per slot.
     pub fn code(&self) -> &[u8]
         ensures value { result.now ≡ self.now.code }
         ensures valid { IsImage self.now }
@@ -149,7 +146,7 @@ impl Image {
         &self.code
     }
 
-    /// The constants, in bytes.
+    /// The constants.
     pub fn constants(&self) -> &[u8]
         ensures value { result.now ≡ self.now.constants }
         ensures valid { IsImage self.now }
@@ -157,7 +154,7 @@ impl Image {
         &self.constants
     }
 
-    /// An equal image, in memory of its own. The error says that there is none.
+    /// An equal image with memory of its own.
     pub fn copy(&self) -> Result<Image, AllocError>
         ensures { IfOk result (λ image. image ≡ self.now) }
     {

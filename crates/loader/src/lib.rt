@@ -1,4 +1,4 @@
-//! Image files of the machine: its code and its constants in one file, read and written.
+//! Reads and writes image files of the machine: its code and its constants in one file.
 #![tactic(auto)]
 
 mod format;

@@ -1,4 +1,4 @@
-//! The limits of an image, beside that of its slots.
+//! The limit of an image's constants.
 
-/// The most bytes of constants.
+/// The maximum number of bytes of constants.
 pub const CONSTANTS_LIMIT: u64 = 1_048_576;

@@ -12,7 +12,7 @@ pub enum LoadError {
     /// The file has fewer than 16 bytes, the length of its head.
     #[error("the file is shorter than the 16 bytes of its head")]
     TooShort,
-    /// The file begins with neither of the eight bytes `CELBPF01` and `CELBPF02`.
+    /// The file begins with neither `CELBPF01` nor `CELBPF02`.
     #[error("the file begins with neither CELBPF01 nor CELBPF02")]
     UnknownMagic,
     /// The code has no slots, or more than 65,536.
@@ -21,8 +21,8 @@ pub enum LoadError {
     /// The constants have more than 1,048,576 bytes.
     #[error("the constants are longer than 1048576 bytes")]
     ConstantsTooLong,
-    /// The length of the file is not the one that its head gives, or the length of the code is not
-    /// a multiple of 8 bytes, the length of a slot.
+    /// The length of the file differs from the one that its head states, or the length of the code is
+    /// not a multiple of 8 bytes, the length of a slot.
     #[error("the length is not that of the slots and constants")]
     BadLength,
     /// An allocation failed.

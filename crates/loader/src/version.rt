@@ -4,7 +4,7 @@ ghost use Rattle.std.specs.Prelude.{◌≡◌};
 ghost use Rattle.loader.specs.Contents as contents;
 ghost use Rattle.loader.specs.Format as format;
 
-/// The version of an image. It changes nothing in how the image runs.
+/// The version of an image. It does not change how the image runs.
 #[derive(Clone, Copy, Debug, PartialEq, Eq)]
 pub enum Version {
     First,
@@ -22,7 +22,7 @@ impl Version {
         }
     }
 
-    /// What each file of the version begins with.
+    /// The first bytes of each file of the version.
     #[tactic(auto, unfolding(crate::specs::Format::magic))]
     pub fn magic(self) -> &'static [u8; 8]
         ensures { result.now ≡ format.magic self }

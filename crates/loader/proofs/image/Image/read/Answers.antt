@@ -1,3 +1,4 @@
+-- Proof obligations of `Image::read` (src/image.rt).
 use Rattle.loader.proofs.Prelude.{ap, sym, ◌∙◌, arith, file_of}
 use Rattle.loader.proofs.Faults.{HasNoFault}
 use Rattle.loader.proofs.RoundTrip.{file_whole}
