@@ -1,3 +1,4 @@
+-- Definitions of host: the list of their modules.
 pub mod FileSystem
 pub mod ErrorCodes
 pub mod Rows

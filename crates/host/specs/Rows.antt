@@ -1,4 +1,4 @@
--- Reads and writes of a few files, written out: what they may answer and leave, and what they may not.
+-- Reads and writes of a few files, worked out by hand: possible results and files afterwards, and impossible ones.
 use Rattle.std.specs.Prelude.{◌≡◌, ℕ, Bool, List, [], ◌∷◌, Option, Some, None, Ok, Err, codes, if◌then◌else◌}
 use Rattle.std.specs.Str.{bytes_eq}
 use Rattle.host.specs.ErrorCodes.{file_error_code, order_error_code}
@@ -6,7 +6,7 @@ use Rattle.host.specs.FileSystem.{FileSystem, IsReading, IsSame, IsWriting, Keep
 use Rattle.host.specs.declared.file_error.FileError.TheVariants.{Failed, Memory}
 use Rattle.host.specs.declared.order_error.OrderError.TheVariants as order_error
 
--- the names of two files, and one of none
+-- the names of two files, and one without a file
 abbrev pub first : List ℕ
 first = 1 ∷ []
 
@@ -16,18 +16,18 @@ second = 2 ∷ []
 abbrev pub third : List ℕ
 third = 3 ∷ []
 
--- what the first file holds and what the second does; the third cannot be read
+-- the bytes of the first and the second file; the third cannot be read
 abbrev pub held : List ℕ → Option (List ℕ)
 held name = if bytes_eq name first then Some (7 ∷ 8 ∷ []) else (if bytes_eq name second then Some [] else None)
 
--- the second file can be written alone
+-- only the second file is writable
 abbrev pub taken : List ℕ → Bool
 taken name = bytes_eq name second
 
 abbrev pub files : FileSystem
 files = record { holds = held; takes = taken }
 
--- the same after the byte 9 was written to the second file
+-- the files after the byte 9 was written to the second
 abbrev pub written : FileSystem
 written = record { holds = with_file files second (9 ∷ []); takes = taken }
 
@@ -43,7 +43,7 @@ pub record FileRowsStand : Type 0 where
   pub known_read : IsReading (Some files) first (Ok (7 ∷ 8 ∷ []))
   pub known_read_of_another : IsReading (Some files) first (Ok []) → ⊥
   pub unknown_read : IsReading None first (Ok [])
-  -- the bytes of the file that is written, and of the others
+  -- the bytes of the written file, and of the others
   pub new_bytes : written.holds second ≡ Some (9 ∷ [])
   pub old_bytes : written.holds first ≡ Some (7 ∷ 8 ∷ [])
   pub still_none : written.holds third ≡ None

@@ -1,4 +1,4 @@
-//! The files of the system.
+//! The files of the operating system.
 ghost use Rattle.std.specs.Prelude.{◌≡◌, Err, IfErr, IfOk, Ok};
 ghost use Rattle.std.specs.IoError.{error_kind};
 
@@ -8,7 +8,7 @@ use std::alloc::Global;
 use std::io::{self, Error, ErrorKind};
 use std::{fs, rt};
 
-/// The files of the system, of which nothing is known before they are read.
+/// The files of the operating system. Nothing is known about them before they are read.
 #[derive(Drop)]
 pub struct Disk<'a, R> {
     rt: &'a R,
@@ -34,7 +34,7 @@ impl<'a, R: rt::Files + AllocGlobal> Files for Disk<'a, R> {
     }
 }
 
-/// What the system answers, with its error as a file's.
+/// The system's result, with its error as a `FileError`.
 fn answered<T: Drop>(answer: io::Result<T>) -> Result<T, FileError>
     ensures ok { IfOk answer (λ t. result ≡ Ok t) }
     ensures memory { IfErr answer (λ e. error_kind e ≡ ErrorKind.OutOfMemory → result ≡ Err FileError.Memory) }
@@ -46,7 +46,7 @@ fn answered<T: Drop>(answer: io::Result<T>) -> Result<T, FileError>
     }
 }
 
-/// Why a file was not read or written.
+/// The `FileError` of a system error.
 fn file_error(error: Error) -> FileError
     ensures memory { error_kind error ≡ ErrorKind.OutOfMemory → result ≡ FileError.Memory }
     ensures other { (error_kind error ≡ ErrorKind.OutOfMemory → ⊥) → result ≡ FileError.Failed }

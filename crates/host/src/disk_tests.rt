@@ -1,4 +1,4 @@
-//! Files of the system, written and read.
+//! Tests: files of the operating system, written and read.
 
 use crate::disk::Disk;
 use crate::file_error::FileError;
@@ -7,14 +7,14 @@ use std::alloc::{AllocError, Global};
 use std::rt;
 use std::test::Fail;
 
-/// More bytes than a buffer of the system's takes at once.
+/// More bytes than the system's buffer takes at once.
 fn long(alloc: Global) -> Result<Vec<u8>, AllocError> {
     let mut bytes = Vec::new(alloc);
     bytes.resize(70_000, b'x')?;
     Ok(bytes)
 }
 
-/// Whether the file has these bytes once they were written to it.
+/// Whether the file has these bytes after they were written to it.
 fn keeps<R: rt::Files + AllocGlobal>(rt: &R, alloc: Global, bytes: &[u8]) -> bool {
     let mut disk = Disk::new(rt);
     if disk.write("kept", bytes).is_err() {

@@ -1,11 +1,11 @@
-//! Why a file was not read or written.
+//! Why a file cannot be read or written.
 ghost use Rattle.std.specs.Prelude.{◌≡◌};
 ghost use Rattle.host.specs.declared.file_error.FileError.TheVariants.{Memory};
 
 use std::alloc::AllocError;
 use thiserror::Error;
 
-/// Why a file was not read or written.
+/// Why a file cannot be read or written.
 #[derive(Clone, Copy, Debug, PartialEq, Eq, Error)]
 pub enum FileError {
     /// The file does not exist, or cannot be read or written.

@@ -1,4 +1,4 @@
-//! What the programs take from the system: words, files and standard input.
+//! Access to the operating system for the programs: command line, files and standard input.
 #![tactic(auto)]
 
 mod disk;
@@ -16,8 +16,8 @@ pub use files::Files;
 pub use order_error::OrderError;
 pub use streams::{Buffered, Counting};
 
-/// What `$exit_code` answers on the words, the files and the streams of the system that `$rt`
-/// gives. Standard input is read at most 8,192 bytes at a time, into a buffer that takes no memory.
+/// Runs `$exit_code` on the words, the files and the streams of the system that `$rt` gives. Standard input is read
+/// at most 8,192 bytes at a time, into a buffer that is not allocated.
 #[macro_export]
 macro_rules! on_this_system {
     ($exit_code:path, $rt:ident) => {

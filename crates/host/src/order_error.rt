@@ -1,11 +1,11 @@
-//! Why a command line is not taken.
+//! Why a command line is refused.
 ghost use Rattle.std.specs.Prelude.{◌≡◌};
 ghost use Rattle.host.specs.declared.order_error.OrderError.TheVariants.{Memory};
 
 use std::alloc::AllocError;
 use thiserror::Error;
 
-/// Why the words of a command line give no order.
+/// Why a command line is refused.
 #[derive(Clone, Copy, Debug, PartialEq, Eq, Error)]
 pub enum OrderError {
     /// The program does not take these words, or they ask for help.

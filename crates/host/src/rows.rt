@@ -1,12 +1,12 @@
-//! Reads and writes of a few files, with what the definitions say of them.
+//! Reads and writes of a few files, with their results by the definitions.
 ghost use Rattle.host.specs.Rows.{FileRowsStand, FileWriteRowsStand};
 
-/// What reads of files may answer, and the codes of the errors.
+/// Possible results of reads, and the codes of the errors.
 pub fn file_rows_stand()
     ensures { FileRowsStand }
 {}
 
-/// What writes may answer and leave.
+/// Possible results of writes, and the files after them.
 pub fn write_rows_stand()
     ensures { FileWriteRowsStand }
 {}

@@ -10,16 +10,16 @@ use std::env;
 use std::io::{self, Error, ErrorKind};
 use std::rt::Env;
 
-/// The words, the program's name first.
+/// The words of the command line, the program's name first.
 ///
 /// # Errors
 ///
-/// `InvalidArguments` if one of them is no text, and `Memory` where there is no memory for them.
+/// `InvalidArguments` if one of them is not valid UTF-8, and `Memory` if an allocation fails.
 pub fn words<R: AllocGlobal + Env>(rt: &R) -> Result<Vec<String>, OrderError> {
     given(rt.alloc(), env::args(rt))
 }
 
-/// The words that the system gives, or why it gives none.
+/// The words that the system gives, or the error.
 fn given<I: Iterator<Item = String> + Drop>(
     alloc: Global,
     words: io::Result<I>,
@@ -37,7 +37,7 @@ fn given<I: Iterator<Item = String> + Drop>(
     }
 }
 
-/// Each of the words, in order.
+/// All of the words, in order.
 fn all<I: Iterator<Item = String> + Drop>(
     alloc: Global,
     words: I,
@@ -50,7 +50,7 @@ fn all<I: Iterator<Item = String> + Drop>(
     Ok(words.collect(alloc)?)
 }
 
-/// Why the system gives no words.
+/// The `OrderError` of a system error.
 fn order_error(error: Error) -> OrderError
     ensures memory { error_kind error ≡ ErrorKind.OutOfMemory → result ≡ OrderError.Memory }
     ensures other { (error_kind error ≡ ErrorKind.OutOfMemory → ⊥) → result ≡ OrderError.InvalidArguments }

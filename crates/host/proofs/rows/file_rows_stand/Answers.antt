@@ -1,3 +1,4 @@
+-- Proof obligations of `file_rows_stand` (src/rows.rt).
 use Rattle.std.proofs.Common.{◌≡◌, [], ◌∷◌, Ok, refl, subst}
 use Rattle.host.specs.FileSystem.{FileSystem, ReadsFile}
 use Rattle.host.specs.Rows.{files, first}

@@ -1,3 +1,4 @@
+-- Proof obligations of `write_rows_stand` (src/rows.rt).
 use Rattle.std.proofs.Common.{◌≡◌, [], ◌∷◌, Some, Ok, Option, ap, refl, subst, sym}
 use Rattle.host.specs.FileSystem.{FileSystem, AnswersWrite, IsSame}
 use Rattle.host.specs.Rows.{files, second, written}

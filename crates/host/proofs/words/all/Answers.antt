@@ -1,3 +1,4 @@
+-- Proof obligations of `all` (src/words.rt).
 use Rattle.host.proofs.words.all.Goals as goal
 
 pub returns-clause-all : goal.returns-clause-all
