@@ -4,7 +4,7 @@ use Rattle.streams.proofs.Prelude.{◌≡◌, ℕ, ◌+◌, ◌-◌, List, ◌++
 pub adds_none : (old : Option (List ℕ)) (bytes : List ℕ) → AddsBytes old old (take 0 bytes)
 adds_none old bytes before known = grind (arith, append-nil)
 
--- the first i bytes, and then n of those that are left
+-- the first i bytes, and then n of the rest
 pub adds_more : (old known new : Option (List ℕ)) (bytes : List ℕ) (i n : ℕ) → AddsBytes old known (take i bytes)
     → AddsBytes known new (take n (take (length bytes - i) (drop i bytes))) → AddsBytes old new (take (i + n) bytes)
 adds_more old known new bytes i n so_far more before is =

@@ -1,4 +1,4 @@
--- How an input's lines grow with its bytes.
+-- The lines of an input as its bytes are read.
 use Rattle.streams.proofs.Prelude.{◌≡◌, ℕ, suc, ◌+◌, ◌-◌, ◌≤◌, Bool, List, [], ◌∷◌, ◌++◌, length, take, drop, fold, nat_eq, cond, refl, sym, ap, ◌∙◌, arith, append_assoc, append-nil, length-take, take-add, take-append-drop, take-append-le, take_all, fold-append, nat_tests, cut, cut_byte, with_rest, input_lines, readable}
 use Rattle.streams.specs.Hearing.{HasNoFeed}
 
@@ -9,7 +9,7 @@ pub cut-none : cut [] ≡ ([], [])
 unfolding cut
 cut-none = grind arith
 
--- these pieces behind lines that have ended
+-- these pieces after lines that have ended
 abbrev behind : List (List ℕ) → Pieces → Pieces
 behind lines p = (lines ++ p.0, p.1)
 
@@ -21,7 +21,7 @@ pub cut_behind : (bytes : List ℕ) (lines : List (List ℕ)) (p : Pieces) → f
 cut_behind [] lines p = refl
 cut_behind (b ∷ bytes) lines p = ap (λ (q : Pieces). fold cut_byte q bytes) (byte_behind (nat_eq b 10) lines p b) ∙ cut_behind bytes lines (cut_byte p b)
 
--- more bytes go on with the last line, and leave those before it
+-- more bytes continue the last line, and keep those before it
 cut-append : (front more : List ℕ) → cut (front ++ more) ≡ behind (cut front).0 (fold cut_byte ([], (cut front).1) more)
 unfolding cut
 cut-append front more =
@@ -72,7 +72,7 @@ input_lines-append part rest =
     let p = fold cut_byte ([], (cut part).1) rest in
     (with_rest p.0 p.1, ap (λ (q : Pieces). with_rest q.0 q.1) (cut-append part rest) ∙ with_rest-behind (cut part).0 p.0 p.1)
 
--- where the last line has ended, and where it has not
+-- if the last line has ended, and if it has not
 pub input_lines-ended : (input : List ℕ) → take 65 (cut input).1 ≡ [] → input_lines input ≡ (cut input).0
 input_lines-ended input none = grind arith
 
@@ -82,7 +82,7 @@ take-split limit i input before = let whole : i + (limit - i) ≡ limit = omega 
 take-none : (n : ℕ) → take {A = ℕ} n [] ≡ []
 take-none n = grind arith
 
--- where nothing is left
+-- if nothing is left
 pub take-end : (input : List ℕ) (i limit : ℕ) → drop i input ≡ [] → i ≤ limit → take limit input ≡ take i input
 take-end input i limit none before =
     sym (take-split limit i input before) ∙ ap (λ (more : List ℕ). take i input ++ take (limit - i) more) none ∙ ap (λ (more : List ℕ). take i input ++ more) (take-none (limit - i)) ∙ append-nil (take i input)
@@ -95,15 +95,15 @@ pub readable-is : (input : List ℕ) → readable input ≡ take 922337203685477
 unfolding readable
 readable-is input = grind arith
 
--- a place of the input that is not behind the last byte that may be read
+-- a position of the input that is within its readable part
 pub readable-within : (input : List ℕ) (limit i : ℕ) → readable input ≡ take limit input → i ≤ limit → i ≤ length input → i ≤ length (readable input)
 readable-within input limit i all low inside = grind (arith, nat_tests, length-take)
 
--- the place behind the last byte that may be read
+-- the position after the last readable byte
 pub readable-end : (input : List ℕ) (i : ℕ) → i ≤ length input → readable input ≡ take i input → i ≡ length (readable input)
 readable-end input i inside all = grind (arith, length-take)
 
--- the bytes that may be read, and those after them
+-- the readable bytes, and those after them
 readable-split : (input : List ℕ) → readable input ++ drop 9223372036854775808 input ≡ input
 readable-split input = ap (λ (front : List ℕ). front ++ drop 9223372036854775808 input) (readable-is input) ∙ take-append-drop 9223372036854775808 input
 

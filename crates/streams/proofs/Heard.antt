@@ -1,4 +1,4 @@
--- An input whose lines are heard chunk by chunk.
+-- An input read line by line, chunk by chunk.
 use Rattle.streams.proofs.Prelude.{◌≡◌, ℕ, zero, suc, ◌+◌, ◌-◌, ◌<◌, ◌≤◌, Bool, true, false, is_err, List, [], ◌∷◌, ◌++◌, length, take, drop, Option, Some, None, Result, Ok, Err, IfErr, OnErr, OnOk, refl, subst, sym, ap, ◌∙◌, inl, inr, arith, length-append, length-drop, length-take, take-add, take-suc, take-take, take-append-le, drop-append-le, drop-drop, get_or-take, eqb-true, eq-eqb, readable, SessionError, WriteFailed, IsFirstByte, is_byte, buffered}
 use Rattle.streams.specs.Streams.{KeepsBytes}
 use Rattle.streams.specs.Hearing.{OfBytes, HasNoFeed, HeardByResult, HeardSoFar, HearsEnd, ReadsSome, ReadsToEnd}
@@ -18,12 +18,12 @@ feed_line bytes end found =
 pub feed_none : (bytes : List ℕ) → IsFirstByte (is_byte 10) bytes None → HasNoFeed bytes
 feed_none bytes nowhere k inside feed = nowhere k (omega arith) inside (eq-eqb _ _ feed)
 
--- what is left begins with the bytes that are ready
+-- the bytes left begin with those that are ready
 pub ready_left : (ready : List ℕ) (left : Option (List ℕ)) (all : List ℕ) → buffered ready left ≡ Some all → (rest : List ℕ) × (left ≡ Some rest) × (all ≡ ready ++ rest)
 ready_left ready (Some rest) all is = (rest, refl, cc)
 ready_left ready None all is = absurd (cc)
 
--- the first n bytes of those that are ready are consumed
+-- the first n of the ready bytes are consumed
 module _ (ready : List ℕ) (left : Option (List ℕ)) (input : List ℕ) (read n : ℕ) (is : buffered ready left ≡ Some (drop read input)) (inside : n ≤ length ready) where
   pub consumed_left : buffered (drop n ready) left ≡ Some (drop (read + n) input)
   consumed_left =
@@ -45,7 +45,7 @@ module _ (ready : List ℕ) (left : Option (List ℕ)) (input : List ℕ) (read 
 pub heard_none : (holds : OfBytes) (input : List ℕ) (left written : Option (List ℕ)) → left ≡ Some input → holds [] written → HeardSoFar holds input 0 left written
 heard_none holds input left written is none = record { left_is = is; within = omega arith; of_bytes = none }
 
--- so much of the input was read
+-- this much of the input was read
 pub heard_some : (holds : OfBytes) (input : List ℕ) (read : ℕ) (left written : Option (List ℕ)) → HeardSoFar holds input read left written
     → read ≤ 9223372036854775808 → ReadsSome holds input left written
 heard_some holds input read left written g low = record {
@@ -55,12 +55,12 @@ heard_some holds input read left written g low = record {
   of_bytes = g.of_bytes;
 }
 
--- a read changed nothing of what is left
+-- a read did not change the bytes left
 pub heard_kept : (holds : OfBytes) (input : List ℕ) (read : ℕ) (left after written : Option (List ℕ)) → HeardSoFar holds input read left written
     → KeepsBytes left after → HeardSoFar holds input read after written
 heard_kept holds input read left after written g kept = record { left_is = kept (drop read input) g.left_is; within = g.within; of_bytes = g.of_bytes }
 
--- the first n bytes of those that are ready were heard and consumed
+-- the first n of the ready bytes were heard and consumed
 pub heard_more : (holds next : OfBytes) (input : List ℕ) (unread : ℕ) (ready bytes rest : List ℕ) (source written new : Option (List ℕ)) (n : ℕ)
     → HeardSoFar holds input (9223372036854775808 - unread) (buffered ready source) written → unread ≤ 9223372036854775808
     → bytes ≡ take unread ready → n ≤ length bytes → rest ≡ drop n ready
@@ -82,7 +82,7 @@ heard_more holds next input unread ready bytes rest source written new n g low b
           (hears (take read input) g.of_bytes);
     })
 
--- all that may be read of the input was read
+-- all readable bytes of the input were read
 pub heard_all : (holds next : OfBytes) (input : List ℕ) (read : ℕ) (left written new : Option (List ℕ)) → HeardSoFar holds input read left written
     → readable input ≡ take read input → ((bytes : List ℕ) → holds bytes written → next bytes new) → ReadsToEnd next input left new
 heard_all holds next input read left written new g all hears = record {
@@ -100,7 +100,7 @@ heard_rest goes ended broke on start before input read left written new (Ok u) g
 heard_rest goes ended broke on start before input read left written new (Err e) g all over broken cause =
     rw cause (inr (heard_all (goes start before) (broke true start before) input read left written new g all (broken start before)))
 
--- the bytes that may be read are read where no byte is left, or where there were so many
+-- the readable bytes have been read if no byte is left, or if their maximum number was read
 pub at_end : (input : List ℕ) (read : ℕ) → read ≤ 9223372036854775808 → drop read input ≡ [] → readable input ≡ take read input
 at_end input read low none = readable-is input ∙ take-end input read 9223372036854775808 none low
 
@@ -109,7 +109,7 @@ pub none_ready : (most : ℕ) (ready bytes : List ℕ) → 0 < most → bytes �
 none_ready most [] bytes some is empty = refl
 none_ready most (b ∷ rest) bytes some is empty = absurd (let size = ap length is in omega (arith, some, size, empty, length-take most (b ∷ rest)))
 
--- what a result says by a test of it
+-- a property of a result, from a test of it
 pub on_ok_of : {A E : Type 0} (r : Result A E) (b : Bool) (P : Type 0) → b ≡ is_err r → b ≡ false → OnOk r P → P
 on_ok_of (Ok x) b P is passed holds = holds
 on_ok_of (Err e) b P is passed holds = absurd (cc)
@@ -118,7 +118,7 @@ pub on_err_of : {A E : Type 0} (r : Result A E) (b : Bool) (P : Type 0) → b �
 on_err_of (Ok x) b P is failed holds = absurd (cc)
 on_err_of (Err e) b P is failed holds = holds
 
--- a buffer of one byte of which nothing is ready
+-- an empty buffer of one byte
 pub alone : (ready : List ℕ) (left : Option (List ℕ)) → length ready < 1 → buffered ready left ≡ left
 alone [] (Some rest) short = refl
 alone [] None short = refl

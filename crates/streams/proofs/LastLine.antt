@@ -1,4 +1,4 @@
--- The failures of reads and writes until the end of the input.
+-- The failed reads and writes up to the end of the input.
 use Rattle.streams.proofs.Prelude.{◌≡◌, ℕ, arith, Result, IfErr, OnErr, OnOk, one_more, FailsByResult, SessionError, WriteFailed}
 
 -- the failures of the reads, and of the writes at the last line

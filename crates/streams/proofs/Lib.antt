@@ -1,3 +1,4 @@
+-- Proofs of streams: the list of their modules.
 mod Bytes
 mod Filled
 pub mod Cut

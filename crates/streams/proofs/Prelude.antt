@@ -1,4 +1,4 @@
--- The names that these proofs cite of the library, of the crates below and of the definitions here. Declares nothing.
+-- The names that these proofs use, from the library, the crates below and these definitions. It declares nothing.
 pub use Rattle.std.proofs.Common.{Bool, IfErr, List, None, OnErr, OnOk, Option, Result, Some, ℕ, [], ap, append-nil}
 pub use Rattle.std.proofs.Common.{append_assoc, arith, cond, drop, fold, length, length-drop, length-take}
 pub use Rattle.std.proofs.Common.{nat_eq, refl, rules, suc, sym, take, ◌++◌, ◌+◌, ◌-◌, ◌<◌, ◌∙◌, ◌∷◌, ◌≡◌, ◌≤◌}

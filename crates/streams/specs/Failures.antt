@@ -1,9 +1,9 @@
--- How many reads and writes have failed once lines were answered.
+-- The number of reads and writes that fail in a session.
 use Rattle.std.specs.Prelude.{◌≡◌, ℕ, Result, Ok, Err}
 use Rattle.streams.specs.Streams.{one_more}
 use Rattle.streams.specs.declared.session_error.SessionError.{SessionError, TheVariants.ReadFailed, TheVariants.WriteFailed, TheVariants.Memory}
 
--- how many reads and writes have failed by how it ended
+-- the number of failed reads and writes, by the session's result
 abbrev pub FailsByResult : ℕ → ℕ → ℕ → ℕ → Result (Unit {0}) SessionError → Type 0
 FailsByResult reads reads_after writes writes_after (Ok u) = (reads_after ≡ reads) × (writes_after ≡ writes)
 FailsByResult reads reads_after writes writes_after (Err ReadFailed) = (reads_after ≡ one_more reads) × (writes_after ≡ writes)

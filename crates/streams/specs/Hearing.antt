@@ -1,10 +1,10 @@
--- An input whose lines are heard: what was read of it, and what holds then of the bytes that were heard and of what was written.
+-- An input read line by line: the part that was read, and what holds of the bytes that were heard and written.
 use Rattle.std.specs.Prelude.{◌≡◌, ◌≢◌, ℕ, ◌<◌, ◌≤◌, ◌⊎◌, Bool, true, false, List, ◌++◌, length, take, drop, slice_index}
 use Rattle.std.specs.Prelude.{Option, Some, Result, Ok, Err}
 use Rattle.streams.specs.Lines.{readable}
 use Rattle.streams.specs.declared.session_error.SessionError.{SessionError, TheVariants.ReadFailed, TheVariants.WriteFailed, TheVariants.Memory}
 
--- what may hold of the bytes that were heard and of what was written
+-- a property of the bytes that were heard and of those that were written
 abbrev pub OfBytes : Type 1
 OfBytes = List ℕ → Option (List ℕ) → Type 0
 
@@ -19,7 +19,7 @@ pub record ReadsSome (holds : OfBytes) (input : List ℕ) (left written : Option
   pub left_is : left ≡ Some (drop read input)
   pub of_bytes : holds (take read input) written
 
--- all bytes that may be read of the input were read, and this holds of them
+-- all readable bytes of the input were read, and this holds of them
 pub record ReadsToEnd (holds : OfBytes) (input : List ℕ) (left written : Option (List ℕ)) : Type 0 where
   pub left_is : left ≡ Some (drop (length (readable input)) input)
   pub of_bytes : holds (readable input) written
@@ -42,11 +42,11 @@ pub record HeardSoFar (holds : OfBytes) (input : List ℕ) (read : ℕ) (left wr
   pub within : read ≤ length input
   pub of_bytes : holds (take read input) written
 
--- what a listener's state comes to when it hears these bytes, whatever its state at the start, what was written before
--- that, and what it has heard
+-- the state of a listener after it hears these bytes, for any state at the start, any bytes that
+-- were written before, and any that it has heard
 abbrev pub Hears : {A : Type 0} → (A → List ℕ → OfBytes) → (A → List ℕ → OfBytes) → List ℕ → Option (List ℕ) → Option (List ℕ) → Type 0
 Hears {A} holds next bytes old new = (start : A) (before heard : List ℕ) → holds start before heard old → next start before (heard ++ bytes) new
 
--- the same when it hears that there are no more
+-- the state of a listener after it hears that the input has ended
 abbrev pub HearsEnd : {A : Type 0} → (A → List ℕ → OfBytes) → (A → List ℕ → OfBytes) → Option (List ℕ) → Option (List ℕ) → Type 0
 HearsEnd {A} holds next old new = (start : A) (before heard : List ℕ) → holds start before heard old → next start before heard new

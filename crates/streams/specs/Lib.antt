@@ -1,3 +1,4 @@
+-- Definitions of streams: the list of their modules.
 pub mod Streams
 pub mod Lines
 pub mod Failures

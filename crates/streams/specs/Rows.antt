@@ -1,4 +1,4 @@
--- Inputs with their lines, and what reads and writes may leave, written out.
+-- Inputs with their lines, and states after reads and writes, worked out by hand.
 use Rattle.std.specs.Prelude.{◌≡◌, [], ◌∷◌, Some, None, Ok, Err, codes}
 use Rattle.streams.specs.ErrorCodes.{session_error_code}
 use Rattle.streams.specs.Failures.{FailsByResult}
@@ -19,7 +19,7 @@ pub record LineRowsStand : Type 0 where
   pub write_failed : session_error_code WriteFailed ≡ codes "S2"
   pub memory : session_error_code Memory ≡ codes "memory"
 
--- failures are counted in 64 bits: of reads where a read failed, of writes where a write did, and for nothing else
+-- failures are counted in 64 bits: of reads if a read failed, of writes if a write failed, and otherwise none
 pub record FailureRowsStand : Type 0 where
   pub first : one_more 0 ≡ 1
   pub greatest : one_more 0xffffffffffffffff ≡ 0
@@ -36,7 +36,7 @@ pub record FailureRowsStand : Type 0 where
   pub read_for_memory : FailsByResult 3 4 5 5 (Err Memory) → ⊥
   pub write_for_memory : FailsByResult 3 3 5 6 (Err Memory) → ⊥
 
--- the byte 1 was written before, and now 2 and 3 are: both, or fewer, and then a write failed
+-- the byte 1 was written before, now 2 and 3 are to be written: both are, or fewer and a write fails
 pub record WriteRowsStand : Type 0 where
   pub behind : AddsBytes (Some (1 ∷ [])) (Some (1 ∷ 2 ∷ 3 ∷ [])) (2 ∷ 3 ∷ [])
   pub in_front : AddsBytes (Some (1 ∷ [])) (Some (2 ∷ 3 ∷ 1 ∷ [])) (2 ∷ 3 ∷ []) → ⊥

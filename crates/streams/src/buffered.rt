@@ -1,4 +1,4 @@
-//! Sources with a buffer of their own.
+//! Sources with their own buffer.
 ghost use Rattle.std.specs.Prelude.{◌≡◌, ◌<◌, []};
 ghost use Rattle.streams.specs.Buffers.{buffered};
 
@@ -11,7 +11,7 @@ use crate::session_error::SessionError;
 use crate::sink::Sink;
 use crate::source::Source;
 
-/// A source that is read at most `N` bytes at a time into a buffer, which takes no memory.
+/// A source that is read at most `N` bytes at a time, into a buffer that is not allocated.
 #[derive(Drop)]
 pub struct Buffered<R, const N: usize> {
     source: R,
@@ -20,7 +20,7 @@ pub struct Buffered<R, const N: usize> {
 }
 
 impl<R, const N: usize> Buffered<R, N> {
-    /// No byte is read so far.
+    /// The source with an empty buffer.
     pub fn new(source: R) -> Buffered<R, N>
         requires { 0 < N }
         ensures source { result.source ≡ source }

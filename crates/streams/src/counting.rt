@@ -7,8 +7,7 @@ use crate::sink::Sink;
 use crate::source::Source;
 use std::io::{Read, Write};
 
-/// A reader or a writer whose failures are counted. Its bytes are known where those of the reader
-/// or the writer are.
+/// A reader or a writer whose failures are counted. Its bytes are known if those of the inner reader or writer are.
 #[derive(Drop)]
 pub struct Counting<T> {
     inner: T,
@@ -16,7 +15,7 @@ pub struct Counting<T> {
 }
 
 impl<T> Counting<T> {
-    /// No failure so far. It takes no memory.
+    /// Wraps a reader or a writer, with no failure counted. Allocates nothing.
     pub fn new(inner: T) -> Counting<T>
         ensures inner { result.inner ≡ inner }
         ensures failed { result.failed ≡ 0 }

@@ -1,5 +1,5 @@
 //! A call that failed.
 
-/// A read or a write that failed. Why, only its own side knows.
+/// A read or a write that failed. The reason is known only to its implementation.
 #[derive(Clone, Copy, Debug, PartialEq, Eq)]
 pub struct Failed;

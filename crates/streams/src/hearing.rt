@@ -13,15 +13,15 @@ use crate::sink::Sink;
 use crate::source::Source;
 use memchr::memchr;
 
-/// The most bytes of an input that are read.
+/// The maximum number of bytes of an input that are read.
 const READABLE: u64 = 9_223_372_036_854_775_808;
 
-/// Lets the listener hear the lines of an input through a buffer, until the listener or the input
-/// ends. A line is heard before more is read. Of an input only the first 2^63 bytes are read.
+/// Passes the lines of an input to the listener through a buffer, until the listener or the input ends. A line is
+/// passed before more is read. Only the first 2^63 bytes of an input are read.
 ///
 /// # Errors
 ///
-/// `ReadFailed` if a read fails and `WriteFailed` if the listener's write fails, which end it.
+/// `ReadFailed` if a read fails and `WriteFailed` if the listener's write fails; either ends the loop.
 pub fn hear_input<L: Listener, R: Source, W: Sink, const N: usize>(
     listener: &mut L,
     buffer: &mut ReadBuffer<N>,
@@ -59,7 +59,7 @@ pub fn hear_input<L: Listener, R: Source, W: Sink, const N: usize>(
     hear_end(listener, w)
 }
 
-/// The first bytes, at most so many.
+/// The first bytes, at most `most`.
 fn front(bytes: &[u8], most: u64) -> &[u8]
     ensures { result.now ≡ take most bytes.now }
 {
@@ -70,8 +70,8 @@ fn front(bytes: &[u8], most: u64) -> &[u8]
     }
 }
 
-/// Lets the listener hear the first line of the bytes, or keep them all if none ends there. Returns
-/// how many bytes that were, and whether the listener has ended.
+/// Passes the first line of the bytes to the listener, or lets it keep them all if no line ends in them. Returns the
+/// number of bytes used, and whether the listener has ended.
 fn hear_first<L: Listener, W: Sink>(
     listener: &mut L,
     bytes: &[u8],
@@ -95,7 +95,7 @@ fn hear_first<L: Listener, W: Sink>(
     }
 }
 
-/// Lets the listener hear that the input has ended.
+/// Tells the listener that the input has ended.
 fn hear_end<L: Listener, W: Sink>(listener: &mut L, w: &mut W) -> Result<(), SessionError>
     ensures over { OnOk result (HearsEnd (L.goes listener.old) (L.ended true listener.new) (W.taken w.old) (W.taken w.new)) }
     ensures broken { OnErr result (HearsEnd (L.goes listener.old) (L.broke true listener.new) (W.taken w.old) (W.taken w.new)) }

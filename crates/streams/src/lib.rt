@@ -1,4 +1,4 @@
-//! Streams of bytes whose failures are counted: the lines of a source, and whole texts to a sink.
+//! Streams of bytes whose failures are counted: reads a source line by line, and writes whole texts to a sink.
 #![tactic(auto)]
 
 mod buffered;

@@ -1,4 +1,4 @@
-//! Sources whose lines are heard.
+//! Sources that are read line by line.
 ghost use Rattle.std.specs.Prelude.{◌≡◌, [], ℕ, List, Some, Err};
 ghost use Rattle.streams.specs.Failures.{FailsByResult};
 ghost use Rattle.streams.specs.Hearing.{HeardByResult};
@@ -8,14 +8,14 @@ use crate::session_error::SessionError;
 use crate::sink::Sink;
 use crate::source::Source;
 
-/// A source that lets a listener hear its lines where they were read.
+/// A source that passes its lines to a listener from where they were read.
 pub trait LineSource: Source {
-    /// Lets the listener hear the lines, until the listener or the source ends. A line is heard
-    /// before more is read. Of a source only the first 2^63 bytes are read.
+    /// Passes the lines to the listener, until the listener or the source ends. A line is passed before more is
+    /// read. Only the first 2^63 bytes of a source are read.
     ///
     /// # Errors
     ///
-    /// `ReadFailed` if a read fails and `WriteFailed` if the listener's write fails, which end it.
+    /// `ReadFailed` if a read fails and `WriteFailed` if the listener's write fails; either ends the loop.
     fn hear_lines<L: Listener, W: Sink>(
         &mut self,
         listener: &mut L,

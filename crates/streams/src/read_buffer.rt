@@ -1,4 +1,4 @@
-//! Bytes that were read from a source and are not consumed yet.
+//! Bytes that were read from a source but are not consumed yet.
 ghost use Rattle.std.specs.Prelude.{◌≡◌, ◌<◌, ◌≤◌, ℕ, List, [], length, take, drop, slice_range, Some, OnErr, OnOk};
 ghost use Rattle.streams.specs.Buffers.{buffered};
 ghost use Rattle.streams.specs.Streams.{one_more, KeepsBytes};
@@ -7,7 +7,7 @@ use crate::failed::Failed;
 use crate::source::Source;
 use std::marker::Model;
 
-/// At most `N` bytes that were read and are not consumed yet. It takes no memory.
+/// At most `N` bytes that were read but are not consumed yet. Allocates nothing.
 #[derive(Drop)]
 pub struct ReadBuffer<const N: usize> {
     bytes: [u8; N],
@@ -24,7 +24,7 @@ impl<const N: usize> Model for ReadBuffer<N> {
 }
 
 impl<const N: usize> ReadBuffer<N> {
-    /// No byte so far.
+    /// An empty buffer.
     pub fn new() -> ReadBuffer<N>
         ensures { result ≡ [] }
     {
@@ -43,8 +43,7 @@ impl<const N: usize> ReadBuffer<N> {
         &all[self.start..self.end]
     }
 
-    /// Reads once if no byte is ready. None is ready after it only at the end of the source, or if
-    /// `N` is 0.
+    /// Reads once if the buffer is empty. Afterwards it is empty only at the end of the source, or if `N` is 0.
     pub fn fill<R: Source>(&mut self, r: &mut R) -> Result<(), Failed>
         ensures kept { KeepsBytes (buffered self.old (R.left r.old)) (buffered self.new (R.left r.new)) }
         ensures end { OnOk result (self.new ≡ [] → 0 < N → (input : List ℕ) → buffered self.old (R.left r.old) ≡ Some input → input ≡ []) }
@@ -62,15 +61,14 @@ impl<const N: usize> ReadBuffer<N> {
         Ok(())
     }
 
-    /// Drops the first bytes.
+    /// Drops the first `n` bytes.
     pub fn consume(&mut self, n: usize)
         requires { n ≤ length self.old }
         ensures { self.new ≡ drop n self.old }
     {
         self.start += n;
     }
-    /// Moves the first bytes to the front of `buf`, as many as it has room for, and returns how
-    /// many.
+    /// Moves the first bytes to the front of `buf`, as many as fit, and returns their number.
     pub fn take(&mut self, buf: &mut [u8]) -> usize
         ensures room { result ≤ length buf.old }
         ensures within { result ≤ length self.old }

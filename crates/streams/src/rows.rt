@@ -1,4 +1,4 @@
-//! Inputs and streams written out, with what the definitions say of them.
+//! Inputs and streams with their values by the definitions.
 ghost use Rattle.streams.specs.Rows.{FailureRowsStand, LineRowsStand, WriteRowsStand};
 
 /// Inputs with their lines, and the codes of the errors.
@@ -7,12 +7,12 @@ pub fn line_rows_stand()
     ensures { LineRowsStand }
 {}
 
-/// How many reads and writes have failed.
+/// The number of reads and writes that fail.
 pub fn failure_rows_stand()
     ensures { FailureRowsStand }
 {}
 
-/// What was written to a stream.
+/// The bytes that are written to a stream.
 pub fn write_rows_stand()
     ensures { WriteRowsStand }
 {}

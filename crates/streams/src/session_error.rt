@@ -1,17 +1,17 @@
-//! Why a session broke off.
+//! Why a session is interrupted.
 ghost use Rattle.std.specs.Prelude.{◌≡◌};
 ghost use Rattle.streams.specs.declared.session_error.SessionError.TheVariants.{Memory};
 
 use std::alloc::AllocError;
 use thiserror::Error;
 
-/// Why a session broke off.
+/// Why a session is interrupted.
 #[derive(Clone, Copy, Debug, PartialEq, Eq, Error)]
 pub enum SessionError {
     /// A read of the input failed.
     #[error("the input could not be read")]
     ReadFailed,
-    /// A write to the output failed, or took no byte.
+    /// A write to the output failed, or wrote no byte.
     #[error("the output could not be written")]
     WriteFailed,
     /// An allocation failed before the first line was read.

@@ -1,18 +1,18 @@
-//! Where a session writes.
+//! The output of a session.
 ghost use Rattle.std.specs.Prelude.{◌≡◌, ◌<◌, ◌≤◌, ℕ, List, Option, length, take, IfOk, OnErr};
 ghost use Rattle.streams.specs.Streams.{one_more, AddsBytes, KeepsBytes};
 
 use crate::failed::Failed;
 
-/// A writer that counts its failures, of which a write that takes no byte is one.
+/// A writer that counts its failures. A write that takes no byte is one.
 pub trait Sink {
-    /// The bytes that were taken, where they are known.
+    /// The bytes that were taken, if they are known.
     ghost taken: { Self → Option (List ℕ) };
 
-    /// How many calls have failed, modulo 2^64.
+    /// The number of failed calls, modulo 2^64.
     ghost failed: { Self → ℕ };
 
-    /// Takes some bytes from the front, and answers how many.
+    /// Takes some bytes from the front, and returns their number.
     fn write(&mut self, bytes: &[u8]) -> Result<usize, Failed>
         ensures within { IfOk result (λ n. n ≤ length bytes.now) }
         ensures bytes { IfOk result (λ n. AddsBytes (taken self.old) (taken self.new) (take n bytes.now)) }
@@ -22,7 +22,7 @@ pub trait Sink {
         ensures kept { OnErr result (KeepsBytes (taken self.old) (taken self.new)) }
         ensures err { OnErr result (failed self.new ≡ one_more (failed self.old)) };
 
-    /// How many calls have failed, modulo 2^64.
+    /// The number of failed calls, modulo 2^64.
     fn failures(&self) -> u64
         ensures { result ≡ failed self.now };
 }

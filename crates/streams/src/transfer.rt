@@ -1,4 +1,4 @@
-//! Whole texts to a sink.
+//! Writes whole texts to a sink.
 ghost use Rattle.std.specs.Prelude.{◌≡◌, ◌<◌, ℕ, length, take, OnErr, OnOk};
 ghost use Rattle.streams.specs.Streams.{one_more, AddsBytes};
 

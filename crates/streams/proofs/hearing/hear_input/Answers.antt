@@ -1,3 +1,4 @@
+-- Proof obligations of `hear_input` (src/hearing.rt).
 use Rattle.streams.proofs.Prelude.{◌≡◌, ◌≤◌, ◌<◌, ◌∙◌, ◌-◌, ℕ, Ok, true, false, ap, arith, eqb-true, inl, length, length-drop, one_more, readable, refl, sym, take}
 use Rattle.streams.proofs.Cut.{readable-is}
 use Rattle.streams.proofs.Heard.{at_end, heard_kept, heard_more, heard_none, heard_rest, heard_some, none_ready, on_err_of, on_ok_of}

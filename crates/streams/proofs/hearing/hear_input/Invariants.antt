@@ -1,3 +1,4 @@
+-- Loop invariants and measures of `hear_input` (src/hearing.rt).
 use Rattle.streams.proofs.Prelude.{◌≡◌, ◌≤◌, ◌<◌, ◌-◌, ℕ, List, Some, length, buffered}
 use Rattle.streams.specs.Hearing.{HeardSoFar}
 use Rattle.streams.proofs.hearing.hear_input.Given as goal

@@ -1,3 +1,4 @@
+-- Proof obligations of `write_rows_stand` (src/rows.rt).
 use Rattle.std.proofs.Common.{ℕ, zero, suc, ◌<◌, [], ◌∷◌, Some, refl, take, arith}
 use Rattle.streams.specs.Streams.{AddsBytes}
 use Rattle.streams.proofs.rows.write_rows_stand.Goals as goal

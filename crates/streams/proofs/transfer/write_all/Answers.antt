@@ -1,3 +1,4 @@
+-- Proof obligations of `write_all` (src/transfer.rt).
 use Rattle.streams.proofs.Prelude.{rules, arith, refl, ◌∙◌, ◌<◌, ◌+◌}
 use Rattle.streams.proofs.Bytes.{adds_more, adds_none}
 use Rattle.streams.proofs.transfer.write_all.Goals as goal

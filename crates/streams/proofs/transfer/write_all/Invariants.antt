@@ -1,3 +1,4 @@
+-- Loop invariants and measures of `write_all` (src/transfer.rt).
 use Rattle.streams.proofs.Prelude.{◌≡◌, ◌-◌, ◌≤◌, take, length, AddsBytes}
 use Rattle.streams.proofs.transfer.write_all.Given as goal
 

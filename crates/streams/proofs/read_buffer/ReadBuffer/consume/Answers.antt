@@ -1,3 +1,4 @@
+-- Proof obligations of `ReadBuffer::consume` (src/read_buffer.rt).
 use Rattle.streams.proofs.Prelude.{◌∙◌, ap, drop}
 use Rattle.streams.proofs.Filled.{range_rest}
 use Rattle.streams.proofs.read_buffer.ReadBuffer.consume.Goals as goal

@@ -1,3 +1,4 @@
+-- Proof obligations of `ReadBuffer::fill` (src/read_buffer.rt).
 use Rattle.streams.proofs.Prelude.{◌≡◌, ◌<◌, ◌∙◌, ℕ, length, rules, subst, sym}
 use Rattle.streams.proofs.Filled.{empty_range, filled_end, filled_kept}
 use Rattle.streams.proofs.read_buffer.ReadBuffer.fill.Goals as goal
