@@ -1,7 +1,7 @@
--- Answers of a history that shows what it showed.
+-- Results of a history that shows the same place as before.
 use Rattle.history.proofs.Prelude.{◌≡◌, ℕ, refl, ap, State, state_after, IsUnchangedHistory}
 
--- the run and the place that is shown determine every answer
+-- the run and the place that is shown determine every result
 pub as_before : {H : Type 0} (origin : H → State) (place : H → ℕ) (old new : H) → origin new ≡ origin old → place new ≡ place old → IsUnchangedHistory origin place old new
 as_before origin place old new start now = record {
   start = start;

@@ -1,3 +1,4 @@
+-- Proofs of history: the list of their modules.
 mod AsBefore
 mod Halving
 mod Places

@@ -1,4 +1,4 @@
--- Places at which a machine is kept.
+-- Places at which a machine is available.
 use Rattle.history.proofs.Prelude.{◌≡◌, ◌≢◌, ◌%◌, ◌++◌, append-nil, drop, ℕ, zero, suc, ◌+◌, ◌-◌, ◌<◌, ◌≤◌, Bool, true, false, not, List, [], ◌∷◌, length, refl, sym, ap, ◌∙◌, arith, subst, map, Option, Some, None, option_map, get_or, inl, inr, ◌⊎◌, common_steps, nat_tests, cases_lt, drop-append-le, drop-drop, drop-map, get_or-map, get_or_default, length-append, length-drop, length-map, map-append, append_assoc, Contains-append_cases, Contains-append_left, Contains-append_right, All-append, All-drop, All-nil, All-push, All-same, keep_last, get_or_from_slice_get, slice_get_within, All, Contains, slice_get, State, is_running, next_state, state_after, state_after-add, state_after-more, state_after-zero, stays_stopped, IsDue, IsKept, IsNearest, IsReplay, IsSpared, KeepsPlaces, Checkpoints, Reaches, Past, places_of, with_place}
 
 -- of the first n of these places, none at or before k is greater than p
@@ -8,14 +8,14 @@ NoneNearer places n k p = (i : ℕ) → i < n → get_or places i 0 ≤ k → ge
 pub none_first : (ps : List ℕ) (k p : ℕ) → NoneNearer ps 0 k p
 none_first ps k p i low = grind arith
 
--- one place more
+-- one more place
 none_more : (ps : List ℕ) (n k p q r : ℕ) → NoneNearer ps n k p → get_or ps n 0 ≡ q → p ≤ r → (q ≤ k → q ≤ r) → NoneNearer ps (n + 1) k r
 none_more ps n k p q r none is more next = grind arith
 
 contains_cases : (ps : List ℕ) (x q : ℕ) → Contains (x ∷ ps) q → (x ≡ q) ⊎ Contains ps q
 contains_cases ps x q c = grind arith
 
--- one element more in a list, and one less
+-- one more element in a list, and one less
 contains_more : (front ps : List ℕ) (x q : ℕ) → Contains (front ++ ps) q → Contains (front ++ x ∷ ps) q
 contains_more front ps x q c =
     elim (Contains-append_cases front ps q c) [
@@ -30,7 +30,7 @@ contains_less front ps x q c =
       | inr behind ↦ elim (contains_cases ps x q behind) [ inl same ↦ inl same | inr rest ↦ inr (Contains-append_right front ps q rest) ]
     ]
 
--- the place of a machine that is kept is one of the places
+-- the place of a machine in the list is one of the places
 contains_place : {C : Type 0} (place : C → ℕ) (cs : List C) (i : ℕ) (c : C) → slice_get cs i ≡ Some c → Contains (map place cs) (place c)
 contains_place place cs i c is =
     let low : i < length cs = slice_get_within cs i c is in
@@ -41,11 +41,11 @@ place_at place cs i c is =
     let low : i < length cs = slice_get_within cs i c is in
     get_or-map place cs i c 0 low ∙ ap place (get_or_from_slice_get cs i c c is)
 
--- all places looked at, and the start
+-- all places were compared, and the start
 pub nearest_is : (ps : List ℕ) (n k p : ℕ) → Contains (0 ∷ ps) p → p ≤ k → NoneNearer ps n k p → length ps ≤ n → IsNearest (0 ∷ ps) k p
 nearest_is ps n k p among low none whole = grind (arith, nat_tests, get_or_default)
 
--- one more place at hand
+-- one more available place
 pub nearest_with : (ps : List ℕ) (k p t r : ℕ) → IsNearest (0 ∷ ps) k p → (r ≡ p) ⊎ (r ≡ t) → r ≤ k → p ≤ r → (t ≤ k → t ≤ r) → IsNearest (0 ∷ t ∷ ps) k r
 nearest_with ps k p t r nearest one low more next = record {
   among =
@@ -86,7 +86,7 @@ reaches_more s n m k more reaches below =
     let stopped : is_running (state_after n s).status ≡ false = reaches (omega (arith, more, below)) in
     ap (λ (t : State). is_running t.status) (sym (stays_stopped s (state_after n s) n m refl stopped more)) ∙ stopped
 
--- a machine that stands at k as it does at n is the one at k
+-- a machine that is at k in the same state as at n is the one at k
 pub stands : (s t : State) (n k : ℕ) → t ≡ state_after n s → (n ≤ k) × (n < k → is_running t.status ≡ false) → t ≡ state_after k s
 stands s t n k here reached =
     elim (cases_lt n k) [
@@ -102,7 +102,7 @@ reaches_is s t n k here stops before = grind arith
 is_reached : (s t : State) (n k : ℕ) → t ≡ state_after n s → Reaches s n k → n < k → is_running t.status ≡ false
 is_reached s t n k here reaches before = grind arith
 
--- no step is made to stay
+-- no step is needed to stay
 pub replay_none : (h : Past) (k : ℕ) → h.place ≤ k → Reaches h.origin h.place k → IsReplay h k 0
 replay_none h k low reaches =
     let some = nearest_some (h.place ∷ h.checkpoints) k in
@@ -114,7 +114,7 @@ replay_none h k low reaches =
       reaches = reaches_more h.origin h.place (some.0 + 0) k (omega (arith, behind)) reaches;
     }
 
--- a replay from the nearest place at hand
+-- a replay from the nearest available place
 pub replay_from : (h : Past) (k r n at : ℕ) → IsNearest (places_of h) k r → at ≤ k → Reaches h.origin at k → n ≡ at - r → IsReplay h k n
 replay_from h k r n at nearest within reaches is = record {
   from = r;
@@ -123,7 +123,7 @@ replay_from h k r n at nearest within reaches is = record {
   reaches = reaches_more h.origin at (r + n) k (omega (arith, is)) reaches;
 }
 
--- one step on from the place before k
+-- one step from the place before k
 pub next_place : (s t u : State) (k : ℕ) → t ≡ state_after (k - 1) s → 1 ≤ k → u ≡ next_state t → u ≡ state_after k s
 next_place s t u k here some step = grind (arith, state_after-more)
 
@@ -137,18 +137,18 @@ before_next s u k here = grind arith
 pub start_is : (s t : State) (n : ℕ) → n ≡ 0 → t ≡ s → t ≡ state_after n s
 start_is s t n none is = grind (arith, state_after-zero)
 
--- n steps on from place k
+-- n steps from place k
 pub places_on : (s t u : State) (k n m : ℕ) → t ≡ state_after k s → u ≡ state_after n t → m ≡ k + n → u ≡ state_after m s
 places_on s t u k n m here run is =
     let whole : n + k ≡ m = omega (arith, is) in
     run ∙ ap (state_after n) here ∙ sym (state_after-add n k s) ∙ ap (λ (i : ℕ). state_after i s) whole
 
--- the machine that a replay ended with is the one at place k
+-- the machine after a replay is the one at place k
 pub shown_again : (s u t : State) (n k : ℕ) → u ≡ s → t ≡ state_after n s → n ≤ k → Reaches s n k → t ≡ state_after k u
 shown_again s u t n k origin here within reaches = grind (arith, nat_tests, is_reached, stands)
 
 module _ {C : Type 0} (place : C → ℕ) (cs : List C) (ps : List ℕ) where
-  -- the item that is read is one of those that are kept
+  -- the item that is read is one of the items
   pub contains_at : (i : ℕ) (a b c : C) → map place cs ≡ ps → slice_get cs i ≡ Some b
       → (c ≡ a) ⊎ (c ≡ b) → Contains (0 ∷ ps) (place a) → Contains (0 ∷ ps) (place c)
   contains_at i a b c whole is one among =
@@ -166,7 +166,7 @@ module _ {C : Type 0} (place : C → ℕ) (cs : List C) (ps : List ℕ) where
   pub all_places : (n : ℕ) → map place cs ≡ ps → length cs ≤ n → length ps ≤ n
   all_places n whole long = grind (arith, length-map)
 
--- an item that is read is one of them
+-- an item that is read is one of the items
 pub all_at : {C : Type 0} (P : C → Type 0) (cs : List C) (i : ℕ) (c : C) → All P cs → slice_get cs i ≡ Some c → P c
 all_at P cs i c all is = grind (arith, get_or_from_slice_get, slice_get_within)
 
@@ -178,23 +178,23 @@ none_past [] i none low = omega (arith, low)
 none_past (c ∷ cs) zero none low = let read : Some c ≡ None = none in cc
 none_past (c ∷ cs) (suc i) none low = none_past cs i none (omega (arith, low))
 
--- what a read answers, as the value behind it
+-- the result of a read, as the value of the item
 pub read_is : {B C : Type 0} (now : B → C) (r : Option B) (cs : List C) (i : ℕ) (b : B) → option_map now r ≡ slice_get cs i → r ≡ Some b → slice_get cs i ≡ Some (now b)
 read_is now r cs i b read is = grind arith
 
 pub read_none : {B C : Type 0} (now : B → C) (r : Option B) (cs : List C) (i : ℕ) → option_map now r ≡ slice_get cs i → r ≡ None → slice_get cs i ≡ None
 read_none now r cs i read is = grind arith
 
--- the places of the machines that are kept with one more
+-- the places of the machines with one more
 pub places_kept : {C : Type 0} (place : C → ℕ) (cs : List C) (c : C) (ps : List ℕ) (room : ℕ) → map place cs ≡ ps → room ≡ 64
     → map place (keep_last room (cs ++ c ∷ [])) ≡ with_place ps (place c)
 places_kept place cs c ps room is full = grind (arith, common_steps, drop-map, length-map, map-append)
 
--- a checkpoint is due where the nearest one stands elsewhere
+-- a checkpoint is due if the nearest one is at another place
 pub is_due : (ps : List ℕ) (k p : ℕ) → k % 1024 ≡ 0 → IsNearest (0 ∷ ps) k p → p ≢ k → IsDue ps k
 is_due ps k p round nearest other = grind arith
 
--- nothing was added, and nothing given up
+-- nothing was added, and nothing dropped
 keeps_same : (dropped_checkpoint : Bool) (ps : List ℕ) → KeepsPlaces dropped_checkpoint ps [] ps
 keeps_same dropped_checkpoint ps = record {
   rounds = All-nil (λ (k : ℕ). k % 1024 ≡ 0);
@@ -211,7 +211,7 @@ spared_all a b same = record {
   told = λ none. ap (λ (k : Checkpoints). k.dropped_checkpoint) (sym same) ∙ none;
 }
 
--- the oldest is given up
+-- the oldest is dropped
 pub spared_oldest : (a b : Checkpoints) (x : ℕ) → b.origin ≡ a.origin → a.places ≡ x ∷ b.places → b.dropped_checkpoint ≡ true → IsSpared a b
 spared_oldest a b x origin places told = record {
   origin = origin;
@@ -231,7 +231,7 @@ kept_spared a b s = record { origin = s.origin; added = []; keeps = s.keeps; tol
 pub kept_all : (a b : Checkpoints) → b ≡ a → IsKept a b
 kept_all a b same = kept_spared a b (spared_all a b same)
 
--- one place more, of at most 64
+-- one more place, of at most 64
 keeps_one : (dropped_checkpoint : Bool) (ps qs : List ℕ) (k : ℕ) → length ps ≤ 64 → k % 1024 ≡ 0 → qs ≡ with_place ps k → KeepsPlaces dropped_checkpoint ps (k ∷ []) qs
 keeps_one dropped_checkpoint ps qs k room round is =
     let long : length (ps ++ k ∷ []) ≡ length ps + 1 = length-append ps (k ∷ []) in
@@ -282,7 +282,7 @@ keeps_since ps a b same kept = (kept.added, subst (λ (qs : List ℕ). KeepsPlac
 pub spares_since : (ps : List ℕ) (a b : Checkpoints) → a.places ≡ ps → IsSpared a b → KeepsPlaces b.dropped_checkpoint ps [] b.places
 spares_since ps a b same spared = subst (λ (qs : List ℕ). KeepsPlaces b.dropped_checkpoint qs [] b.places) same spared.keeps
 
--- one place more, of at most 64
+-- one more place, of at most 64
 pub kept_one : (a b c : Checkpoints) (k : ℕ) → length b.places ≤ 64 → k % 1024 ≡ 0 → IsSpared a b → c.origin ≡ b.origin → c.places ≡ with_place b.places k
     → c.dropped_checkpoint ≡ b.dropped_checkpoint → IsKept a c
 kept_one a b c k room round spared origin places told =
@@ -297,18 +297,18 @@ kept_one a b c k room round spared origin places told =
 pub own_place : (ps : List ℕ) (t p : ℕ) → IsNearest (0 ∷ t ∷ ps) t p → p ≡ t
 own_place ps t p nearest = grind arith
 
--- one step on from place k
+-- one step from place k
 pub step_on : (s t u : State) (k m : ℕ) → t ≡ state_after k s → u ≡ next_state t → m ≡ k + 1 → u ≡ state_after m s
 step_on s t u k m here step is = grind (arith, state_after-more)
 
--- a place that is not the nearest may be given up
+-- a place that is not the nearest may be dropped
 nearest_without_split : (ps : List ℕ) (k t x r p : ℕ) → IsNearest (0 ∷ t ∷ x ∷ ps) k r → r ≢ x → IsNearest (0 ∷ t ∷ ps) k p → r ≡ p
 nearest_without_split ps k t x r p nearest other is =
     let there : Contains (0 ∷ t ∷ ps) r = elim (contains_less (0 ∷ t ∷ []) ps x r nearest.among) [ inl same ↦ absurd (other (sym same)) | inr rest ↦ rest ] in
     let here : Contains (0 ∷ t ∷ x ∷ ps) p = contains_more (0 ∷ t ∷ []) ps x p is.among in
     omega (arith, is.greatest r there nearest.at_most, nearest.greatest p here is.at_most)
 
--- the nearest of these places is that of those
+-- the nearest of one list of places is that of the other
 abbrev pub SameNearest : List ℕ → List ℕ → ℕ → ℕ → Type 0
 SameNearest old new t k = (p : ℕ) → IsNearest (0 ∷ t ∷ new) k p → IsNearest (0 ∷ t ∷ old) k p
 
@@ -318,15 +318,15 @@ nearest_without old qs rs t k x r same is nearest other p found =
     let one : r ≡ p = nearest_without_split rs k t x r p wide other found in
     same p (subst (λ (q : ℕ). IsNearest (0 ∷ t ∷ qs) k q) one nearest)
 
--- the rest of the machines that are kept, each at its place
+-- the rest of the machines, each at its place
 pub rest_all : {C : Type 0} (P : C → Type 0) (bs cs : List C) → bs ≡ drop 1 cs → All P cs → All P bs
 rest_all P bs cs is all = All-same P bs (drop 1 cs) is (All-drop P 1 cs all)
 
--- one more is kept, and the newest of them are
+-- one more is kept, limited to the newest
 pub newest_all : {C : Type 0} (P : C → Type 0) (bs cs : List C) (c : C) (room : ℕ) → bs ≡ keep_last room (cs ++ c ∷ []) → All P cs → P c → All P bs
 newest_all P bs cs c room is all one = All-same P bs (keep_last room (cs ++ c ∷ [])) is (All-drop P (length (cs ++ c ∷ []) - room) (cs ++ c ∷ []) (All-push P cs c all one))
 
--- so many are kept at most
+-- at most n are kept
 pub rest_within : {C : Type 0} (bs cs : List C) (n : ℕ) → bs ≡ drop 1 cs → length cs ≤ n → length bs ≤ n
 rest_within {C = C} bs cs n is low = omega (arith, ap (λ (xs : List C). length xs) is, length-drop 1 cs, low)
 

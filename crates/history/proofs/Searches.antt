@@ -1,7 +1,7 @@
--- Searches of a run for a place to stop.
+-- Searches of a run for a place where it stops.
 use Rattle.history.proofs.Prelude.{◌≡◌, ◌≢◌, ℕ, zero, suc, ◌+◌, ◌-◌, ◌<◌, ◌≤◌, Bool, true, false, List, [], length, refl, sym, ap, subst, ◌∙◌, arith, inl, inr, ◌⊎◌, if◌then◌else◌, ◌==◌, ℤ, cases_lt, nat_tests, common_steps, State, is_running, state_after, goes_on, stays_stopped, first_stop, is_at, is_stop, last_stop, FirstIsLeast, IsFirst, IsLast, LastIsGreatest, Reaches}
 
--- of places of which none is before another there is one
+-- if no place is before another, there is only one
 only : (P : ℕ → Type 0) → ((i j : ℕ) → P i → P j → i < j → ⊥) → (x j : ℕ) → P x → (P j → j ≡ x) × (j ≡ x → P j)
 only P apart x j here = grind arith
 
@@ -39,28 +39,28 @@ last_stop-is stops s (suc k) = last_step stops s k (last_stop stops s k) (is_at 
 pub last_only : LastIsGreatest
 last_only stops s k j = grind (arith, nat_tests, last_stop-is)
 
--- no place after k and before j at which the run is to stop
+-- there is no place after k and before j at which the run stops
 abbrev pub NoneBefore : List ℕ → State → ℕ → ℕ → Type 0
 NoneBefore stops s k j = (i : ℕ) → k < i → i < j → is_stop stops (state_after i s) ≡ false
 
 pub none_first : (stops : List ℕ) (s : State) (k j : ℕ) → j ≡ k + 1 → NoneBefore stops s k j
 none_first stops s k j next i after before = grind arith
 
--- the run goes on at j, too
+-- the run continues at j too
 pub none_further : (stops : List ℕ) (s t : State) (k j : ℕ) (here : Bool) → NoneBefore stops s k j → t ≡ state_after j s → here ≡ is_stop stops t
     → here ≡ false → NoneBefore stops s k (j + 1)
 none_further stops s t k j here none is said goes_on = grind arith
 
--- the run is to stop at j, and at none before
+-- the run stops at j, and at no place before
 pub found_here : (stops : List ℕ) (s t : State) (k to j : ℕ) → NoneBefore stops s k j → k < j → j < to → t ≡ state_after j s → is_stop stops t ≡ true
     → j ≡ first_stop stops s k (to - k)
 found_here stops s t k to j none after before is stops_here = grind (arith, nat_tests, only, first_not_before, first_stop-some)
 
--- the run is to stop at no place before the last one
+-- the run stops at no place before the last one
 pub found_none : (stops : List ℕ) (s : State) (k to j : ℕ) → NoneBefore stops s k j → k < to → to ≤ j → to ≡ first_stop stops s k (to - k)
 found_none stops s k to j none some ends = grind (arith, only, first_not_before, first_stop-some)
 
--- no place from j on and before k whose `pc` is one of these slots
+-- no place from j on and before k has a `pc` that is one of these slots
 abbrev pub NoneFrom : List ℕ → State → ℕ → ℕ → Type 0
 NoneFrom stops s j k = (i : ℕ) → j ≤ i → i < k → is_at stops (state_after i s).pc ≡ false
 
@@ -68,7 +68,7 @@ NoneFrom stops s j k = (i : ℕ) → j ≤ i → i < k → is_at stops (state_af
 pub found_first : (stops : List ℕ) (s : State) (j k : ℕ) → NoneFrom stops s j k → j ≡ 0 → 0 ≡ last_stop stops s k
 found_first stops s j k none start = grind (arith, nat_tests, last_stop-is)
 
--- no slot, no breakpoint
+-- without slots there is no breakpoint
 at_none : (pc : ℤ) → is_at [] pc ≡ false
 unfolding is_at
 at_none pc = grind arith
@@ -86,7 +86,7 @@ is_stop-stopped : (stops : List ℕ) (t : State) → is_running t.status ≡ fal
 unfolding is_stop
 is_stop-stopped stops t stopped = grind arith
 
--- behind a stopped state, and at the last place, the next one is the answer
+-- after a stopped state, and at the last place, the next one is the result
 pub found_next : (stops : List ℕ) (s : State) (k to : ℕ) → k < to → Reaches s k (to - 1) → k + 1 ≡ first_stop stops s k (to - k)
 found_next stops s k to some reaches =
     elim (cases_lt (k + 1) to) [
@@ -113,7 +113,7 @@ pub last_stays : (stops : List ℕ) (s t : State) (k j : ℕ) (here : Bool) → 
 unfolding last_stop
 last_stays stops s t k j here is said goes_on before = grind arith
 
--- the run stands before place k, with a breakpoint there
+-- the run is before place k, with a breakpoint there
 pub last_stands : (stops : List ℕ) (s t : State) (k n : ℕ) → t ≡ state_after (k - 1) s → is_running t.status ≡ false → k ≤ n → 0 < n
     → is_at stops t.pc ≡ true → n - 1 ≡ last_stop stops s n
 last_stands stops s t k n is stopped later some stops_here =
@@ -125,7 +125,7 @@ last_stands stops s t k n is stopped later some stops_here =
       stops_there = λ _. ap (λ (u : State). is_at stops u.pc) (sym same) ∙ stops_here;
     })
 
--- the run stands before place k, with no breakpoint there
+-- the run is before place k, without a breakpoint there
 pub last_stands_not : (stops : List ℕ) (s t : State) (k n j : ℕ) → t ≡ state_after (k - 1) s → is_running t.status ≡ false → k ≤ n
     → is_at stops t.pc ≡ false → j ≡ last_stop stops s k → j ≡ last_stop stops s n
 last_stands_not stops s t k n j is stopped later goes_on last =
@@ -146,7 +146,7 @@ last_stands_not stops s t k n j is stopped later goes_on last =
 pub last_low : (stops : List ℕ) (s : State) (n j : ℕ) → 0 < n → j ≡ last_stop stops s n → j < n
 last_low stops s n j some last = grind (arith, nat_tests, last_stop-is)
 
--- none after the answer of the stretch from p to end, nor behind end
+-- there is no stop after the result for the stretch from p to end, nor after end
 none_after_last : (stops : List ℕ) (s : State) (p end k j i : ℕ) → NoneFrom stops s end k → IsLast stops (state_after p s) (end - p) j
     → p + j < i → i < k → is_at stops (state_after i s).pc ≡ false
 none_after_last stops s p end k j i none last after before =
@@ -173,13 +173,13 @@ at_begin stops s t p j is found stops_there =
           ]
     ]
 
--- a stretch of the run from the state at place p on to place end, which is not behind place k
+-- a stretch of the run from the state at place p to place end, which is at most k
 pub record IsStretch (s t : State) (p end k : ℕ) : Type 0 where
   pub is : t ≡ state_after p s
   pub some : p < end
   pub within : end ≤ k
 
--- the answer of a stretch with a breakpoint in it, with none behind the stretch
+-- the result for a stretch with a breakpoint in it and none after it
 pub found_in_stretch : (stops : List ℕ) (s t : State) (p end k j : ℕ) → IsStretch s t p end k → NoneFrom stops s end k
     → j ≡ last_stop stops t (end - p) → (0 < j) ⊎ (is_at stops t.pc ≡ true) → p + j ≡ last_stop stops s k
 found_in_stretch stops s t p end k j stretch none answer found =
@@ -195,7 +195,7 @@ found_in_stretch stops s t p end k j stretch none answer found =
       stops_there = λ _. at_begin stops s t p j is found last.stops_there;
     })
 
--- a stretch with no breakpoint
+-- a stretch without a breakpoint
 pub none_in_stretch : (stops : List ℕ) (s t : State) (p end k : ℕ) → t ≡ state_after p s → NoneFrom stops s end k
     → 0 ≡ last_stop stops t (end - p) → is_at stops t.pc ≡ false → NoneFrom stops s p k
 none_in_stretch stops s t p end k is none answer goes_on i behind before =

@@ -1,3 +1,4 @@
+-- Definitions of history: the list of their modules.
 pub mod Limits
 pub mod Past
 pub mod Search

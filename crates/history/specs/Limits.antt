@@ -1,10 +1,10 @@
 -- The limits of the checkpoints of a run.
 use Rattle.std.specs.Prelude.{ℕ}
 
--- the most checkpoints that are kept
+-- the maximum number of checkpoints
 abbrev pub checkpoint_limit : ℕ
 checkpoint_limit = 64
 
--- the steps from one place for a checkpoint to the next
+-- the distance between two places for checkpoints, in steps
 abbrev pub checkpoint_interval : ℕ
 checkpoint_interval = 1024

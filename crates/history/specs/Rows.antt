@@ -1,4 +1,4 @@
--- Searches of two short programs, worked by hand.
+-- Searches of two short programs, worked out by hand.
 use Rattle.std.specs.Prelude.{◌≡◌, ℕ, true, false, pos, negsuc, List, [], ◌∷◌}
 use Rattle.bpf_machine.specs.Rows.{start_of}
 use Rattle.bpf_machine.specs.State.{State}
@@ -10,7 +10,7 @@ abbrev pub looping : State
 looping = start_of
     (5 ∷ 0 ∷ 0 ∷ 0 ∷ 0 ∷ 0 ∷ 0 ∷ 0 ∷ 5 ∷ 0 ∷ 0 ∷ 0 ∷ 0 ∷ 0 ∷ 0 ∷ 0 ∷ 5 ∷ 0 ∷ 0xfe ∷ 0xff ∷ 0 ∷ 0 ∷ 0 ∷ 0 ∷ [])
 
--- ja +0; exit: `pc` is 0, 1 and, where it has exited, 1
+-- ja +0; exit: `pc` is 0, 1 and, after the exit, 1
 abbrev pub exiting : State
 exiting = start_of (5 ∷ 0 ∷ 0 ∷ 0 ∷ 0 ∷ 0 ∷ 0 ∷ 0 ∷ 0x95 ∷ 0 ∷ 0 ∷ 0 ∷ 0 ∷ 0 ∷ 0 ∷ 0 ∷ [])
 
@@ -26,7 +26,7 @@ pub record SearchRowsStand : Type 0 where
   pub behind_breakpoint : is_stop (0 ∷ []) (state_after 1 looping) ≡ false
   pub runs_to_exit : is_stop [] (state_after 1 exiting) ≡ false
   pub has_exited : is_stop [] (state_after 2 exiting) ≡ true
-  -- forwards: the place that is shown does not count, and the last one is taken where there is none
+  -- forward: the place that is shown does not count, and the last place is the result if there is no stop
   pub first : first_stop (2 ∷ []) looping 0 5 ≡ 2
   pub first_behind_its_own : first_stop (1 ∷ []) looping 1 5 ≡ 3
   pub first_of_two : first_stop (2 ∷ 1 ∷ []) looping 0 5 ≡ 1
@@ -36,7 +36,7 @@ pub record SearchRowsStand : Type 0 where
   pub nowhere_to_go : first_stop (2 ∷ []) looping 1 0 ≡ 1
   pub first_is_exit : first_stop [] exiting 0 9 ≡ 2
   pub first_before_exit : first_stop (1 ∷ []) exiting 0 9 ≡ 1
-  -- backwards: place 0 is taken where there is none
+  -- backward: place 0 is the result if there is no stop
   pub last : last_stop (1 ∷ []) looping 5 ≡ 3
   pub last_at_once : last_stop (2 ∷ []) looping 5 ≡ 4
   pub last_before_its_own : last_stop (1 ∷ []) looping 3 ≡ 1

@@ -1,11 +1,12 @@
--- What a call that shows nothing else leaves of a history.
+-- A call that does not change what a history shows.
 use Rattle.std.specs.Prelude.{◌≡◌, ℕ, ◌-◌, List}
 use Rattle.bpf_machine.specs.State.{State}
 use Rattle.bpf_machine.specs.Trace.{state_after}
 use Rattle.history.specs.Search.{first_stop, last_stop}
 
--- Every answer is as before, of a history whose state at place 0 is `origin` and that shows `place`: the state at place
--- 0, the place that is shown, the machine's state there, what each move shows, and what each search finds.
+-- The results of all calls are unchanged for a history whose state at place 0 is `origin` and that
+-- shows `place`: the state at place 0, the place that is shown, the machine's state there, the
+-- result of each move, and that of each search.
 pub record IsUnchangedHistory {H : Type 0} (origin : H → State) (place : H → ℕ) (old new : H) : Type 0 where
   pub start : origin new ≡ origin old
   pub now : place new ≡ place old

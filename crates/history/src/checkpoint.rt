@@ -10,7 +10,7 @@ use std::alloc::AllocError;
 /// The machine at a place of its run.
 #[derive(Drop)]
 pub(crate) struct Checkpoint<E> {
-    /// The steps from the begin of the run.
+    /// The number of steps from the start of the run.
     pub(crate) place: u64,
     pub(crate) machine: E,
 }
@@ -27,7 +27,7 @@ impl<E: Emulator> Checkpoint<E> {
         })
     }
 
-    /// `n` steps on, of which those after a stopped state change nothing.
+    /// Runs `n` steps; steps after a stopped state change nothing.
     pub(crate) fn run(&mut self, n: u64) -> Result<(), AllocError>
         requires { self.old.place + n < 2 ^ 64 }
         ensures { OnOk result ((self.new.place ≡ self.old.place + n) × (E.state self.new.machine ≡ state_after n (E.state self.old.machine))) }
@@ -37,7 +37,7 @@ impl<E: Emulator> Checkpoint<E> {
         Ok(())
     }
 
-    /// One step on. A refused growth leaves it.
+    /// Runs one step. If an allocation fails, the machine is unchanged.
     pub(crate) fn step(&mut self) -> Result<(), AllocError>
         requires { self.old.place + 1 < 2 ^ 64 }
         ensures ok { OnOk result ((self.new.place ≡ self.old.place + 1) × (E.state self.new.machine ≡ next_state (E.state self.old.machine))) }
@@ -48,7 +48,7 @@ impl<E: Emulator> Checkpoint<E> {
         Ok(())
     }
 
-    /// Whether it stands at place `k` as it does here, as at its own place or behind a stop.
+    /// Whether the machine is in the state of place `k`: `k` is its own place, or a later one after it stopped.
     pub(crate) fn reaches(&self, k: u64) -> bool
         ensures { IsTrue result ↔ ((self.now.place ≤ k) × (self.now.place < k → is_running (E.state self.now.machine).status ≡ false)) }
     {
@@ -56,7 +56,7 @@ impl<E: Emulator> Checkpoint<E> {
     }
 }
 
-/// The later of two machines that is not behind place `k`. The first is not.
+/// The later of the two machines at or before place `k`. The first always qualifies.
 pub(crate) fn nearer<'a, E>(
     first: &'a Checkpoint<E>,
     second: &'a Checkpoint<E>,

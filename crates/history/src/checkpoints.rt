@@ -1,4 +1,4 @@
-//! The machines that are kept of a run.
+//! The checkpoints of a run.
 ghost use Rattle.std.specs.Prelude.{◌≡◌, ◌∷◌, ◌+◌, ◌^◌, ◌<◌, [], false, IfNone, IfOk, IfSome, IsOk, OnErr, OnOk};
 ghost use Rattle.history.specs.Past.{HasPlace, IsCheckpoint, IsDue, IsKept, IsNearest, IsSpared};
 ghost use Rattle.bpf_machine.specs.Step.{next_state};
@@ -9,10 +9,10 @@ use circular_buffer::HeapCircularBuffer;
 use std::alloc::{AllocError, Global};
 use std::marker::Model;
 
-/// The most checkpoints that are kept. One more takes the place of the oldest.
+/// The maximum number of checkpoints. One more replaces the oldest.
 const CHECKPOINT_LIMIT: usize = 64;
 
-/// The steps from one place for a checkpoint to the next.
+/// The distance between two places for checkpoints, in steps.
 pub(crate) const CHECKPOINT_INTERVAL: u64 = 1024;
 
 /// The start of a run, and checkpoints of it in the order in which they were kept.
@@ -20,7 +20,7 @@ pub(crate) const CHECKPOINT_INTERVAL: u64 = 1024;
 pub(crate) struct Checkpoints<E: Emulator> {
     start: Checkpoint<E>,
     ring: HeapCircularBuffer<Checkpoint<E>>,
-    /// Whether one was given up for want of memory.
+    /// Whether a checkpoint was dropped after a failed allocation.
     dropped_checkpoint: bool,
 }
 
@@ -40,7 +40,7 @@ impl<E: Emulator> Model for Checkpoints<E> {
 }
 
 impl<E: Emulator> Checkpoints<E> {
-    /// The run that begins with this machine. The room of all checkpoints is taken here.
+    /// The run that starts with this machine. The memory for the list of checkpoints is allocated here.
     pub(crate) fn new(alloc: Global, machine: E) -> Result<Checkpoints<E>, AllocError>
         ensures origin { IfOk result (λ c. c.origin ≡ E.state machine) }
         ensures places { IfOk result (λ c. c.places ≡ []) }
@@ -55,7 +55,7 @@ impl<E: Emulator> Checkpoints<E> {
         })
     }
 
-    /// The greatest checkpoint at or before place `k`, or the start where there is none.
+    /// The greatest checkpoint at or before place `k`, or the start if there is none.
     pub(crate) fn nearest(&self, k: u64) -> &Checkpoint<E>
         ensures here { IsCheckpoint E.state self.now.origin result.now }
         ensures nearest { IsNearest (0 ∷ self.now.places) k result.now.place }
@@ -69,21 +69,21 @@ impl<E: Emulator> Checkpoints<E> {
         nearest
     }
 
-    /// Begins to tell anew whether a checkpoint is given up.
+    /// Resets the mark for dropped checkpoints.
     pub(crate) fn tell_anew(&mut self)
         ensures { self.new ≡ record { origin = self.old.origin; places = self.old.places; dropped_checkpoint = false } }
     {
         self.dropped_checkpoint = false;
     }
 
-    /// Whether a checkpoint was given up since that was told anew.
+    /// Whether a checkpoint was dropped since the mark was reset.
     pub(crate) fn dropped_checkpoint(&self) -> bool
         ensures { result ≡ self.now.dropped_checkpoint }
     {
         self.dropped_checkpoint
     }
 
-    /// Gives up the oldest checkpoint, for want of memory.
+    /// Drops the oldest checkpoint after a failed allocation.
     #[tactic(auto, using(crate::proofs::Places::spared_all, crate::proofs::Places::spared_oldest))]
     fn take_oldest(&mut self) -> Option<Checkpoint<E>>
         ensures spared { IsSpared self.old self.new }
@@ -95,9 +95,9 @@ impl<E: Emulator> Checkpoints<E> {
         Some(oldest)
     }
 
-    /// A machine of one's own at the greatest place at or before `k` of the start, the checkpoints
-    /// and the machine that is shown. Where memory is refused, the oldest checkpoints are given up
-    /// for it, and the one that is looked for is taken itself.
+    /// An owned machine at the greatest place at or before `k`, out of the start, the checkpoints and
+    /// the machine that is shown. If an allocation fails, the oldest checkpoints are dropped to make
+    /// room; the one that is needed is taken itself.
     #[tactic(auto, using(crate::proofs::Places::spared_all))]
     pub(crate) fn aside(
         &mut self,
@@ -125,8 +125,7 @@ impl<E: Emulator> Checkpoints<E> {
         }
     }
 
-    /// One step on of a machine aside. Where memory is refused, the oldest checkpoints are given up
-    /// for it.
+    /// Runs one step of a separate machine. If an allocation fails, the oldest checkpoints are dropped to make room.
     #[tactic(auto, using(crate::proofs::Places::spared_all, crate::proofs::Places::spared_on))]
     pub(crate) fn step(&mut self, machine: &mut Checkpoint<E>) -> Result<(), AllocError>
         requires { machine.old.place + 1 < 2 ^ 64 }
@@ -143,7 +142,7 @@ impl<E: Emulator> Checkpoints<E> {
     }
 
     /// Keeps a copy of this machine, if its place is one for checkpoints and no machine is kept
-    /// there. Where memory is refused, the oldest are given up for it.
+    /// there. If an allocation fails, the oldest checkpoints are dropped to make room.
     pub(crate) fn keep(&mut self, machine: &Checkpoint<E>) -> Result<(), AllocError>
         requires { IsCheckpoint E.state self.old.origin machine.now }
         ensures kept { IsKept self.old self.new }

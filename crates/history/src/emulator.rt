@@ -1,4 +1,4 @@
-//! A machine whose run can be kept.
+//! Machines whose run can be recorded.
 ghost use Rattle.std.specs.Prelude.{◌≡◌, IfOk, OnErr, OnOk};
 ghost use Rattle.bpf_machine.specs.Operands.{register_in};
 ghost use Rattle.bpf_machine.specs.State.{State};
@@ -12,25 +12,25 @@ use loader::Image;
 use std::alloc::AllocError;
 use value_store::ValueStore;
 
-/// A machine whose run can be kept: what a history and a session need of it.
+/// A machine whose run can be recorded, as histories and sessions need it.
 pub trait Emulator: Drop {
-    /// What keeps the values that its program can name.
+    /// The store of its program's values.
     type Values: ValueStore;
 
-    /// What keeps its memory.
+    /// Its memory.
     type Memory: Regions;
 
-    /// The state that it stands in.
+    /// The current state.
     ghost state: { Self → State };
 
-    /// One step. A refused growth leaves the state.
+    /// Runs one step. If an allocation fails, the state is unchanged.
     fn step(&mut self) -> Result<Status, AllocError>
         ensures ok { OnOk result (state self.new ≡ next_state (state self.old)) }
         ensures status { IfOk result (λ s. s ≡ (state self.new).status) }
         ensures err { OnErr result (state self.new ≡ state self.old) };
 
-    /// `n` steps, of which those after a stopped state change nothing. If it runs out of memory,
-    /// the machine is in the last state that it reached, whose step takes memory.
+    /// Runs `n` steps; steps after a stopped state change nothing. If an allocation fails, the machine is in the last
+    /// state that it reached, whose step needs the allocation.
     fn run(&mut self, n: u64) -> Result<(), AllocError>
         ensures ok { OnOk result (state self.new ≡ state_after n (state self.old)) }
         ensures err { OnErr result (IsReached (state self.old) n (state self.new)) };
@@ -45,7 +45,7 @@ pub trait Emulator: Drop {
     fn pc(&self) -> i64
         ensures { result ≡ (state self.now).pc };
 
-    /// The image that it runs.
+    /// The image that the machine runs.
     fn image(&self) -> &Image
         ensures { result.now ≡ (state self.now).image };
 
@@ -60,7 +60,7 @@ pub trait Emulator: Drop {
     fn memory(&self) -> &Self::Memory
         ensures { Self.Memory.bytes result.now ≡ (state self.now).memory };
 
-    /// The values that the program can name, and their charge.
+    /// The values of the program, and their charge.
     fn values(&self) -> &Self::Values
         ensures { record { values = Self.Values.values result.now; charge = Self.Values.charge result.now } ≡ (state self.now).values };
 }

@@ -1,18 +1,18 @@
-//! Laws of searches, each the clause of a function that does nothing.
+//! Laws of searches, each proved as the contract of an empty function.
 ghost use Rattle.history.specs.Rows.{SearchRowsStand};
 ghost use Rattle.history.specs.Search.{FirstIsLeast, LastIsGreatest};
 
-/// The place that a search forwards finds is the least one at which the run is to stop.
+/// A forward search finds the least place at which the run stops.
 pub fn first_is_least()
     ensures { FirstIsLeast }
 {}
 
-/// The place that a search backwards finds is the greatest one with a breakpoint.
+/// A backward search finds the greatest place with a breakpoint.
 pub fn last_is_greatest()
     ensures { LastIsGreatest }
 {}
 
-/// Searches of two short programs, worked by hand.
+/// Searches of two short programs, worked out by hand.
 pub fn rows_stand()
     ensures { SearchRowsStand }
 {}

@@ -1,4 +1,4 @@
-//! Runs of a machine that can be shown at each of their places, and searched both ways.
+//! Runs of a machine that can be shown at each of their places, and searched in both directions.
 #![tactic(auto)]
 
 mod checkpoint;

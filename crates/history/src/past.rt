@@ -1,4 +1,4 @@
-//! A history that keeps checkpoints of its run and replays what lies between them.
+//! A history that keeps checkpoints of its run and replays the steps between them.
 ghost use Rattle.std.specs.Prelude.{◌≡◌, ◌-◌, ◌<◌, ◌≤◌, ℕ, List, [], false, IfOk, IsOk, OnErr, OnOk};
 ghost use Rattle.bpf_machine.specs.Trace.{state_after};
 ghost use Rattle.history.specs.Unchanged.{IsUnchangedHistory};
@@ -15,8 +15,7 @@ use crate::stops::Stops;
 use std::alloc::{AllocError, Global};
 use std::marker::Model;
 
-/// A run of which the machine that is shown is kept, and checkpoints from which the others are
-/// replayed.
+/// A run with the machine that is shown, and checkpoints from which the machines at other places are replayed.
 #[derive(Drop)]
 pub struct Past<E: Emulator> {
     checkpoints: Checkpoints<E>,
@@ -47,15 +46,15 @@ impl<E: Emulator> Model for Past<E> {
 }
 
 impl<E: Emulator> Past<E> {
-    /// The steps of the last `go`: from the machine that was nearest at hand to the place that it
-    /// showed, or to the end of the stretch in which the run stops before it.
+    /// The steps of the last `go`: from the nearest available machine to the place that it showed, or to the end
+    /// of the stretch in which the run stops before it.
     pub fn replayed(&self) -> u64
         ensures { result ≡ self.now.replayed }
     {
         self.replayed
     }
 
-    /// Whether the last `go`, `first` or `last` gave up a checkpoint since memory was refused.
+    /// Whether the last `go`, `first` or `last` dropped a checkpoint after a failed allocation.
     pub fn dropped_checkpoint(&self) -> bool
         ensures { result ≡ self.now.dropped_checkpoint }
     {
@@ -103,7 +102,7 @@ impl<E: Emulator> History for Past<E> {
         ensures unmoved { OnErr result (self.new.replayed ≡ self.old.replayed) }
         ensures keeps { (added : List ℕ) × KeepsPlaces self.new.dropped_checkpoint self.old.checkpoints added self.new.checkpoints }
         ensures memory { OnErr result (self.new.checkpoints ≡ []) }
-        // No memory is taken to stay, nor to go on behind a stopped state.
+        // Nothing is allocated to stay at a place, or to move on after a stopped state.
         ensures no_memory { self.old.place ≤ k → Reaches self.old.origin self.old.place k → IsOk result × (self.new.dropped_checkpoint ≡ false) }
     {
         self.checkpoints.tell_anew();
@@ -131,7 +130,7 @@ impl<E: Emulator> History for Past<E> {
         ensures replayed { self.new.replayed ≡ self.old.replayed }
         ensures keeps { (added : List ℕ) × KeepsPlaces self.new.dropped_checkpoint self.old.checkpoints added self.new.checkpoints }
         ensures memory { OnErr result (self.new.checkpoints ≡ []) }
-        // No memory is taken to look one place on, nor behind a stopped state.
+        // Nothing is allocated to look at the next place, or after a stopped state.
         ensures no_memory { Reaches self.old.origin self.old.place (to - 1) → IsOk result × (self.new.dropped_checkpoint ≡ false) }
     {
         self.checkpoints.tell_anew();

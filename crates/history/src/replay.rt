@@ -1,4 +1,4 @@
-//! The way from one place of a run to a later one.
+//! Replays a run from one place to a later one.
 ghost use Rattle.std.specs.Prelude.{◌≡◌, ◌≤◌, [], IfOk, OnErr};
 ghost use Rattle.history.specs.Past.{IsCheckpoint, IsKept, Reaches};
 
@@ -7,8 +7,8 @@ use crate::checkpoints::{CHECKPOINT_INTERVAL, Checkpoints};
 use crate::emulator::Emulator;
 use std::alloc::AllocError;
 
-/// Runs a machine on to place `to`, or to the end of the stretch in which it stops, and keeps
-/// checkpoints on the way. Where memory is refused, the place that it reached is not known.
+/// Runs a machine to place `to`, or to the end of the stretch in which it stops, and keeps checkpoints on the way. If
+/// an allocation fails, the place that it reached is unknown.
 #[tactic(auto, using(crate::proofs::Places::kept_all))]
 pub(crate) fn replay<E: Emulator>(
     checkpoints: &mut Checkpoints<E>,
@@ -27,14 +27,14 @@ pub(crate) fn replay<E: Emulator>(
         let place = at.place;
         let steps = (CHECKPOINT_INTERVAL - place % CHECKPOINT_INTERVAL).min(to - place);
         at.run(steps)?;
-        // A checkpoint that memory refuses is left out.
+        // If the checkpoint cannot be allocated, it is left out.
         let _left_out = checkpoints.keep(&at);
     }
     Ok(at)
 }
 
-/// The same step by step, from the nearest machine at hand. Where memory is refused, the oldest
-/// checkpoints are given up for it.
+/// Replays step by step, from the nearest available machine. If an allocation fails, the
+/// oldest checkpoints are dropped to make room.
 #[tactic(auto, using(crate::proofs::Places::kept_all))]
 pub(crate) fn replay_sparing<E: Emulator>(
     checkpoints: &mut Checkpoints<E>,
@@ -51,14 +51,14 @@ pub(crate) fn replay_sparing<E: Emulator>(
     let mut at = checkpoints.aside(shown, to)?;
     while !at.reaches(to) {
         checkpoints.step(&mut at)?;
-        // A checkpoint that memory refuses is left out.
+        // If the checkpoint cannot be allocated, it is left out.
         let _left_out = checkpoints.keep(&at);
     }
     Ok(at)
 }
 
-/// The machine at place `to`, or at the end of the stretch in which it stops before it: by
-/// stretches, and where memory is refused, step by step.
+/// The machine at place `to`, or at the end of the stretch in which it stops before it: replayed by
+/// stretches, or step by step if an allocation fails.
 #[tactic(auto, using(crate::proofs::Places::kept_on))]
 pub(crate) fn reach<E: Emulator>(
     checkpoints: &mut Checkpoints<E>,

@@ -1,4 +1,4 @@
-//! Searches of a run both ways.
+//! Searches of a run in both directions.
 ghost use Rattle.std.specs.Prelude.{◌≡◌, ◌-◌, ◌<◌, ◌+◌, ◌^◌, [], IfOk, IsOk, OnErr};
 ghost use Rattle.history.specs.Search.{first_stop, last_stop};
 ghost use Rattle.history.specs.Past.{IsCheckpoint, IsKept, IsSpared, Reaches};
@@ -10,8 +10,8 @@ use crate::stop::{is_stop, is_stopped, stands_at};
 use crate::stops::Stops;
 use std::alloc::AllocError;
 
-/// The least place after the one shown and up to `to` at which the run is to stop, else `to`.
-/// Keeps checkpoints on the way.
+/// The least place after the one shown and up to `to` at which the run stops,
+/// else `to`. Keeps checkpoints on the way.
 #[tactic(auto, using(crate::proofs::Places::kept_all))]
 pub(crate) fn first_after<E: Emulator>(
     checkpoints: &mut Checkpoints<E>,
@@ -36,14 +36,14 @@ pub(crate) fn first_after<E: Emulator>(
         if is_stop(&at.machine, stops) {
             return Ok(place);
         }
-        // A checkpoint that memory refuses is left out.
+        // If the checkpoint cannot be allocated, it is left out.
         let _left_out = checkpoints.keep(&at);
     }
     Ok(to)
 }
 
-/// The greatest place before the one shown whose `pc` is one of the slots in `stops`, else 0. Goes
-/// back from checkpoint to checkpoint, and nowhere where there is no slot.
+/// The greatest place before the one shown whose `pc` is one of the slots in `stops`, else 0. Goes back from
+/// checkpoint to checkpoint; without slots it searches nothing.
 #[tactic(auto, using(crate::proofs::Places::spared_all))]
 pub(crate) fn last_before<E: Emulator>(
     checkpoints: &mut Checkpoints<E>,
@@ -74,7 +74,7 @@ pub(crate) fn last_before<E: Emulator>(
     Ok(0)
 }
 
-/// The same of the run that begins with this machine, before its place `n`.
+/// The greatest such place before place `n`, in the run from this machine on, if there is one.
 #[tactic(auto, using(crate::proofs::Places::spared_all))]
 fn last_of_stretch<E: Emulator>(
     checkpoints: &mut Checkpoints<E>,
@@ -92,7 +92,7 @@ fn last_of_stretch<E: Emulator>(
     let mut last = 0;
     for place in 1..n {
         if is_stopped(&at.machine) {
-            // The run stands here up to its end.
+            // The run stays here up to the end of the stretch.
             return Ok(if stands_at(&at.machine, stops) {
                 n - 1
             } else {

@@ -1,4 +1,4 @@
-//! Whether a run is to stop at a machine.
+//! Whether a run stops at a machine.
 ghost use Rattle.std.specs.Prelude.{◌≡◌, not};
 ghost use Rattle.bpf_machine.specs.Step.{is_running};
 ghost use Rattle.history.specs.Search.{is_at, is_stop};
@@ -13,7 +13,7 @@ pub(crate) fn is_stopped<E: Emulator>(machine: &E) -> bool
     !matches!(machine.status(), Status::Running)
 }
 
-/// Whether the run is to stop at this machine.
+/// Whether the run stops at this machine.
 #[tactic(auto, unfolding(crate::specs::Search::is_stop))]
 pub(crate) fn is_stop<E: Emulator>(machine: &E, stops: &Stops<'_>) -> bool
     ensures { result ≡ is_stop stops.now (E.state machine.now) }

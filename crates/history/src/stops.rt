@@ -1,10 +1,10 @@
-//! The slots at which a run is to stop.
+//! The slots at which a run stops.
 ghost use Rattle.std.specs.Prelude.{◌≡◌, length, ◌==◌, nat_eq};
 ghost use Rattle.std.specs.List.{list_any};
 
 use std::marker::Model;
 
-/// The slots at which a run is to stop, and whether they rise, so that one is found by halving.
+/// The slots at which a run stops, and whether they are sorted, so that a binary search finds one.
 #[derive(Drop)]
 pub(crate) struct Stops<'a> {
     slots: &'a [u64],
@@ -23,7 +23,7 @@ impl<'a> Model for Stops<'a> {
 }
 
 impl<'a> Stops<'a> {
-    /// These slots. Whether they rise is looked at here, once.
+    /// These slots. They are checked for being sorted here, once.
     pub(crate) fn of(slots: &'a [u64]) -> Stops<'a>
         ensures { result ≡ slots.now }
     {

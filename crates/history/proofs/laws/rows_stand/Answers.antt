@@ -1,3 +1,4 @@
+-- Proof obligations of `rows_stand` (src/laws.rt).
 use Rattle.history.proofs.Prelude.{rules, first_stop, is_at, is_stop, last_stop, next_state, state_after}
 use Rattle.insn_codec.specs.Candidate.{branch_at, candidate_at, jump_at}
 use Rattle.insn_codec.specs.Spelled.{spelled}

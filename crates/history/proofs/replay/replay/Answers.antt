@@ -1,3 +1,4 @@
+-- Proof obligations of `replay` (src/replay.rt).
 use Rattle.history.proofs.Prelude.{◌∙◌, arith, sym, ap, state_after}
 use Rattle.history.proofs.Places.{kept_on, places_on}
 use Rattle.history.proofs.replay.replay.Goals as goal

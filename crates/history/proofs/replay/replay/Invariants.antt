@@ -1,3 +1,4 @@
+-- Loop invariants and measures of `replay` (src/replay.rt).
 use Rattle.history.proofs.Prelude.{◌≤◌, ◌-◌, IsCheckpoint, IsKept}
 use Rattle.history.proofs.replay.replay.Given as goal
 

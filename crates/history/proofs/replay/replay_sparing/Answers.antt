@@ -1,3 +1,4 @@
+-- Proof obligations of `replay_sparing` (src/replay.rt).
 use Rattle.history.proofs.Prelude.{◌∙◌, ap, rules, sym, state_after}
 use Rattle.history.proofs.Places.{kept_on, kept_spared, step_on}
 use Rattle.history.proofs.replay.replay_sparing.Goals as goal

@@ -1,3 +1,4 @@
+-- Loop invariants and measures of `replay_sparing` (src/replay.rt).
 use Rattle.history.proofs.Prelude.{◌≤◌, ◌-◌, IsCheckpoint, IsKept}
 use Rattle.history.proofs.replay.replay_sparing.Given as goal
 

@@ -1,3 +1,4 @@
+-- Proof obligations of `first_after` (src/search.rt).
 use Rattle.history.proofs.Prelude.{◌+◌, ◌<◌, ◌∙◌, ap, arith, sym, state_after}
 use Rattle.history.proofs.Places.{kept_on, kept_spared, own_place, reaches_is, step_on}
 use Rattle.history.proofs.Searches.{found_here, found_next, found_none, none_first, none_further}

@@ -1,3 +1,4 @@
+-- Loop invariants of `first_after` (src/search.rt).
 use Rattle.history.proofs.Prelude.{◌≡◌, ◌+◌, IsCheckpoint, IsKept}
 use Rattle.history.proofs.Searches.{NoneBefore}
 use Rattle.history.proofs.search.first_after.Given as goal

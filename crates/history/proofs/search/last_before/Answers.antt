@@ -1,3 +1,4 @@
+-- Proof obligations of `last_before` (src/search.rt).
 use Rattle.history.proofs.Prelude.{◌-◌, ◌<◌, ◌∙◌, ap, inl, inr, arith, sym, state_after}
 use Rattle.history.proofs.Places.{spared_on}
 use Rattle.history.proofs.Searches.{found_empty, found_first, found_in_stretch, last_low, none_in_stretch}

@@ -1,3 +1,4 @@
+-- Loop invariants and measures of `last_before` (src/search.rt).
 use Rattle.history.proofs.Prelude.{◌≡◌, ◌≤◌, IsSpared}
 use Rattle.history.proofs.Searches.{NoneFrom}
 use Rattle.history.proofs.search.last_before.Given as goal

@@ -1,3 +1,4 @@
+-- Proof obligations of `last_of_stretch` (src/search.rt).
 use Rattle.history.proofs.Prelude.{◌∙◌, arith, refl, sym, state_after-zero}
 use Rattle.history.proofs.Searches.{last_here_is, last_none, last_stands, last_stands_not, last_stays}
 use Rattle.history.proofs.Places.{before_next, next_place, not_running, spared_all, spared_on}

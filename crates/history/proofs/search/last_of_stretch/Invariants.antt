@@ -1,3 +1,4 @@
+-- Loop invariants of `last_of_stretch` (src/search.rt).
 use Rattle.history.proofs.Prelude.{◌≡◌, ◌-◌, ◌+◌, state_after, last_stop, IsSpared}
 use Rattle.history.proofs.search.last_of_stretch.Given as goal
 

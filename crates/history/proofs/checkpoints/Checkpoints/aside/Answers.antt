@@ -1,3 +1,4 @@
+-- Proof obligations of `Checkpoints::aside` (src/checkpoints.rt).
 use Rattle.history.proofs.Prelude.{◌∷◌, ℕ, ap, inl, inr, subst, sym, IsNearest}
 use Rattle.history.proofs.Places.{nearest_with, nearest_without, spared_on}
 use Rattle.history.proofs.checkpoints.Checkpoints.aside.Goals as goal

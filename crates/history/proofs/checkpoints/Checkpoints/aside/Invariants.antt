@@ -1,3 +1,4 @@
+-- Loop invariants and measures of `Checkpoints::aside` (src/checkpoints.rt).
 use Rattle.history.proofs.Prelude.{length, IsSpared}
 use Rattle.history.proofs.Places.{SameNearest}
 use Rattle.history.proofs.checkpoints.Checkpoints.aside.Given as goal

@@ -1,3 +1,4 @@
+-- Proof obligations of `Checkpoints::keep` (src/checkpoints.rt).
 use Rattle.history.proofs.Prelude.{◌≡◌, ◌∙◌, Bool, arith, ap, map, refl, subst, sym, state_after, ◌≤◌, [], length, length-map, IsCheckpoint, KeepsPlaces, with_place}
 use Rattle.history.proofs.Places.{is_due, kept_all, kept_one, kept_spared, newest_all, newest_within, own_place, places_kept}
 use Rattle.history.proofs.checkpoints.Checkpoints.keep.Given as given

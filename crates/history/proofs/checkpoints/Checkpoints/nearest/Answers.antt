@@ -1,3 +1,4 @@
+-- Proof obligations of `Checkpoints::nearest` (src/checkpoints.rt).
 use Rattle.history.proofs.Prelude.{rules, ◌≡◌, Some, arith, sym, ap, slice_get, IsCheckpoint}
 use Rattle.history.proofs.Places.{all_at, all_places, contains_at, nearest_is, none_first, none_more_at, none_past, one_of, read_is, read_none, start_is}
 use Rattle.history.proofs.checkpoints.Checkpoints.nearest.Goals as goal

@@ -1,3 +1,4 @@
+-- Loop invariants of `Checkpoints::nearest` (src/checkpoints.rt).
 use Rattle.history.proofs.Prelude.{◌∷◌, ◌≤◌, Contains, IsCheckpoint}
 use Rattle.history.proofs.Places.{NoneNearer}
 use Rattle.history.proofs.checkpoints.Checkpoints.nearest.Given as goal

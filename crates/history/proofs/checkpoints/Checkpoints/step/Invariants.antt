@@ -1,3 +1,4 @@
+-- Loop invariants and measures of `Checkpoints::step` (src/checkpoints.rt).
 use Rattle.history.proofs.Prelude.{◌≡◌, length, IsSpared}
 use Rattle.history.proofs.checkpoints.Checkpoints.step.Given as goal
 

@@ -1,3 +1,4 @@
+-- Proof obligations of `Checkpoints::take_oldest` (src/checkpoints.rt).
 use Rattle.history.proofs.Prelude.{ap, ◌∙◌, IsCheckpoint}
 use Rattle.history.proofs.Places.{rest_all, rest_within}
 use Rattle.history.proofs.checkpoints.Checkpoints.take_oldest.Goals as goal

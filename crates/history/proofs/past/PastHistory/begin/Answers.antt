@@ -1,3 +1,4 @@
+-- Proof obligations of `PastHistory::begin` (src/past.rt).
 use Rattle.history.proofs.Prelude.{◌∙◌, sym, state_after-zero}
 use Rattle.history.proofs.past.PastHistory.begin.Goals as goal
 

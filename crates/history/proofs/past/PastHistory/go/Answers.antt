@@ -1,3 +1,4 @@
+-- Proof obligations of `PastHistory::go` (src/past.rt).
 use Rattle.history.proofs.Prelude.{◌∙◌, ◌∷◌, List, ℕ, ap, refl, subst, sym, State, state_after, IsNearest, Reaches}
 use Rattle.history.proofs.Places.{keeps_since, kept_all, kept_on, kept_spared, reaches_is, replay_from, replay_none, shown_again, stands}
 use Rattle.history.proofs.past.PastHistory.go.Goals as goal

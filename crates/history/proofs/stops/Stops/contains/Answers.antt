@@ -1,3 +1,4 @@
+-- Proof obligations of `Stops::contains` (src/stops.rt).
 use Rattle.history.proofs.Prelude.{ℕ, List, ap, ◌∙◌, nat_eq, list_any}
 use Rattle.history.proofs.Halving.{found}
 use Rattle.history.proofs.stops.Stops.contains.Goals as goal

@@ -1,3 +1,4 @@
+-- Proof obligations of `Stops::of` (src/stops.rt).
 use Rattle.history.proofs.Halving.{rises}
 use Rattle.history.proofs.stops.Stops.of.Goals as goal
 
