@@ -1,7 +1,7 @@
 -- Addresses in hex digits.
 use Rattle.debugger.proofs.Prelude.{◌≡◌, ℕ, zero, suc, ◌+◌, ◌*◌, ◌/◌, ◌%◌, ◌^◌, ◌<◌, ◌≤◌, true, false, List, [], ◌∷◌, ◌++◌, nat_eq, ap, ◌∙◌, append_assoc, arith, add-one, pow-le-pow_right, pow-suc, nat_tests, hex_digit, hex_digits, hex_value, is_hex_digit, numbered, number_of, read_address, MemoryAt}
 
--- one digit more
+-- one more digit
 pub below_digit : (d a v : ℕ) → a < 16 ^ d → v < 16 → a * 16 + v < 16 ^ (d + 1)
 below_digit d a v small digit =
     let next : 16 ^ (d + 1) ≡ 16 ^ d * 16 = ap (λ (j : ℕ). 16 ^ j) (add-one d) ∙ pow-suc 16 d in
@@ -31,11 +31,11 @@ pub hex_digits-more : (d a c v : ℕ) → IsDigit c v → hex_digits (suc d) (a 
 unfolding hex_digits
 hex_digits-more d a c v i = grind arith
 
--- one digit is read
+-- reading one digit
 digit_read : (d a c v : ℕ) (rest : List ℕ) → IsDigit c v → d < 16 → read_address d a (c ∷ rest) ≡ read_address (suc d) (a * 16 + v) rest
 digit_read d a c v rest i few = grind arith
 
--- the digits of an address are read as it
+-- the digits of an address are read as the address
 pub address_read : (d a : ℕ) (rest : List ℕ) → d ≤ 16 → a < 16 ^ d → read_address 0 0 (hex_digits d a ++ rest) ≡ read_address d a rest
 unfolding hex_digits
 address_read zero a rest few small =
@@ -51,6 +51,6 @@ address_read (suc d) a rest few small =
     ∙ digit_read d (a / 16) (hex_digit (a % 16)) (a % 16) rest i (omega (arith, few))
     ∙ ap (λ (n : ℕ). read_address (suc d) n rest) back
 
--- and a space ends them
+-- a space ends the digits
 pub address_ended : (d a : ℕ) (rest : List ℕ) → 0 < d → read_address d a (32 ∷ rest) ≡ numbered (MemoryAt a) (number_of rest)
 address_ended d a rest some = grind arith

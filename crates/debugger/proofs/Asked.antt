@@ -1,20 +1,20 @@
--- Commands that stand for one another.
+-- Lines with equal commands.
 use Rattle.std.specs.Prelude.{IsOk}
 use Rattle.debugger.proofs.Prelude.{◌≡◌, ℕ, ◌<◌, Bool, true, false, List, [], ◌++◌, ◌+◌, ◌-◌, ◌≤◌, length, length-take, take, nat_le, codes, refl, sym, ap, ◌∙◌, inl, inr, arith, cases_lt, nat_tests, take_all, length-append, Result, Ok, Err, OnOk, append_assoc, drop, take-append-drop, take_at, slice_get_past, State, state_after, FitsWords, capped_command, command_of, SessionState, answer_of, may_be_refused, answer_to, AnswersLine, Command}
 
--- a line whose command was obeyed
+-- a line whose command was executed
 pub answers_granted : (s : State) (w next : SessionState) (line : List ℕ) (c : Command) (text : List ℕ) → FitsWords (state_after w.place s) c
     → c ≡ capped_command (command_of line) → (answer_of s w c).next ≡ next → (answer_of s w c).text ≡ text → AnswersLine s w line next text
 unfolding answer_to answer_of
 answers_granted s w next line c text fits asked n t = grind (arith, nat_tests, nat_le, slice_get_past)
 
--- a line at which memory was refused
+-- a line whose allocation failed
 pub answers_refused : (s : State) (w next : SessionState) (line : List ℕ) (c : Command) (text : List ℕ) → FitsWords (state_after w.place s) c
     → c ≡ capped_command (command_of line) → may_be_refused s w c ≡ true → w ≡ next → codes "? memory\n" ≡ text → AnswersLine s w line next text
 unfolding answer_to may_be_refused
 answers_refused s w next line c text fits asked may n t = grind (arith, nat_tests, nat_le, slice_get_past)
 
--- a line's command is seen in its first 65 bytes
+-- the first 65 bytes of a line determine its command
 command_of-take : (line : List ℕ) → command_of (take 65 line) ≡ command_of line
 unfolding command_of
 command_of-take line =
@@ -46,7 +46,7 @@ keep_some xs part len is long short =
     ∙ ap (take 65) (sym (append_assoc xs (take room part) (drop room part)))
     ∙ take_at (xs ++ take room part) (drop room part) 65 size)
 
--- what holds of a result that is given
+-- what holds of a successful result
 pub fits_ok : {A E : Type 0} (r : Result A E) (P : Type 0) → IsOk r → OnOk r P → P
 fits_ok (Ok x) P is holds = holds
 fits_ok (Err e) P is holds = absurd (cc)

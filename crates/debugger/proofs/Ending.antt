@@ -1,4 +1,4 @@
--- What a session has read and written when it has ended.
+-- What a session has read and written after it has ended.
 use Rattle.debugger.proofs.Prelude.{◌≡◌, ℕ, ◌<◌, ◌≤◌, Bool, true, false, List, [], ◌++◌, ◌⊎◌, length, take, drop, Option, Some, refl, sym, ap, ◌∙◌, inl, inr, subst, arith, Result, Ok, Err, length-take, take-append-drop, take-take, State, cut, has_quit, input_lines, readable, Dialogue, IsDialogue, SessionGoesOn, TranscriptCut, TranscriptAll, TranscriptSome, TranscriptPart, TranscriptEnds, TranscriptBreaks, SessionByResult, SessionError, ReadFailed, WriteFailed, HeardByResult, ReadsSome, ReadsToEnd}
 use Rattle.streams.specs.declared.session_error.SessionError.TheVariants.{Memory}
 use Rattle.debugger.proofs.Going.{heard-off, quiet_front}

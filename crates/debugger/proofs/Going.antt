@@ -1,4 +1,4 @@
--- How a session goes on with the bytes that it hears.
+-- The state of a session as it hears more bytes.
 use Rattle.debugger.proofs.Prelude.{◌≡◌, ℕ, zero, suc, nat_eq, ◌<◌, ◌≤◌, Bool, true, false, List, [], ◌∷◌, ◌++◌, length, length-append, length-drop, take, drop, map, fold, Option, Some, refl, sym, ap, ◌∙◌, subst, arith, append_assoc, append-nil, nat_tests, map-append, or_parts, list_any-append, take-append-drop, take-append-le, fold_push, fold-append, State, AddsBytes, SessionState, Line, session_state_at, command_of, is_quit, Dialogue, start_dialogue, dialogue_after, dialogue_of, with_answer, granted, cut, has_quit, input_lines, lines_of, IsDialogue, AnswersLine, WritesAnswer, WritesPartOfAnswer, TranscriptSoFar, TranscriptToQuit, TranscriptToEnd, TranscriptCut, TranscriptBreaks, HasNoFeed}
 use Rattle.debugger.proofs.Asked.{answers_whole}
 use Rattle.streams.proofs.Cut.{Pieces, cut-line, cut-part, input_lines-ended, lines-append, take-join}
@@ -21,7 +21,7 @@ lines-more : (marked : List Line) (lines : List (List ℕ)) (line : List ℕ) (m
     → lines_of (marked ++ (line, mark) ∷ []) ≡ lines ++ line ∷ []
 lines-more marked lines line mark are = grind (arith, nat_tests, map-append)
 
--- one line more
+-- one more line
 heard-more : (s : State) (lines : List (List ℕ)) (t : Dialogue) (line : List ℕ) (mark : Bool) → IsDialogue s lines t → t.session_state.ended ≡ false
     → IsDialogue s (lines ++ line ∷ []) (with_answer s t (line, mark))
 heard-more s lines t line mark h on = record {
@@ -47,7 +47,7 @@ heard-off s lines more t h off = record {
       ∙ granted-off s t more off;
 }
 
--- no line of a beginning ends a session where none of the whole does
+-- no line of a prefix ends a session if none of the whole does
 pub quiet_front : (bytes : List ℕ) (n : ℕ) → has_quit (cut bytes).0 ≡ false → has_quit (cut (take n bytes)).0 ≡ false
 quiet_front bytes n none =
     let later = lines-append (take n bytes) (drop n bytes) in
@@ -78,7 +78,7 @@ record Said (s : State) (before : List ℕ) (lines : List (List ℕ)) (line : Li
   said_world : talk.session_state ≡ next
   said_quit : has_quit (lines ++ line ∷ []) ≡ next.ended
 
--- a session that goes on
+-- a session that continues
 module _ {s : State} {before heard : List ℕ} {written : Option (List ℕ)} {line slots : List ℕ} {k : ℕ} (g : TranscriptSoFar s before heard written line slots k) where
   kept : (part : List ℕ) → take 65 (line ++ part) ≡ take 65 ((cut heard).1 ++ part)
   kept part = ap (λ (l : List ℕ). take 65 (l ++ part)) g.rest ∙ take-join 65 (cut heard).1 part
@@ -96,9 +96,9 @@ module _ {s : State} {before heard : List ℕ} {written : Option (List ℕ)} {li
         world_is = g.world_is;
       }
 
-  -- a line that is answered, of which up to 65 bytes are kept
+  -- a line that is answered; up to 65 bytes of it are kept
   module _ (whole held : List ℕ) (is : held ≡ take 65 whole) (new : Option (List ℕ)) where
-    -- its answer at the session state of the dialogue
+    -- its reply in the session state of the dialogue
     answers_here : (next : SessionState) (text : List ℕ) → AnswersLine s (session_state_at slots k false) held next text → AnswersLine s g.talk.session_state whole next text
     answers_here next text a = answers_whole s _ next whole text (rw (g.world_is, ← is) a)
 
@@ -115,7 +115,7 @@ module _ {s : State} {before heard : List ℕ} {written : Option (List ℕ)} {li
               ∙ ap (λ (w : SessionState). w.ended) a.next_is;
         }
 
-    -- an answer that was written in part
+    -- a reply that was written in part
     part_told : (all : List ℕ) → WritesPartOfAnswer s (session_state_at slots k false) held written new
         → input_lines all ≡ (cut heard).0 ++ whole ∷ [] → TranscriptCut s before all new
     part_told all h are =
@@ -183,7 +183,7 @@ module _ {s : State} {before heard : List ℕ} {written : Option (List ℕ)} {li
         let all = input_lines-ended (heard ++ (rest ++ 10 ∷ [])) (ap (λ (p : Pieces). take 65 p.1) ends_line) ∙ ap (λ (p : Pieces). p.0) ends_line in
         (part_told ((cut heard).1 ++ rest) held (is ∙ kept rest) new (heard ++ (rest ++ 10 ∷ [])) h all, ap (λ (p : Pieces). p.1) ends_line)
 
-  -- the line behind the last line feed
+  -- the line after the last line feed
   open_line : 0 < length line → input_lines heard ≡ (cut heard).0 ++ (cut heard).1 ∷ []
   open_line some = let rest = g.rest in grind arith
 

@@ -1,4 +1,4 @@
--- A breakpoint's slot, or its place, found by halving.
+-- Binary search for the slot of a breakpoint, or for its position.
 use Rattle.debugger.proofs.Prelude.{◌≡◌, ℕ, zero, suc, ◌<◌, ◌≤◌, true, false, List, [], ◌∷◌, length, get_or, Result, Ok, Err, refl, subst, arith, inl, inr, insert, nat_eq, nat_lt, OnErr, nat_cmp, list_all, IsBinarySearchResult, cases_lt, nat_tests, All-from_get_or, list_any_at, list_any_none, searched, prefix_len_is, has_breakpoint, in_order, place_of, with_breakpoint}
 use Rattle.debugger.proofs.Slots.{insert_in_order}
 
@@ -9,7 +9,7 @@ below_each s (t ∷ slots) (suc k) all within =
     let rest : list_all (nat_lt s) slots ≡ true = grind arith in
     below_each s slots k rest (omega (arith, within))
 
--- slots in order rise
+-- slots in order are sorted
 rises : (slots : List ℕ) → in_order slots ≡ true → (i j : ℕ) → i ≤ j → j < length slots → get_or slots i 0 ≤ get_or slots j 0
 rises [] ordered i j low within = absurd (omega (arith, within))
 rises (s ∷ slots) ordered zero zero low within = omega arith
@@ -22,14 +22,14 @@ rises (s ∷ slots) ordered (suc i) (suc j) low within =
     let later : in_order slots ≡ true = grind arith in
     rises slots later i j (omega (arith, low)) (omega (arith, within))
 
--- what is found has a breakpoint
+-- a slot that is found has a breakpoint
 pub has_found : (slot : ℕ) (slots : List ℕ) (i : ℕ) → in_order slots ≡ true → IsBinarySearchResult (λ s. nat_cmp s slot) slots (Ok i) → has_breakpoint slot slots ≡ true
 has_found slot slots i ordered is =
     let said = searched slots slot (Ok i) is (rises slots ordered) in
     let same : nat_eq (get_or slots i 0) slot ≡ true = grind (arith, nat_tests, said.1) in
     list_any_at (λ s. nat_eq s slot) slots i 0 said.0 same
 
--- the place at which nothing is found: below it each slot is less, and from it on each is greater
+-- the position of a slot that is not found: the slots before it are less, and those from it on are greater
 pub has_none : (slot : ℕ) (slots : List ℕ) (i : ℕ) → in_order slots ≡ true → IsBinarySearchResult (λ s. nat_cmp s slot) slots (Err i) → has_breakpoint slot slots ≡ false
 has_none slot slots i ordered is =
     let said = searched slots slot (Err i) is (rises slots ordered) in
@@ -47,11 +47,11 @@ place_found slot slots i ordered is =
     let beyond : i < length slots → nat_lt (get_or slots i 0) slot ≡ false = λ within. grind (arith, nat_tests, said.2 i (omega arith) within) in
     prefix_len_is (λ s. nat_lt s slot) slots i 0 said.0 below beyond
 
--- where the slot is found, nothing is to be set
+-- if the slot is found, there is nothing to set
 pub set_found : (slot : ℕ) (slots : List ℕ) (i : ℕ) → in_order slots ≡ true → IsBinarySearchResult (λ s. nat_cmp s slot) slots (Ok i) → slots ≡ with_breakpoint slot slots
 set_found slot slots i ordered is = rw (has_found slot slots i ordered is) refl
 
--- where it is not found, it goes where the search says
+-- if it is not found, it is inserted where the search ended
 pub set_none : (slot : ℕ) (slots : List ℕ) (i : ℕ) → in_order slots ≡ true → IsBinarySearchResult (λ s. nat_cmp s slot) slots (Err i) → insert slots i slot ≡ with_breakpoint slot slots
 set_none slot slots i ordered is = rw (has_none slot slots i ordered is, place_found slot slots i ordered is) refl
 

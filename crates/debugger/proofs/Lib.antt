@@ -1,3 +1,4 @@
+-- Proofs of debugger: the list of their modules.
 mod Texts
 mod Asked
 mod Quit

@@ -14,5 +14,5 @@ pub listed_more : (count slot : ℕ) (code : List ℕ) → 0 < count → slot < 
 unfolding listing_lines
 listed_more count slot code some inside = grind arith
 
--- the lines that are still to come
+-- the lines that are still to be listed
 pub ruleset listed = (listed_none, listed_beyond, listed_more, append_assoc, append-nil)

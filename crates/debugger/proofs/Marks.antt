@@ -1,16 +1,16 @@
--- Sessions in which no line answers `? memory`.
+-- Sessions without a reply `? memory`.
 use Rattle.debugger.proofs.Prelude.{◌≡◌, ℕ, Bool, true, false, List, [], ◌∷◌, ◌++◌, map, fold, refl, sym, ap, ◌∙◌, append_assoc, append-nil, codes, Option, Some, Result, arith, nat_tests, OnOk, list_any, bytes_eq, or_parts, or_right, list_any-append, append_cancel_left, State, Line, answer_to, is_refused, Dialogue, dialogue_after, granted, cut, says_memory, session_text, lines_of, SessionByResult, TellsAll, SessionError, fold-append}
 use Rattle.streams.proofs.Cut.{Whole, lines-append, whole-append, cut_behind}
 use Rattle.debugger.proofs.Going.{hear-on, hear-off}
 use Rattle.debugger.proofs.Whole.{answers_in_lines}
 
--- a text whose beginning says it says it
+-- a text with such a line in a prefix has one
 beginning_says : (front more : List ℕ) → says_memory (front ++ more) ≡ false → says_memory front ≡ false
 beginning_says front more none =
     let later = lines-append front more in
     (or_parts (says_memory front) _ (sym (list_any-append (bytes_eq (codes "? memory")) (cut front).0 later.0) ∙ ap (list_any (bytes_eq (codes "? memory"))) (sym later.1) ∙ none)).0
 
--- a refused line says it
+-- a failed allocation adds such a line
 refusal_says : (text : List ℕ) → Whole text → says_memory (text ++ codes "? memory\n") ≡ true
 unfolding cut
 refusal_says text whole = grind (arith, nat_tests, fold-append, append-nil, cut_behind, list_any-append, or_right)
@@ -30,7 +30,7 @@ talk_grows s t (l ∷ marked) =
 hear_whole : (s : State) (t : Dialogue) (l : Line) (ended : Bool) → t.session_state.ended ≡ ended → Whole t.text → Whole (dialogue_after s t l).text
 hear_whole s t l ended is whole = grind (arith, nat_tests, answers_in_lines, hear-off, hear-on, whole-append)
 
--- a line that does not answer `? memory` was not refused
+-- a line without that reply had no failed allocation
 answer_granted : (s : State) (t : Dialogue) (l : Line) (refused : Bool) → is_refused s t.session_state l ≡ refused → Whole t.text
     → says_memory (t.text ++ (answer_to s t.session_state l).text) ≡ false → answer_to s t.session_state l ≡ answer_to s t.session_state (granted l.0)
 unfolding answer_to
@@ -52,7 +52,7 @@ pub tells_all : TellsAll
 unfolding cut
 tells_all = grind (arith, nat_tests, talk_granted)
 
--- what a session wrote that wrote no `? memory`
+-- the text of a session that wrote no `? memory`
 pub says_text : (s : State) (input before written : List ℕ) (left after : Option (List ℕ)) (result : Result (Unit {0}) SessionError) → SessionByResult s input before left after result → after ≡ Some (before ++ written) → says_memory written ≡ false → OnOk result (written ≡ session_text s input)
 unfolding cut
 says_text s input before written left after result told is none = grind (arith, append_cancel_left, nat_tests, talk_granted)

@@ -1,4 +1,4 @@
--- The lines that bytes of memory are shown in.
+-- The lines of bytes of memory.
 use Rattle.debugger.proofs.Prelude.{◌≡◌, ℕ, zero, suc, ◌+◌, ◌*◌, ◌/◌, ◌%◌, ◌^◌, ◌<◌, ◌≤◌, List, [], ◌∷◌, ◌++◌, length, take, drop, refl, sym, ap, ◌∙◌, append_assoc, append-nil, arith, length-drop, nat_tests, pow-suc, cases_lt, take_all, hex_digits, memory_line, memory_lines}
 
 wrapped_digits : (k x : ℕ) → hex_digits k (x + 16 ^ k) ≡ hex_digits k x

@@ -6,7 +6,7 @@ use Rattle.debugger.proofs.Slots.{any-insert, cleared, filter_in_order, insert_i
 abbrev Ordered : SessionState → Type 0
 Ordered w = in_order w.breakpoints ≡ true
 
--- after an answer
+-- the breakpoints are in order after a reply
 abbrev Kept : Answer → Type 0
 Kept a = Ordered a.next
 

@@ -1,7 +1,7 @@
--- Bytes that are added part by part.
+-- Bytes that are appended part by part.
 use Rattle.debugger.proofs.Prelude.{◌≡◌, ℕ, suc, ◌+◌, ◌<◌, List, [], ◌∷◌, ◌++◌, length, take, Option, Result, Ok, Err, sym, ap, subst, ◌∙◌, append_assoc, arith, length-append, zero-add, nat_tests, OnErr, OnOk, take-append-le, AddsBytes}
 
--- the first of these bytes are added, but for a rest
+-- a prefix of these bytes is appended
 abbrev pub AddsPart : Option (List ℕ) → Option (List ℕ) → List ℕ → Type 0
 AddsPart old new bytes = (n : ℕ) × (n < length bytes) × AddsBytes old new (take n bytes)
 
@@ -32,7 +32,7 @@ pub part_left : {T E : Type 0} (r : Result T E) (old new last : Option (List ℕ
 part_left (Ok x) old new last front rest one part = tt
 part_left (Err e) old new last front rest one part = part_behind old new last front rest one part
 
--- the part between fails
+-- the middle part fails
 pub part_between : {T E : Type 0} (r : Result T E) (old new last : Option (List ℕ)) (front middle end : List ℕ) → AddsBytes old new front
     → AddsPart new last middle → OnErr r (AddsPart old last (front ++ (middle ++ end)))
 part_between (Ok x) old new last front middle end one part = tt

@@ -1,4 +1,4 @@
--- The names that these proofs cite of the library, of the crates below and of the definitions here. Declares nothing.
+-- The names that these proofs use, from the library, the crates below and these definitions. It declares nothing.
 pub use Rattle.std.proofs.Common.{Bool, Err, IfErr, List, None, Ok, OnErr, OnOk, Option, Result, Some, ℕ, ℤ, []}
 pub use Rattle.std.proofs.Common.{add-one, add-zero, ap, append-nil, append_assoc, arith, codes, cond, decimal, drop}
 pub use Rattle.std.proofs.Common.{eqb-true, false, filter, fold, get_or, if◌then◌else◌, inl, inr, insert, length, length-append}

@@ -1,19 +1,19 @@
--- Bytes of memory that are read one by one, and their lines.
+-- Bytes of memory read one by one, and their lines.
 use Rattle.debugger.proofs.Prelude.{◌≡◌, ℕ, zero, suc, ◌+◌, ◌-◌, ◌*◌, ◌%◌, ◌^◌, ◌<◌, ◌≤◌, true, List, [], ◌∷◌, ◌++◌, length, map, take, drop, Option, Some, None, Ok, refl, sym, ap, ◌∙◌, arith, add-one, add-zero, option_map, codes, take-add, nat_tests, common_steps, drop-drop, constants_of, read_of, region_of, Memory, Region, base_of, bytes_in, part, word_of, B, hex_digits, HasRegions, bytes_at, bytes_from, digits_of_bytes, is_count, memory_line, memory_lines, memory_text, shown_bytes}
 
 -- ---- regions
 
--- n bytes from an address on stand in a region
+-- n bytes at an address are in a region
 pub record StandsIn (r : Region) (m : Memory) (address n : ℕ) : Type 0 where
   pub low : base_of r ≤ address
   pub high : address + n ≤ base_of r + length (bytes_in r m)
 
--- n bytes that stand in a region stand in no other
+-- n bytes that are in one region are in no other
 pub region_here : (r : Region) (m : Memory) (address n : ℕ) → HasRegions m → 0 < n → StandsIn r m address n
     → region_of m address n ≡ Some (r, address - base_of r)
 region_here r m address n is some stands = grind arith
 
--- what an answer of `region_of` says
+-- what a result of `region_of` means
 unfoldable pub Says : Memory → ℕ → ℕ → Option (Region × ℕ) → Type 0
 Says m address n (Some (r, at)) = StandsIn r m address n × (at ≡ address - base_of r)
 Says m address n None = Unit {0}
@@ -24,7 +24,7 @@ region_says m address n = grind arith
 
 -- ---- single bytes
 
--- the first n bytes from an address on
+-- the first n bytes at an address
 pub record Row (m : Memory) (address n : ℕ) (bytes : List ℕ) : Type 0 where
   pub region : Region
   pub stands : StandsIn region m address n
@@ -39,14 +39,14 @@ pub byte_read : (m : Memory) (address b : ℕ) → read_of m address B ≡ Ok b 
 unfolding read_of Says
 byte_read m address b read = grind (arith, one_byte, nat_tests)
 
--- ---- bytes in a row
+-- ---- consecutive bytes
 
 -- n bytes that were read
 abbrev pub Begun : Memory → ℕ → ℕ → List ℕ → Type 0
 Begun m address zero bytes = bytes ≡ []
 Begun m address (suc n) bytes = Row m address (suc n) bytes
 
--- a byte behind others is in their region
+-- a byte after others is in their region
 same_region : (r s : Region) (m : Memory) (address n : ℕ) → HasRegions m → 0 < n → StandsIn r m address n → StandsIn s m (address + n) 1 → s ≡ r
 same_region r s m address n is some row byte = grind arith
 
@@ -58,13 +58,13 @@ row_more : (m : Memory) (address n b : ℕ) (bytes : List ℕ) → HasRegions m 
     → Row m address (suc n) (bytes ++ b ∷ [])
 row_more m address n b bytes is some row byte = grind (arith, same_region, part_more)
 
--- one byte more
+-- one more byte
 pub begun_more : (m : Memory) (address n b : ℕ) (bytes : List ℕ) → HasRegions m → Begun m address n bytes → read_of m (address + n) B ≡ Ok b
     → Begun m address (n + 1) (bytes ++ b ∷ [])
 begun_more m address zero b bytes is none read = rw none (rw add-zero at (byte_read m (address + 0) b read))
 begun_more m address (suc n) b bytes is row read = rw add-one (row_more m address (suc n) b bytes is (omega arith) row (byte_read m (address + suc n) b read))
 
--- a region of which not all bytes are lent has no address of more than 64 bits
+-- a region of which not all bytes are borrowed constants has no address of more than 64 bits
 ends_within : (r : Region) (m : Memory) (address n : ℕ) → HasRegions m → 0 < n → constants_of m address n ≡ None → StandsIn r m address n → address + n < 2 ^ 64
 unfolding constants_of
 ends_within r m address n is some none s = grind (arith, nat_tests)
@@ -87,12 +87,12 @@ none_by m address n i (Some (r, at)) is less none missing says =
     absurd (missing (omega (arith, end, less)) byte.0 byte.1)
 none_by m address n i None is less none missing says = refl
 
--- bytes that are lent
+-- bytes that are borrowed
 pub row_lent : (m : Memory) (address n : ℕ) (lent : List ℕ) → HasRegions m → 0 < n → constants_of m address n ≡ Some lent → Some lent ≡ bytes_from m address n
 unfolding constants_of bytes_from
 row_lent m address n lent is some has = grind (arith, nat_tests)
 
--- ---- answers
+-- ---- replies
 
 pub count_within : (n : ℕ) → is_count n ≡ true → (0 < n) × (n ≤ 256)
 count_within n is = grind arith

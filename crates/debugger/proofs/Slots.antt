@@ -1,7 +1,7 @@
 -- Breakpoints that are set and cleared.
 use Rattle.debugger.proofs.Prelude.{◌≡◌, ℕ, zero, suc, ◌+◌, ◌<◌, Bool, true, false, not, ◌||◌, ◌&&◌, List, [], ◌∷◌, refl, ap, ◌∙◌, arith, subst, cond, filter, insert, nat_eq, nat_lt, if◌then◌else◌, list_all, list_any, RetainsInTurn, nat_tests, SetsAndClears, has_breakpoint, place_of, without_breakpoint, in_order}
 
--- what is left where each call says whether the slot passes, and changes nothing
+-- the result if each call decides whether the slot passes, and changes nothing
 pub retained : {F : Type 0} (R : F → ℕ → Bool → F → ℕ → Type 0) (keep : ℕ → Bool) (f : F) → ((s : ℕ) (said : Bool) (g : F) (t : ℕ) → R f s said g t → (said ≡ keep s) × (g ≡ f) × (t ≡ s)) → (slots left : List ℕ) → RetainsInTurn R f slots left → left ≡ filter keep slots
 retained R keep f says [] left none = none
 retained R keep f says (s ∷ slots) left kept =

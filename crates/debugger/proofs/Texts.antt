@@ -1,4 +1,4 @@
--- Texts that are made piece by piece.
+-- Texts that are built piece by piece.
 use Rattle.debugger.proofs.Prelude.{◌≡◌, ℕ, ◌+◌, ◌-◌, ◌/◌, ◌%◌, ◌<◌, [], ◌∷◌, ◌++◌, append_assoc, append-nil, arith, slice_index, State, hex_digits, hex_digit, register_line, register_lines}
 
 pub hex_none : (w : ℕ) → hex_digits 0 w ≡ []
@@ -9,7 +9,7 @@ pub hex_more : (k w : ℕ) → 0 < k → hex_digits k w ≡ hex_digits (k - 1) (
 unfolding hex_digits
 hex_more k w some = grind arith
 
--- the digits of a word, one by one
+-- the digits of a word, one after another
 pub ruleset hex = (hex_none, hex_more, append_assoc, append-nil)
 
 pub registers_none : (s : State) → register_lines 0 s ≡ []
@@ -20,5 +20,5 @@ pub registers_more : (s : State) (n : ℕ) → register_lines (n + 1) s ≡ regi
 unfolding register_lines
 registers_more s n = grind arith
 
--- the lines of more and more registers
+-- the lines of the registers, one after another
 pub ruleset registers = (registers_none, registers_more)

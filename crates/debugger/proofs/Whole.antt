@@ -1,9 +1,9 @@
--- Answers are whole lines.
+-- Replies are whole lines.
 use Rattle.debugger.proofs.Prelude.{◌≡◌, ℕ, zero, suc, ◌+◌, ℤ, pos, negsuc, List, [], ◌∷◌, ◌++◌, decimal, length, take, drop, Option, refl, sym, ap, subst, ◌∙◌, append_assoc, codes, arith, signed_decimal, ◌*◌, nat_eq, nat_lt, slice_index, Memory, statement_slots, statement_text, slot_count, State, move_line, register_line, register_lines, registers_text, status_text, word_text, Status, Answer, SessionState, answer_of, answer_to, break_text, clear_text, is_refused, says, command_of, Frame, ValueOrError, digits_of_bytes, frame_line, frame_lines, frames_text, memory_line, memory_lines, memory_text, saved_text, value_line, value_text, listing_at, listing_line, listing_lines, outside_line, statement_at, AnswersInLines, message_lines, verdict_line, verdict_lines, verdict_word, word_line, word_lines, cut, Command, nat_tests, fold_push}
 use Rattle.streams.proofs.Cut.{Whole, whole-append}
 use Rattle.debugger.proofs.Quit.{either}
 
--- a text that a line feed ends
+-- a text that ends with a line feed
 record Fed (text : List ℕ) : Type 0 where
   line : List ℕ
   is_fed : text ≡ line ++ 10 ∷ []

@@ -1,4 +1,4 @@
--- The lines of commands, and how they are read.
+-- The lines of commands, and how they are parsed.
 use Rattle.debugger.proofs.Prelude.{◌≡◌, ◌≢◌, ℕ, suc, ◌+◌, ◌-◌, ◌*◌, ◌/◌, ◌%◌, ◌^◌, ◌<◌, ◌≤◌, Bool, true, false, ◌&&◌, List, [], ◌∷◌, ◌++◌, length, length-append, length-drop, drop, Option, Some, None, decimal, nat_eq, nat_le, nat_lt, codes, refl, sym, ap, ◌∙◌, inl, inr, subst, arith, append_assoc, append-nil, add-one, ◌⊎◌, slice_index, if◌then◌else◌, bytes_eq, pow-le-pow_right, pow-suc, and_parts, nat_tests, decimal_digit, decimal_step_wide, decimal_by_steps_wide, take-append-drop, bytes_eq-Decides, hex_digits, begins_with, command_of, form_of, hex_value, is_digit, is_hex_digit, leads_with_zero, move_form_of, number_of, numbered, numbered_form_of, read_address, read_digits, shown_form_of, AsksFor, CommandsHaveLines, IsLine, IsNumbered, Command, ValueAt, MemoryAt, Unknown}
 use Rattle.debugger.proofs.Addresses.{address_ended, address_read, below_digit, digit_is, hex_digits-more}
 
@@ -15,11 +15,11 @@ below_more k m c small digit =
 below_all : (k n : ℕ) → k ≤ 64 → n < 10 ^ k → n < 10 ^ 64
 below_all k n low small = grind (arith, pow-le-pow_right)
 
--- what digits behind those of m write
+-- the number of digits that continue those of m
 abbrev Writes : List ℕ → ℕ → Type 0
 Writes ds n = (ds ≡ decimal n) × (n < 10 ^ 64)
 
--- a number of at most `k` digits that is not 0, before so many more
+-- a number other than 0 with at most `k` digits, before `count` more
 record IsLeading (k m count : ℕ) : Type 0 where
   some : 0 < m
   small : m < 10 ^ k
@@ -70,13 +70,13 @@ number_by : (c : ℕ) (ds : List ℕ) (n : ℕ) (empty leads : Bool) → leads_w
 number_by c ds n false false is short read = first_written c ds n (is_digit c) (nat_eq c 48) refl refl is short read
 number_by c ds n _ _ is short read = cc
 
--- what is read as a number is its decimals
+-- what is read as a number is its decimal digits
 number_written : (ds : List ℕ) (n : ℕ) → length ds ≤ 64 → number_of ds ≡ Some n → Writes ds n
 unfolding number_of
 number_written [] n short read = cc
 number_written (c ∷ ds) n short read = number_by c ds n (nat_eq (length (c ∷ ds)) 0) (leads_with_zero (c ∷ ds)) refl short read
 
--- decimals: they are read as their number, and no zero stands before others
+-- decimal digits are read as their number, and have no leading zeros
 record Reads (n : ℕ) (ds : List ℕ) : Type 0 where
   some : 0 < length ds
   value : read_digits 0 ds ≡ Some n
@@ -113,7 +113,7 @@ reads_more n ds large r =
 first_or_alone : (n : ℕ) (ds : List ℕ) → Reads n ds → leads_with_zero ds ≡ false
 first_or_alone n ds r = grind arith
 
--- decimals are read as their number
+-- decimal digits are read as their number
 number_read : (n : ℕ) → n < 10 ^ 64 → number_of (decimal n) ≡ Some n
 unfolding number_of
 number_read n small =
@@ -122,14 +122,14 @@ number_read n small =
     let lead = first_or_alone n (decimal n) r in
     rw (some, lead) r.value
 
--- the text of a word that begins a line
+-- the word at the start of a line
 begins : (word line : List ℕ) → begins_with word line ≡ true → line ≡ word ++ drop (length word) line
 begins word line same_word = grind (arith, nat_tests, bytes_eq-Decides, take-append-drop)
 
 is_unknown : (c : Command) → (c ≡ Unknown) ⊎ (c ≢ Unknown)
 is_unknown c = grind arith
 
--- a line asks for this command, or for none
+-- a line has this command, or none
 abbrev Found : List ℕ → Command → Type 0
 Found line c = (c ≡ Unknown) ⊎ IsLine c line
 
@@ -146,18 +146,18 @@ found_number line word command short form (Some n) read same_word =
 found_word : (line word : List ℕ) (c : Command) → (line ≡ word → IsLine c line) → bytes_eq line word ≡ true → Found line c
 found_word line word c form same_word = grind (arith, bytes_eq-Decides)
 
--- the line that began with these digits of an address
+-- the line that starts with these digits of an address
 abbrev Begun : List ℕ → ℕ → ℕ → List ℕ → Type 0
 Begun line d a rest = line ≡ codes "m 0x" ++ (hex_digits d a ++ rest)
 
--- a line of at most 64 bytes that began with at most 16 digits of an address
+-- a line of at most 64 bytes that starts with at most 16 digits of an address
 record BeginsAddress (line : List ℕ) (d a : ℕ) (rest : List ℕ) : Type 0 where
   short : length line ≤ 64
   few : d ≤ 16
   fits : a < 16 ^ d
   begun : Begun line d a rest
 
--- a number behind an address
+-- a number after an address
 found_count : (line : List ℕ) (d a c : ℕ) (cs : List ℕ) → BeginsAddress line d a (c ∷ cs) → nat_eq c 32 && nat_lt 0 d ≡ true → (o : Option ℕ) → number_of cs ≡ o
     → Found line (numbered (MemoryAt a) o)
 found_count line d a c cs begins ends None read = inl refl
@@ -212,12 +212,12 @@ form_found line short = grind (arith, nat_tests, by_test, found_word, numbered_f
 short_by : (line : List ℕ) (b : Bool) → nat_le (length line) 64 ≡ b → (if b then form_of line else Unknown) ≢ Unknown → AsksFor line (if b then form_of line else Unknown)
 short_by line b is known = grind (arith, nat_tests, form_found)
 
--- what a line is read as, it asks for
+-- a line has the command that it is parsed as
 asks_for : (line : List ℕ) → command_of line ≢ Unknown → AsksFor line (command_of line)
 unfolding command_of
 asks_for line known = short_by line (nat_le (length line) 64) refl known
 
--- each line of a command is read as it
+-- each line of a command is parsed as it
 reads_form : (c : Command) (line : List ℕ) → IsLine c line → form_of line ≡ c
 unfolding form_of numbered_form_of move_form_of shown_form_of
 reads_form c line l = grind (arith, number_read, address_read, codes, decimal, address_ended)

@@ -1,4 +1,4 @@
--- What a command answers.
+-- The reply to each command.
 use Rattle.std.specs.Prelude.{ℕ, ◌+◌, ◌-◌, Bool, true, false, not, ◌&&◌, List, [], ◌∷◌, ◌++◌, codes, decimal, nat_le, is_some, if◌then◌else◌}
 use Rattle.bpf_machine.specs.State.{State}
 use Rattle.bpf_machine.specs.Trace.{state_after}
@@ -15,13 +15,14 @@ use Rattle.debugger.specs.declared.command.Command.{Command, TheVariants.Quit, T
 use Rattle.debugger.specs.declared.command.Command.TheVariants.{SetBreakpoint, ClearBreakpoint, Forward, Back, Go, Continue}
 use Rattle.debugger.specs.declared.command.Command.TheVariants.{ReverseContinue, Registers, ValueAt, MemoryAt, Frames, Listing, Verdict}
 
--- what a session knows between two lines: the step that is shown, the slots with a breakpoint, and whether it has ended
+-- the state of a session between two lines: the step that is shown, the slots with
+-- a breakpoint, and whether it has ended
 pub record SessionState : Type 0 where
   pub place : ℕ
   pub breakpoints : List ℕ
   pub ended : Bool
 
--- the session state after a line, and what was written
+-- the session state after a line, and the text that is written
 pub record Answer : Type 0 where
   pub next : SessionState
   pub text : List ℕ
@@ -34,15 +35,15 @@ session_state_at slots k ended = record { place = k; breakpoints = slots; ended 
 abbrev pub is_slot : ℕ → Bool
 is_slot n = nat_le n (slot_limit - 1)
 
--- whether a command takes so many steps: from 1 to 1,000,000
+-- whether a command accepts this number of steps: 1 to 1,000,000
 abbrev pub in_range : ℕ → Bool
 in_range n = nat_le 1 n && nat_le n move_limit
 
--- whether a command may go n steps on from step k: n is in range, and step 1,000,000,000 is not passed
+-- whether a command may go n steps forward from step k: n is in range, and step 1,000,000,000 is not passed
 abbrev pub can_go_on : ℕ → ℕ → Bool
 can_go_on k n = in_range n && nat_le (k + n) place_limit
 
--- whether it may go n steps back from step k: n is in range, and step 0 is not passed
+-- whether a command may go n steps back from step k: n is in range, and step 0 is not passed
 abbrev pub can_go_back : ℕ → ℕ → Bool
 can_go_back k n = in_range n && nat_le n k
 
@@ -50,11 +51,11 @@ can_go_back k n = in_range n && nat_le n k
 abbrev pub can_go_to : ℕ → Bool
 can_go_to k = nat_le k place_limit
 
--- an answer that leaves the session state
+-- a reply that leaves the session state unchanged
 abbrev pub says : SessionState → List ℕ → Answer
 says w text = record { next = w; text = text }
 
--- an answer that leaves the session state but for its breakpoints, which are these
+-- a reply that changes only the breakpoints of the session state
 abbrev pub sets_breakpoints : SessionState → List ℕ → List ℕ → Answer
 sets_breakpoints w slots text = record { next = record w { breakpoints = slots }; text = text }
 
@@ -62,19 +63,19 @@ sets_breakpoints w slots text = record { next = record w { breakpoints = slots }
 abbrev pub moves_to : State → SessionState → ℕ → Answer
 moves_to s w k = record { next = record w { place = k }; text = move_text k (state_after k s) }
 
--- the answer to a number that is out of range
+-- the reply to a number that is out of range
 abbrev pub out_of_range : SessionState → Answer
 out_of_range w = says w (codes "? range\n")
 
--- the answer to a breakpoint that was set
+-- the reply to a breakpoint that is set
 unfoldable pub break_text : ℕ → List ℕ
 break_text slot = codes "break " ++ (decimal slot ++ 10 ∷ [])
 
--- the answer to a breakpoint that was cleared
+-- the reply to a breakpoint that is cleared
 unfoldable pub clear_text : ℕ → List ℕ
 clear_text slot = codes "clear " ++ (decimal slot ++ 10 ∷ [])
 
--- the session state after a command, and its answer, in a session with the run from s
+-- the session state after a command, and its reply, in a session with the run from s
 unfoldable pub answer_of : State → SessionState → Command → Answer
 answer_of s w (SetBreakpoint n) = if is_slot n then sets_breakpoints w (with_breakpoint n w.breakpoints) (break_text n) else out_of_range w
 answer_of s w (ClearBreakpoint n) =
@@ -94,8 +95,8 @@ answer_of s w Verdict = says w (verdict_text (state_after w.place s))
 answer_of s w Quit = record { next = record w { ended = true }; text = [] }
 answer_of s w Unknown = says w (codes "? what\n")
 
--- whether a command may need memory that is refused: a breakpoint that is new, a move that is in range, a value, a
--- listing of code, and a verdict
+-- whether the allocation for a command may fail: for a new breakpoint, a move that is in
+-- range, a value, a code listing, and a verdict
 unfoldable pub may_be_refused : State → SessionState → Command → Bool
 may_be_refused s w (SetBreakpoint n) = is_slot n && not (has_breakpoint n w.breakpoints)
 may_be_refused s w (ClearBreakpoint n) = false
@@ -113,14 +114,14 @@ may_be_refused s w Verdict = true
 may_be_refused s w Quit = false
 may_be_refused s w Unknown = false
 
--- a line, and whether memory is refused there
+-- a line, and whether an allocation fails for it
 abbrev pub Line : Type 0
 Line = List ℕ × Bool
 
--- whether the line is one that memory is refused at: elsewhere the mark means nothing
+-- whether the allocation for the line fails; for a line that allocates nothing the mark is ignored
 abbrev pub is_refused : State → SessionState → Line → Bool
 is_refused s w l = l.1 && may_be_refused s w (command_of l.0)
 
--- the session state after a line, and its answer
+-- the session state after a line, and its reply
 unfoldable pub answer_to : State → SessionState → Line → Answer
 answer_to s w l = if is_refused s w l then says w (codes "? memory\n") else answer_of s w (command_of l.0)

@@ -1,4 +1,4 @@
--- The slots with a breakpoint, from the least on, none twice.
+-- The slots with a breakpoint, in ascending order without duplicates.
 use Rattle.std.specs.Prelude.{◌≡◌, ℕ, Bool, true, not, ◌||◌, ◌&&◌, List, [], ◌∷◌, filter, insert, nat_eq, nat_lt, if◌then◌else◌}
 use Rattle.std.specs.List.{list_all, list_any, prefix_len}
 
@@ -6,24 +6,24 @@ use Rattle.std.specs.List.{list_all, list_any, prefix_len}
 abbrev pub has_breakpoint : ℕ → List ℕ → Bool
 has_breakpoint slot slots = list_any (λ s. nat_eq s slot) slots
 
--- how many slots stand before the place of this one
+-- the number of slots before the position of this one
 abbrev pub place_of : ℕ → List ℕ → ℕ
 place_of slot slots = prefix_len (λ s. nat_lt s slot) slots
 
--- the same with one at this slot
+-- the breakpoints with one at this slot
 abbrev pub with_breakpoint : ℕ → List ℕ → List ℕ
 with_breakpoint slot slots = if has_breakpoint slot slots then slots else insert slots (place_of slot slots) slot
 
--- the same without one at this slot
+-- the breakpoints without one at this slot
 abbrev pub without_breakpoint : ℕ → List ℕ → List ℕ
 without_breakpoint slot slots = filter (λ s. not (nat_eq s slot)) slots
 
--- each slot is below those after it
+-- whether each slot is less than those after it
 abbrev pub in_order : List ℕ → Bool
 in_order [] = true
 in_order (s ∷ slots) = list_all (nat_lt s) slots && in_order slots
 
--- setting and clearing a breakpoint change whether this slot has one and nothing else, and keep the order
+-- setting and clearing a breakpoint affects only this slot, and keeps the order
 pub record SetsAndClears : Type 0 where
   pub set : (slot other : ℕ) (slots : List ℕ)
       → has_breakpoint other (with_breakpoint slot slots) ≡ nat_eq slot other || has_breakpoint other slots

@@ -7,12 +7,12 @@ use Rattle.debugger.specs.declared.command.Command.{Command, TheVariants.Quit, T
 use Rattle.debugger.specs.declared.command.Command.TheVariants.{SetBreakpoint, ClearBreakpoint, Forward, Back, Go, Continue}
 use Rattle.debugger.specs.declared.command.Command.TheVariants.{ReverseContinue, Registers, ValueAt, MemoryAt, Frames, Listing, Verdict}
 
--- a word and a number in decimals; a number has at most `line_limit` digits: with more it would be longer than a line may be
+-- a word and a decimal number; more than `line_limit` digits would exceed the length of a line
 pub record IsNumbered (word : List ℕ) (n : ℕ) (line : List ℕ) : Type 0 where
   pub fits : n < 10 ^ line_limit
   pub is : line ≡ word ++ decimal n
 
--- `m`, an address in 1 to 16 hex digits, and a number in decimals
+-- `m`, an address in 1 to 16 hex digits, and a decimal number
 pub record IsMemoryLine (address n : ℕ) (line : List ℕ) : Type 0 where
   pub digits : ℕ
   pub some : 0 < digits
@@ -21,7 +21,7 @@ pub record IsMemoryLine (address n : ℕ) (line : List ℕ) : Type 0 where
   pub number_fits : n < 10 ^ line_limit
   pub is : line ≡ codes "m 0x" ++ (hex_digits digits address ++ (codes " " ++ decimal n))
 
--- a line is one of a command's: its word, and its numbers
+-- the line is one of the command's: its word, and its numbers
 abbrev pub IsLine : Command → List ℕ → Type 0
 IsLine (SetBreakpoint n) line = IsNumbered (codes "b ") n line
 IsLine (ClearBreakpoint n) line = IsNumbered (codes "d ") n line
@@ -39,12 +39,12 @@ IsLine Verdict line = line ≡ codes "w"
 IsLine Quit line = line ≡ codes "q"
 IsLine Unknown line = ⊥
 
--- a line asks for the command whose line it is, where it has at most `line_limit` bytes
+-- the line with at most `line_limit` bytes is one of the command's
 pub record AsksFor (line : List ℕ) (c : Command) : Type 0 where
   pub is_line : IsLine c line
   pub short : length line ≤ line_limit
 
--- `command_of` is the command that a line asks for, and `Unknown` where it asks for none
+-- `command_of` returns the command of which the line is one, and `Unknown` if there is none
 pub record CommandsHaveLines : Type 0 where
   pub known : (line : List ℕ) (c : Command) → c ≢ Unknown → (command_of line ≡ c) ↔ AsksFor line c
   pub unknown : (line : List ℕ) → (command_of line ≡ Unknown) ↔ ((c : Command) → AsksFor line c → ⊥)

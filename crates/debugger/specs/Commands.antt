@@ -1,4 +1,4 @@
--- What a line asks for.
+-- Parsing of command lines.
 use Rattle.std.specs.Prelude.{ℕ, suc, ◌+◌, ◌-◌, ◌*◌, ◌^◌, ◌<◌, Bool, true, false, ◌&&◌, ◌||◌, List, [], ◌∷◌, length, take, drop, min}
 use Rattle.std.specs.Prelude.{Option, Some, None, codes, nat_eq, nat_le, nat_lt, slice_index, if◌then◌else◌}
 use Rattle.std.specs.Str.{bytes_eq}
@@ -8,20 +8,20 @@ use Rattle.debugger.specs.declared.command.Command.{Command, TheVariants.Quit, T
 use Rattle.debugger.specs.declared.command.Command.TheVariants.{SetBreakpoint, ClearBreakpoint, Forward, Back, Go, Continue}
 use Rattle.debugger.specs.declared.command.Command.TheVariants.{ReverseContinue, Registers, ValueAt, MemoryAt, Frames, Listing, Verdict}
 
--- a decimal digit
+-- whether the byte is a decimal digit
 abbrev pub is_digit : ℕ → Bool
 is_digit c = nat_le 48 c && nat_le c 57
 
--- the number that begins with n and goes on with these decimal digits
+-- the number that continues n with these decimal digits
 abbrev pub read_digits : ℕ → List ℕ → Option ℕ
 read_digits n [] = Some n
 read_digits n (c ∷ cs) = if is_digit c then read_digits (n * 10 + (c - 48)) cs else None
 
--- the first of several digits is 0
+-- whether the first of several digits is 0
 abbrev pub leads_with_zero : List ℕ → Bool
 leads_with_zero digits = nat_lt 1 (length digits) && nat_eq (slice_index digits 0) 48
 
--- a number: decimal digits, of which the first is 0 only where it is the only one
+-- a number: decimal digits without leading zeros
 unfoldable pub number_of : List ℕ → Option ℕ
 number_of digits =
     if nat_eq (length digits) 0 then None
@@ -32,21 +32,21 @@ number_of digits =
 abbrev pub begins_with : List ℕ → List ℕ → Bool
 begins_with front line = bytes_eq front (take (length front) line)
 
--- the command with this number, where one was read
+-- the command with this number, if one was read
 abbrev pub numbered : (ℕ → Command) → Option ℕ → Command
 numbered command None = Unknown
 numbered command (Some n) = command n
 
--- a hex digit, in small letters
+-- whether the byte is a lower-case hex digit
 abbrev pub is_hex_digit : ℕ → Bool
 is_hex_digit c = is_digit c || (nat_le 97 c && nat_le c 102)
 
--- the number of a hex digit
+-- the value of a hex digit
 abbrev pub hex_value : ℕ → ℕ
 hex_value c = if is_digit c then c - 48 else c - 87
 
--- an address of which so many hex digits stand before these bytes, and this is their number: more of
--- them, 16 at most in all, a space, and how many bytes are asked for
+-- the command `m` after `digits` hex digits of its address, with this value so far: more of them, at
+-- most 16 in all, a space, and the number of bytes
 abbrev pub read_address : ℕ → ℕ → List ℕ → Command
 read_address digits address [] = Unknown
 read_address digits address (c ∷ cs) =
@@ -54,7 +54,7 @@ read_address digits address (c ∷ cs) =
     else (if is_hex_digit c && nat_lt digits address_digit_limit then read_address (suc digits) (address * 16 + hex_value c) cs
     else Unknown)
 
--- what is shown of a state, by its number or its address
+-- a command that shows a part of the state, by its number or its address
 unfoldable pub shown_form_of : List ℕ → Command
 shown_form_of line =
     if begins_with (codes "v ") line then numbered ValueAt (number_of (drop 2 line))
@@ -77,7 +77,7 @@ numbered_form_of line =
     else (if begins_with (codes "d ") line then numbered ClearBreakpoint (number_of (drop 2 line))
     else move_form_of line)
 
--- the command that a line of any length would write
+-- the command of a line of any length
 unfoldable pub form_of : List ℕ → Command
 form_of line =
     if bytes_eq line (codes "q") then Quit
@@ -88,25 +88,25 @@ form_of line =
     else (if bytes_eq line (codes "w") then Verdict
     else numbered_form_of line)))))
 
--- a line's command: a line of more than `line_limit` bytes has no form
+-- the command of a line: a line of more than `line_limit` bytes is unknown
 unfoldable pub command_of : List ℕ → Command
 command_of line = if nat_le (length line) line_limit then form_of line else Unknown
 
--- the command ends the session
+-- whether the command ends the session
 abbrev pub is_quit : Command → Bool
 is_quit Quit = true
 is_quit other = false
 
--- the greatest number of 64 bits, which is out of every range, stands for those above it
+-- a number capped at the greatest of 64 bits, which is outside every range
 abbrev pub capped : ℕ → ℕ
 capped n = min n 18446744073709551615
 
--- the same of a number that was read
+-- a number that was read, capped at 64 bits
 abbrev pub capped_number : Option ℕ → Option ℕ
 capped_number None = None
 capped_number (Some n) = Some (capped n)
 
--- the same of a command's number; an address has 64 bits at most
+-- a command with its number capped; an address has at most 64 bits
 abbrev pub capped_command : Command → Command
 capped_command (SetBreakpoint n) = SetBreakpoint (capped n)
 capped_command (ClearBreakpoint n) = ClearBreakpoint (capped n)
@@ -118,7 +118,7 @@ capped_command (ValueAt h) = ValueAt (capped h)
 capped_command (MemoryAt address n) = MemoryAt address (capped n)
 capped_command other = other
 
--- each reference of a state that a command asks a value of has 64 bits
+-- if the command asks for a value, the references of the state fit 64 bits
 abbrev pub FitsWords : State → Command → Type 0
 FitsWords s (ValueAt h) = length s.values.values < 2 ^ 64
 FitsWords s _ = Unit {0}

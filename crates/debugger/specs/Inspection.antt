@@ -1,4 +1,4 @@
--- What a session shows of a state: a value, bytes of memory, and frames.
+-- The parts of a state that a session shows: a value, bytes of memory, and frames.
 use Rattle.std.specs.Prelude.{◌≡◌, ℕ, zero, suc, ◌+◌, ◌≤◌, Bool, ◌&&◌, List, [], ◌∷◌, ◌++◌, take, drop, length, codes, decimal, Option}
 use Rattle.std.specs.Prelude.{Some, None, nat_le, slice_get, if◌then◌else◌}
 use Rattle.std.specs.Fmt.{signed_decimal}
@@ -13,13 +13,13 @@ use Rattle.guest_memory.specs.Word.{part}
 use Rattle.value_store.specs.Json.{shown_text}
 use Rattle.value_store.specs.Value.{ValueOrError}
 
--- the regions that can be written have their sizes
+-- the writable regions have their sizes
 pub record HasRegions (m : Memory) : Type 0 where
   pub stack : length m.stack ≡ stack_length
   pub scratch : length m.scratch ≡ scratch_length
   pub verdict : length m.verdict ≡ verdict_length
 
--- and there are at most seven records
+-- the regions have their sizes, and there are at most seven records
 pub record HasSizes (m : Memory) (records : List Frame) : Type 0 where
   pub regions : HasRegions m
   pub few : length records ≤ 7
@@ -34,31 +34,31 @@ StaysSized s = (k : ℕ) → IsSized (state_after k s)
 
 -- ---- values
 
--- a reference, and the text of what stands there
+-- the line of a reference and the text of its value
 unfoldable pub value_line : ℕ → List ℕ → List ℕ
 value_line h text = codes "value " ++ (decimal h ++ (codes " " ++ (text ++ 10 ∷ [])))
 
--- what stands at a reference of the state's store
+-- the value at a reference of the state's store
 abbrev pub value_at : State → ℕ → Option ValueOrError
 value_at s h = slice_get s.values.values h
 
--- what stands at a reference as JSON text, if it is one
+-- the value at a reference as JSON, or that the reference is invalid
 abbrev pub value_text : ℕ → Option ValueOrError → List ℕ
 value_text h (Some v) = value_line h (shown_text v)
 value_text h None = codes "? range\n"
 
 -- ---- memory
 
--- the n bytes of a region from a place in it on
+-- the n bytes of a region from an offset on
 abbrev pub bytes_at : Memory → ℕ → Option (Region × ℕ) → Option (List ℕ)
 bytes_at m n (Some (r, at)) = Some (part (bytes_in r m) at n)
 bytes_at m n None = None
 
--- n bytes from an address on, if all of them stand in one region
+-- n bytes at an address, if all of them are in one region
 unfoldable pub bytes_from : Memory → ℕ → ℕ → Option (List ℕ)
 bytes_from m address n = bytes_at m n (region_of m address n)
 
--- so many bytes can be shown
+-- whether this number of bytes can be shown
 abbrev pub is_count : ℕ → Bool
 is_count n = nat_le 1 n && nat_le n shown_bytes_limit
 
@@ -75,7 +75,7 @@ digits_of_bytes (b ∷ bs) = codes " " ++ (hex_digits 2 b ++ digits_of_bytes bs)
 unfoldable pub memory_line : ℕ → List ℕ → List ℕ
 memory_line address bytes = word_text address ++ (digits_of_bytes bytes ++ 10 ∷ [])
 
--- up to so many lines of up to `line_bytes` bytes
+-- at most `count` lines of up to `line_bytes` bytes
 unfoldable pub memory_lines : ℕ → ℕ → List ℕ → List ℕ
 memory_lines zero address bytes = []
 memory_lines (suc count) address [] = []
@@ -94,15 +94,15 @@ saved_text f =
     codes " r6 "
     ++ (word_text f.r6 ++ (codes " r7 " ++ (word_text f.r7 ++ (codes " r8 " ++ (word_text f.r8 ++ (codes " r9 " ++ word_text f.r9))))))
 
--- where the caller goes on, and its registers
+-- the caller's return slot, and its registers
 unfoldable pub frame_line : Frame → List ℕ
 frame_line f = codes "return " ++ (signed_decimal f.return_pc ++ (saved_text f ++ 10 ∷ []))
 
--- the newest record, which stands last, comes first
+-- the lines of the records, from the newest, which is the last, to the oldest
 unfoldable pub frame_lines : List Frame → List ℕ
 frame_lines [] = []
 frame_lines (f ∷ newer) = frame_lines newer ++ frame_line f
 
--- how many records there are, and each of them
+-- the number of records, and each of them
 unfoldable pub frames_text : List Frame → List ℕ
 frames_text records = codes "depth " ++ (decimal (length records) ++ (10 ∷ [] ++ frame_lines records))

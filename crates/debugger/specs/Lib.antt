@@ -1,3 +1,4 @@
+-- Definitions of debugger: the list of their modules.
 pub mod Limits
 pub mod Commands
 pub mod CommandLines

@@ -7,16 +7,16 @@ use Rattle.insn_codec.specs.Statements.{statement_of, statement_slots, statement
 use Rattle.bpf_machine.specs.Decoding.{slot_count}
 use Rattle.bpf_machine.specs.State.{State}
 
--- what stands in the code from this slot on
+-- the statement in the code from this slot on
 abbrev pub statement_at : List ℕ → ℕ → Statement
 statement_at code slot = statement_of (drop (8 * slot) code)
 
--- the number of a slot, and the line of the statement that stands there
+-- the number of a slot, and the line of the statement there
 unfoldable pub listing_line : List ℕ → ℕ → List ℕ
 listing_line code slot = decimal slot ++ (codes " " ++ (statement_text (statement_at code slot) ++ 10 ∷ []))
 
--- up to so many lines, one for this slot and each next one for the slot after the line before, none beyond the code's
--- end
+-- at most `count` lines, one for this slot and each next one for the slot after the
+-- previous statement, up to the end of the code
 unfoldable pub listing_lines : ℕ → List ℕ → ℕ → List ℕ
 listing_lines zero code slot = []
 listing_lines (suc count) code slot =
@@ -24,12 +24,12 @@ listing_lines (suc count) code slot =
     then listing_line code slot ++ listing_lines count code (slot + statement_slots (statement_at code slot))
     else []
 
--- `pc` names a slot of the code
+-- whether `pc` is a slot of the code
 abbrev pub is_inside : List ℕ → ℤ → Bool
 is_inside code (pos slot) = nat_lt slot (slot_count code)
 is_inside code (negsuc n) = false
 
--- the slot that `pc` names, and none where the code has none there
+-- the slot of `pc`, or none if the code has no slot there
 abbrev pub IsPlaced : List ℕ → ℤ → Option ℕ → Type 0
 IsPlaced code pc (Some slot) = (pc ≡ pos slot) × (slot < slot_count code)
 IsPlaced code pc None = is_inside code pc ≡ false
@@ -38,7 +38,7 @@ IsPlaced code pc None = is_inside code pc ≡ false
 unfoldable pub outside_line : ℤ → List ℕ
 outside_line pc = signed_decimal pc ++ codes " outside\n"
 
--- eight lines of this code from `pc` on, or that it is outside
+-- eight lines of this code from `pc` on, or that `pc` is outside
 abbrev pub listing_at : List ℕ → ℤ → List ℕ
 listing_at code (pos slot) = if is_inside code (pos slot) then listing_lines 8 code slot else outside_line (pos slot)
 listing_at code (negsuc n) = outside_line (negsuc n)

@@ -1,4 +1,4 @@
--- Sessions written out by hand.
+-- Sessions worked out by hand.
 use Rattle.std.specs.Prelude.{◌≡◌, ℕ, true, false, List, [], ◌∷◌, ◌++◌, codes, map, replicate}
 use Rattle.bpf_machine.specs.State.{State, null_values, start_state}
 use Rattle.bpf_machine.specs.Rows.{start_of}
@@ -19,7 +19,7 @@ five = start_of (0xb7 ∷ 0 ∷ 0 ∷ 0 ∷ 5 ∷ 0 ∷ 0 ∷ 0 ∷ 0x95 ∷ 0 �
 abbrev pub open_ended : State
 open_ended = start_of (0xb7 ∷ 0 ∷ 0 ∷ 0 ∷ 5 ∷ 0 ∷ 0 ∷ 0 ∷ [])
 
--- a jump into the second slot of a wide load, the wide load, and exit
+-- a jump to the second slot of a wide load, the wide load, and exit
 abbrev pub inside_wide : State
 inside_wide =
     start_of
@@ -34,7 +34,7 @@ calls_itself = start_of (0x85 ∷ 0x10 ∷ 0 ∷ 0 ∷ 0xff ∷ 0xff ∷ 0xff �
 abbrev exit_slot : List ℕ
 exit_slot = 0x95 ∷ 0 ∷ 0 ∷ 0 ∷ 0 ∷ 0 ∷ 0 ∷ 0 ∷ []
 
--- nine times exit
+-- exit, nine times
 abbrev pub nine_exits : State
 nine_exits =
     start_of
@@ -56,18 +56,18 @@ leaves_words version =
     })
     null_values
 
--- the lines of the registers once R0 is 5
+-- the lines of the registers after R0 is 5
 abbrev pub five_registers : List ℕ
 five_registers =
     codes "r0 0x0000000000000005\nr1 0x0000000000000000\nr2 0x0000000000000000\nr3 0x0000000000000000\n"
     ++ (codes "r4 0x0000000000000000\nr5 0x0000000000000000\nr6 0x0000000000000000\nr7 0x0000000000000000\n"
     ++ codes "r8 0x0000000000000000\nr9 0x0000000000000000\nr10 0x0000000100000200\n")
 
--- the line of a frame whose caller is slot 1, with zeros in R6 to R9
+-- the line of a frame whose caller is at slot 1, with zeros in R6 to R9
 abbrev pub empty_frame : List ℕ
 empty_frame = codes "return 1 r6 0x0000000000000000 r7 0x0000000000000000 r8 0x0000000000000000 r9 0x0000000000000000\n"
 
--- sessions, each with what it writes, and lines, each with its command
+-- sessions with the text that they write, and lines with their commands
 pub record SessionRowsHold : Type 0 where
   pub moves : session_text five (codes "s 1\nrs 1\nrs 1\ns 0\ns 01\ns 1000001\nx\nq\n")
       ≡ codes "step 1 pc 1 running\nstep 0 pc 0 running\n? range\n? range\n? what\n? range\n? what\n"
@@ -130,15 +130,15 @@ pub record SessionRowsHold : Type 0 where
       ((codes "s 0", true) ∷ (codes "b 65536", true) ∷ (codes "d 3", true) ∷ (codes "x", true) ∷ (codes "q", true) ∷ [])).text
       ≡ codes "? range\n? range\nclear 3\n? what\n"
 
--- where no line of the text is `? memory`, all was said that the lines ask for
+-- if no line of the text is `? memory`, the text is complete for its lines
 abbrev pub TellsAll : Type 0
 TellsAll = (s : State) (lines : List (List ℕ)) (t : Dialogue) → IsDialogue s lines t → says_memory t.text ≡ false
     → t ≡ dialogue_of s (map granted lines)
 
--- every answer is whole lines
+-- every reply is whole lines
 abbrev pub AnswersInLines : Type 0
 AnswersInLines = (s : State) (w : SessionState) (l : Line) → (cut (answer_to s w l).text).1 ≡ []
 
--- whatever is said, the breakpoints stand in order, none twice
+-- the breakpoints are always in order without duplicates
 abbrev pub StaysInOrder : Type 0
 StaysInOrder = (s : State) (lines : List Line) → in_order (dialogue_of s lines).session_state.breakpoints ≡ true

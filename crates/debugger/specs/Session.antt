@@ -7,7 +7,7 @@ use Rattle.debugger.specs.Answers.{SessionState, Line, session_state_at, answer_
 use Rattle.debugger.specs.Commands.{command_of, is_quit}
 use Rattle.streams.specs.Lines.{cut, input_lines, readable}
 
--- one of these lines ends a session
+-- whether one of these lines ends a session
 abbrev pub has_quit : List (List ℕ) → Bool
 has_quit lines = list_any (λ line. is_quit (command_of line)) lines
 
@@ -20,22 +20,22 @@ pub record Dialogue : Type 0 where
 abbrev pub start_dialogue : Dialogue
 start_dialogue = record { session_state = session_state_at [] 0 false; text = [] }
 
--- the answer to one more line, behind the text so far
+-- the reply to one more line, appended to the text so far
 abbrev pub with_answer : State → Dialogue → Line → Dialogue
 with_answer s t l = record {
   session_state = (answer_to s t.session_state l).next;
   text = t.text ++ (answer_to s t.session_state l).text;
 }
 
--- one more line, which is not heard once the session has ended
+-- one more line, which is ignored after the session has ended
 unfoldable pub dialogue_after : State → Dialogue → Line → Dialogue
 dialogue_after s t l = if t.session_state.ended then t else with_answer s t l
 
--- what is said to these lines, from step 0 of the run from s on
+-- the dialogue for these lines, from step 0 of the run from s on
 abbrev pub dialogue_of : State → List Line → Dialogue
 dialogue_of s lines = fold (dialogue_after s) start_dialogue lines
 
--- a line at which memory is not refused
+-- a line for which no allocation fails
 abbrev pub granted : List ℕ → Line
 granted line = (line, false)
 
@@ -43,6 +43,6 @@ granted line = (line, false)
 abbrev pub session_text : State → List ℕ → List ℕ
 session_text s input = (dialogue_of s (map granted (input_lines (readable input)))).text
 
--- a line of this text is `? memory`
+-- whether a line of this text is `? memory`
 abbrev pub says_memory : List ℕ → Bool
 says_memory text = list_any (bytes_eq (codes "? memory")) (cut text).0

@@ -1,4 +1,4 @@
--- What a session has read and written.
+-- The transcript of a session: the bytes that it read and wrote.
 use Rattle.std.specs.Prelude.{◌≡◌, ℕ, ◌<◌, ◌≤◌, ◌⊎◌, Bool, true, false, List, [], ◌∷◌, ◌++◌, length, take, drop, map, Option, Some, Result, Ok, Err, OnOk}
 use Rattle.bpf_machine.specs.State.{State}
 use Rattle.streams.specs.Streams.{AddsBytes, Stream}
@@ -12,19 +12,19 @@ use Rattle.streams.specs.Failures.{FailsByResult}
 abbrev pub lines_of : List Line → List (List ℕ)
 lines_of marked = map (λ (l : Line). l.0) marked
 
--- what was said to these lines, where memory was refused at those that are marked
+-- the dialogue for these lines, with failed allocations at some of them
 pub record IsDialogue (s : State) (lines : List (List ℕ)) (t : Dialogue) : Type 0 where
   pub marked : List Line
   pub lines_are : lines_of marked ≡ lines
   pub talk_is : dialogue_of s marked ≡ t
 
--- so many bytes of the input were read: up to the line feed of the first line that ends a session, or to the end
+-- `read` bytes of the input were read: up to the line feed of the first line that ends a session, or to the end
 pub record ReadsAll (input : List ℕ) (read : ℕ) : Type 0 where
   pub within : read ≤ length (readable input)
   pub goes_on : (n : ℕ) → n < read → has_quit (cut (take n input)).0 ≡ false
   pub ends : (has_quit (cut (take read input)).0 ≡ true) ⊎ (read ≡ length (readable input))
 
--- all lines of the input were answered, and nothing was read behind the one that ends a session
+-- all lines of the input were answered, and nothing was read after the one that ends a session
 pub record TranscriptAll (s : State) (input before : List ℕ) (left written : Option (List ℕ)) : Type 0 where
   pub read : ℕ
   pub all_read : ReadsAll input read
@@ -33,7 +33,7 @@ pub record TranscriptAll (s : State) (input before : List ℕ) (left written : O
   pub all_lines : IsDialogue s (input_lines (readable input)) talk
   pub all_written : written ≡ Some (before ++ talk.text)
 
--- so many bytes were read, and the lines that ended among them were answered, of which none ends a session
+-- some bytes were read, and the lines that ended among them were answered; none of them ends a session
 pub record TranscriptSome (s : State) (input before : List ℕ) (left written : Option (List ℕ)) : Type 0 where
   pub read : ℕ
   pub some_within : read ≤ length (readable input)
@@ -43,8 +43,8 @@ pub record TranscriptSome (s : State) (input before : List ℕ) (left written : 
   pub some_lines : IsDialogue s (cut (take read input)).0 talk
   pub some_written : written ≡ Some (before ++ talk.text)
 
--- so many bytes were read, up to a line's end: the answers to the lines before it were written whole, and its own but
--- for a rest
+-- some bytes were read, up to a line's end: the replies to the lines before it were
+-- written completely, and its own only in part
 pub record TranscriptPart (s : State) (input before : List ℕ) (left written : Option (List ℕ)) : Type 0 where
   pub read : ℕ
   pub part_within : read ≤ length (readable input)
@@ -64,35 +64,35 @@ pub record TranscriptNone (input before : List ℕ) (left written : Option (List
   pub none_left : left ≡ Some input
   pub none_written : written ≡ Some before
 
--- what a session in the run from s has read and written after what was there before, by its result
+-- what a session in the run from s read and wrote after the bytes before it, by its result
 abbrev pub SessionByResult : State → List ℕ → List ℕ → Option (List ℕ) → Option (List ℕ) → Result (Unit {0}) SessionError → Type 0
 SessionByResult s input before left written (Ok u) = TranscriptAll s input before left written
 SessionByResult s input before left written (Err ReadFailed) = TranscriptSome s input before left written
 SessionByResult s input before left written (Err WriteFailed) = TranscriptPart s input before left written
 SessionByResult s input before left written (Err Memory) = TranscriptNone input before left written
 
--- what a session in the run from s does to a reader and a writer, by its result
+-- the effect of a session in the run from s on a reader and a writer, by its result
 pub record IsSession (s : State) (r r_after w w_after : Stream) (result : Result (Unit {0}) SessionError) : Type 0 where
   pub told : (input before : List ℕ) → r.bytes ≡ Some input → w.bytes ≡ Some before
       → SessionByResult s input before r_after.bytes w_after.bytes result
-  -- where no line that it wrote is `? memory`, it wrote the session's text
+  -- if no line that it wrote is `? memory`, it wrote the session's text
   pub text : (input before written : List ℕ) → r.bytes ≡ Some input → w.bytes ≡ Some before → w_after.bytes ≡ Some (before ++ written)
       → says_memory written ≡ false → OnOk result (written ≡ session_text s input)
   pub fails : FailsByResult r.failed r_after.failed w.failed w_after.failed result
 
--- a line's answer in a session state, and the session state after it: where memory was refused is told by a mark
+-- a line's reply in a session state, and the session state after it; a mark tells whether an allocation failed
 pub record AnswersLine (s : State) (w : SessionState) (line : List ℕ) (next : SessionState) (text : List ℕ) : Type 0 where
   pub mark : Bool
   pub next_is : (answer_to s w (line, mark)).next ≡ next
   pub text_is : (answer_to s w (line, mark)).text ≡ text
 
--- a line's answer was written
+-- a line's reply was written
 pub record WritesAnswer (s : State) (w : SessionState) (line : List ℕ) (next : SessionState) (written new : Option (List ℕ)) : Type 0 where
   pub text : List ℕ
   pub answers : AnswersLine s w line next text
   pub line_written : AddsBytes written new text
 
--- a line's answer was written but for a rest
+-- a line's reply was written in part
 pub record WritesPartOfAnswer (s : State) (w : SessionState) (line : List ℕ) (written new : Option (List ℕ)) : Type 0 where
   pub next : SessionState
   pub text : List ℕ
@@ -101,8 +101,8 @@ pub record WritesPartOfAnswer (s : State) (w : SessionState) (line : List ℕ) (
   pub is_cut : many < length text
   pub line_written : AddsBytes written new (take many text)
 
--- the lines that ended among these bytes were answered, and none of them ends a session; the line after them is kept up
--- to its 65th byte, and the session state has these breakpoints and this step
+-- the lines that ended among these bytes were answered, and none of them ends a session; the first 65 bytes of the
+-- line after them are kept, and the session state has these breakpoints and this step
 pub record TranscriptSoFar (s : State) (before heard : List ℕ) (written : Option (List ℕ)) (line slots : List ℕ) (k : ℕ) : Type 0 where
   pub talk : Dialogue
   pub lines : IsDialogue s (cut heard).0 talk
@@ -111,7 +111,7 @@ pub record TranscriptSoFar (s : State) (before heard : List ℕ) (written : Opti
   pub written_is : written ≡ Some (before ++ talk.text)
   pub world_is : talk.session_state ≡ session_state_at slots k false
 
--- a session goes on so in its run, which is the run from s
+-- a session continues in its run, which is the run from s
 abbrev pub SessionGoesOn : State → State → List ℕ → List ℕ → List ℕ → ℕ → List ℕ → Option (List ℕ) → Type 0
 SessionGoesOn origin s before line slots k heard written = (origin ≡ s) × TranscriptSoFar s before heard written line slots k
 
@@ -124,14 +124,14 @@ pub record TranscriptToQuit (s : State) (before heard : List ℕ) (written : Opt
   pub written_is : written ≡ Some (before ++ talk.text)
   pub ended : talk.session_state.ended ≡ true
 
--- these bytes are all, all their lines were answered, and no whole line among them ends a session
+-- these bytes are the whole input, all their lines were answered, and no complete line among them ends a session
 pub record TranscriptToEnd (s : State) (before heard : List ℕ) (written : Option (List ℕ)) : Type 0 where
   pub talk : Dialogue
   pub lines : IsDialogue s (input_lines heard) talk
   pub goes_on : has_quit (cut heard).0 ≡ false
   pub written_is : written ≡ Some (before ++ talk.text)
 
--- the answers to all lines of these bytes but the last were written whole, and its own but for a rest
+-- the replies to all lines of these bytes but the last were written completely, and the last one's only in part
 pub record TranscriptCut (s : State) (before heard : List ℕ) (written : Option (List ℕ)) : Type 0 where
   pub answered : List Line
   pub last : Line

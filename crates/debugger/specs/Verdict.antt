@@ -1,4 +1,4 @@
--- What a session shows of the verdict region: words of eight bytes, in decimal.
+-- The verdict region as a session shows it: words of eight bytes, in decimal.
 use Rattle.std.specs.Prelude.{ℕ, zero, suc, ◌+◌, ◌*◌, List, [], ◌∷◌, ◌++◌, codes, decimal, nat_eq, if◌then◌else◌}
 use Rattle.bpf_machine.specs.State.{State}
 use Rattle.debugger.specs.Limits.{verdict_list_words, validations_offset, messages_offset}
@@ -6,7 +6,7 @@ use Rattle.guest_memory.specs.Memory.{Memory}
 use Rattle.guest_memory.specs.Word.{part, word_of}
 use Rattle.loader.specs.Contents.{version_number}
 
--- the word at a place of the verdict region
+-- the word at an offset of the verdict region
 abbrev pub verdict_word : Memory → ℕ → ℕ
 verdict_word m at = word_of (part m.verdict at 8)
 
@@ -14,18 +14,18 @@ verdict_word m at = word_of (part m.verdict at 8)
 unfoldable pub verdict_line : Memory → List ℕ
 verdict_line m = codes "verdict " ++ (decimal (verdict_word m 0) ++ (codes " " ++ (decimal (verdict_word m 8) ++ 10 ∷ [])))
 
--- the word with this number, where it is not 0
+-- the line of the word with this number, empty if it is 0
 unfoldable pub word_line : List ℕ → ℕ → ℕ → List ℕ
 word_line name i word =
     if nat_eq word 0 then []
     else name ++ (codes " " ++ (decimal i ++ (codes " " ++ (decimal word ++ 10 ∷ []))))
 
--- the first so many words from a place on, numbered from 0
+-- the lines of the first `n` words from an offset on, numbered from 0
 unfoldable pub word_lines : List ℕ → Memory → ℕ → ℕ → List ℕ
 word_lines name m from zero = []
 word_lines name m from (suc i) = word_lines name m from i ++ word_line name i (verdict_word m (from + 8 * i))
 
--- only programs of images of version 2 leave messages
+-- the lines of messages, which only programs of images of version 2 write
 abbrev pub message_lines : ℕ → Memory → List ℕ
 message_lines version m = if nat_eq version 2 then word_lines (codes "message") m messages_offset verdict_list_words else []
 
@@ -33,6 +33,6 @@ message_lines version m = if nat_eq version 2 then word_lines (codes "message") 
 unfoldable pub verdict_lines : ℕ → Memory → List ℕ
 verdict_lines version m = verdict_line m ++ (word_lines (codes "validation") m validations_offset verdict_list_words ++ message_lines version m)
 
--- the verdict of an image's program as it stands
+-- the verdict of an image's program in its current state
 abbrev pub verdict_text : State → List ℕ
 verdict_text s = verdict_lines (version_number s.image.version) s.memory

@@ -1,4 +1,4 @@
-//! The text of an answer.
+//! The text of a reply.
 ghost use Rattle.std.specs.Prelude.{◌≡◌, ◌≤◌, ◌<◌, ◌+◌, [], ◌++◌, ◌∷◌, ℕ, codes, length, decimal};
 ghost use Rattle.std.specs.Fmt.{signed_decimal};
 ghost use Rattle.insn_codec.specs.Codes.{register_number};
@@ -15,8 +15,8 @@ use std::marker::Model;
 
 mod inspection;
 
-/// The text of an answer that takes no memory, in room of its own for 1,072 bytes, the most being
-/// the 16 lines of 67 bytes each that show 256 bytes of memory.
+/// The text of a reply that allocates nothing: it has its own buffer of 1,072 bytes, the maximum, for the 16
+/// lines of 67 bytes each that show 256 bytes of memory.
 #[derive(Drop)]
 pub struct AnswerText {
     bytes: ArrayVec<u8, 1072>,
@@ -32,7 +32,7 @@ impl Model for AnswerText {
 }
 
 impl AnswerText {
-    /// No text. It takes no memory.
+    /// An empty text. Allocates nothing.
     pub fn new() -> AnswerText
         ensures { result ≡ [] }
     {
@@ -81,7 +81,7 @@ impl AnswerText {
         self.push_byte(hex_digit(word % 16));
     }
 
-    /// Appends a number.
+    /// Appends a number in decimal.
     fn push_number(&mut self, n: u64)
         requires { length self.old ≤ 1052 }
         ensures text { self.new ≡ self.old ++ decimal n }
@@ -90,7 +90,7 @@ impl AnswerText {
         self.push_bytes(Buffer::new().format(n).as_bytes());
     }
 
-    /// Appends a number with `-` where it is negative.
+    /// Appends a number in decimal, with `-` if it is negative.
     fn push_signed(&mut self, n: i64)
         requires { length self.old ≤ 1052 }
         ensures text { self.new ≡ self.old ++ signed_decimal n }
@@ -109,7 +109,7 @@ impl AnswerText {
         self.push_hex(16, word);
     }
 
-    /// Appends whether a machine goes on.
+    /// Appends the status of a machine.
     fn push_status(&mut self, status: Status)
         requires { length self.old ≤ 1047 }
         ensures text { self.new ≡ self.old ++ status_text status }
@@ -128,7 +128,7 @@ impl AnswerText {
         }
     }
 
-    /// Appends the line that tells of a new breakpoint.
+    /// Appends the line for a breakpoint that is set.
     #[tactic(auto, unfolding(crate::specs::Answers::break_text))]
     pub fn push_break(&mut self, slot: u64)
         requires { length self.old ≤ 200 }
@@ -139,7 +139,7 @@ impl AnswerText {
         self.push_byte(b'\n');
     }
 
-    /// Appends the line that tells of a breakpoint taken away.
+    /// Appends the line for a breakpoint that is cleared.
     #[tactic(auto, unfolding(crate::specs::Answers::clear_text))]
     pub fn push_clear(&mut self, slot: u64)
         requires { length self.old ≤ 200 }
@@ -150,7 +150,7 @@ impl AnswerText {
         self.push_byte(b'\n');
     }
 
-    /// Appends what stands before the text of a value.
+    /// Appends the start of a value's line, before its text.
     pub fn push_value(&mut self, h: u64)
         requires { length self.old ≤ 200 }
         ensures { self.new ≡ self.old ++ (codes "value " ++ (decimal h ++ codes " ")) }
@@ -160,7 +160,7 @@ impl AnswerText {
         self.push_byte(b' ');
     }
 
-    /// Appends the line that tells that `pc` is outside the code.
+    /// Appends the line for a `pc` outside the code.
     #[tactic(auto, unfolding(crate::specs::Listing::outside_line))]
     pub fn push_outside(&mut self, pc: i64)
         requires { length self.old ≤ 200 }

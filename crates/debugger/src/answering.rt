@@ -1,4 +1,4 @@
-//! The answers to lines.
+//! Replies to lines.
 ghost use Rattle.std.specs.Prelude.{◌≡◌, false, true, not, ◌&&◌, codes, if◌then◌else◌, IfOk, OnErr, OnOk};
 ghost use Rattle.bpf_machine.specs.Text.{registers_text};
 ghost use Rattle.bpf_machine.specs.Trace.{state_after};
@@ -24,7 +24,7 @@ use insn_codec::SLOT_LIMIT;
 use std::alloc::{AllocError, Global};
 use streams::{Failed, Sink};
 
-/// Writes the answer to a line, and says whether the session has ended.
+/// Writes the reply to a line, and returns whether the session has ended.
 pub fn write_answer<H: History, W: Sink>(
     alloc: Global,
     h: &mut H,
@@ -49,7 +49,7 @@ pub fn write_answer<H: History, W: Sink>(
     Ok(answer.ended)
 }
 
-/// Makes the answer to a line whole.
+/// Makes the complete reply to a line.
 fn answer_line<H: History>(
     alloc: Global,
     h: &mut H,
@@ -82,7 +82,7 @@ fn is_quit(command: Command) -> bool
     matches!(command, Command::Quit)
 }
 
-/// Obeys a command. Where memory is refused, nothing has changed.
+/// Executes a command. If an allocation fails, nothing has changed.
 #[tactic(auto, unfolding(crate::specs::Answers::answer_of, crate::specs::Answers::may_be_refused))]
 fn execute<H: History>(
     alloc: Global,
@@ -128,7 +128,7 @@ fn registers<E: Emulator>(machine: &E) -> Reply
     Reply::Text(text)
 }
 
-/// Sets a breakpoint at a slot that code can have.
+/// Sets a breakpoint at a slot, if code can have this slot.
 fn set_breakpoint(breakpoints: &mut Breakpoints, slot: u64) -> Result<Reply, AllocError>
     ensures slots { OnOk result (breakpoints.new ≡ (if is_slot slot then with_breakpoint slot breakpoints.old else breakpoints.old)) }
     ensures text { IfOk result (λ reply. reply_text reply ≡ (if is_slot slot then break_text slot else codes "? range\n")) }
@@ -144,7 +144,7 @@ fn set_breakpoint(breakpoints: &mut Breakpoints, slot: u64) -> Result<Reply, All
     Ok(Reply::Text(text))
 }
 
-/// Takes the breakpoint at a slot that code can have away, if there is one.
+/// Clears the breakpoint at a slot, if code can have this slot.
 fn clear_breakpoint(breakpoints: &mut Breakpoints, slot: u64) -> Reply
     ensures slots { breakpoints.new ≡ (if is_slot slot then without_breakpoint slot breakpoints.old else breakpoints.old) }
     ensures text { reply_text result ≡ (if is_slot slot then clear_text slot else codes "? range\n") }

@@ -1,4 +1,4 @@
-//! The slots at which a run is to stop.
+//! The slots with a breakpoint.
 ghost use Rattle.std.specs.Prelude.{◌≡◌, false, OnErr, OnOk, []};
 ghost use Rattle.debugger.specs.Breakpoints.{has_breakpoint, with_breakpoint, without_breakpoint};
 
@@ -6,7 +6,7 @@ use smallvec::SmallVec;
 use std::alloc::{AllocError, Global};
 use std::marker::Model;
 
-/// The slots with a breakpoint, from the least on, none twice. Up to eight take no memory.
+/// The slots with a breakpoint, in ascending order without duplicates. Up to eight need no allocation.
 #[derive(Drop)]
 pub struct Breakpoints {
     slots: SmallVec<u64, 8>,
@@ -25,7 +25,7 @@ impl Model for Breakpoints {
 }
 
 impl Breakpoints {
-    /// No breakpoint. It takes no memory.
+    /// No breakpoints. Allocates nothing.
     pub fn new(alloc: Global) -> Breakpoints
         ensures { result ≡ [] }
     {
@@ -40,13 +40,13 @@ impl Breakpoints {
         self.slots.as_slice()
     }
 
-    /// A breakpoint at this slot too. Memory is asked for only where there is none yet.
+    /// Sets a breakpoint at this slot. Allocates only if it has none yet.
     pub fn set(&mut self, slot: u64) -> Result<(), AllocError>
         ensures ok { OnOk result (self.new ≡ with_breakpoint slot self.old) }
         ensures err { OnErr result (self.new ≡ self.old) }
         ensures refused { OnErr result (has_breakpoint slot self.old ≡ false) }
     {
-        // The search answers the place of the slot where it is not found.
+        // If the slot is not found, the search returns the position for it.
         let Err(place) = self.slots.as_slice().binary_search(&slot) else {
             return Ok(());
         };
@@ -54,7 +54,7 @@ impl Breakpoints {
         Ok(())
     }
 
-    /// No breakpoint at this slot.
+    /// Clears the breakpoint at this slot, if any.
     pub fn clear(&mut self, slot: u64)
         ensures { self.new ≡ without_breakpoint slot self.old }
     {

@@ -1,44 +1,43 @@
-//! What a line asks for.
+//! Parsing of command lines.
 ghost use Rattle.std.specs.Prelude.{◌≡◌, ◌≤◌, ◌<◌, ◌^◌, ◌-◌, ◌+◌, ◌*◌, ℕ, true, drop, min, option_map};
 ghost use Rattle.std.specs.Str.{bytes_eq};
 ghost use Rattle.debugger.specs.Commands.{begins_with, capped, capped_command, capped_number, command_of, form_of, hex_value, is_digit, is_hex_digit, leads_with_zero, move_form_of, number_of, numbered_form_of, read_address, read_digits, shown_form_of};
 
-/// The most bytes of a line that is a command.
+/// The maximum number of bytes of a command line.
 const LINE_LIMIT: usize = 64;
 
-/// What a line asks for. The greatest number of 64 bits is in no range: it stands for each number
-/// that is greater.
+/// The command of a line. Numbers are capped at the greatest of 64 bits, which is outside every range.
 #[derive(Clone, Copy, Debug, PartialEq, Eq)]
 pub enum Command {
-    /// `b N`: a breakpoint at this slot.
+    /// `b N`: sets a breakpoint at this slot.
     SetBreakpoint(u64),
-    /// `d N`: no breakpoint at this slot.
+    /// `d N`: clears the breakpoint at this slot.
     ClearBreakpoint(u64),
-    /// `s N`: to the step that lies N further.
+    /// `s N`: goes N steps forward.
     Forward(u64),
-    /// `rs N`: to the step that lies N before.
+    /// `rs N`: goes N steps back.
     Back(u64),
-    /// `g K`: to step K.
+    /// `g K`: goes to step K.
     Go(u64),
-    /// `c N`: on to the next stop, at most N steps.
+    /// `c N`: continues to the next stop, at most N steps.
     Continue(u64),
-    /// `rc`: back to the last breakpoint before.
+    /// `rc`: goes back to the last breakpoint.
     ReverseContinue,
-    /// `r`: the registers.
+    /// `r`: shows the registers.
     Registers,
-    /// `v H`: what stands at this reference.
+    /// `v H`: shows the value at this reference.
     ValueAt(u64),
-    /// `m A L`: from this address on, so many bytes of memory.
+    /// `m A L`: shows L bytes of memory at this address.
     MemoryAt(u64, u64),
-    /// `f`: the records of the calls that have not returned.
+    /// `f`: shows the records of the calls that have not returned.
     Frames,
-    /// `l`: the code from `pc` on.
+    /// `l`: lists the code from `pc` on.
     Listing,
-    /// `w`: the words of the verdict.
+    /// `w`: shows the words of the verdict.
     Verdict,
-    /// `q`: the end of the session.
+    /// `q`: ends the session.
     Quit,
-    /// A line that has no form.
+    /// A line that is not a command.
     Unknown,
 }
 
@@ -56,7 +55,7 @@ impl Command {
     }
 }
 
-/// The command that a line of any length would write.
+/// The command of a line of any length.
 #[tactic(auto, unfolding(crate::specs::Commands::form_of))]
 fn form(line: &[u8]) -> Command
     ensures { result ≡ capped_command (form_of line.now) }
@@ -116,7 +115,7 @@ fn move_form(line: &[u8]) -> Command
     shown_form(line)
 }
 
-/// What is shown of a state, by its number or its address.
+/// The command that shows a part of the state, by its number or its address.
 #[tactic(auto, unfolding(crate::specs::Commands::shown_form_of))]
 fn shown_form(line: &[u8]) -> Command
     ensures { result ≡ capped_command (shown_form_of line.now) }
@@ -130,8 +129,7 @@ fn shown_form(line: &[u8]) -> Command
     Command::Unknown
 }
 
-/// The bytes that are asked for, of whose address so many hex digits, with this number, stand
-/// before the line's last part.
+/// The command `m`, after `digits` hex digits of its address with the value `so_far`; `line` is the rest of the line.
 #[tactic(auto, using(crate::proofs::Addresses::power_fits))]
 fn address(digits: u32, so_far: u64, line: &[u8]) -> Command
     requires digits { digits ≤ 16 }
@@ -161,7 +159,7 @@ fn is_hex_digit(c: u8) -> bool
     is_digit(c) || (97 <= c && c <= 102)
 }
 
-/// The number of a hex digit.
+/// The value of a hex digit.
 fn hex_value(c: u8) -> u64
     requires { is_hex_digit c ≡ true }
     ensures value { result ≡ hex_value c }
@@ -193,7 +191,7 @@ fn after(line: &[u8], n: usize) -> &[u8]
     if n <= line.len() { &line[n..] } else { &[] }
 }
 
-/// The number that a line's last part writes, if it is one.
+/// The number that a line's last part denotes, if it is one.
 #[tactic(auto, unfolding(crate::specs::Commands::number_of))]
 fn number(digits: &[u8]) -> Option<u64>
     ensures { result ≡ capped_number (number_of digits.now) }
@@ -204,14 +202,14 @@ fn number(digits: &[u8]) -> Option<u64>
     value(0, digits)
 }
 
-/// Whether there are more digits after a first zero.
+/// Whether these are several digits of which the first is zero.
 fn leads_with_zero(digits: &[u8]) -> bool
     ensures { result ≡ leads_with_zero digits.now }
 {
     digits.len() > 1 && digits[0] == b'0'
 }
 
-/// The number that begins with `n` and goes on with these digits.
+/// The number that continues `n` with these digits.
 fn value(n: u64, digits: &[u8]) -> Option<u64>
     ensures { (m : ℕ) → n ≡ capped m → result ≡ capped_number (read_digits m digits.now) }
 {
@@ -233,7 +231,7 @@ fn is_digit(c: u8) -> bool
     48 <= c && c <= 57
 }
 
-/// The number with one more digit.
+/// The number continued with one more digit.
 fn with_digit(n: u64, c: u8) -> u64
     requires { is_digit c ≡ true }
     ensures { (m : ℕ) → n ≡ capped m → result ≡ capped (m * 10 + (c - 48)) }

@@ -1,4 +1,4 @@
-//! A session between its lines.
+//! The state of a session between its lines.
 ghost use Rattle.std.specs.Prelude.{◌≡◌, ◌++◌, [], take};
 ghost use Rattle.debugger.specs.Inspection.{StaysSized};
 ghost use Rattle.debugger.specs.Transcript.{SessionGoesOn, TranscriptBreaks, TranscriptEnds};
@@ -10,11 +10,11 @@ use history::History;
 use std::alloc::Global;
 use streams::{Failed, Listener, Sink};
 
-/// The most bytes that are kept of a line, one more than a command has: a longer line has no form,
-/// whatever its other bytes are.
+/// The number of bytes kept of a line, one more than a command may have: a longer line is
+/// unknown, so its other bytes do not matter.
 const KEPT: usize = 65;
 
-/// What a session knows between two lines, and what it has kept of the next.
+/// The state of a session between two lines, and the part of the next line that was kept.
 #[derive(Drop)]
 pub struct Conversation<H: History> {
     alloc: Global,
@@ -25,7 +25,7 @@ pub struct Conversation<H: History> {
 }
 
 impl<H: History> Conversation<H> {
-    /// A session before its first line, without breakpoints. It takes no memory.
+    /// A session before its first line, without breakpoints. Allocates nothing.
     pub fn new(alloc: Global, history: H) -> Conversation<H>
         requires { StaysSized (H.origin history) }
         ensures history { result.history ≡ history }
@@ -88,7 +88,7 @@ impl<H: History> Listener for Conversation<H> {
     }
 }
 
-/// Keeps the next part of a line up to the line's 65th byte.
+/// Keeps the next part of a line, up to the line's 65th byte.
 fn keep_start(line: &mut ArrayVec<u8, KEPT>, part: &[u8])
     ensures { line.new.items ≡ take 65 (line.old.items ++ part.now) }
 {

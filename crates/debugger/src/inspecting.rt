@@ -1,4 +1,4 @@
-//! What a session shows of the machine where it stands.
+//! Shows parts of the machine's current state.
 ghost use Rattle.std.specs.Prelude.{◌≡◌, ◌≤◌, ◌<◌, ◌^◌, ◌+◌, ◌%◌, ℕ, true, None, Ok, length, map, is_some, option_map, string_bytes, IfNone, IfOk, IfSome, OnErr};
 ghost use Rattle.guest_memory.specs.Access.{constants_of, read_of};
 ghost use Rattle.guest_memory.specs.declared.size.Size.TheVariants.{B};
@@ -14,7 +14,7 @@ use history::Emulator;
 use std::alloc::AllocError;
 use value_store::ValueStore;
 
-/// What stands at a reference, if it is one.
+/// The value at a reference, or that the reference is invalid.
 pub fn show_value<E: Emulator>(machine: &E, h: u64) -> Result<Reply, AllocError>
     ensures text { IfOk result (λ reply. reply_text reply ≡ value_text h (value_at (E.state machine.now) h)) }
     ensures refused { OnErr result (is_some (value_at (E.state machine.now) h) ≡ true) }
@@ -28,7 +28,7 @@ pub fn show_value<E: Emulator>(machine: &E, h: u64) -> Result<Reply, AllocError>
     Ok(value_line(h, json))
 }
 
-/// The line of a reference at which this text stands.
+/// The line of a reference and the text of its value.
 #[tactic(auto, unfolding(crate::specs::Inspection::value_line))]
 fn value_line(h: u64, json: String) -> Reply
     ensures { reply_text result ≡ value_line h (string_bytes json) }
@@ -38,7 +38,7 @@ fn value_line(h: u64, json: String) -> Reply
     Reply::Value(head, json)
 }
 
-/// From an address on, 1 to 256 bytes, if all of them stand in one region.
+/// The 1 to 256 bytes at an address, if all of them are in one region.
 pub fn show_memory<E: Emulator>(machine: &E, address: u64, n: u64) -> Reply
     requires { IsSized (E.state machine.now) }
     ensures { reply_text result ≡ memory_text address (shown_bytes (E.state machine.now).memory address n) }
@@ -46,7 +46,7 @@ pub fn show_memory<E: Emulator>(machine: &E, address: u64, n: u64) -> Reply
     show_bytes(machine.memory(), address, n)
 }
 
-/// The same of a memory.
+/// The 1 to 256 bytes at an address of a memory, if all of them are in one region.
 fn show_bytes<M: Regions>(memory: &M, address: u64, n: u64) -> Reply
     requires { HasRegions (M.bytes memory.now) }
     ensures { reply_text result ≡ memory_text address (shown_bytes (M.bytes memory.now) address n) }
@@ -64,7 +64,7 @@ fn show_bytes<M: Regions>(memory: &M, address: u64, n: u64) -> Reply
     }
 }
 
-/// The most bytes that `m` shows.
+/// The maximum number of bytes that `m` shows.
 const SHOWN_BYTES_LIMIT: u64 = 256;
 
 fn is_count(n: u64) -> bool
@@ -73,7 +73,7 @@ fn is_count(n: u64) -> bool
     1 <= n && n <= SHOWN_BYTES_LIMIT
 }
 
-/// The lines of these bytes, of which the first has this address.
+/// The lines of these bytes, which begin at this address.
 fn memory_lines(address: u64, bytes: &[u8]) -> AnswerText
     requires { length bytes.now ≤ 256 }
     ensures { result ≡ memory_lines 16 address bytes.now }
@@ -83,8 +83,7 @@ fn memory_lines(address: u64, bytes: &[u8]) -> AnswerText
     text
 }
 
-/// From an address on, this many bytes, if all of them stand in one region other than the
-/// constants.
+/// The `n` bytes at an address, if all of them are in one region other than the constants.
 fn read_bytes<M: Regions>(memory: &M, address: u64, n: u64) -> Option<ArrayVec<u8, 256>>
     requires memory { HasRegions (M.bytes memory.now) }
     requires some { 0 < n }
@@ -103,7 +102,7 @@ fn read_bytes<M: Regions>(memory: &M, address: u64, n: u64) -> Option<ArrayVec<u
     Some(bytes)
 }
 
-/// The byte that stands `i` behind an address, if one does.
+/// The byte `i` bytes after an address, if there is one.
 fn byte_behind<M: Regions>(memory: &M, address: u64, i: u64) -> Option<u8>
     ensures found { IfSome result (λ b. (word : ℕ) × (read_of (M.bytes memory.now) (address + i) B ≡ Ok word) × (b ≡ word % 256)) }
     ensures missing { IfNone result (address + i < 2 ^ 64 → (b : ℕ) → read_of (M.bytes memory.now) (address + i) B ≡ Ok b → ⊥) }

@@ -1,4 +1,4 @@
-//! Sessions with a machine: moves both ways over its run, breakpoints and listings of its code.
+//! Debugging sessions with a machine: moves in both directions over its run, breakpoints and code listings.
 #![tactic(auto)]
 
 mod answer_text;

@@ -13,7 +13,7 @@ use history::Emulator;
 use std::alloc::{AllocError, Global};
 use std::fmt::Write;
 
-/// The code where a machine stands: up to eight lines from `pc` on, or that `pc` is outside.
+/// The code at the current state: up to eight lines from `pc` on, or that `pc` is outside.
 pub fn list<E: Emulator>(alloc: Global, machine: &E) -> Result<Reply, AllocError>
     ensures text { IfOk result (λ reply. reply_text reply ≡ listing_text (E.state machine.now)) }
     ensures refused { OnErr result (is_inside (E.state machine.now).image.code (E.state machine.now).pc ≡ true) }
@@ -30,7 +30,7 @@ pub fn list<E: Emulator>(alloc: Global, machine: &E) -> Result<Reply, AllocError
     }
 }
 
-/// The slot that `pc` names, if the code has it.
+/// The slot of `pc`, if the code has it.
 fn slot_inside(code: &[u8], pc: i64) -> Option<u64>
     ensures { IsPlaced code.now pc result }
 {
@@ -63,7 +63,7 @@ fn listing(alloc: Global, code: &[u8], slot: u64) -> Result<String, AllocError>
     Ok(text)
 }
 
-/// Appends the line of a slot, and answers how many slots it stands for.
+/// Appends the line of the statement at a slot, and returns the number of its slots.
 #[tactic(auto, unfolding(crate::specs::Listing::listing_line))]
 fn push_line(alloc: Global, text: &mut String, code: &[u8], slot: u64) -> Result<u64, AllocError>
     requires listed { refusal_of code.now ≡ None }
@@ -76,7 +76,7 @@ fn push_line(alloc: Global, text: &mut String, code: &[u8], slot: u64) -> Result
     Ok(slots)
 }
 
-/// The line of a slot, and how many slots it stands for.
+/// The line of the statement at a slot, and the number of its slots.
 fn line_of(alloc: Global, code: &[u8], slot: u64) -> Result<(String, u64), AllocError>
     requires listed { refusal_of code.now ≡ None }
     requires inside { slot < slot_count code.now }

@@ -1,4 +1,4 @@
-//! Moves over a run.
+//! Moves in a run.
 ghost use Rattle.std.specs.Prelude.{◌≡◌, ◌+◌, ◌-◌, true};
 ghost use Rattle.history.specs.Search.{first_stop, last_stop};
 ghost use Rattle.debugger.specs.Answers.{can_go_back, can_go_on, can_go_to, in_range};
@@ -10,7 +10,7 @@ use crate::reply::Reply;
 use history::{Emulator, History};
 use std::alloc::AllocError;
 
-/// Goes `n` steps on.
+/// Goes `n` steps forward.
 pub fn forward<H: History>(h: &mut H, n: u64) -> Result<Reply, AllocError>
     ensures moves { Moves (H.origin h.old) (can_go_on (H.place h.old) n) (H.place h.old) (H.place h.old + n) (H.place h.new) result }
     ensures origin { H.origin h.new ≡ H.origin h.old }
@@ -45,7 +45,7 @@ pub fn go_to<H: History>(h: &mut H, k: u64) -> Result<Reply, AllocError>
     move_to(h, k)
 }
 
-/// Goes on to the next stop, at most `n` steps.
+/// Continues to the next stop, at most `n` steps.
 pub fn continue_on<H: History>(h: &mut H, stops: &[u64], n: u64) -> Result<Reply, AllocError>
     ensures moves { Moves (H.origin h.old) (can_go_on (H.place h.old) n) (H.place h.old) (first_stop stops.now (H.origin h.old) (H.place h.old) n) (H.place h.new) result }
     ensures origin { H.origin h.new ≡ H.origin h.old }
@@ -58,7 +58,7 @@ pub fn continue_on<H: History>(h: &mut H, stops: &[u64], n: u64) -> Result<Reply
     move_to(h, place)
 }
 
-/// Goes back to the last breakpoint before.
+/// Goes back to the last breakpoint.
 pub fn continue_back<H: History>(h: &mut H, stops: &[u64]) -> Result<Reply, AllocError>
     ensures moves { Moves (H.origin h.old) true (H.place h.old) (last_stop stops.now (H.origin h.old) (H.place h.old)) (H.place h.new) result }
     ensures origin { H.origin h.new ≡ H.origin h.old }
@@ -67,8 +67,7 @@ pub fn continue_back<H: History>(h: &mut H, stops: &[u64]) -> Result<Reply, Allo
     move_to(h, place)
 }
 
-/// Moves to step `k`, and answers with its line. The room for the line is there before anything
-/// moves.
+/// Moves to step `k`, and replies with its line. The buffer for the line exists before anything moves.
 fn move_to<H: History>(h: &mut H, k: u64) -> Result<Reply, AllocError>
     ensures moves { Moves (H.origin h.old) true (H.place h.old) k (H.place h.new) result }
     ensures origin { H.origin h.new ≡ H.origin h.old }

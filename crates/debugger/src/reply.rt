@@ -1,20 +1,20 @@
-//! Answers.
+//! Replies.
 use crate::answer_text::AnswerText;
 
-/// What a line is answered with.
+/// The reply to a line.
 #[derive(Drop)]
 pub enum Reply {
-    /// A text that is the same each time.
+    /// A constant text.
     Fixed(&'static [u8]),
-    /// A text that takes no memory.
+    /// A text that allocates nothing.
     Text(AnswerText),
     /// Lines of code or of a verdict.
     Lines(String),
-    /// The line of a value: what stands before its text, and its text, which is never copied.
+    /// The line of a value: the text before it, and its own text, which is never copied.
     Value(AnswerText, String),
 }
 
-/// The answer to a line.
+/// The reply to a line, and whether the session has ended.
 #[derive(Drop)]
 pub struct Answer {
     pub reply: Reply,

@@ -15,16 +15,15 @@ use streams::{ReadBuffer, SessionError, Sink, Source, hear_input};
 use value_store::ValueStore;
 use value_table::Table;
 
-/// A session with the run of an image on a table: reads lines, and writes the answer to each before
-/// the next is read, until `q` or the input's end. It begins at step 0 without breakpoints. Of an
-/// input only the first 2^63 bytes are read. Memory is taken to begin, and then only for a new
-/// breakpoint, for a move, for a value, for a listing and for a verdict: where it is refused, the
-/// line answers `? memory` and nothing has changed.
+/// A session with the run of an image on a table: reads lines, and writes the reply to each before the next is read,
+/// until `q` or the input's end. It starts at step 0 without breakpoints. Only the first 2^63 bytes of an input are
+/// read. Memory is allocated at the start, and then only for a new breakpoint, a move, a value, a listing and a
+/// verdict: if that fails, the reply is `? memory` and nothing has changed.
 ///
 /// # Errors
 ///
-/// `ReadFailed` if a read failed and `WriteFailed` if a write failed or took no byte, which end the
-/// session, and `Memory` before the first line.
+/// `ReadFailed` if a read failed and `WriteFailed` if a write failed or took no byte; either ends the session.
+/// `Memory` if an allocation fails before the first line.
 pub fn session<R: Source, W: Sink>(
     alloc: Global,
     image: Image,
@@ -44,7 +43,7 @@ pub fn session<R: Source, W: Sink>(
     session_from::<Past<Machine<Table, Guest>>, R, W>(alloc, machine, r, w)
 }
 
-/// A session with the run of a machine, shown by a history of the caller's kind.
+/// A session with the run of a machine, shown by the caller's kind of history.
 fn session_from<H: History, R: Source, W: Sink>(
     alloc: Global,
     machine: H::Machine,

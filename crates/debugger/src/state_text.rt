@@ -8,8 +8,8 @@ use guest_memory::Regions;
 use std::alloc::{AllocError, Global};
 use value_store::ValueStore;
 
-/// What a session answers to `r` and to a move to this step, where the machine stands there: the
-/// lines of r0 to r10, and that of the move.
+/// The reply of a session to `r`, followed by that to a move to this step, if the machine is there:
+/// the lines of r0 to r10, and that of the move.
 pub fn registers_and_move<V: ValueStore, M: Regions>(
     alloc: Global,
     machine: &Machine<V, M>,

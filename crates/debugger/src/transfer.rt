@@ -1,4 +1,4 @@
-//! Whole answers to a sink.
+//! Writes replies to a sink.
 ghost use Rattle.std.specs.Prelude.{◌≡◌, ◌<◌, ◌++◌, ◌∷◌, [], ℕ, length, take, OnErr, OnOk};
 ghost use Rattle.debugger.specs.Replies.{reply_text};
 ghost use Rattle.streams.specs.Streams.{one_more, AddsBytes};
@@ -6,7 +6,7 @@ ghost use Rattle.streams.specs.Streams.{one_more, AddsBytes};
 use crate::reply::Reply;
 use streams::{Failed, Sink, write_all};
 
-/// Writes a whole answer, or its bytes before a write that fails or takes no byte.
+/// Writes a whole reply, or its bytes before a write that fails or takes no byte.
 pub fn write_reply<W: Sink>(w: &mut W, reply: &Reply) -> Result<(), Failed>
     ensures whole { OnOk result (AddsBytes (W.taken w.old) (W.taken w.new) (reply_text reply.now)) }
     ensures ok { OnOk result (W.failed w.new ≡ W.failed w.old) }
@@ -21,7 +21,7 @@ pub fn write_reply<W: Sink>(w: &mut W, reply: &Reply) -> Result<(), Failed>
     }
 }
 
-/// Writes a line of two parts.
+/// Writes a line that consists of two parts.
 fn write_line<W: Sink>(w: &mut W, head: &[u8], rest: &[u8]) -> Result<(), Failed>
     ensures whole { OnOk result (AddsBytes (W.taken w.old) (W.taken w.new) (head.now ++ (rest.now ++ 10 ∷ []))) }
     ensures ok { OnOk result (W.failed w.new ≡ W.failed w.old) }

@@ -1,4 +1,4 @@
-//! What a session shows of the verdict region.
+//! Shows the verdict region.
 ghost use Rattle.std.specs.Prelude.{◌≡◌, ◌≤◌, ◌+◌, ◌++◌, string_bytes, IfOk, OnOk};
 ghost use Rattle.debugger.specs.Inspection.{HasRegions, IsSized};
 ghost use Rattle.debugger.specs.Replies.{reply_text};
@@ -10,10 +10,10 @@ use history::Emulator;
 use std::alloc::{AllocError, Global};
 use std::fmt::Write;
 
-/// Where the words of the validations begin in it, in bytes.
+/// The offset in the verdict region of the words for validations.
 const VALIDATIONS: u64 = 16;
 
-/// Where the words of the messages begin in it, in bytes.
+/// The offset in the verdict region of the words for messages.
 const MESSAGES: u64 = 528;
 
 /// The outcome, the number of denials, and the words of validations and messages that are not 0.
@@ -53,7 +53,7 @@ fn push_messages<M: Regions>(text: &mut String, memory: &M, version: u8) -> Resu
     Ok(())
 }
 
-/// Appends a line for each of the 64 words from a place of the verdict region on that is not 0.
+/// Appends a line for each word other than 0 of the 64 words from an offset of the verdict region on.
 #[tactic(auto, using(crate::proofs::VerdictWords::words))]
 fn push_words<M: Regions>(
     text: &mut String,
@@ -71,7 +71,7 @@ fn push_words<M: Regions>(
     Ok(())
 }
 
-/// Appends the line of a word with its number, where it is not 0.
+/// Appends the line of a word with its number, unless the word is 0.
 #[tactic(auto, unfolding(crate::specs::Verdict::word_line))]
 fn push_word(text: &mut String, name: &str, i: u64, word: u64) -> Result<(), AllocError>
     ensures { OnOk result (string_bytes text.new ≡ string_bytes text.old ++ word_line name.now i word) }
@@ -82,7 +82,7 @@ fn push_word(text: &mut String, name: &str, i: u64, word: u64) -> Result<(), All
     Ok(())
 }
 
-/// The word at a place of the verdict region.
+/// The word at an offset of the verdict region.
 #[tactic(auto, using(crate::proofs::VerdictWords::word_read))]
 fn word_at<M: Regions>(memory: &M, at: u64) -> u64
     requires regions { HasRegions (M.bytes memory.now) }

@@ -7,7 +7,7 @@ use super::AnswerText;
 use bpf_machine::Frame;
 
 impl AnswerText {
-    /// Appends the lines of these bytes, of which the first has this address.
+    /// Appends the lines of these bytes, which begin at this address.
     pub fn push_memory(&mut self, address: u64, bytes: &[u8])
         requires { length self.old + 67 * ((length bytes.now + 15) / 16) ≤ 1072 }
         ensures { (count : ℕ) → length bytes.now ≤ 16 * count → self.new ≡ self.old ++ memory_lines count address bytes.now }
@@ -24,7 +24,7 @@ impl AnswerText {
         self.push_memory(address.wrapping_add(16), rest);
     }
 
-    /// Appends a line of up to 16 bytes, of which the first has this address.
+    /// Appends a line of up to 16 bytes, which begin at this address.
     #[tactic(auto, unfolding(crate::specs::Inspection::memory_line))]
     fn push_memory_line(&mut self, address: u64, bytes: &[u8])
         requires few { length bytes.now ≤ 16 }
@@ -63,7 +63,7 @@ impl AnswerText {
         self.push_hex(2, u64::from(byte));
     }
 
-    /// Appends how many records there are, of which the newest is the last, and their lines.
+    /// Appends the number of records, the newest of which is the last, and their lines.
     #[tactic(auto, unfolding(crate::specs::Inspection::frames_text))]
     pub fn push_frames(&mut self, records: &[Frame])
         requires empty { self.old ≡ [] }

@@ -1,3 +1,4 @@
+-- Proof obligations of `answer_line` (src/answering.rt).
 use Rattle.debugger.proofs.Prelude.{◌∙◌, ap, refl, sym, false, Bool, session_state_at}
 use Rattle.debugger.proofs.Asked.{answers_granted, answers_refused}
 use Rattle.debugger.proofs.answering.answer_line.Goals as goal

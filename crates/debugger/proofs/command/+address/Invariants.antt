@@ -1,3 +1,4 @@
+-- Loop measures of the functions of the cycle `address` (src/command.rt).
 use Rattle.debugger.proofs.Prelude.{length}
 use Rattle.debugger.proofs.command.+address.Given as goal
 

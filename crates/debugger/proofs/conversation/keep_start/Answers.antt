@@ -1,3 +1,4 @@
+-- Proof obligations of `keep_start` (src/conversation.rt).
 use Rattle.debugger.proofs.Prelude.{◌∙◌, ◌-◌, arith, length-take}
 use Rattle.debugger.proofs.Asked.{fits_ok, keep_all, keep_some}
 use Rattle.debugger.proofs.conversation.keep_start.Goals as goal

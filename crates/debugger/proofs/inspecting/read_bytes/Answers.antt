@@ -1,3 +1,4 @@
+-- Proof obligations of `read_bytes` (src/inspecting.rt).
 use Rattle.debugger.proofs.Prelude.{◌≡◌, ◌+◌, ℕ, [], refl, arith, ap, length, ◌∙◌}
 use Rattle.debugger.proofs.Shown.{low_all, low_missing, low_more}
 use Rattle.debugger.proofs.inspecting.read_bytes.Goals as goal

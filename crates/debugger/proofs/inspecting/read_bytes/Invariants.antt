@@ -1,3 +1,4 @@
+-- Loop invariants of `read_bytes` (src/inspecting.rt).
 use Rattle.debugger.proofs.Prelude.{◌≡◌, length}
 use Rattle.debugger.proofs.Shown.{ReadsLow}
 use Rattle.debugger.proofs.inspecting.read_bytes.Given as goal

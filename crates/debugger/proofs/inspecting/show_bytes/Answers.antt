@@ -1,3 +1,4 @@
+-- Proof obligations of `show_bytes` (src/inspecting.rt).
 use Rattle.debugger.proofs.Prelude.{ℕ, List, Some, None, length, arith, refl, sym, ap, ◌∙◌, rules}
 use Rattle.debugger.proofs.Shown.{count_within, row_lent, shows, shows_low}
 use Rattle.debugger.proofs.inspecting.show_bytes.Goals as goal

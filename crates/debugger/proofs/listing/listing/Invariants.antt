@@ -1,3 +1,4 @@
+-- Loop invariants of `listing` (src/listing.rt).
 use Rattle.debugger.proofs.Prelude.{◌≡◌, ◌-◌, ◌++◌, string_bytes, listing_lines}
 use Rattle.debugger.proofs.listing.listing.Given as goal
 

@@ -1,3 +1,4 @@
+-- Proof obligations of `session` (src/sessions.rt).
 use Rattle.debugger.proofs.Prelude.{subst, sym, State, stream, IsSession, StaysSized}
 use Rattle.debugger.proofs.Sizes.{stays_sized}
 use Rattle.debugger.proofs.sessions.session.Goals as goal

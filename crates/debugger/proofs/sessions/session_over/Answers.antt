@@ -1,3 +1,4 @@
+-- Proof obligations of `session_over` (src/sessions.rt).
 use Rattle.debugger.proofs.Prelude.{◌≡◌, ◌<◌, ◌∙◌, ℕ, List, Some, State, SessionByResult, ap, arith, length, refl, subst}
 use Rattle.streams.proofs.Heard.{alone}
 use Rattle.debugger.proofs.Ending.{session_told}

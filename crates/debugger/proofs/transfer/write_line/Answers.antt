@@ -1,3 +1,4 @@
+-- Proof obligations of `write_line` (src/transfer.rt).
 use Rattle.debugger.proofs.Prelude.{[], ◌∷◌, ◌++◌}
 use Rattle.debugger.proofs.Parts.{part_between, part_left, whole_behind}
 use Rattle.debugger.proofs.transfer.write_line.Goals as goal

@@ -1,3 +1,4 @@
+-- Loop invariants of `push_words` (src/verdict.rt).
 use Rattle.debugger.proofs.Prelude.{◌≡◌, ◌++◌, string_bytes, word_lines}
 use Rattle.debugger.proofs.verdict.push_words.Given as goal
 

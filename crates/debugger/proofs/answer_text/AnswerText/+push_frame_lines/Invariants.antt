@@ -1,3 +1,4 @@
+-- Loop measures of the functions of the cycle `AnswerText::push_frame_lines` (src/answer_text.rt).
 use Rattle.debugger.proofs.Prelude.{length}
 use Rattle.debugger.proofs.answer_text.AnswerText.+push_frame_lines.Given as goal
 

@@ -1,3 +1,4 @@
+-- Proof obligations of the functions of the cycle `AnswerText::push_memory` (src/answer_text.rt).
 use Rattle.debugger.proofs.Prelude.{arith, refl, rules}
 use Rattle.debugger.proofs.MemoryLines.{lines_first, lines_none, lines_one, some_bytes}
 use Rattle.debugger.proofs.answer_text.AnswerText.+push_memory.Goals as goal

@@ -1,3 +1,4 @@
+-- Loop invariants of `AnswerText::push_registers` (src/answer_text.rt).
 use Rattle.debugger.proofs.Prelude.{◌≡◌, ◌≤◌, ◌*◌, length, register_lines}
 use Rattle.debugger.proofs.answer_text.AnswerText.push_registers.Given as goal
 

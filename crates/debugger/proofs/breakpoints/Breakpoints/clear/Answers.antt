@@ -1,3 +1,4 @@
+-- Proof obligations of `Breakpoints::clear` (src/breakpoints.rt).
 use Rattle.debugger.proofs.Prelude.{◌≡◌, ℕ, List, not, true, rules, ap, sym, subst, ◌∙◌, filter, nat_eq, in_order}
 use Rattle.debugger.proofs.Slots.{filter_in_order, retained}
 use Rattle.debugger.proofs.breakpoints.Breakpoints.clear.Goals as goal

@@ -1,3 +1,4 @@
+-- Proof obligations of `Breakpoints::set` (src/breakpoints.rt).
 use Rattle.debugger.proofs.Prelude.{◌≡◌, ℕ, List, true, false, ap, sym, subst, ◌∙◌, has_breakpoint, in_order, with_breakpoint}
 use Rattle.debugger.proofs.Halving.{has_none, none_refused, set_found, set_none, stays_ordered}
 use Rattle.debugger.proofs.breakpoints.Breakpoints.set.Goals as goal

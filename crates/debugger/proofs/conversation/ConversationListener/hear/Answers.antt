@@ -1,3 +1,4 @@
+-- Proof obligations of `ConversationListener::hear` (src/conversation.rt).
 use Rattle.debugger.proofs.Prelude.{◌∙◌, sym}
 use Rattle.debugger.proofs.Going.{going_line, told_part, told_quit}
 use Rattle.debugger.proofs.conversation.ConversationListener.hear.Goals as goal

@@ -1,3 +1,4 @@
+-- Proof obligations of `ConversationListener::hear_end` (src/conversation.rt).
 use Rattle.debugger.proofs.Prelude.{◌∙◌, ap, eqb-true, length, nil_from_length, sym}
 use Rattle.debugger.proofs.Going.{end_line, end_none, end_part, some_byte}
 use Rattle.debugger.proofs.conversation.ConversationListener.hear_end.Goals as goal

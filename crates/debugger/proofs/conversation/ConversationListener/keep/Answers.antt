@@ -1,3 +1,4 @@
+-- Proof obligations of `ConversationListener::keep` (src/conversation.rt).
 use Rattle.debugger.proofs.Going.{going_part}
 use Rattle.debugger.proofs.conversation.ConversationListener.keep.Goals as goal
 
