@@ -1,8 +1,8 @@
--- What is seen at a reference tells which calls may be made there.
+-- The outline of the value at a reference determines which calls are allowed there.
 use Rattle.machine_tests.proofs.Prelude.{◌≡◌, ◌<◌, ℕ, zero, suc, List, [], ◌∷◌, length, Option, Some, None, slice_get, option_map, refl, sym, ap, ◌∙◌, arith, ℤ, Bool, IsSome, Items, Entries, ValueOrError, value, list_of, keys_of, pushed, part_at, key_at, joined, put_in, text_at, find_at, equal_at, less_at, member_at, place_of_key, inserted, outcome_view, sees_bool, sees_int, sees_text, sees_list, sees_map, absent_fits}
 use Rattle.value_store.specs.Value as kind
 
--- ---- what stands where a kind is seen
+-- ---- the value for each outline
 
 pub record ListHere (o : Option ValueOrError) (n : ℕ) : Type 0 where
   pub items : Items
@@ -55,7 +55,7 @@ some_mapped : {A B : Type 0} (f : A → B) (o : Option A) → IsSome o → IsSom
 some_mapped f None e = absurd (cc)
 some_mapped f (Some x) e = refl
 
--- ---- what may be placed
+-- ---- values that may be placed
 
 pub push_fits : (l x : Option ValueOrError) (n : ℕ) (z : ℤ) → Some (sees_list n) ≡ option_map outcome_view l → Some (sees_int z) ≡ option_map outcome_view x → IsSome (pushed l x)
 push_fits l x n z e f = let a = list_here l n e in let b = int_here x z f in rw (a.is, b.is) refl
@@ -97,7 +97,7 @@ put_fits m k x n z key e f t free =
     let p = key_is_free a.entries key (free ∙ ap (λ o. find_at o key) a.is) in
     rw (a.is, b.is, sym t) (some_mapped kind.map (inserted key (kind.int b.number) a.entries) (absent_fits key (kind.int b.number) a.entries p))
 
--- ---- what may be compared
+-- ---- values that may be compared
 
 pub texts_equal : (a b : Option ValueOrError) (s t : List ℕ) → Some (sees_text s) ≡ option_map outcome_view a → Some (sees_text t) ≡ option_map outcome_view b → IsSome (equal_at a b)
 texts_equal a b s t e f = let x = text_here a s e in let y = text_here b t f in rw (x.is, y.is) refl

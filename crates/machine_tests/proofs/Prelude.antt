@@ -1,4 +1,4 @@
--- The names that these proofs cite of the library, of the crates below and of the definitions here. Declares nothing.
+-- The names that these proofs use, from the library, the crates below and these definitions. It declares nothing.
 pub use Rattle.std.proofs.Common.{Bool, IsSome, List, None, Option, Some, ℕ, ℤ, [], ap, arith, length, option_map}
 pub use Rattle.std.proofs.Common.{refl, slice_get, suc, sym, zero, ◌<◌, ◌∙◌, ◌∷◌, ◌≡◌}
 pub use Rattle.value_store.proofs.Places.{absent_fits}

@@ -1,4 +1,4 @@
-//! Calls over the plain store and plain memory.
+//! Calls of helpers on the plain store and plain memory.
 
 mod rows;
 mod same_calls;
@@ -9,10 +9,10 @@ use std::alloc::{AllocError, Global};
 use std::test::Fail;
 use value_store::{PlainTable, TableError, ValueStore};
 
-/// The bytes k, t, those of é, and one that begins nothing in UTF-8.
+/// The bytes k, t, those of é, and one that is not valid in UTF-8.
 const CONSTANTS: &[u8; 5] = b"kt\xc3\xa9\xff";
 
-/// Their first address.
+/// The first address of the constants.
 const BASE: u64 = 0x4_0000_0000;
 
 /// A store of five null roots: nine values, and a charge of 5.
@@ -29,7 +29,7 @@ fn nulls(alloc: Global) -> Result<PlainTable, TableError> {
     )
 }
 
-/// A call.
+/// The end of a single call.
 fn once(
     id: i32,
     args: [u64; 5],
@@ -39,8 +39,8 @@ fn once(
     call(id, args, table, memory)
 }
 
-/// A call with three arguments. Where the host refuses memory, the store has as many values and the
-/// charge that it had, and the call is made again.
+/// The end of a call with three arguments. If an allocation fails, the store must
+/// be unchanged, and the call is repeated.
 fn called(
     id: i32,
     [a, b, c]: [u64; 3],
@@ -65,7 +65,7 @@ fn memory_of_constants(alloc: Global) -> Result<Guest, AllocError> {
     Guest::of_constants(alloc, CONSTANTS)
 }
 
-/// How many times a list can be put into a list of its own before a call stops.
+/// How many times a list can be nested in a new list before a call is stopped.
 fn nestings(table: &mut PlainTable, memory: &Guest) -> Result<u64, AllocError> {
     let mut part = 9;
     for n in 0..300 {
@@ -94,7 +94,7 @@ fn a_list_is_at_most_255_deep(rt: HostRuntime) -> Result<(), Fail> {
     Ok(())
 }
 
-/// How many times a text of one byte can be doubled before a call stops.
+/// How many times a text of one byte can be doubled before a call is stopped.
 fn doublings(table: &mut PlainTable, memory: &Guest) -> Result<u64, AllocError> {
     let mut text = 9;
     for n in 0..300 {

@@ -1,5 +1,4 @@
-//! Programs whose ends were computed by hand. A slot is written as its eight bytes in storage
-//! order.
+//! Programs whose results were computed by hand. A slot is written as its eight bytes in storage order.
 use bpf_machine::{Machine, Status};
 use guest_memory::Guest;
 use insn_codec::Register;
@@ -21,7 +20,7 @@ const EXIT: u64 = 0x9500_0000_0000_0000;
 /// The machine over the plain store and plain memory.
 type Plain = Machine<PlainTable, Guest>;
 
-/// The two slots of the wide load of a word into the register with this number.
+/// The two slots of a wide load of a word into the register with this number.
 fn wide(register: u8, word: u64) -> [u64; 2] {
     let [a, b, c, d, e, f, g, h] = word.to_le_bytes();
     let low = u32::from_be_bytes([a, b, c, d]);
@@ -32,7 +31,7 @@ fn wide(register: u8, word: u64) -> [u64; 2] {
     ]
 }
 
-/// The code of these slots.
+/// The code with these slots.
 fn code(alloc: Global, slots: &[u64]) -> Result<Vec<u8>, Fail> {
     let mut code = Vec::new(alloc);
     for slot in slots {
@@ -64,21 +63,21 @@ fn machine(alloc: Global, slots: &[u64], constants: &[u8]) -> Result<Plain, Fail
     Ok(Machine::start(alloc, image, values)?)
 }
 
-/// What a run of at most so many steps answers.
+/// The result of a run of at most `limit` steps.
 fn run_answer(mut machine: Plain, limit: u64) -> Result<(u64, Status), Fail> {
     Ok(machine.run(limit)?)
 }
 
-/// The machine after a run of at most so many steps.
+/// The machine after a run of at most `limit` steps.
 fn run_machine(mut machine: Plain, limit: u64) -> Result<Plain, Fail> {
     machine.run(limit)?;
     Ok(machine)
 }
 
-/// What a run answers, and then the status, `pc`, R10 and how many records are open.
+/// The result of a run, then the status, `pc`, R10 and the number of open records.
 type End = ((u64, Status), (Status, i64, u64, usize));
 
-/// The end of a run of at most so many steps.
+/// The end of a run of at most `limit` steps.
 fn end_of(alloc: Global, slots: &[u64], limit: u64) -> Result<End, Fail> {
     let mut machine = machine(alloc, slots, &[])?;
     let answer = machine.run(limit)?;
@@ -89,12 +88,12 @@ fn end_of(alloc: Global, slots: &[u64], limit: u64) -> Result<End, Fail> {
     ))
 }
 
-/// What a run of at most nine steps answers from the start.
+/// The result of a run of at most nine steps from the start.
 fn answer(alloc: Global, slots: &[u64], constants: &[u8]) -> Result<(u64, Status), Fail> {
     run_answer(machine(alloc, slots, constants)?, 9)
 }
 
-/// Whether it answers so.
+/// Whether a run has this result.
 fn answers(alloc: Global, slots: &[u64], expected: (u64, Status)) -> Result<bool, Fail> {
     Ok(answer(alloc, slots, &[])? == expected)
 }

@@ -1,4 +1,4 @@
-//! Reviews that were worked by hand.
+//! Tables of reviews that were worked out by hand.
 
 mod calls;
 mod lists;
@@ -29,7 +29,7 @@ const REVIEW_VALUES: [(u64, &str); 5] = [
 
 const NULLS: [&str; 5] = ["null", "null", "null", "null", "null"];
 
-/// Roots that are refused, and why.
+/// Roots that are refused, with their errors.
 #[rattlefmt::skip]
 const REFUSED: [([&str; 5], TableError); 9] = [
     (["1", "null", "null", "null", "null"], TableError::NotAnObject(4)),
@@ -43,7 +43,7 @@ const REFUSED: [([&str; 5], TableError); 9] = [
     (["null", "true", "{\"a\":1.5}", "null", "null"], TableError::NotAnObject(5)),
 ];
 
-/// Texts, and what they are as JSON.
+/// Texts, and their JSON.
 const TEXTS: [(&str, &str); 6] = [
     ("é", "\"é\""),
     ("😀", "\"😀\""),
@@ -81,7 +81,7 @@ pub(crate) fn json_of<V: ValueStore>(table: &V, h: u64) -> Result<String, Fail> 
     Err("no such reference")?
 }
 
-/// Whether these values stand in the table.
+/// Whether the table has these values.
 fn has_values<V: ValueStore>(table: &V, values: &[(u64, &str)]) -> Result<bool, Fail> {
     for (h, json) in values {
         if json_of(table, *h)?.as_str() != *json {
@@ -123,7 +123,7 @@ fn five_nulls(rt: HostRuntime) -> Result<(), Fail> {
     Ok(())
 }
 
-/// The first roots that are not refused so.
+/// The first roots without this error.
 fn first_taken(alloc: Global, rows: &[([&str; 5], TableError)]) -> Result<Option<usize>, Fail> {
     for (row, (texts, cause)) in rows.iter().enumerate() {
         if refusal_of(alloc, *texts)?.as_ref() != Some(cause) {
@@ -139,7 +139,7 @@ fn refused_roots(rt: HostRuntime) -> Result<(), Fail> {
     Ok(())
 }
 
-/// An object whose text has 16,777,216 bytes.
+/// An object with a text of 16,777,216 bytes.
 #[test]
 fn a_root_too_large(rt: HostRuntime) -> Result<(), Fail> {
     let mut large = Map::new(rt.alloc());
@@ -163,14 +163,14 @@ fn a_root_too_large(rt: HostRuntime) -> Result<(), Fail> {
     Ok(())
 }
 
-/// Whether the text is kept as it is, and written so.
+/// Whether the text is stored unchanged and written as this JSON.
 fn is_written<V: ValueStore>(table: &mut V, text: &str, json: &str) -> Result<bool, Fail> {
     let h = table.place_text(text)?;
     let written = json_of(table, h)?;
     Ok(table.text(h) == Some(text) && written.as_str() == json)
 }
 
-/// The first text that is kept, or written, as something else.
+/// The first text that is stored or written differently.
 fn first_written_wrong<V: ValueStore>(
     table: &mut V,
     rows: &[(&str, &str)],

@@ -1,4 +1,4 @@
-//! Each helper with each kind of argument that its row names, and with others.
+//! Each helper with each kind of argument that its row names, and with other kinds.
 use crate::helper_tests::{BASE, called, memory_of_constants, nulls};
 use guest_memory::{Fault, Guest};
 use helper_table::HelperEnd;
@@ -6,13 +6,12 @@ use std::alloc::{AllocError, Global};
 use std::test::Fail;
 use value_store::{PlainTable, ValueStore};
 
-/// The number of a helper, its first three arguments, the word that it answers, what it costs, and
-/// the value that it places, as JSON.
+/// The number of a helper, its first three arguments, the word that it returns, its
+/// cost, and the value that it places, as JSON.
 type Row = (i32, [u64; 3], u64, u64, &'static str);
 
-/// The calls that make the values of the rows, from reference 9 on: 1, -1, "kt", "é", "k", "t", [],
-/// [1], [1,-1], {}, {"k":1} and {"k":1,"é":true}. References 0 to 8 are the error, null, false, true
-/// and five nulls.
+/// The calls that make the values of the rows, from reference 9 on: 1, -1, "kt", "é", "k", "t", [], [1], [1,-1], {},
+/// {"k":1} and {"k":1,"é":true}. References 0 to 8 are the error, null, false, true and five nulls.
 const VALUES: [(i32, [u64; 3]); 12] = [
     (3, [1, 0, 0]),
     (3, [u64::MAX, 0, 0]),
@@ -28,10 +27,10 @@ const VALUES: [(i32, [u64; 3]); 12] = [
     (19, [19, 12, 3]),
 ];
 
-/// The reference of a value that is placed behind these.
+/// The reference of the next value that is appended.
 const NEXT: u64 = 21;
 
-/// What was charged for the five nulls and these calls.
+/// The charge for the five nulls and these calls.
 const CHARGE: u64 = 27;
 
 /// Kinds, ints and texts.
@@ -136,7 +135,7 @@ const LOOKUPS: [Row; 64] = [
     (21, [11, 0, 0], u64::MAX, 1, ""),
 ];
 
-/// Truths.
+/// Comparisons, which return bools.
 const COMPARISONS: [Row; 91] = [
     (9, [1, 4, 0], 3, 1, ""),
     (9, [1, 2, 0], 2, 1, ""),
@@ -231,7 +230,7 @@ const COMPARISONS: [Row; 91] = [
     (23, [20, 0, 0], 0, 1, ""),
 ];
 
-/// Texts, lists and maps that are made.
+/// Texts, lists and maps that are built.
 #[rattlefmt::skip]
 const BUILDING: [Row; 39] = [
     (11, [11, 12, 0], NEXT, 5, "\"kté\""),
@@ -275,8 +274,8 @@ const BUILDING: [Row; 39] = [
     (19, [17, 13, 9], 0, 2, ""),
 ];
 
-/// Calls that stop: no helper has the number, an argument is no reference, or a range lies outside
-/// the constants.
+/// Calls that are stopped: the number is unknown, an argument is not a reference, or a
+/// range is not completely in the constants.
 const STOPS: [(i32, [u64; 3], Fault); 11] = [
     (0, [0, 0, 0], Fault::F5),
     (24, [0, 0, 0], Fault::F5),
@@ -299,7 +298,7 @@ fn values(alloc: Global, memory: &Guest) -> Result<PlainTable, Fail> {
     Ok(table)
 }
 
-/// What stands behind the values, as JSON.
+/// The value after the others, as JSON.
 fn next_value(alloc: Global, table: &PlainTable) -> Result<String, AllocError> {
     if table.len() == NEXT + 1 {
         table.json(NEXT)
@@ -315,7 +314,7 @@ struct Call {
     args: [u64; 3],
 }
 
-/// How a call ends, what it costs, and the one value that it places, as JSON.
+/// The end of a call, its cost, and the one value that it places, as JSON.
 #[derive(Clone, Copy)]
 struct Outcome<'a> {
     end: HelperEnd,
@@ -323,7 +322,7 @@ struct Outcome<'a> {
     value: &'a str,
 }
 
-/// Whether the call has this outcome over a copy of the values.
+/// Whether the call has this outcome on a copy of the values.
 fn ends_so(
     alloc: Global,
     table: &PlainTable,
@@ -338,7 +337,7 @@ fn ends_so(
     Ok(found == wanted.end && charged == wanted.cost && next.as_str() == wanted.value)
 }
 
-/// The first row that does not hold.
+/// The first row that fails.
 fn wrong_row(alloc: Global, rows: &[Row]) -> Result<Option<usize>, Fail> {
     let memory = memory_of_constants(alloc)?;
     let table = values(alloc, &memory)?;
@@ -366,7 +365,7 @@ fn words(rt: HostRuntime) -> Result<(), Fail> {
     Ok(())
 }
 
-/// The first call that does not stop so, or changes the values or the charge.
+/// The first call that is not stopped by its fault, or that changes the values or the charge.
 fn wrong_stop(alloc: Global, rows: &[(i32, [u64; 3], Fault)]) -> Result<Option<usize>, Fail> {
     let memory = memory_of_constants(alloc)?;
     let table = values(alloc, &memory)?;

@@ -1,4 +1,4 @@
-//! The same calls, drawn from a seed, on the table of flat cells and on the plain one.
+//! The same random calls, drawn from a seed, on the table of flat cells and on the plain table.
 
 mod drawing;
 mod kind;
@@ -15,10 +15,10 @@ use std::test::Fail;
 use value_store::{PlainTable, ValueStore};
 use value_table::Table;
 
-/// Each round begins with new tables, since the plain one holds a shared part once for each use.
+/// Each round starts with new tables, since the plain one keeps a separate copy of a shared part for each use.
 const ROUNDS: u64 = 10;
 
-/// The calls of a round.
+/// The number of calls in a round.
 const CALLS: u64 = 1_000;
 
 const ROOTS: [&str; 5] = [
@@ -36,7 +36,7 @@ struct Tables {
     cells: Table,
 }
 
-/// Both tables, of the same roots.
+/// Both tables, with the same roots.
 fn of_roots(alloc: Global) -> Result<Tables, Fail> {
     let roots = documents(alloc, ROOTS)?;
     Ok(Tables {
@@ -66,15 +66,14 @@ fn are_as_full(tables: &Tables) -> bool {
     tables.cells.len() == tables.plain.len() && tables.cells.charge() == tables.plain.charge()
 }
 
-/// Whether a call ends in the same word or fault on both tables, with the same number of values and
-/// charge.
+/// Whether a call ends with the same word or fault on both tables, and leaves the same number of values and charge.
 fn ends_alike(tables: &mut Tables, made: Call, memory: &Guest) -> Result<bool, AllocError> {
     let expected = on_plain(made, &mut tables.plain, memory)?;
     let end = on_cells(made, &mut tables.cells, memory)?;
     Ok(end == expected && are_as_full(tables))
 }
 
-/// The number of a round's calls that end alike on both tables.
+/// The number of a round's calls that end equally on both tables.
 fn alike(tables: &mut Tables, numbers: &mut Numbers, memory: &Guest) -> Result<u64, AllocError> {
     let mut alike = 0u64;
     for _ in 0..CALLS {
@@ -86,7 +85,7 @@ fn alike(tables: &mut Tables, numbers: &mut Numbers, memory: &Guest) -> Result<u
     Ok(alike)
 }
 
-/// How deep the value at a reference is, if there is one.
+/// The depth of the value at a reference, if there is one.
 fn depth_at<V: ValueStore>(table: &V, h: u64) -> Option<u64> {
     if h < table.len() {
         Some(table.depth(h))
@@ -117,8 +116,8 @@ fn are_same(tables: &Tables) -> Result<bool, Fail> {
     Ok(are_as_full(tables))
 }
 
-/// The number of a round's calls that end alike, 0 if the tables then differ, and the number of
-/// values after them.
+/// The number of a round's calls that end equally, or 0 if the tables differ
+/// afterwards, and the number of values after them.
 fn round(alloc: Global, numbers: &mut Numbers) -> Result<(u64, u64), Fail> {
     let mut tables = of_roots(alloc)?;
     let memory = memory_of_constants(alloc)?;
@@ -127,7 +126,7 @@ fn round(alloc: Global, numbers: &mut Numbers) -> Result<(u64, u64), Fail> {
     Ok((calls, tables.plain.len()))
 }
 
-/// The number of calls of all rounds that end alike, and the number of values after them.
+/// The number of calls of all rounds that end equally, and the number of values after them.
 fn rounds(alloc: Global) -> Result<(u64, u64), Fail> {
     let mut numbers = Numbers(0x9e37_79b9_7f4a_7c15);
     let (mut calls, mut values) = (0u64, 0u64);

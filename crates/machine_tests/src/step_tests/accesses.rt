@@ -1,3 +1,5 @@
+//! Loads and stores, and their faults.
+
 use super::{EXIT, answer, wide};
 use bpf_machine::Status;
 use guest_memory::Fault;
@@ -10,8 +12,8 @@ const ADDRESS: [u64; 2] = [0x1801_0000_0000_0000, 0x0000_0000_0200_0000];
 
 const WORD: [u64; 2] = [0x1802_0000_8796_a5b4, 0x0000_0000_c3d2_e1f0];
 
-/// The bytes from the base of scratch on are 87 96 a5 b4 c3 d2 e1 f0 and zeros; each load reads
-/// some of them into R0, from the address in R1 and an offset.
+/// The bytes from the base of scratch on are 87 96 a5 b4 c3 d2 e1 f0, then zeros; each load reads some of
+/// them into R0, at the address in R1 plus an offset.
 const LOADS: [(u64, u64); 10] = [
     (0x7110_0100_0000_0000, 0x96),
     (0x6910_0200_0000_0000, 0xb4a5),
@@ -41,8 +43,8 @@ fn loads(rt: HostRuntime) -> Result<(), Fail> {
     Ok(())
 }
 
-/// Eight bytes ff stand at the base of scratch, in R1; each store puts some bytes there, those of
-/// R2 or of an immediate, and a load reads all eight.
+/// At the base of scratch, in R1, are eight bytes ff; each store writes some of them, from R2
+/// or an immediate, and a load reads all eight.
 const STORES: [(u64, u64); 10] = [
     (0x7201_0100_feff_ffff, 0xffff_ffff_ffff_feff),
     (0x6a01_0200_3412_0000, 0xffff_ffff_1234_ffff),
@@ -82,7 +84,7 @@ fn stores(rt: HostRuntime) -> Result<(), Fail> {
     Ok(())
 }
 
-/// An address in R1, the access, the constants, and the fault, if one.
+/// An address in R1, the access, the constants, and the fault, if any.
 const BOUNDS: [(u64, u64, &[u8], Option<Fault>); 14] = [
     (0x3_0000_0000, 0x7b21_f807_0000_0000, b"", None),
     (0x3_0000_0000, 0x7b21_f907_0000_0000, b"", Some(Fault::F3)),
@@ -100,7 +102,7 @@ const BOUNDS: [(u64, u64, &[u8], Option<Fault>); 14] = [
     (0x2_0000_0fff, 0x6b21_0000_0000_0000, b"", Some(Fault::F3)),
 ];
 
-/// What a run answers of the access, after a wide load of its address, and an exit.
+/// The result of a run of the access, after a wide load of its address, and an exit.
 fn access_answer(
     alloc: Global,
     address: u64,
@@ -111,7 +113,7 @@ fn access_answer(
     answer(alloc, &[low, high, access, EXIT], constants)
 }
 
-/// What it answers where the access ends in this fault, or in none.
+/// The result if the access ends with this fault, or without one.
 fn expected_answer(fault: Option<Fault>) -> (u64, Status) {
     match fault {
         None => (3, Status::Exited(0)),
@@ -119,7 +121,7 @@ fn expected_answer(fault: Option<Fault>) -> (u64, Status) {
     }
 }
 
-/// Asserts what runs answer of these accesses.
+/// Asserts the results of runs of these accesses.
 fn assert_bounds(
     rt: &impl Abort,
     alloc: Global,

@@ -1,9 +1,11 @@
+//! Arithmetic instructions.
+
 use super::{EXIT, answer, wide};
 use bpf_machine::Status;
 use std::alloc::Global;
 use std::test::Fail;
 
-/// R1, R2, a slot, and what R0 is after that slot, `r0 = r1` and `exit`.
+/// R1, R2, a slot, and the value of R0 after that slot, `r0 = r1` and `exit`.
 type Row = (u64, u64, u64, u64);
 
 /// The status after `r1 = dst`, `r2 = operand`, the slot, `r0 = r1` and `exit`.
@@ -23,7 +25,7 @@ fn status_after(alloc: Global, dst: u64, operand: u64, slot: u64) -> Result<Stat
     Ok(status)
 }
 
-/// The first row that ends otherwise, if one does.
+/// The first row with another result, if any.
 fn wrong_row(alloc: Global, rows: &[Row]) -> Result<Option<usize>, Fail> {
     for (row, (dst, operand, slot, r0)) in rows.iter().copied().enumerate() {
         if status_after(alloc, dst, operand, slot)? != Status::Exited(r0) {
@@ -33,9 +35,9 @@ fn wrong_row(alloc: Global, rows: &[Row]) -> Result<Option<usize>, Fail> {
     Ok(None)
 }
 
-/// Add, sub, mul, div, sdiv, or, and, lsh, rsh, mod, smod, xor, mov, arsh: the opcode of 64 bits
-/// with an immediate, the offset and the immediate, R1 and R2, and what R1 becomes by the immediate
-/// and by R2, of 64 bits and of the low halves.
+/// Add, sub, mul, div, sdiv, or, and, lsh, rsh, mod, smod, xor, mov, arsh: the opcode for 64 bits with an
+/// immediate, the offset and the immediate, R1 and R2, and the value of R1 afterwards with the immediate
+/// and with R2, for 64 bits and for the low halves.
 #[rattlefmt::skip]
 const OPERATIONS: [((u8, u8, i32), (u64, u64), [u64; 2], [u64; 2]); 14] = [
     ((0x07, 0, -1), (0xffff_ffff_ffff_fff0, 0x20), [0xffff_ffff_ffff_ffef, 0x10], [0xffff_ffef, 0x10]),
@@ -54,7 +56,7 @@ const OPERATIONS: [((u8, u8, i32), (u64, u64), [u64; 2], [u64; 2]); 14] = [
     ((0xc7, 0, 4), (0x8000_0000_8000_0000, 0x23), [0xf800_0000_0800_0000, 0xffff_ffff_f000_0000], [0xf800_0000, 0xf000_0000]),
 ];
 
-/// The slots of an operation by an immediate and by R2, of 64 bits and of 32.
+/// The slots of an operation with an immediate and with R2, for 64 bits and for 32.
 fn slots(opcode: u8, offset: u8, imm: i32) -> [u64; 4] {
     let [a, b, c, d] = imm.to_le_bytes();
     let [whole, half] = [opcode, opcode ^ 3];
@@ -81,8 +83,7 @@ fn operations(rt: HostRuntime) -> Result<(), Fail> {
     Ok(())
 }
 
-/// Sign-extending moves from 8, 16, 8, 16 and 32 bits, negatives, and le, be and swap of 16, 32 and
-/// 64 bits.
+/// Sign-extending moves from 8, 16, 8, 16 and 32 bits, negations, and le, be and swap of 16, 32 and 64 bits.
 #[rattlefmt::skip]
 const SIGNS_AND_BYTE_ORDER: [Row; 16] = [
     (7, 0x1_8000_8080, 0xbc21_0800_0000_0000, 0xffff_ff80),
@@ -109,8 +110,7 @@ fn signs_and_byte_order(rt: HostRuntime) -> Result<(), Fail> {
     Ok(())
 }
 
-/// Division by zero of every kind, the least value by -1, a large unsigned divisor, and shifts by
-/// the width and more.
+/// Every kind of division by zero, the least value by -1, a large unsigned divisor, and shifts by the width and more.
 #[rattlefmt::skip]
 const EDGES: [Row; 17] = [
     (0x1_0000_0007, 0, 0x3f21_0000_0000_0000, 0),

@@ -1,4 +1,4 @@
-//! Atomic instructions on words worked by hand (RFC 9669, section 5.3).
+//! Atomic instructions on words, worked out by hand (RFC 9669, section 5.3).
 use super::{EXIT, Plain, answer, answers, machine, run_machine, wide};
 use bpf_machine::Status;
 use guest_memory::{Fault, Regions, Size};
@@ -40,9 +40,9 @@ const OPERATIONS: [(u64, u64, [u64; 3]); 24] = [
     (0xc321_0000_e100_0000, 9, [9, LOW, 0xf0f0_f0f0_8000_00fe]),
     (0xc321_0000_f100_0000, 0xffff_ffff_8000_0003, [LOW, SRC, 0xf0f0_f0f0_8000_00fe]),
     (0xc321_0000_f100_0000, 0x8000_0004, [LOW, SRC, OLD]),
-    // The address is R1's before R1 gets the old word.
+    // The address is R1's before R1 receives the old word.
     (0xdb11_0000_e100_0000, 9, [9, SRC, 0x2_0000_0000]),
-    // No alignment is asked: two bytes further the four bytes are 00 80 f0 f0.
+    // No alignment is required: two bytes further on, the four bytes are 00 80 f0 f0.
     (0xc321_0200_e100_0000, 9, [9, 0xf0f0_8000, 0xf0f0_8000_00fe_0003]),
 ];
 
@@ -82,13 +82,13 @@ fn operations(rt: HostRuntime) -> Result<(), Fail> {
     Ok(())
 }
 
-/// Programs of five steps and the word that each exits with: R0 is 0x1_0000_0007 and R1 is 5, then
-/// [r10-8] becomes 7, an instruction works on it, and the word that is asked for goes to R0.
+/// Programs of five steps and the word with which each exits: R0 is 0x1_0000_0007 and R1 is 5, then [r10-8] becomes
+/// 7, an instruction operates on it, and the word of interest is moved to R0.
 const PROGRAMS: [(u64, u64, u64); 4] = [
     // fetch_add64 of R1: 12 in memory, and 7 in R1
     (0xdb1a_f8ff_0100_0000, 0x79a0_f8ff_0000_0000, 12),
     (0xdb1a_f8ff_0100_0000, 0xbf10_0000_0000_0000, 7),
-    // cmpxchg32, where the low half of R0 is the word: 5 in memory, and 7 in R0
+    // cmpxchg32 if the low half of R0 equals the word: 5 in memory, and 7 in R0
     (0xc31a_f8ff_f100_0000, 0x79a0_f8ff_0000_0000, 5),
     (0xc31a_f8ff_f100_0000, 0xbf00_0000_0000_0000, 7),
 ];
@@ -119,10 +119,10 @@ fn programs(rt: HostRuntime) -> Result<(), Fail> {
 const FAULTS: [(u64, u64, Fault); 11] = [
     (0, 0xdba1_0000_e100_0000, Fault::F9),
     (0, 0xc3a1_0000_0100_0000, Fault::F9),
-    // R10 is read, and no register but R0 is written.
+    // R10 is only read, and no register but R0 is written.
     (0, 0xdba1_0000_f100_0000, Fault::F3),
     (0, 0xc3a1_0000_0000_0000, Fault::F3),
-    // A compared word that is not stored has the faults of a store too.
+    // If the comparison fails, the faults are still those of a store.
     (0x4_0000_0000, 0xc321_0000_f100_0000, Fault::F4),
     (0x4_0000_0000, 0xdb21_0000_e100_0000, Fault::F4),
     (0x4_0000_0001, 0xdb21_0000_f100_0000, Fault::F3),

@@ -1,3 +1,5 @@
+//! Copies of a machine.
+
 use super::{EXIT, Plain, machine, run_machine};
 use bpf_machine::Status;
 use guest_memory::{Regions, Size};
@@ -7,13 +9,13 @@ use std::test::Fail;
 /// `r1 = r10`; the byte at `r1` becomes 7; `exit`.
 const STORES_SEVEN: [u64; 3] = [0xbfa1_0000_0000_0000, 0x7201_0000_0700_0000, EXIT];
 
-/// The machine after another step.
+/// The machine after one more step.
 fn stepped(mut machine: Plain) -> Result<Plain, Fail> {
     machine.step()?;
     Ok(machine)
 }
 
-/// What another step answers.
+/// The result of one more step.
 fn step_answer(mut machine: Plain) -> Result<Status, Fail> {
     Ok(machine.step()?)
 }
@@ -33,7 +35,7 @@ fn byte(machine: &Plain) -> Option<u64> {
     machine.memory().read(0x1_0000_0200, Size::B).ok()
 }
 
-/// `pc`, the byte that is stored, both constants and how many bytes of code a machine has.
+/// `pc`, the byte that is stored, both constants and the number of bytes of the code.
 fn parts(machine: &Plain) -> (i64, Option<u64>, Option<u64>, usize) {
     let constants = machine.memory().read(0x4_0000_0000, Size::H).ok();
     let length = machine.image().code().len();
@@ -47,7 +49,7 @@ fn a_copy_is_equal(rt: HostRuntime) -> Result<(), Fail> {
     Ok(())
 }
 
-/// The bytes of a machine after another step, and of the copy that was made before it.
+/// The byte of a machine after one more step, and that of the copy made before.
 fn bytes_apart(alloc: Global) -> Result<[Option<u64>; 2], Fail> {
     let machine = first(alloc)?;
     let copy = copied(&machine)?;
@@ -55,7 +57,7 @@ fn bytes_apart(alloc: Global) -> Result<[Option<u64>; 2], Fail> {
     Ok([byte(&machine), byte(&copy)])
 }
 
-/// The bytes of a machine, and of its copy after another step.
+/// The byte of a machine, and that of its copy after one more step.
 fn bytes_of_a_stepped_copy(alloc: Global) -> Result<[Option<u64>; 2], Fail> {
     let machine = first(alloc)?;
     let copy = stepped(copied(&machine)?)?;
@@ -69,7 +71,7 @@ fn copies_go_their_own_ways(rt: HostRuntime) -> Result<(), Fail> {
     Ok(())
 }
 
-/// The status that the step after so many others answers.
+/// The status that the step after this many others returns.
 fn status_after(alloc: Global, steps: u64) -> Result<Status, Fail> {
     step_answer(run_machine(machine(alloc, &STORES_SEVEN, &[])?, steps)?)
 }

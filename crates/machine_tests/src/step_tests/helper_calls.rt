@@ -1,3 +1,5 @@
+//! Calls of helpers in programs.
+
 use super::{EXIT, machine, run_machine};
 use bpf_machine::Status;
 use guest_memory::Fault;
@@ -7,14 +9,14 @@ use std::process::Abort;
 use std::test::Fail;
 use value_store::ValueStore;
 
-/// `r1` = a reference, and the kind of what it names.
+/// `r1` = a reference, and the kind of its value.
 const KIND_OF_TRUE: &[u64] = &[0xb701_0000_0300_0000, 0x8500_0000_0100_0000, EXIT];
 
 const KIND_OF_NOTHING: &[u64] = &[0xb701_0000_0900_0000, 0x8500_0000_0100_0000, EXIT];
 
 const UNKNOWN: &[u64] = &[0xb701_0000_0300_0000, 0x8500_0000_1800_0000, EXIT];
 
-/// The constants as a text, its code points, and their number as a word.
+/// The constants as a text, its number of code points, and that number as a word.
 const SIZE_OF_TEXT: &[u64] = &[
     0x1801_0000_0000_0000,
     0x0000_0000_0400_0000,
@@ -27,7 +29,7 @@ const SIZE_OF_TEXT: &[u64] = &[
     EXIT,
 ];
 
-/// An empty list, put into a new one over and over.
+/// An empty list, nested in a new one repeatedly.
 const NESTS: &[u64] = &[
     0x8500_0000_1000_0000,
     0xbf06_0000_0000_0000,
@@ -39,7 +41,7 @@ const NESTS: &[u64] = &[
     0x0500_faff_0000_0000,
 ];
 
-/// The constants as a text, joined to itself over and over.
+/// The constants as a text, joined with itself repeatedly.
 const DOUBLES: &[u64] = &[
     0x1801_0000_0000_0000,
     0x0000_0000_0400_0000,
@@ -51,10 +53,10 @@ const DOUBLES: &[u64] = &[
     0x0500_fcff_0000_0000,
 ];
 
-/// Where a run stands: the steps made, `pc` and the status.
+/// The end of a run: the steps made, `pc` and the status.
 type End = (u64, i64, Status);
 
-/// Slots, constants, and where a run stands.
+/// Slots, constants, and the end of a run.
 const CALLS: [(&[u64], &[u8], End); 6] = [
     (KIND_OF_TRUE, b"", (3, 2, Status::Exited(2))),
     (KIND_OF_NOTHING, b"", (2, 1, Status::Fault(Fault::F6))),
@@ -70,7 +72,7 @@ fn end_of(alloc: Global, slots: &[u64], constants: &[u8]) -> Result<End, Fail> {
     Ok((steps, machine.pc(), status))
 }
 
-/// Asserts where these runs stand.
+/// Asserts the ends of these runs.
 fn assert_ends(rt: &impl Abort, alloc: Global, rows: &[(&[u64], &[u8], End)]) -> Result<(), Fail> {
     for (row, (slots, constants, end)) in rows.iter().enumerate() {
         let stands = end_of(alloc, slots, constants)? == *end;
@@ -84,7 +86,7 @@ fn calls_of_helpers(rt: HostRuntime) -> Result<(), Fail> {
     assert_ends(&rt, rt.alloc(), &CALLS)
 }
 
-/// How many values there are, their charge and R1 after a run.
+/// The number of values, their charge and R1 after a run.
 fn left_by(alloc: Global, slots: &[u64], constants: &[u8]) -> Result<[u64; 3], Fail> {
     let machine = run_machine(machine(alloc, slots, constants)?, 9999)?;
     let values = machine.values();

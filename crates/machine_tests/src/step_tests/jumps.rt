@@ -1,3 +1,5 @@
+//! Jumps, branches and local calls.
+
 use super::{EXIT, answer, end_of, machine, run_answer, run_machine, wide};
 use Fault::{F1, F5, F7};
 use bpf_machine::Status;
@@ -24,8 +26,8 @@ fn status_over(alloc: Global, dst: u64, operand: u64, jump: u64) -> Result<Statu
     Ok(status)
 }
 
-/// The opcodes of each comparison (an immediate and a register of 64 bits, the same of 32), and
-/// whether it holds between -1 and 1, between 1 and 1, and between 2 and 1.
+/// The opcodes of each comparison (an immediate and a register for 64 bits, then for 32), and whether it
+/// holds for -1 and 1, for 1 and 1, and for 2 and 1.
 const BRANCHES: [([u8; 4], [bool; 3]); 11] = [
     ([0x15, 0x1d, 0x16, 0x1e], [false, true, false]),
     ([0x25, 0x2d, 0x26, 0x2e], [true, false, true]),
@@ -40,20 +42,20 @@ const BRANCHES: [([u8; 4], [bool; 3]); 11] = [
     ([0xd5, 0xdd, 0xd6, 0xde], [true, true, false]),
 ];
 
-/// Words of 64 bits, and words of which the low halves count, that are compared with 1.
+/// Words of 64 bits, and words whose low halves matter, to be compared with 1.
 const COMPARED: [(u64, u64); 3] = [
     (u64::MAX, 0x7_ffff_ffff),
     (1, 0x7_0000_0001),
     (2, 0x7_0000_0002),
 ];
 
-/// Whether the jump, taken or not by these words, leads to the exit.
+/// Whether the jump, taken or not for these words, leads to the exit.
 fn is_taken(alloc: Global, dst: u64, operand: u64, jump: [u8; 8]) -> Result<bool, Fail> {
     let status = status_over(alloc, dst, operand, u64::from_be_bytes(jump))?;
     Ok(status == Status::Exited(0))
 }
 
-/// Which of a comparison's four jumps are taken with these words, compared with 1.
+/// Which of a comparison's four jumps are taken for these words, compared with 1.
 fn taken(alloc: Global, opcodes: [u8; 4], whole: u64, half: u64) -> Result<[bool; 4], Fail> {
     let [imm_64, reg_64, imm_32, reg_32] = opcodes;
     Ok([
@@ -64,7 +66,7 @@ fn taken(alloc: Global, opcodes: [u8; 4], whole: u64, half: u64) -> Result<[bool
     ])
 }
 
-/// Whether a comparison's jumps are taken exactly where it holds.
+/// Whether a comparison's jumps are taken exactly if it holds.
 fn branches_where(alloc: Global, opcodes: [u8; 4], holds: [bool; 3]) -> Result<bool, Fail> {
     for ((whole, half), holds) in COMPARED.into_iter().zip(holds) {
         if taken(alloc, opcodes, whole, half)? != [holds, holds, holds, holds] {
@@ -82,8 +84,7 @@ fn branches(rt: HostRuntime) -> Result<(), Fail> {
     Ok(())
 }
 
-/// Words, opcodes of `==` and `>` of 64 bits and of 32 with the immediate -2, which is extended by
-/// its sign, and whether they jump.
+/// Words, opcodes of `==` and `>` for 64 bits and for 32 with the sign-extended immediate -2, and whether they jump.
 const NEGATIVE: [(u64, u8, bool); 5] = [
     (0xffff_ffff_ffff_fffe, 0x15, true),
     (0x0000_0000_ffff_fffe, 0x15, false),
@@ -102,7 +103,7 @@ fn branches_on_a_negative_immediate(rt: HostRuntime) -> Result<(), Fail> {
     Ok(())
 }
 
-/// Slots, the steps made and the status, and then `pc` and how many records are open.
+/// Slots, the steps made and the status, then `pc` and the number of open records.
 #[rattlefmt::skip]
 const JUMPS: [(&[u64], (u64, Status), (i64, usize)); 9] = [
     (&[0x0500_0100_0000_0000, 0xb700_0000_0500_0000, EXIT], (2, Status::Exited(0)), (2, 0)),
@@ -125,7 +126,7 @@ fn jumps_and_calls(rt: HostRuntime) -> Result<(), Fail> {
     Ok(())
 }
 
-/// The callee has a frame 512 bytes higher and its own R6; both come back at its exit.
+/// The callee has a frame 512 bytes higher and its own R6; the caller's are restored at its exit.
 const CALL: [u64; 7] = [
     0xb706_0000_0700_0000, // r6 = 7
     0x8510_0000_0100_0000, // call the slot after the next one
@@ -136,7 +137,7 @@ const CALL: [u64; 7] = [
     EXIT,
 ];
 
-/// `pc`, R6, R10 and how many records are open after so many steps.
+/// `pc`, R6, R10 and the number of open records after this many steps.
 fn frame_after(alloc: Global, steps: u64) -> Result<(i64, u64, u64, usize), Fail> {
     let machine = run_machine(machine(alloc, &CALL, &[])?, steps)?;
     let r6 = machine.register(Register::R6);

@@ -1,9 +1,11 @@
+//! Runs with a step limit, and writes to R10.
+
 use super::{EXIT, end_of};
 use bpf_machine::Status;
 use guest_memory::Fault;
 use std::test::Fail;
 
-/// Slots, the limit of steps, and then the steps made, the status and `pc`.
+/// Slots, the step limit, then the steps made, the status and `pc`.
 #[rattlefmt::skip]
 const RUNS: [(&[u64], u64, (u64, Status), i64); 9] = [
     (&[0xb700_0000_0500_0000, EXIT], 9, (2, Status::Exited(5)), 1),
@@ -26,7 +28,7 @@ fn runs(rt: HostRuntime) -> Result<(), Fail> {
     Ok(())
 }
 
-/// Every instruction that writes a register but a call or an exit, with R10 as its destination.
+/// Every instruction that writes a register, except calls and exits, with R10 as its destination.
 const INTO_R10: [u64; 10] = [
     0xb70a_0000_0000_0000,
     0x0c1a_0000_0000_0000,

@@ -1,4 +1,4 @@
-//! Calls of a table that were worked by hand.
+//! Calls of a table that were worked out by hand.
 
 use crate::table_tests::{NULLS, json_of, table_of};
 use std::alloc::{AllocError, Global};
@@ -21,8 +21,8 @@ pub(crate) enum Step {
 
 use Step::{Int, Item, Join, Key, List, Map, Push, Put, Text};
 
-/// What is placed behind the nine values of five null roots: the reference, the step, and the value
-/// as JSON when all of them stand.
+/// The values that are placed after the nine of five null roots: the reference, the
+/// step, and the value as JSON after all steps.
 const STEPS: [(u64, Step, &str); 20] = [
     (9, Text("a"), "\"a\""),
     (10, Text("b"), "\"b\""),
@@ -80,7 +80,7 @@ const ANSWERS: [(Question, bool); 20] = [
     (Member(9, 21), false),
 ];
 
-/// Keys, and their places in maps of the values above.
+/// Keys, and their positions in maps of the values above.
 const PLACES: [(u64, &[u8], Option<u64>); 6] = [
     (18, b"a", None),
     (20, b"a", Some(0)),
@@ -90,7 +90,7 @@ const PLACES: [(u64, &[u8], Option<u64>); 6] = [
     (21, b"\xff", None),
 ];
 
-/// The list with the bool, the int or the list behind its items.
+/// The list with the bool, the int or the list appended.
 #[tactic(auto, using(crate::proofs::Looks::push_fits, crate::proofs::Looks::bool_fits, crate::proofs::Looks::list_fits))]
 pub(crate) fn pushed<V: ValueStore>(
     table: &mut V,
@@ -123,7 +123,7 @@ fn put<V: ValueStore>(table: &mut V, m: u64, k: u64, x: u64) -> Result<Option<u6
     }
 }
 
-/// Two texts or two lists as one.
+/// The concatenation of two texts or two lists.
 #[tactic(auto, using(crate::proofs::Looks::texts_join, crate::proofs::Looks::lists_join))]
 pub(crate) fn joined<V: ValueStore>(
     table: &mut V,
@@ -163,7 +163,7 @@ fn key<V: ValueStore>(table: &mut V, m: u64, i: u64) -> Result<Option<u64>, Allo
     }
 }
 
-/// The reference of what a step places.
+/// The reference of the value that a step places.
 fn placed<V: ValueStore>(table: &mut V, step: Step) -> Result<Option<u64>, AllocError> {
     match step {
         Int(n) => Ok(Some(table.place_int(n)?)),
@@ -189,7 +189,7 @@ pub(crate) fn equal<V: ValueStore>(table: &mut V, a: u64, b: u64) -> Option<bool
     }
 }
 
-/// Whether the first of two bools, ints or texts is below the second.
+/// Whether the first of two bools, ints or texts is less than the second.
 #[tactic(auto, using(crate::proofs::Looks::bools_less, crate::proofs::Looks::ints_less, crate::proofs::Looks::texts_less))]
 fn less<V: ValueStore>(table: &V, a: u64, b: u64) -> Option<bool> {
     match (table.at(a), table.at(b)) {
@@ -219,7 +219,7 @@ fn answered<V: ValueStore>(table: &mut V, question: Question) -> Option<bool> {
     }
 }
 
-/// The place of a key in a map; none too where there is no map.
+/// The position of a key in a map; `None` also if it is not a map.
 #[tactic(auto, using(crate::proofs::Looks::find_fits))]
 fn place_of<V: ValueStore>(table: &V, m: u64, key: &[u8]) -> Option<u64> {
     match table.at(m) {
@@ -228,7 +228,7 @@ fn place_of<V: ValueStore>(table: &V, m: u64, key: &[u8]) -> Option<u64> {
     }
 }
 
-/// The reference at which the first step places something else.
+/// The reference at which the first step places a different value.
 pub(crate) fn first_misplaced<V: ValueStore>(
     table: &mut V,
     steps: &[(u64, Step, &str)],
@@ -241,7 +241,7 @@ pub(crate) fn first_misplaced<V: ValueStore>(
     Ok(None)
 }
 
-/// The first reference at which something else stands.
+/// The first reference with a different value.
 pub(crate) fn first_changed<V: ValueStore>(
     table: &V,
     steps: &[(u64, Step, &str)],
@@ -254,7 +254,7 @@ pub(crate) fn first_changed<V: ValueStore>(
     Ok(None)
 }
 
-/// The first question with another answer.
+/// The first question with a different answer.
 fn first_answered_wrong<V: ValueStore>(table: &mut V, rows: &[(Question, bool)]) -> Option<usize> {
     for (row, (question, answer)) in rows.iter().enumerate() {
         if answered(table, *question) != Some(*answer) {
@@ -264,7 +264,7 @@ fn first_answered_wrong<V: ValueStore>(table: &mut V, rows: &[(Question, bool)])
     None
 }
 
-/// The first key that is found at another place.
+/// The first key that is found at a different position.
 fn first_found_wrong<V: ValueStore>(
     table: &V,
     rows: &[(u64, &[u8], Option<u64>)],
@@ -277,7 +277,7 @@ fn first_found_wrong<V: ValueStore>(
     None
 }
 
-/// Goes all steps.
+/// Executes all steps.
 fn go_all_steps<V: ValueStore>(table: &mut V) -> Result<(), Fail> {
     match first_misplaced(table, &STEPS)? {
         Some(_) => Err("a step places something else")?,
@@ -285,30 +285,30 @@ fn go_all_steps<V: ValueStore>(table: &mut V) -> Result<(), Fail> {
     }
 }
 
-/// What only a copy places.
+/// A value that only a copy places.
 const IN_A_COPY: [(u64, Step, &str); 1] = [(29, Push(16, 12), "[1,-2,1]")];
 
-/// Whether the copy places that, and has it.
+/// Whether the copy places that value, and has it.
 fn places_its_own<V: ValueStore>(copy: &mut V) -> Result<bool, Fail> {
     let misplaced = first_misplaced(copy, &IN_A_COPY)?;
     let changed = first_changed(copy, &IN_A_COPY)?;
     Ok(misplaced.is_none() && changed.is_none() && copy.charge() == 5)
 }
 
-/// Whether a copy of the table places what the table does not have.
+/// Whether a copy of the table can place a value that the table does not get.
 fn copy_is_apart<V: ValueStore + Drop>(table: &V) -> Result<bool, Fail> {
     let mut copy = table.copy()?;
     let places = places_its_own(&mut copy)?;
     Ok(places && table.len() == 29)
 }
 
-/// Whether each value stands in a copy of the table.
+/// Whether a copy of the table has every value.
 fn copy_has_values<V: ValueStore + Drop>(table: &V) -> Result<bool, Fail> {
     let copy = table.copy()?;
     Ok(first_changed(&copy, &STEPS)?.is_none())
 }
 
-/// What is asked of a table after all steps.
+/// A property of a table after all steps.
 #[derive(Copy, Clone)]
 enum Case {
     Values,
@@ -318,7 +318,7 @@ enum Case {
     CopyValues,
 }
 
-/// Whether the table stands so after all steps.
+/// Whether the table has the property after all steps.
 fn stands<V: ValueStore + Drop>(table: &mut V, case: Case) -> Result<bool, Fail> {
     go_all_steps(table)?;
     match case {
@@ -330,13 +330,13 @@ fn stands<V: ValueStore + Drop>(table: &mut V, case: Case) -> Result<bool, Fail>
     }
 }
 
-/// Whether the table of five null roots stands so after all steps.
+/// Whether the table of five null roots has the property after all steps.
 fn nulls_stand(alloc: Global, case: Case) -> Result<bool, Fail> {
     let mut table = table_of(alloc, NULLS)?;
     stands(&mut table, case)
 }
 
-/// Each value stands behind the last, and stays as it was.
+/// Each value is appended, and does not change.
 #[test]
 fn places(rt: HostRuntime) -> Result<(), Fail> {
     assert!(rt; nulls_stand(rt.alloc(), Case::Values)?);

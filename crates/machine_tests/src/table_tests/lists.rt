@@ -1,4 +1,4 @@
-//! Lists whose items stand in one place, or are shared.
+//! Lists whose items are stored in place, or are shared.
 
 use crate::table_tests::calls::Step::{Int, List, Push};
 use crate::table_tests::calls::{
@@ -9,7 +9,7 @@ use std::alloc::Global;
 use std::test::Fail;
 use value_store::{Shape, ValueStore};
 
-/// What is placed behind the nine values of five null roots: one list with two others made from it.
+/// The values that are placed after the nine of five null roots: one list, and two others made from it.
 const VERSIONS: [(u64, Step, &str); 7] = [
     (9, List, "[]"),
     (10, Int(1), "1"),
@@ -20,7 +20,7 @@ const VERSIONS: [(u64, Step, &str); 7] = [
     (15, Push(11, 14), "[1,3]"),
 ];
 
-/// The list with the value behind its items.
+/// The list with the value appended.
 fn with_item<V: ValueStore>(table: &mut V, l: u64, x: u64) -> Result<u64, Fail> {
     match pushed(table, l, x)? {
         Some(list) => Ok(list),
@@ -28,15 +28,15 @@ fn with_item<V: ValueStore>(table: &mut V, l: u64, x: u64) -> Result<u64, Fail> 
     }
 }
 
-/// The list that has a value twice.
+/// The list that contains a value twice.
 fn twice<V: ValueStore>(table: &mut V, x: u64) -> Result<u64, Fail> {
     let empty = table.new_list()?;
     let one = with_item(table, empty, x)?;
     with_item(table, one, x)
 }
 
-/// A list of 250 levels, each twice in the next, and an int in the deepest: its text has 2^250 of
-/// them.
+/// A list of 250 levels, each contained twice in the next, with an int in the
+/// deepest: its text would contain 2^250 of them.
 fn shared<V: ValueStore>(table: &mut V, deepest: i64) -> Result<u64, Fail> {
     let mut part = table.place_int(deepest)?;
     for _ in 0..250 {
@@ -55,12 +55,12 @@ fn ten_shared<V: ValueStore>(table: &mut V) -> Result<u64, Fail> {
     Ok(list)
 }
 
-/// A value whose text is refused.
+/// Whether the value's text is refused.
 fn is_unwritable<V: ValueStore>(table: &V, h: u64) -> bool {
     h < table.len() && table.json(h).is_err()
 }
 
-/// An empty list, and 10,000 times the newest list with true behind its items.
+/// An empty list, to whose newest version `true` is appended 10,000 times.
 fn often_pushed<V: ValueStore>(table: &mut V) -> Result<u64, Fail> {
     let mut list = table.new_list()?;
     for _ in 0..10_000 {
@@ -69,7 +69,7 @@ fn often_pushed<V: ValueStore>(table: &mut V) -> Result<u64, Fail> {
     Ok(list)
 }
 
-/// The empty list, 70 times joined to itself.
+/// The empty list, joined with itself 70 times.
 fn often_joined<V: ValueStore>(table: &mut V) -> Result<u64, Fail> {
     let mut list = table.new_list()?;
     for _ in 0..70 {
@@ -81,14 +81,14 @@ fn often_joined<V: ValueStore>(table: &mut V) -> Result<u64, Fail> {
     Ok(list)
 }
 
-/// Whether each of these lists stands where it is placed, and stays as it was.
+/// Whether each of these lists is at the reference where it was placed, and does not change.
 fn has_versions<V: ValueStore>(table: &mut V) -> Result<bool, Fail> {
     let misplaced = first_misplaced(table, &VERSIONS)?;
     let changed = first_changed(table, &VERSIONS)?;
     Ok(misplaced.is_none() && changed.is_none())
 }
 
-/// Whether lists that are built apart are found equal by their parts, and have no text.
+/// Whether lists that were built separately are found equal by their parts, and have no text.
 fn compares_shared<V: ValueStore>(table: &mut V) -> Result<bool, Fail> {
     let first = shared(table, 1)?;
     let same = shared(table, 1)?;
@@ -99,7 +99,7 @@ fn compares_shared<V: ValueStore>(table: &mut V) -> Result<bool, Fail> {
     Ok(apart && equals && again && is_unwritable(table, first))
 }
 
-/// Whether a list of such lists has the one that is its last, and not another.
+/// Whether a list of such lists contains the one that is its last item, and not another.
 fn finds_shared<V: ValueStore>(table: &mut V) -> Result<bool, Fail> {
     let list = ten_shared(table)?;
     let last = shared(table, 10)?;
@@ -107,7 +107,7 @@ fn finds_shared<V: ValueStore>(table: &mut V) -> Result<bool, Fail> {
     Ok(member(table, last, list) == Some(true) && member(table, other, list) == Some(false))
 }
 
-/// Whether the newest list has all items, and one in the middle half of them.
+/// Whether the newest list has all items, and an earlier one has half of them.
 fn has_pushed<V: ValueStore>(table: &mut V) -> Result<bool, Fail> {
     let last = often_pushed(table)?;
     let lengths = matches!(table.at(10_009), Some(Shape::List(10_000)))
@@ -115,13 +115,13 @@ fn has_pushed<V: ValueStore>(table: &mut V) -> Result<bool, Fail> {
     Ok(lengths && last == 10_009 && table.len() == 10_010)
 }
 
-/// Whether the joined list's text is that of the empty one.
+/// Whether the text of the joined list is that of the empty list.
 fn has_joined<V: ValueStore>(table: &mut V) -> Result<bool, Fail> {
     let list = often_joined(table)?;
     Ok(json_of(table, list)?.as_str() == "[]")
 }
 
-/// What is made in a table.
+/// What is built in a table.
 #[derive(Copy, Clone)]
 enum Case {
     Versions,
@@ -141,21 +141,21 @@ fn stands<V: ValueStore>(table: &mut V, case: Case) -> Result<bool, Fail> {
     }
 }
 
-/// Whether it stands in the table of five null roots.
+/// Whether it holds for the table of five null roots.
 fn nulls_stand(alloc: Global, case: Case) -> Result<bool, Fail> {
     let mut table = table_of(alloc, NULLS)?;
     stands(&mut table, case)
 }
 
-/// A list stays as it was, also where another has grown in its place.
+/// A list does not change, even if another has grown in its place.
 #[test]
 fn versions_of_a_list(rt: HostRuntime) -> Result<(), Fail> {
     assert!(rt; nulls_stand(rt.alloc(), Case::Versions)?);
     Ok(())
 }
 
-/// Lists that are built apart are compared in as many steps as they have lists, not as their texts
-/// have ints.
+/// Lists that were built separately are compared in as many steps as there are lists,
+/// not as there are ints in their texts.
 #[test]
 fn equal_with_shared_parts(rt: HostRuntime) -> Result<(), Fail> {
     assert!(rt; nulls_stand(rt.alloc(), Case::Equality)?);
@@ -174,7 +174,7 @@ fn ten_thousand_items(rt: HostRuntime) -> Result<(), Fail> {
     Ok(())
 }
 
-/// The length of a joined list's text is that of the text, and no more.
+/// The text of a joined list has only the length of that text.
 #[test]
 fn empty_lists_joined(rt: HostRuntime) -> Result<(), Fail> {
     assert!(rt; nulls_stand(rt.alloc(), Case::Joins)?);

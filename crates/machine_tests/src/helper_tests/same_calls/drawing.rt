@@ -1,4 +1,4 @@
-//! Calls that are drawn from a seed.
+//! Random calls, drawn from a seed.
 
 use crate::helper_tests::BASE;
 use crate::helper_tests::same_calls::kind::Kind;
@@ -9,8 +9,7 @@ use value_store::ValueStore;
 /// A helper with its first three arguments.
 pub(crate) type Call = (i32, [u64; 3]);
 
-/// Helpers with kinds of arguments that they take. Calls that make values are listed more than
-/// once.
+/// Helpers with the kinds of their arguments. Calls that make values are listed more than once.
 const TAKEN: [(i32, [Kind; 3]); 42] = [
     (1, [Any, Unused, Unused]),
     (2, [Int, Unused, Unused]),
@@ -56,8 +55,8 @@ const TAKEN: [(i32, [Kind; 3]); 42] = [
     (23, [Any, Unused, Unused]),
 ];
 
-/// A reference, to a value of this kind if one of some tries finds one. Often the later of two
-/// values is taken, so that values are made of new ones as well as of old ones.
+/// A reference, to a value of this kind if a few tries find one. The later of two values is often preferred, so that
+/// values are built from new ones as well as from old ones.
 fn reference<V: ValueStore>(table: &V, numbers: &mut Numbers, kind: Kind) -> u64 {
     let len = table.len();
     if numbers.below(100) == 0 {
@@ -87,7 +86,7 @@ fn argument<V: ValueStore>(table: &V, numbers: &mut Numbers, kind: Kind) -> u64 
     }
 }
 
-/// The number of a helper, which is sometimes drawn apart, and the kinds of its arguments.
+/// The number of a helper, sometimes drawn at random, and the kinds of its arguments.
 fn helper(numbers: &mut Numbers) -> (i32, [Kind; 3]) {
     let place = numbers.below(TAKEN.len() as u64);
     let (id, kinds) = match TAKEN.get(place as usize) {
@@ -101,7 +100,7 @@ fn helper(numbers: &mut Numbers) -> (i32, [Kind; 3]) {
     }
 }
 
-/// A call whose arguments are mostly of the kinds that its helper takes.
+/// A call whose arguments mostly have the kinds that its helper takes.
 pub(crate) fn drawn<V: ValueStore>(table: &V, numbers: &mut Numbers) -> Call {
     let (id, [first, second, third]) = helper(numbers);
     let a = argument(table, numbers, first);

@@ -1,7 +1,6 @@
-//! Numbers from a seed.
+//! Pseudo-random numbers from a seed.
 
-/// A sequence of words, each made of the one before it by three shifts that are combined by
-/// exclusive ors.
+/// A sequence of words, each computed from the one before by three shifts and exclusive ors (xorshift).
 #[derive(Drop)]
 pub(crate) struct Numbers(pub(crate) u64);
 
