@@ -1,4 +1,4 @@
-//! Tests of the code of expressions, and of policies with their programs and responses.
+//! Tests of code generation for expressions, and of policies with their programs and responses.
 #![tactic(auto)]
 
 #[cfg(test)]

@@ -1,4 +1,4 @@
-//! What the tables share.
+//! Definitions that the tests share.
 
 use serde_json::Value;
 use std::alloc::{AllocError, Global};
@@ -9,7 +9,7 @@ mod documents;
 mod errors;
 mod verdicts;
 
-/// These texts, one behind the other.
+/// The concatenation of these texts.
 pub fn joined(alloc: Global, texts: &[&str]) -> Result<String, AllocError> {
     let mut all = String::new(alloc);
     for text in texts {
@@ -18,7 +18,7 @@ pub fn joined(alloc: Global, texts: &[&str]) -> Result<String, AllocError> {
     Ok(all)
 }
 
-/// What stands before the specification in a policy.
+/// The start of a policy, before its specification.
 const HEAD: &str =
     r#"{"apiVersion":"admissionregistration.k8s.io/v1","kind":"ValidatingAdmissionPolicy","spec":"#;
 
@@ -32,7 +32,7 @@ pub fn nulls() -> [Value; 5] {
     Default::default()
 }
 
-/// A line of a table of texts: what stands before its broken bar, and behind it.
+/// A line of a table of texts: the text before its broken bar, and the text after it.
 pub fn cells(line: &str) -> (&str, &str) {
     line.split_once('¦').unwrap_or((line, ""))
 }

@@ -1,4 +1,4 @@
-//! Code put together by hand.
+//! Code that was assembled by hand.
 
 ghost use Rattle.std.specs.Prelude.{◌≡◌};
 ghost use Rattle.codegen.specs.Emitted.{no_code};
@@ -25,14 +25,14 @@ fn move_to_r0(n: i32) -> Insn
     }
 }
 
-/// The answer of `finish` after so many nodes.
+/// The result of `finish` after this many nodes.
 fn after_nodes(alloc: Global, n: u64) -> Option<CodeError> {
     let mut emitter = Emitter::new(alloc);
     emitter.count(n);
     emitter.finish().err()
 }
 
-/// The slot of the first instruction, in whose place another is put.
+/// The slot of the first instruction, which is then replaced by another.
 fn put_first(emitter: &mut Emitter) -> Result<u64, AllocError>
     requires { emitter.old ≡ no_code }
 {
@@ -41,7 +41,7 @@ fn put_first(emitter: &mut Emitter) -> Result<u64, AllocError>
     Ok(slot)
 }
 
-/// The slots of a wide instruction and of one behind it.
+/// The slots of a wide instruction and of the one after it.
 fn put_behind(emitter: &mut Emitter) -> Result<(u64, u64), AllocError> {
     let wide = Insn::LoadWide {
         dst: Register::R1,
@@ -56,7 +56,7 @@ const THREE: [u8; 40] = [
     0x11, 0xb7, 0, 0, 0, 7, 0, 0, 0, 0x95, 0, 0, 0, 0, 0, 0, 0,
 ];
 
-/// Whether what the emitter took is this code, without constants.
+/// Whether the emitter produced this code, without constants.
 fn is_code(emitter: Emitter, expected: &[u8]) -> bool {
     match emitter.finish() {
         Ok((code, constants)) => code.as_slice() == expected && constants.is_empty(),
@@ -73,7 +73,7 @@ fn slots_are_counted(rt: HostRuntime) -> Result<(), Fail> {
     Ok(())
 }
 
-/// Numbers of nodes, and the answers of `finish` after them.
+/// Numbers of nodes, and the results of `finish` after them.
 const NODES: [(u64, Option<CodeError>); 4] = [
     (0, None),
     (512, None),

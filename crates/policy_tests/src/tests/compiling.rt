@@ -1,4 +1,4 @@
-//! Policies that are compiled, and why others are not.
+//! Policies that are compiled, and why others are refused.
 
 use super::{cells, joined, policy_text};
 use policy_glue::{Policy, compile};
@@ -6,7 +6,7 @@ use std::alloc::{AllocError, Global};
 use std::process::Abort;
 use std::test::Fail;
 
-/// What becomes of the policy with this specification: `compiled`, or why it is refused.
+/// The outcome for the policy with this specification: `compiled`, or its error.
 fn outcome(alloc: Global, spec: &str) -> Result<String, Fail> {
     let text = policy_text(alloc, spec)?;
     let policy = Policy::read(alloc, text.as_bytes())?;
@@ -16,14 +16,14 @@ fn outcome(alloc: Global, spec: &str) -> Result<String, Fail> {
     }
 }
 
-/// Asserts what becomes of the policy with this specification.
+/// Asserts the outcome for the policy with this specification.
 fn assert_outcome(rt: &impl Abort, alloc: Global, spec: &str, want: &str) -> Result<(), Fail> {
     let found = outcome(alloc, spec)?;
     assert_eq!(rt; found.as_str(), want, "{spec}");
     Ok(())
 }
 
-/// The expression of a policy's only validation, and what becomes of the policy.
+/// The expression of a policy's only validation, and the outcome.
 const EXPRESSIONS: [(&str, &str); 11] = [
     ("object.spec.replicas <= 3", "compiled"),
     ("object.spec.paused", "compiled"),
@@ -38,7 +38,7 @@ const EXPRESSIONS: [(&str, &str); 11] = [
     ("1 + 1", "K7"),
 ];
 
-/// Asserts what becomes of the policy with this validation.
+/// Asserts the outcome for the policy with this validation.
 fn assert_validation(rt: &impl Abort, alloc: Global, text: &str, want: &str) -> Result<(), Fail> {
     let spec = joined(
         alloc,
@@ -55,8 +55,8 @@ fn expressions(rt: HostRuntime) -> Result<(), Fail> {
     Ok(())
 }
 
-/// A row a line: a specification, a broken bar and what becomes of its policy. A part is judged
-/// whole before the next, in the order of variables, conditions and validations.
+/// One row per line: a specification, a broken bar and the outcome. Each part is checked completely before the next,
+/// in the order of variables, conditions and validations.
 const SPECS: &str =
     r##"{"variables":[{"name":"v0","expression":"variables.v1"},{"name":"v1","expression":"1"}],"validations":[{"expression":"true"}]}¦K6 variable 0 Y3
 {"variables":[{"name":"v0","expression":"true"}],"matchConditions":[{"name":"c","expression":"variables.v0"}],"validations":[{"expression":"true"}]}¦K6 condition 0 Y3
@@ -78,7 +78,7 @@ fn specifications(rt: HostRuntime) -> Result<(), Fail> {
     Ok(())
 }
 
-/// A specification with this many variables, each of which is the one before it.
+/// A specification with this many variables, each of which refers to the one before it.
 fn chain(alloc: Global, n: u64) -> Result<String, AllocError> {
     let mut spec = String::from_str(
         alloc,
@@ -104,8 +104,8 @@ fn variables_of_variables(rt: HostRuntime) -> Result<(), Fail> {
     assert_outcome(&rt, rt.alloc(), deep.as_str(), "K6 variable 6 G2")
 }
 
-/// An expression in brackets or behind operators, which are repeated on both sides of what stands
-/// between them; its end; and what becomes of a policy with it.
+/// An expression in brackets or with operators, which are repeated on both sides of the text between
+/// them; its end; and the outcome for a policy with it.
 const REPEATED: [(&str, usize, &str, &str, &str, &str); 7] = [
     ("(", 100, "true", ")", "", "compiled"),
     ("(", 101, "true", ")", "", "K6 validation 0 P5 at 100"),
@@ -116,7 +116,7 @@ const REPEATED: [(&str, usize, &str, &str, &str, &str); 7] = [
     ("!", 4096, "true", "", "", "K6 validation 0 P6 at 4096"),
 ];
 
-/// A text in brackets or behind operators, which are repeated on both sides of it.
+/// A text in brackets or with operators, which are repeated on both sides of it.
 fn around(
     alloc: Global,
     before: &str,
@@ -140,8 +140,8 @@ fn limits_of_expressions(rt: HostRuntime) -> Result<(), Fail> {
     Ok(())
 }
 
-/// A specification with this many validations, each with a text of 62,000 bytes that no other has:
-/// its place in two digits, then letters.
+/// A specification with this many validations, each with a unique text of 62,000 bytes:
+/// its number in two digits, then letters.
 fn with_texts(alloc: Global, n: u64) -> Result<String, AllocError> {
     let letters = "a".repeat(alloc, 61_998)?;
     let mut spec = String::from_str(alloc, "{\"validations\":[")?;

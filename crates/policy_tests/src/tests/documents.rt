@@ -1,4 +1,4 @@
-//! Policies that are read, and why others are not.
+//! Policies that are read, and why others are refused.
 
 use super::{cells, joined, policy_text};
 use policy_glue::{Policy, PolicyError};
@@ -6,12 +6,12 @@ use std::alloc::{AllocError, Global};
 use std::process::Abort;
 use std::test::Fail;
 
-/// The refusal of the document, if it is refused.
+/// The error of the document, if it is refused.
 fn refusal(alloc: Global, text: &str) -> Option<PolicyError> {
     Policy::read(alloc, text.as_bytes()).err()
 }
 
-/// The code of the document's refusal, which is empty where it is read.
+/// The code of the document's error; empty if it is read.
 fn named(alloc: Global, text: &str) -> Result<String, AllocError> {
     match refusal(alloc, text) {
         Some(error) => format!(in alloc; "{}", error.code()),
@@ -19,7 +19,7 @@ fn named(alloc: Global, text: &str) -> Result<String, AllocError> {
     }
 }
 
-/// Asserts the refusal of the policy with this specification.
+/// Asserts the error of the policy with this specification.
 fn assert_refusal(
     rt: &impl Abort,
     alloc: Global,
@@ -31,7 +31,7 @@ fn assert_refusal(
     Ok(())
 }
 
-/// A row a line: a specification, a broken bar and its refusal, which is empty where there is none.
+/// One row per line: a specification, a broken bar and its error code, which is empty if there is none.
 const SPECS: &str = r#"{"validations":[]}¦K4
 {}¦K3
 {"validations":{}}¦K3
@@ -40,7 +40,7 @@ const SPECS: &str = r#"{"validations":[]}¦K4
 {"validations":[],"variables":[{"name":"1","expression":"a"}]}¦K3
 []¦K3"#;
 
-/// The same with what stands behind the first expression of a specification's validations.
+/// Rows like those of `SPECS`, with the text after the first expression of a specification's validations.
 const ENDS: &str = r#"}]}¦
 ,"x":1}]}¦K3
 ,"message":null}]}¦K3
@@ -81,7 +81,7 @@ fn specifications(rt: HostRuntime) -> Result<(), Fail> {
     Ok(())
 }
 
-/// The same with documents.
+/// Rows like those of `SPECS`, with documents.
 const DOCUMENTS: &str = r#"{¦K1
 ¦K1
 []¦K2
@@ -98,7 +98,7 @@ fn documents(rt: HostRuntime) -> Result<(), Fail> {
     Ok(())
 }
 
-/// A specification with so many validations behind the first.
+/// A specification with this many validations after the first.
 fn with_more(alloc: Global, n: usize) -> Result<String, AllocError> {
     let mut spec = String::from_str(alloc, "{\"validations\":[{\"expression\":\"a\"}")?;
     spec.push_str(",{\"expression\":\"a\"}".repeat(alloc, n)?.as_str())?;
@@ -106,7 +106,7 @@ fn with_more(alloc: Global, n: usize) -> Result<String, AllocError> {
     Ok(spec)
 }
 
-/// Numbers of validations behind the first, and the refusals.
+/// Numbers of validations after the first, and the error codes.
 const COUNTS: [(usize, &str); 3] = [(0, ""), (63, ""), (64, "K5")];
 
 #[test]
@@ -118,7 +118,7 @@ fn counts(rt: HostRuntime) -> Result<(), Fail> {
     Ok(())
 }
 
-/// The refusal of so many lists in one another, if they are refused.
+/// The error for this many nested lists, if they are refused.
 fn refusal_of_nested(alloc: Global, n: usize) -> Result<Option<PolicyError>, AllocError> {
     let mut text = "[".repeat(alloc, n)?;
     text.push_str("]".repeat(alloc, n)?.as_str())?;

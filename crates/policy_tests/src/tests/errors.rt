@@ -1,4 +1,4 @@
-//! The codes and the words of errors.
+//! Codes and messages of errors.
 
 use CodeError::{NeedsTooManyWords, TooManyNodes, TooManyTextBytes, VariableTooDeep};
 use PolicyError::{
@@ -10,12 +10,12 @@ use std::alloc::{AllocError, Global};
 use std::fmt::Display;
 use std::test::Fail;
 
-/// Whether the error has these words.
+/// Whether the error has this message.
 fn has_words<E: Display>(alloc: Global, error: &E, words: &str) -> Result<bool, AllocError> {
     Ok(format!(in alloc; "{error}")?.as_str() == words)
 }
 
-/// The errors of code, with their codes and words.
+/// The errors of code, with their codes and messages.
 #[rattlefmt::skip]
 const CODE_ERRORS: [(CodeError, &str, &str); 5] = [
     (NeedsTooManyWords, "G1", "the expression needs more than 60 words of the stack"),
@@ -25,7 +25,7 @@ const CODE_ERRORS: [(CodeError, &str, &str); 5] = [
     (CodeError::Memory, "memory", "out of memory"),
 ];
 
-/// The errors of a policy's document, with their codes and words.
+/// The errors of a policy's document, with their codes and messages.
 #[rattlefmt::skip]
 const POLICY_ERRORS: [(PolicyError, &str, &str); 7] = [
     (NotJson, "K1", "the policy is no JSON text"),

@@ -1,4 +1,4 @@
-//! Verdicts that stand in memory, and the responses to them.
+//! Verdicts in memory, and the responses to them.
 
 use super::{joined, nulls, policy_text};
 use guest_memory::{Guest, Regions, Size};
@@ -18,8 +18,8 @@ fn null_values(alloc: Global) -> Result<PlainTable, TableError> {
     PlainTable::of_roots(alloc, &nulls())
 }
 
-/// A memory with these words of a verdict: its outcome, how many deny, what validations came to, and
-/// where the text of the first message stands.
+/// A memory with these words of a verdict: its outcome, the number of denials, the results of
+/// validations, and the reference of the first message's text.
 fn memory(
     alloc: Global,
     outcome: u64,
@@ -37,7 +37,7 @@ fn memory(
     Ok(memory)
 }
 
-/// The place of the text in the values, and 0 of none.
+/// The reference of the text among the values; 0 without a text.
 fn place(values: &mut PlainTable, text: Option<&str>) -> Result<u64, Fail> {
     match text {
         Some(text) => Ok(values.place_text(text)?),
@@ -45,7 +45,7 @@ fn place(values: &mut PlainTable, text: Option<&str>) -> Result<u64, Fail> {
     }
 }
 
-/// The verdict that stands in the memory.
+/// The verdict in the memory.
 fn verdict_of<'v>(memory: &Guest, values: &'v PlainTable, policy: &Policy) -> Verdict<'v> {
     Verdict::of(memory, values, policy)
 }
@@ -81,7 +81,7 @@ const REPLICAS: &str = r#"{"validations":[{"expression":"object.spec.replicas <=
 const TWO: &str =
     r#"{"validations":[{"expression":"false","message":"a","reason":"Forbidden"},{"expression":"1/0 == 1"}]}"#;
 
-/// The same where an error denies nothing.
+/// The validations of `TWO`, where an error denies nothing.
 const TWO_IGNORED: &str =
     r#"{"failurePolicy":"Ignore","validations":[{"expression":"false","message":"a","reason":"Forbidden"},{"expression":"1/0 == 1"}]}"#;
 
@@ -102,8 +102,8 @@ const BOTH: &str =
 const FIRST: &str =
     r#"{"allowed":false,"status":{"code":403,"message":"a","reason":"Forbidden"},"uid":"u1"}"#;
 
-/// A policy, the outcome of a verdict, how many deny, what validations came to, the text of the first message, and
-/// the response.
+/// A policy, the outcome of a verdict, the number of denials, the results of validations, the
+/// text of the first message, and the response.
 type Row = (
     &'static str,
     u64,
@@ -127,7 +127,7 @@ const RESPONSES: [Row; 11] = [
     (TWO_IGNORED, 3, 1, &[1, 2], None, FIRST),
 ];
 
-/// What stands before the response in a review.
+/// The start of a review, before the response.
 const HEAD: &str = r#"{"apiVersion":"admission.k8s.io/v1","kind":"AdmissionReview","response":"#;
 
 /// Whether the text is the review with this response.
@@ -151,7 +151,7 @@ fn responses(rt: HostRuntime) -> Result<(), Fail> {
     Ok(())
 }
 
-/// The first words of a verdict: its outcome, how many deny, and what the first three validations came to.
+/// The first words of a verdict: its outcome, the number of denials, and the results of the first three validations.
 fn first_words(verdict: &Verdict) -> [u64; 5] {
     [
         verdict.outcome,
@@ -162,7 +162,7 @@ fn first_words(verdict: &Verdict) -> [u64; 5] {
     ]
 }
 
-/// Whether the verdict has these first two messages.
+/// Whether these are the verdict's first two messages.
 fn has_messages(verdict: &Verdict, first: Option<&str>, second: Option<&str>) -> bool {
     let messages = verdict.messages;
     messages[0] == first && messages[1] == second

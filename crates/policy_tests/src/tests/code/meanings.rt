@@ -1,7 +1,7 @@
-//! Expressions whose meaning was worked by hand, as programs that run on a review's roots, with a
-//! variable that is 1 and one that is the error. Each row has the reference with which its program
-//! exits: 0 the error, 2 false, 3 true. Of what has no type as it stands one operand is under
-//! `dyn`; a value that is no truth is compared with itself.
+//! Expressions whose meanings were worked out by hand, as programs that run on a review's roots, with a
+//! variable that is 1 and one that is the error. Each row has the reference with which its program exits: 0
+//! the error, 2 false, 3 true. If an expression has no type as it is, one operand is wrapped in `dyn`; a
+//! value that is not a bool is compared with itself.
 
 use super::running::{end, take, take_variable};
 use bpf_machine::Status;
@@ -11,7 +11,7 @@ use serde_json::Value;
 use std::alloc::Global;
 use std::process::Abort;
 
-/// Arithmetic, and joining.
+/// Arithmetic and concatenation.
 const ARITHMETIC: [(&str, u64); 27] = [
     ("2 + 3 == 5", 3),
     ("9223372036854775807 + 1", 0),
@@ -234,7 +234,7 @@ fn roots(alloc: Global) -> Option<[Value; 5]> {
     ])
 }
 
-/// Takes the two variables and the text's expression, and says whether they were taken.
+/// Compiles the two variables and the text's expression, and returns whether that succeeded.
 fn take_all(alloc: Global, text: &str, emitter: &mut Emitter) -> bool {
     let mut scope = Scope::new(alloc);
     take_variable(alloc, "one", "1", &mut scope, emitter)
@@ -242,7 +242,7 @@ fn take_all(alloc: Global, text: &str, emitter: &mut Emitter) -> bool {
         && take(alloc, text, &scope, emitter)
 }
 
-/// How the program of the text's expression ends, with the two variables.
+/// The end of the program of the text's expression, with the two variables.
 fn end_of(alloc: Global, text: &str) -> Option<Status> {
     let mut emitter = Emitter::new(alloc);
     if !take_all(alloc, text, &mut emitter) {

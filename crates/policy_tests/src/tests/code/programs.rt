@@ -11,7 +11,7 @@ use serde_json::Value;
 use std::alloc::{AllocError, Global};
 use std::test::Fail;
 
-/// More steps than any of these programs takes.
+/// More steps than any of these programs needs.
 const STEPS: u64 = 10_000;
 
 /// Texts, and the reference with which their programs exit: 0 the error, 2 false, 3 true.
@@ -40,7 +40,7 @@ const VARIABLES: [(&str, &str); 4] = [
     ("texts", "['a', 'b'].map(x, x + 'c')"),
 ];
 
-/// Texts over these variables, and the reference with which their programs exit.
+/// Texts that use these variables, and the reference with which their programs exit.
 const USES: [(&str, u64); 6] = [
     ("variables.three == 3 && variables.two == 2", 3),
     ("variables.wrong == 1", 0),
@@ -50,13 +50,12 @@ const USES: [(&str, u64); 6] = [
     ("[1].exists(x, variables.three == x)", 2),
 ];
 
-/// Texts over the object `TWO_FIELDS`, the slots of their programs, the steps that these take, and
-/// the reference with which they exit, by hand. A field has 5 slots and takes 4 steps: its map into
-/// R1, its name into R2 and R3, helper 5. An int has 3 slots and takes 2 steps; a store, a copy, a
-/// load, any other helper and the exit have 1 slot and take 1 step each. So the first row keeps
-/// `object.spec` (6 slots, 5 steps), evaluates `a` and stores it (6, 5), evaluates `b` (5, 4), has
-/// both in their registers (2, 2), calls helper 10, copies and calls helper 23 (3, 3), and exits
-/// (1, 1). The second keeps the error, and the third, in which `object.spec` stands once, nothing.
+/// Texts over the object `TWO_FIELDS`, the number of slots of their programs, the number of steps, and the reference
+/// with which they exit, worked out by hand. A field has 5 slots and takes 4 steps: its map to R1, its name to R2 and
+/// R3, helper 5. An int has 3 slots and takes 2 steps; a store, a copy, a load, any other helper and the exit have 1
+/// slot and take 1 step each. So the first row keeps `object.spec` (6 slots, 5 steps), evaluates `a` and stores it
+/// (6, 5), evaluates `b` (5, 4), moves both to their registers (2, 2), calls helper 10, copies and calls helper 23
+/// (3, 3), and exits (1, 1). The second keeps the error, and the third, which uses `object.spec` once, keeps nothing.
 const KEPT: [(&str, usize, u64, u64); 3] = [
     ("object.spec.a <= object.spec.b", 23, 20, 3),
     ("object.status.a == object.status.b", 21, 18, 0),
@@ -66,7 +65,7 @@ const KEPT: [(&str, usize, u64, u64); 3] = [
 /// The object of these rows.
 const TWO_FIELDS: &str = "{\"spec\":{\"a\":1,\"b\":2}}";
 
-/// How the program of the text's expression ends.
+/// The end of the program of the text's expression.
 fn end_of(alloc: Global, text: &str) -> Option<Status> {
     let mut emitter = Emitter::new(alloc);
     if !take(alloc, text, &Scope::new(alloc), &mut emitter) {
@@ -75,7 +74,7 @@ fn end_of(alloc: Global, text: &str) -> Option<Status> {
     end(alloc, emitter, &nulls(), STEPS)
 }
 
-/// Takes the variables, and says whether they were taken.
+/// Compiles the variables, and returns whether that succeeded.
 fn take_variables(alloc: Global, scope: &mut Scope, emitter: &mut Emitter) -> bool {
     for (name, of) in &VARIABLES {
         if !take_variable(alloc, name, of, scope, emitter) {
@@ -85,7 +84,7 @@ fn take_variables(alloc: Global, scope: &mut Scope, emitter: &mut Emitter) -> bo
     true
 }
 
-/// How the program of the text's expression ends, with the variables.
+/// The end of the program of the text's expression, with the variables.
 fn end_with_variables(alloc: Global, text: &str) -> Option<Status> {
     let mut emitter = Emitter::new(alloc);
     let mut scope = Scope::new(alloc);
@@ -97,7 +96,7 @@ fn end_with_variables(alloc: Global, text: &str) -> Option<Status> {
     end(alloc, emitter, &nulls(), STEPS)
 }
 
-/// The text of so many plus signs, nested to the right.
+/// The text of this many plus signs, nested to the right.
 fn sums(alloc: Global, signs: usize) -> Result<String, AllocError> {
     let mut text = "1+(".repeat(alloc, signs)?;
     text.push_str("1")?;
@@ -106,14 +105,14 @@ fn sums(alloc: Global, signs: usize) -> Result<String, AllocError> {
     Ok(text)
 }
 
-/// What is answered of the text, where it is an expression.
+/// The compiler's error for the text, if it is an expression.
 fn answer(alloc: Global, text: &str) -> Option<Option<CodeError>> {
     let core = core(alloc, text)?;
     let mut emitter = Emitter::new(alloc);
     Some(refusal(alloc, &core, &Scope::new(alloc), &mut emitter))
 }
 
-/// Takes a variable without a refusal, declares it with the depth 6, and says whether it did.
+/// Compiles a variable, declares it with the depth 6, and returns whether that succeeded.
 fn take_deep_variable(alloc: Global, scope: &mut Scope, emitter: &mut Emitter) -> bool {
     match take_next(alloc, "1", &*scope, emitter) {
         Some((found, _)) => declare(scope, "v", found, 6),
@@ -121,7 +120,7 @@ fn take_deep_variable(alloc: Global, scope: &mut Scope, emitter: &mut Emitter) -
     }
 }
 
-/// What is answered of a variable that is the one of depth 6.
+/// The error for a variable that refers to the one of depth 6.
 fn answer_to_depth(alloc: Global) -> Option<CodeError> {
     let mut emitter = Emitter::new(alloc);
     let mut scope = Scope::new(alloc);
@@ -141,7 +140,7 @@ fn object_of_items(alloc: Global) -> Option<Value> {
     Value::from_str(alloc, text.as_str()).ok()
 }
 
-/// An emitter of the text's expression alone.
+/// An emitter with only the text's expression.
 fn emitter_of(alloc: Global, text: &str) -> Option<Emitter> {
     let mut emitter = Emitter::new(alloc);
     if take(alloc, text, &Scope::new(alloc), &mut emitter) {
@@ -151,25 +150,25 @@ fn emitter_of(alloc: Global, text: &str) -> Option<Emitter> {
     }
 }
 
-/// How the program of the text's expression ends on this object within so many steps.
+/// The end of the program of the text's expression on this object, within this many steps.
 fn end_on(alloc: Global, object: Value, text: &str, steps: u64) -> Option<Status> {
     let roots = [object, Value::Null, Value::Null, Value::Null, Value::Null];
     end(alloc, emitter_of(alloc, text)?, &roots, steps)
 }
 
-/// How the search for the first item of many ends.
+/// The end of the search for the first of many items.
 fn end_of_search(alloc: Global) -> Option<Status> {
     let object = object_of_items(alloc)?;
     end_on(alloc, object, "object.items.exists(x, x == 1)", 1_024)
 }
 
-/// How the program of the text's expression ends on the object of two fields within so many steps.
+/// The end of the program of the text's expression on the object of two fields, within this many steps.
 fn end_on_fields(alloc: Global, text: &str, steps: u64) -> Option<Status> {
     let object = Value::from_str(alloc, TWO_FIELDS).ok()?;
     end_on(alloc, object, text, steps)
 }
 
-/// How many slots the program of the text's expression has.
+/// The number of slots of the program of the text's expression.
 fn slots_of(alloc: Global, text: &str) -> Option<usize> {
     slots(emitter_of(alloc, text)?)
 }

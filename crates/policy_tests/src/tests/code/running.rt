@@ -1,5 +1,5 @@
-//! From texts to what their programs leave, where nothing on the way is refused. Each step that has
-//! much to say stands in a function of its own.
+//! From texts to the results of their programs, if nothing is refused on the way. Each step whose contract is large
+//! has a function of its own, to keep the proofs small.
 
 use bpf_machine::{Machine, Status};
 use cel_macros::{Core, expand};
@@ -28,7 +28,7 @@ fn type_of(core: &Core, scope: &Scope) -> Option<CelType> {
     check(core, scope).ok()
 }
 
-/// Why the expression is not taken.
+/// The compiler's error for the expression, if any.
 pub(super) fn refusal(
     alloc: Global,
     core: &Core,
@@ -38,7 +38,7 @@ pub(super) fn refusal(
     expression(alloc, core, scope, emitter).err()
 }
 
-/// Why the expression is not taken as a variable.
+/// The compiler's error for the expression as a variable, if any.
 pub(super) fn variable_refusal(
     alloc: Global,
     core: &Core,
@@ -48,7 +48,7 @@ pub(super) fn variable_refusal(
     variable(alloc, core, scope, emitter).err()
 }
 
-/// Takes the text's expression, and says whether it was taken.
+/// Compiles the text's expression, and returns whether that succeeded.
 pub(super) fn take(alloc: Global, text: &str, scope: &Scope, emitter: &mut Emitter) -> bool {
     let Some(core) = core(alloc, text) else {
         return false;
@@ -56,12 +56,12 @@ pub(super) fn take(alloc: Global, text: &str, scope: &Scope, emitter: &mut Emitt
     type_of(&core, scope).is_some() && refusal(alloc, &core, scope, emitter).is_none()
 }
 
-/// Declares a variable, and says whether there was memory for it.
+/// Declares a variable, and returns whether the allocation succeeded.
 pub(super) fn declare(scope: &mut Scope, name: &str, cel_type: CelType, depth: u64) -> bool {
     scope.add(name, cel_type, depth).is_ok()
 }
 
-/// Takes the text's expression as a variable; its type and its depth.
+/// Compiles the text's expression as a variable, and returns its type and its depth.
 pub(super) fn take_next(
     alloc: Global,
     text: &str,
@@ -76,7 +76,7 @@ pub(super) fn take_next(
     }
 }
 
-/// Takes the text's expression as the next variable, of this name, and says whether it was taken.
+/// Compiles the text's expression as the next variable, with this name, and returns whether that succeeded.
 pub(super) fn take_variable(
     alloc: Global,
     name: &str,
@@ -90,19 +90,19 @@ pub(super) fn take_variable(
     }
 }
 
-/// How many slots the code has of what the emitter took, its exit among them.
+/// The number of slots of the emitter's code, including its exit.
 pub(super) fn slots(emitter: Emitter) -> Option<usize> {
     let (code, _) = emitter.finish().ok()?;
     Some(code.len() / 8)
 }
 
-/// The image of what the emitter took.
+/// The image of the emitter's code.
 fn image(emitter: Emitter) -> Option<Image> {
     let (code, constants) = emitter.finish().ok()?;
     Image::new_2(code, constants).ok()
 }
 
-/// How the program of what the emitter took ends on these roots within so many steps.
+/// The end of the emitter's program on these roots, within this many steps.
 pub(super) fn end(
     alloc: Global,
     emitter: Emitter,

@@ -1,3 +1,4 @@
+-- Proof obligations of `put_first` (src/tests/code.rt).
 use Rattle.std.proofs.Common.{◌≡◌, ◌∷◌, [], ◌++◌, pos, ap, sym, ◌∙◌}
 use Rattle.std.specs.Prelude.{slice_get}
 use Rattle.insn_codec.specs.declared.insn.Insn.TheVariants.{Jump}
