@@ -1,4 +1,4 @@
-//! Tests of histories and sessions, of what sessions read and write, and of the words of errors.
+//! Tests of histories and sessions, of the bytes that sessions read and write, and of error messages.
 #![tactic(auto)]
 
 #[cfg(test)]

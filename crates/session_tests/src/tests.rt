@@ -1,4 +1,4 @@
-//! What the tables share.
+//! Definitions that the tests share.
 
 use serde_json::Value;
 

@@ -1,4 +1,4 @@
-//! Readers and writers that fail, counted.
+//! Failures of readers and writers, counted.
 
 use super::doubles::Tape;
 use debugger::{Counting, Sink, Source};
@@ -7,7 +7,7 @@ use std::io::{Error, ErrorKind, Read, Write};
 use std::test::Fail;
 use streams::write_all;
 
-/// A device that is broken.
+/// A broken device.
 #[derive(Drop)]
 struct Broken;
 
@@ -27,7 +27,7 @@ impl Write for Broken {
     }
 }
 
-/// How many of so many reads fail.
+/// The number of this many reads that fail.
 fn failed_reads<T: Read + Drop>(inner: T, calls: u64) -> u64 {
     let mut counted = Counting::new(inner);
     let mut buf = [0u8; 2];
@@ -43,7 +43,7 @@ fn counts_failed_reads(rt: HostRuntime) {
     assert_eq!(rt; failed_reads(Broken, 3), 3);
 }
 
-/// How many of so many writes of these bytes fail.
+/// The number of this many writes of these bytes that fail.
 fn failed_writes<T: Write + Drop>(inner: T, bytes: &[u8], calls: u64) -> u64 {
     let mut counted = Counting::new(inner);
     for _ in 0..calls {
@@ -52,7 +52,7 @@ fn failed_writes<T: Write + Drop>(inner: T, bytes: &[u8], calls: u64) -> u64 {
     Sink::failures(&counted)
 }
 
-/// A write into three bytes of room takes none once they are full.
+/// A write to a three-byte buffer takes no byte after it is full.
 #[test]
 fn counts_failed_writes(rt: HostRuntime) {
     for (calls, failures) in [(2, 0), (3, 1), (4, 2)] {
@@ -81,7 +81,7 @@ impl Read for Flaky {
     }
 }
 
-/// What is read after so many reads of a byte of `ab`, the second of which fails.
+/// The byte that is read after this many reads of one byte of `ab`, of which the second fails.
 fn byte_after(reads: u64) -> Option<Option<u8>> {
     let flaky = Flaky {
         left: b"ab",
@@ -108,8 +108,8 @@ fn reads_byte_by_byte(rt: HostRuntime) {
     assert_eq!(rt; byte_after(3), Some(None));
 }
 
-/// Whether so much of `abcde` is written two bytes at a time, where the write with one of these
-/// numbers fails, or takes no byte.
+/// Whether exactly these bytes of `abcde` are written, two bytes at a time, if the write with
+/// one of these numbers fails, or takes no byte.
 fn writes(alloc: Global, fails_at: u64, stalls_at: u64, said: &[u8]) -> Result<bool, Fail> {
     let mut tape = Tape::new(Vec::with_capacity(alloc, 5)?, 2, fails_at, stalls_at);
     let _ = write_all(&mut tape, b"abcde");

@@ -1,4 +1,4 @@
-//! A source and a sink in memory, which fail where they are told to.
+//! A source and a sink in memory that fail at given calls.
 
 mod feed;
 mod tape;

@@ -1,4 +1,4 @@
-//! The codes and the words of errors.
+//! Codes and messages of errors.
 
 use debugger::SessionError;
 use std::alloc::{AllocError, Global};
@@ -6,12 +6,12 @@ use std::fmt::Display;
 use std::test::Fail;
 use value_store::TableError;
 
-/// Whether the error has these words.
+/// Whether the error has this message.
 fn has_words<E: Display>(alloc: Global, error: &E, words: &str) -> Result<bool, AllocError> {
     Ok(format!(in alloc; "{error}")?.as_str() == words)
 }
 
-/// The errors of a session, with their codes and words.
+/// The errors of a session, with their codes and messages.
 const SESSION_ERRORS: [(SessionError, &str, &str); 3] = [
     (
         SessionError::ReadFailed,
@@ -26,7 +26,7 @@ const SESSION_ERRORS: [(SessionError, &str, &str); 3] = [
     (SessionError::Memory, "memory", "out of memory"),
 ];
 
-/// The errors of roots, with their codes and words.
+/// The errors of roots, with their codes and messages.
 #[rattlefmt::skip]
 const TABLE_ERRORS: [(TableError, &str, &str); 4] = [
     (TableError::NotAnObject(3), "V1", "root 3 is neither an object nor null"),

@@ -1,4 +1,4 @@
-//! Runs that are shown, over the plain store and plain memory.
+//! Histories on the plain store and plain memory.
 use super::nulls;
 use bpf_machine::Machine;
 use guest_memory::Guest;
@@ -21,7 +21,7 @@ fn started(alloc: Global, code: &[u8]) -> Result<Plain, Fail> {
     Ok(Machine::start(alloc, image, values)?)
 }
 
-/// Its run, shown at place 0.
+/// The run of this code, shown at place 0.
 fn begun(alloc: Global, code: &[u8]) -> Result<Past<Plain>, Fail> {
     let machine = started(alloc, code)?;
     Ok(Past::begin(alloc, machine)?)

@@ -1,4 +1,4 @@
-//! An image that an earlier `compile` made, and the same code as an image of version 1.
+//! An image that an earlier version of `compile` made, and the same code as an image of version 1.
 
 use super::doubles::{Feed, Tape};
 use debugger::session;
@@ -8,10 +8,10 @@ use std::alloc::{AllocError, Global};
 use std::test::Fail;
 use value_table::Table;
 
-/// The code as the first `compile` made it (commit 19774f53) of a policy with the condition
-/// `has(object.spec)`, the variable `n`, which is `object.spec.replicas`, and two validations:
-/// `variables.n <= 3` with the message expression `string(variables.n)`, and `variables.n > 0`.
-/// Each slot is its bytes in the order of storage, with its number and its line.
+/// The code that the first version of `compile` (commit 19774f53) made of a policy with the condition
+/// `has(object.spec)`, the variable `n`, which is `object.spec.replicas`, and two validations: `variables.n
+/// <= 3` with the message expression `string(variables.n)`, and `variables.n > 0`. Each slot is its bytes
+/// in storage order, with its number and its line.
 #[rattlefmt::skip]
 const CODE: [u64; 134] = [
     0x0500_1300_0000_0000, // 0: ja +19
@@ -143,7 +143,7 @@ fn file(alloc: Global, magic: &[u8]) -> Result<Vec<u8>, AllocError> {
     Ok(file)
 }
 
-/// The values of a review of 5 replicas.
+/// The values of a review with 5 replicas.
 fn values(alloc: Global) -> Result<Table, Fail> {
     let roots = [
         Value::from_str(alloc, "{\"spec\":{\"replicas\":5}}")?,
@@ -155,7 +155,7 @@ fn values(alloc: Global) -> Result<Table, Fail> {
     Ok(Table::of_roots(alloc, &roots)?)
 }
 
-/// Whether a session with this image on that review says this.
+/// Whether a session with this image on that review writes this.
 fn says(alloc: Global, magic: &[u8], input: &'static [u8], said: &[u8]) -> Result<bool, Fail> {
     let image = Image::read(alloc, &file(alloc, magic)?)?;
     let mut feed = Feed::new(input, 1000, 0);
@@ -164,15 +164,14 @@ fn says(alloc: Global, magic: &[u8], input: &'static [u8], said: &[u8]) -> Resul
     Ok(answer.is_ok() && tape.bytes() == said)
 }
 
-/// To the end, and three steps back.
+/// A run to the end, and three steps back.
 const BACK: &[u8] = b"c 1000000\nw\nr\nrs 3\nw\nf\nl\n";
 
-/// Images with inputs, and what is written. The texts for `BACK` follow from the lines of the code,
-/// whose run has 90 steps: 10 up to slot 40, with the condition; 27 for the first comparison, 14 of
-/// them in the variable's routine, slots 1 to 19; 13 for its result and the denial, up to slot 72;
-/// 16 for its message; 16 for the second validation; 8 from slot 124 on. The values that it places
-/// have the references 9 (the map of `spec`), 10 (the int 5), 11 (the int 3), 12 (the text of the
-/// message) and 13 (the int 0).
+/// Images with inputs, and the text that is written. The texts for `BACK` follow from the lines of the code, whose
+/// run has 90 steps: 10 up to slot 40, with the condition; 27 for the first comparison, 14 of them in the variable's
+/// routine, slots 1 to 19; 13 for its result and the denial, up to slot 72; 16 for its message; 16 for the second
+/// validation; 8 from slot 124 on. The values that it places have the references 9 (the map of `spec`), 10 (the int
+/// 5), 11 (the int 3), 12 (the text of the message) and 13 (the int 0).
 #[rattlefmt::skip]
 const ROWS: [(&[u8], &[u8], &[u8]); 3] = [
     (
@@ -180,7 +179,7 @@ const ROWS: [(&[u8], &[u8], &[u8]); 3] = [
         BACK,
         b"step 90 pc 133 exited 0x0000000000000003\nverdict 3 1\nvalidation 0 1\nmessage 0 12\nr0 0x0000000000000003\nr1 0x0000000300000000\nr2 0x0000000000000001\nr3 0x0000000000000000\nr4 0x0000000000000000\nr5 0x0000000000000000\nr6 0x000000000000000c\nr7 0x0000000000000000\nr8 0x0000000000000000\nr9 0x0000000000000000\nr10 0x0000000100000200\nstep 87 pc 130 running\nverdict 0 1\nvalidation 0 1\nmessage 0 12\ndepth 0\n130 lddw r1, 0x0000000300000000\n132 stxdw [r1+0], r0\n133 exit\n",
     ),
-    // An image of version 1 has no words of messages.
+    // An image of version 1 has no words for messages.
     (
         b"CELBPF01",
         BACK,

@@ -17,22 +17,22 @@ const CODE: &[u8] = b"\xb7\0\0\0\x05\0\0\0\x95\0\0\0\0\0\0\0";
 /// `r0 = 5` alone.
 const OPEN_ENDED: &[u8] = b"\xb7\0\0\0\x05\0\0\0";
 
-/// A jump into the second slot of a wide load, the wide load, and `exit`.
+/// A jump to the second slot of a wide load, the wide load, and `exit`.
 const INSIDE_WIDE: &[u8] =
     b"\x05\0\x01\0\0\0\0\0\x18\0\0\0\x05\0\0\0\0\0\0\0\0\0\0\0\x95\0\0\0\0\0\0\0";
 
-/// Nine times `exit`.
+/// `exit`, nine times.
 const NINE_EXITS: &[u8] =
     b"\x95\0\0\0\0\0\0\0\x95\0\0\0\0\0\0\0\x95\0\0\0\0\0\0\0\x95\0\0\0\0\0\0\0\x95\0\0\0\0\0\0\0\x95\0\0\0\0\0\0\0\x95\0\0\0\0\0\0\0\x95\0\0\0\0\0\0\0\x95\0\0\0\0\0\0\0";
 
-/// A call of itself.
+/// A function that calls itself.
 const CALLS_ITSELF: &[u8] = b"\x85\x10\0\0\xff\xff\xff\xff";
 
 /// Counts in memory: `ldxdw r1, [r10-8]`, `add64 r1, 1`, `stxdw [r10-8], r1` and `ja -4`.
 const COUNTS: &[u8] =
     b"\x79\xa1\xf8\xff\0\0\0\0\x07\x01\0\0\x01\0\0\0\x7b\x1a\xf8\xff\0\0\0\0\x05\0\xfc\xff\0\0\0\0";
 
-/// Programs with inputs that break, list and show, and what is written.
+/// Programs with inputs that set breakpoints, list and show, and the text that is written.
 #[rattlefmt::skip]
 const COMMANDS: [(&[u8], &[u8], &[u8]); 15] = [
     (
@@ -84,7 +84,7 @@ const COMMANDS: [(&[u8], &[u8], &[u8]); 15] = [
     ),
 ];
 
-/// How a session with this code and five null roots ends.
+/// The end of a session with this code and five null roots.
 fn ended(alloc: Global, code: &[u8], feed: &mut Feed, tape: &mut Tape) -> Result<Ended, Fail> {
     let code = Vec::from_slice(alloc, code)?;
     let image = Image::new(code, Vec::new(alloc))?;
@@ -93,7 +93,7 @@ fn ended(alloc: Global, code: &[u8], feed: &mut Feed, tape: &mut Tape) -> Result
 
 type Ended = Result<(), SessionError>;
 
-/// Whether a session with this code, which reads and writes in pieces of this size, says this.
+/// Whether a session with this code, which reads and writes in pieces of this size, writes this.
 fn says(
     alloc: Global,
     code: &[u8],
@@ -117,7 +117,7 @@ fn breaks_and_lists(rt: HostRuntime) -> Result<(), Fail> {
     Ok(())
 }
 
-/// Inputs, and what is written.
+/// Inputs, and the text that is written.
 #[rattlefmt::skip]
 const TALKS: [(&[u8], &[u8]); 8] = [
     (b"s 1\nrs 1\nrs 1\ns 0\ns 01\ns 1000001\nx\nq\n", b"step 1 pc 1 running\nstep 0 pc 0 running\n? range\n? range\n? what\n? range\n? what\n"),
@@ -147,7 +147,7 @@ fn answers_lines(rt: HostRuntime) -> Result<(), Fail> {
 const STORES: &[u8] =
     b"\x18\x01\0\0\0\0\0\0\0\0\0\0\x02\0\0\0\x79\x10\0\0\0\0\0\0\x07\0\0\0\x05\0\0\0\x7b\x01\0\0\0\0\0\0\x79\x12\0\0\0\0\0\0\x95\0\0\0\0\0\0\0";
 
-/// Moves behind a store, back and on to the load before it, which finds the zero of the start.
+/// Moves past a store, back, and forward to the load before it, which reads the initial zero.
 const BACK: &[u8] = b"s 5\nrs 4\ns 2\nr\ns 3\n";
 
 const WENT_BACK: &[u8] =
@@ -159,8 +159,7 @@ fn goes_back_over_a_store(rt: HostRuntime) -> Result<(), Fail> {
     Ok(())
 }
 
-/// Inputs, and what is written where no memory is refused, and where the memory for one of their
-/// lines is.
+/// Inputs, and the text that is written if no allocation fails, and if the allocation for one of their lines fails.
 #[rattlefmt::skip]
 const REFUSED: [(&[u8], [&[u8]; 3]); 5] = [
     (b"w\nw\nx\n", [b"verdict 0 0\nverdict 0 0\n? what\n", b"? memory\nverdict 0 0\n? what\n", b"verdict 0 0\n? memory\n? what\n"]),
@@ -198,7 +197,7 @@ const REFUSED: [(&[u8], [&[u8]; 3]); 5] = [
     ),
 ];
 
-/// Whether a session says one of these, or nothing where it could not begin.
+/// Whether a session writes one of these, or nothing if it could not begin.
 fn says_one_of(alloc: Global, input: &'static [u8], said: &[&[u8]]) -> Result<bool, Fail> {
     let mut feed = Feed::new(input, 1, 0);
     let mut tape = Tape::new(Vec::with_capacity(alloc, 200)?, 1000, 0, 0);
@@ -216,7 +215,7 @@ fn refuses_single_lines(rt: HostRuntime) -> Result<(), Fail> {
     Ok(())
 }
 
-/// A line behind `q` is left, and so is a line behind one whose answer was not written.
+/// A line after `q` is not read, and neither is a line after one whose reply was not written.
 #[test]
 fn reads_no_further(rt: HostRuntime) -> Result<(), Fail> {
     assert!(rt; leaves(rt.alloc(), b"x\nq\ns 1\n", 0, b's')?);
@@ -224,7 +223,7 @@ fn reads_no_further(rt: HostRuntime) -> Result<(), Fail> {
     Ok(())
 }
 
-/// Whether this is the first byte that a session leaves whose write with this number fails.
+/// Whether this is the first byte that a session does not read if its write with this number fails.
 fn leaves(alloc: Global, input: &'static [u8], fails_at: u64, next: u8) -> Result<bool, Fail> {
     let mut feed = Feed::new(input, 7, 0);
     let mut tape = Tape::new(Vec::new(alloc), 1000, fails_at, 0);

@@ -1,4 +1,4 @@
-//! Sessions with programs that store into the verdict region.
+//! Sessions with programs that write to the verdict region.
 
 use super::doubles::{Feed, Tape};
 use super::nulls;
@@ -19,7 +19,7 @@ const TOLD: &[u8] =
 const FILLS: &[u8] =
     b"\x18\x01\0\0\0\0\0\0\0\0\0\0\x03\0\0\0\xb7\x02\0\0\xff\xff\xff\xff\x18\x03\0\0\0\x08\0\0\0\0\0\0\x03\0\0\0\x7b\x21\0\0\0\0\0\0\x07\x01\0\0\x08\0\0\0\x5d\x31\xfd\xff\0\0\0\0\x95\0\0\0\0\0\0\0";
 
-/// Versions of the image of `TOLD`, and what is written.
+/// Versions of the image of `TOLD`, and the text that is written.
 #[rattlefmt::skip]
 const ROWS: [(u8, &[u8]); 2] = [
     (1, b"verdict 0 0\nstep 10 pc 10 exited 0x0000000000000000\nverdict 3 1\nvalidation 0 257\nvalidation 63 2\nstep 3 pc 4 running\nverdict 3 1\n? what\n"),
@@ -39,7 +39,7 @@ fn image(alloc: Global, version: u8, code: &[u8]) -> Result<Image, Fail> {
     }
 }
 
-/// Whether a session with this image says this.
+/// Whether a session with this image writes this.
 fn says(alloc: Global, image: Image, input: &'static [u8], said: &[u8]) -> Result<bool, Fail> {
     let mut feed = Feed::new(input, 1000, 0);
     let mut tape = Tape::new(Vec::new(alloc), 1000, 0, 0);
@@ -58,7 +58,7 @@ fn shows_words_of_each_version(rt: HostRuntime) -> Result<(), Fail> {
     Ok(())
 }
 
-/// The longest answer, behind the line of its move.
+/// The longest reply, after the line of its move.
 fn longest(alloc: Global) -> Result<String, Fail> {
     let most = u64::MAX;
     let mut text = String::new(alloc);

@@ -3,7 +3,7 @@ ghost use Rattle.std.specs.Prelude.{◌<◌, ◌≤◌, None, length};
 
 use debugger::{Failed, Source};
 
-/// Gives bytes in small pieces, and fails at one of its reads.
+/// Delivers bytes in small pieces, and fails at one of its reads.
 #[derive(Drop)]
 pub struct Feed {
     left: &'static [u8],
@@ -15,8 +15,8 @@ pub struct Feed {
 }
 
 impl Feed {
-    /// Gives at most `piece` bytes a read. The reads are counted from 1, and the one with the
-    /// number `fails_at` fails.
+    /// Delivers at most `piece` bytes per read. The reads are counted from 1, and the
+    /// one with the number `fails_at` fails.
     pub fn new(bytes: &'static [u8], piece: usize, fails_at: u64) -> Feed
         requires { 0 < piece }
     {
@@ -51,7 +51,7 @@ impl Source for Feed {
     }
 }
 
-/// Copies at most `piece` of the bytes into the front of the buffer, and answers how many.
+/// Copies at most `piece` of the bytes to the front of the buffer, and returns their number.
 fn put_front(buf: &mut [u8], bytes: &[u8], piece: usize) -> usize
     ensures room { result ≤ length buf.old }
     ensures within { result ≤ length bytes.now }

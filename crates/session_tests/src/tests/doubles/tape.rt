@@ -16,8 +16,8 @@ pub struct Tape {
 }
 
 impl Tape {
-    /// Takes at most `piece` bytes a write, behind these. The writes are counted from 1: the one
-    /// with the number `fails_at` fails, and the one with the number `stalls_at` takes no byte.
+    /// Appends at most `piece` bytes per write to these bytes. The writes are counted from 1: the one with the number
+    /// `fails_at` fails, and the one with the number `stalls_at` takes no byte.
     pub fn new(bytes: Vec<u8>, piece: usize, fails_at: u64, stalls_at: u64) -> Tape {
         Tape {
             bytes,
@@ -29,7 +29,7 @@ impl Tape {
         }
     }
 
-    /// The bytes that it took.
+    /// The bytes that were taken.
     pub fn bytes(&self) -> &[u8] {
         self.bytes.as_slice()
     }
@@ -40,7 +40,7 @@ impl Tape {
         self.failed = self.failed.wrapping_add(1);
     }
 
-    /// How many of so many bytes this write may take.
+    /// The number of these bytes that this write may take.
     fn room(&self, bytes: usize) -> usize
         ensures { result ≤ bytes }
     {

@@ -1,4 +1,4 @@
-//! A run that is shown at places before and behind its end.
+//! A run that is shown at places before and after its end.
 use super::{Plain, begun};
 use bpf_machine::Status;
 use history::{Emulator, History, Past};
@@ -24,14 +24,14 @@ const SHOWN: [Shown; 8] = [
     (1, 1, 5, Status::Running),
 ];
 
-/// What is shown.
+/// The place that is shown, with the slot, r0 and the status.
 fn seen(history: &Past<Plain>) -> Shown {
     let machine = history.machine();
     let r0 = machine.register(Register::R0);
     (history.now(), machine.pc(), r0, machine.status())
 }
 
-/// Goes to a place, also where the first way there is refused.
+/// Goes to a place, retrying if the first attempt fails.
 fn go(history: &mut Past<Plain>, place: u64) -> Result<(), AllocError> {
     match history.go(place) {
         Ok(()) => Ok(()),
@@ -45,7 +45,7 @@ fn shown(history: &mut Past<Plain>, place: u64) -> Result<Shown, AllocError> {
     Ok(seen(history))
 }
 
-/// The first row that is shown otherwise.
+/// The first row that is shown differently.
 fn wrong_row(history: &mut Past<Plain>) -> Result<Option<usize>, AllocError> {
     for (row, expected) in SHOWN.iter().enumerate() {
         if shown(history, expected.0)? != *expected {
@@ -62,12 +62,12 @@ fn shows_each_place(rt: HostRuntime) -> Result<(), Fail> {
     Ok(())
 }
 
-/// `r1 = [r10 - 8]`, `r1 += 1`, `[r10 - 8] = r1`, and back to the first.
+/// `r1 = [r10 - 8]`, `r1 += 1`, `[r10 - 8] = r1`, and a jump back to the start.
 const COUNTS: &[u8] =
     b"\x79\xa1\xf8\xff\0\0\0\0\x07\x01\0\0\x01\0\0\0\x7b\x1a\xf8\xff\0\0\0\0\x05\0\xfc\xff\0\0\0\0";
 
-/// Places in the order in which they are shown, with the steps that are replayed for each: from
-/// the place shown before, from the start, or from the last multiple of 1,024.
+/// Places in the order in which they are shown, with the number of steps replayed for each: from the place shown
+/// before, from the start, or from the last multiple of 1,024.
 const REPLAYED: [(u64, u64); 9] = [
     (1_000_000, 1_000_000),
     (999_999, 575),
@@ -80,7 +80,7 @@ const REPLAYED: [(u64, u64); 9] = [
     (98_304, 0),
 ];
 
-/// The first of these places that is shown after another number of steps.
+/// The first of these places that is shown with a different number of steps.
 fn wrong_replay(history: &mut Past<Plain>) -> Result<Option<u64>, AllocError> {
     for (place, steps) in REPLAYED {
         history.go(place)?;
@@ -102,7 +102,7 @@ fn replays_from_the_nearest(rt: HostRuntime) -> Result<(), Fail> {
 const STORES: &[u8] =
     b"\x18\x01\0\0\0\0\0\0\0\0\0\0\x02\0\0\0\x79\x10\0\0\0\0\0\0\x07\0\0\0\x05\0\0\0\x7b\x01\0\0\0\0\0\0\x95\0\0\0\0\0\0\0";
 
-/// How a copy of the machine that is shown at the last of these places ends `n` steps on.
+/// The end of a copy of the machine that is shown at the last of these places, `n` steps on.
 fn end_from(history: &mut Past<Plain>, places: &[u64], n: u64) -> Result<Status, AllocError> {
     for place in places {
         history.go(*place)?;
@@ -117,7 +117,7 @@ fn end_after(alloc: Global, places: &[u64], n: u64) -> Result<Status, Fail> {
     Ok(end_from(&mut history, places, n)?)
 }
 
-/// A machine behind the store has changed nothing in the memory of the one before it.
+/// A machine after the store does not affect the memory of the one before it.
 #[test]
 fn takes_memory_back(rt: HostRuntime) -> Result<(), Fail> {
     assert!(rt; end_after(rt.alloc(), &[5], 0)? == Status::Exited(5));

@@ -1,4 +1,4 @@
-//! Searches of a run both ways. The places are counted by hand from the code.
+//! Searches of a run in both directions. The places are counted by hand from the code.
 ghost use Rattle.std.specs.Prelude.{◌<◌};
 
 use super::{Plain, begun};
@@ -18,7 +18,7 @@ const BEFORE: &[u8] = b"\x05\0\xfb\xff\0\0\0\0";
 /// 2^64 - 4, which has the bits of -4.
 const WRAPPED: u64 = 0xffff_ffff_ffff_fffc;
 
-/// The code, the place that is shown, the last one to look at, the slots, and the place found.
+/// The code, the place that is shown, the last one to search, the slots, and the place found.
 const FIRST: [(&[u8], u64, u64, &[u64], u64); 26] = [
     (SHORT, 0, 1, &[], 1),
     (SHORT, 0, 9, &[], 2),
@@ -75,10 +75,10 @@ const LAST: [(&[u8], u64, &[u64], u64); 23] = [
     (BEFORE, 3, &[WRAPPED], 0),
 ];
 
-/// The place that a search finds, and the one that is shown then.
+/// The place that a search finds, and the one that is shown afterwards.
 type Found = (u64, u64);
 
-/// What a search on from this place finds, also where the first search is refused.
+/// The result of a forward search from this place, retrying if the first search fails.
 fn first_from(
     history: &mut Past<Plain>,
     now: u64,
@@ -112,7 +112,7 @@ fn finds_the_first(rt: HostRuntime) -> Result<(), Fail> {
     Ok(())
 }
 
-/// What a search back from this place finds.
+/// The result of a backward search from this place.
 fn last_from(history: &mut Past<Plain>, now: u64, stops: &[u64]) -> Result<Found, AllocError> {
     history.go(now)?;
     let found = history.last(stops)?;

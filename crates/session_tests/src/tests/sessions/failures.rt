@@ -13,7 +13,7 @@ const SCRIPT: &[u8] = b"s 1\nx\n";
 
 const SAID: &[u8] = b"step 1 pc 1 running\n? what\n";
 
-/// Whether a session with this input, whose read with this number fails, says this.
+/// Whether a session with this input whose read with this number fails writes this.
 fn stops_at_read(
     alloc: Global,
     input: &'static [u8],
@@ -27,7 +27,7 @@ fn stops_at_read(
     Ok(counted && answer == Err(SessionError::ReadFailed))
 }
 
-/// The reads that fail, and what was said.
+/// The reads that fail, and the text that is written.
 const FAILED_READS: [(u64, &[u8]); 7] = [
     (1, b""),
     (2, b""),
@@ -55,8 +55,8 @@ const BREAKING: &[u8] = b"b 1\nc 10\nrs 1\nrs 1\nrc\nbogus\n";
 const BROKEN: &[u8] =
     b"break 1\nstep 1 pc 1 running\nstep 0 pc 0 running\n? range\nstep 0 pc 0 running\n? what\n";
 
-/// For each line of that session the first read of a byte that has not ended it and the first that
-/// has ended the next one, and the text before it. The last read finds the end.
+/// For each line of that session: the first read of a byte that does not end it and the first that ends the next one,
+/// and the text before it. The last read finds the end.
 #[rattlefmt::skip]
 const BROKEN_READS: [(u64, u64, &[u8]); 7] = [
     (1, 5, b""),
@@ -68,7 +68,7 @@ const BROKEN_READS: [(u64, u64, &[u8]); 7] = [
     (29, 30, BROKEN),
 ];
 
-/// Whether the session with a breakpoint says this where one of these reads fails.
+/// Whether the session with a breakpoint writes this if one of these reads fails.
 fn breaks_at_reads(alloc: Global, from: u64, to: u64, said: &[u8]) -> Result<bool, Fail> {
     for fails_at in from..to {
         if !stops_at_read(alloc, BREAKING, fails_at, said)? {
@@ -89,8 +89,7 @@ fn breaks_until_a_read_fails(rt: HostRuntime) -> Result<(), Fail> {
     Ok(())
 }
 
-/// Whether a session with this input whose write with one of these numbers fails, or takes no byte,
-/// says this.
+/// Whether a session with this input writes this if its write with one of these numbers fails, or takes no byte.
 fn stops_at_write(
     alloc: Global,
     input: &'static [u8],
@@ -122,8 +121,8 @@ fn stops_where_a_write_fails(rt: HostRuntime) -> Result<(), Fail> {
     Ok(())
 }
 
-/// Whether the session with a breakpoint says all before a byte whose write fails, and before one
-/// that is not taken, where each write takes one byte.
+/// Whether the session with a breakpoint, with one byte per write, writes all bytes before one whose
+/// write fails, and before one that is not taken.
 fn breaks_before(alloc: Global, end: usize) -> Result<bool, Fail>
     requires { end < 83 }
 {
