@@ -1,4 +1,4 @@
-//! The tables, a file each.
+//! The tests, a file for each subject.
 
 mod errors;
 mod images;

@@ -1,4 +1,4 @@
-//! The codes and the words of errors.
+//! Codes and messages of errors.
 
 use AsmError::{
     DuplicateLabel, JumpTooFar, NumberOutOfRange, TooManySlots, UnknownLabel, UnknownLine,
@@ -12,12 +12,12 @@ use std::alloc::{AllocError, Global};
 use std::fmt::Display;
 use std::test::Fail;
 
-/// Whether the error has these words.
+/// Whether the error has this message.
 fn has_words<E: Display>(alloc: Global, error: &E, words: &str) -> Result<bool, AllocError> {
     Ok(format!(in alloc; "{error}")?.as_str() == words)
 }
 
-/// The errors of an image file, with their codes and words.
+/// The errors of an image file, with their codes and messages.
 const LOAD_ERRORS: [(LoadError, &str, &str); 6] = [
     (
         TooShort,
@@ -47,7 +47,7 @@ const LOAD_ERRORS: [(LoadError, &str, &str); 6] = [
     (LoadError::Memory, "memory", "out of memory"),
 ];
 
-/// The errors of a source, with their codes and words.
+/// The errors of a source, with their codes and messages.
 #[rattlefmt::skip]
 const ASM_ERRORS: [(AsmError, &str, &str); 7] = [
     (UnknownLine(3), "A1", "line 3 is no instruction, slot or label"),
@@ -59,7 +59,7 @@ const ASM_ERRORS: [(AsmError, &str, &str); 7] = [
     (AsmError::Memory, "memory", "out of memory"),
 ];
 
-/// The errors of a listing, with their codes and words.
+/// The errors of a listing, with their codes and messages.
 const DIS_ERRORS: [(DisError, &str, &str); 3] = [
     (PartialSlot, "D1", "the code is not a whole number of slots"),
     (CodeTooLong, "D2", "the code has more than 65536 slots"),

@@ -1,4 +1,4 @@
-//! Files and parts that were made by hand.
+//! Image files, and code and constants, made by hand.
 
 use LoadError::{BadLength, BadSlotCount, ConstantsTooLong, TooShort, UnknownMagic};
 use loader::{Image, LoadError};
@@ -9,11 +9,11 @@ use std::test::Fail;
 const PROGRAM: &[u8] =
     b"CELBPF01\x03\0\0\0\0\0\0\0\xb7\0\0\0\x05\0\0\0\x07\0\0\0\x02\0\0\0\x95\0\0\0\0\0\0\0";
 
-/// The same as an image of version 2.
+/// The same program as an image of version 2.
 const SECOND: &[u8] =
     b"CELBPF02\x03\0\0\0\0\0\0\0\xb7\0\0\0\x05\0\0\0\x07\0\0\0\x02\0\0\0\x95\0\0\0\0\0\0\0";
 
-/// Files that hold no image, and why.
+/// Files that are refused, with their errors.
 const REFUSED: [(&[u8], LoadError); 14] = [
     (b"", TooShort),
     (b"CELBPF01\x01\0\0\0\0\0\0", TooShort),
@@ -43,7 +43,7 @@ const REFUSED: [(&[u8], LoadError); 14] = [
     (b"CELBPF01\x01\0\0\0\x01\0\0\0\x95\0\0\0\0\0\0\0", BadLength),
 ];
 
-/// Why the file holds no image.
+/// The error of the file, if it is refused.
 fn refusal(alloc: Global, file: &[u8]) -> Option<LoadError> {
     Image::read(alloc, file).err()
 }
@@ -55,11 +55,10 @@ fn refuses_files(rt: HostRuntime) {
     }
 }
 
-/// The image of `r0 = 5` and `exit`, and one byte more.
+/// The image of `r0 = 5` and `exit`, followed by one more byte.
 const LONGER: &[u8] = b"CELBPF01\x02\0\0\0\0\0\0\0\xb7\0\0\0\x05\0\0\0\x95\0\0\0\0\0\0\0\0";
 
-/// From the first of two lengths to before the second, what the beginnings of that file are refused
-/// for.
+/// The errors for prefixes of that file, for lengths from the first number to before the second.
 const BEGINNINGS: [(usize, usize, Option<LoadError>); 4] = [
     (0, 16, Some(TooShort)),
     (16, 32, Some(BadLength)),
@@ -67,7 +66,7 @@ const BEGINNINGS: [(usize, usize, Option<LoadError>); 4] = [
     (33, 34, Some(BadLength)),
 ];
 
-/// Whether the beginnings of these lengths are refused so.
+/// Whether the prefixes of these lengths have this error.
 fn are_refused(alloc: Global, from: usize, to: usize, cause: Option<LoadError>) -> bool {
     for length in from..to {
         match LONGER.get(..length) {
@@ -98,7 +97,7 @@ fn has_parts(
     Ok(image.version() == version && parts && written.as_slice() == file)
 }
 
-/// The image of this version and these parts.
+/// The image of this version with this code and these constants.
 fn made(alloc: Global, version: u8, code: &[u8], constants: &[u8]) -> Result<Image, LoadError> {
     let code = Vec::from_slice(alloc, code)?;
     let constants = Vec::from_slice(alloc, constants)?;
@@ -127,7 +126,7 @@ const FILES: [(u8, &[u8]); 2] = [
     (2, b"CELBPF02\x01\0\0\0\x03\0\0\0\x95\0\0\0\0\0\0\0abc"),
 ];
 
-/// Whether the image of `exit` and three constants has this file, and its copy too.
+/// Whether the image of `exit` and three constants has this file, and whether its copy has it.
 fn are_made(alloc: Global, version: u8, file: &[u8]) -> Result<[bool; 2], Fail> {
     let exit = &PROGRAM[32..];
     let image = made(alloc, version, exit, b"abc")?;
@@ -150,12 +149,12 @@ fn makes_images_of_parts(rt: HostRuntime) -> Result<(), Fail> {
     Ok(())
 }
 
-/// So many zeros.
+/// This many zeros.
 fn zeros(alloc: Global, length: usize) -> Result<Vec<u8>, AllocError> {
     Ok(vec![in alloc; 0; length]?)
 }
 
-/// Why zeros of these lengths are no parts of an image, of either version.
+/// The errors for zeros of these lengths as code and constants, for either version.
 fn refusals(
     alloc: Global,
     code_length: usize,
@@ -166,7 +165,7 @@ fn refusals(
     Ok([first, second])
 }
 
-/// Lengths of code and constants that are no parts, and why.
+/// Lengths of code and constants that are refused, with their errors.
 const LENGTHS: [(usize, usize, LoadError); 5] = [
     (12, 0, BadLength),
     (524_292, 1_048_577, BadLength),
@@ -184,7 +183,7 @@ fn refuses_parts(rt: HostRuntime) -> Result<(), Fail> {
     Ok(())
 }
 
-/// The file of the longest parts.
+/// The file of the longest code and constants.
 fn longest_file(alloc: Global) -> Result<Vec<u8>, LoadError> {
     let image = Image::new(zeros(alloc, 524_288)?, zeros(alloc, 1_048_576)?)?;
     Ok(image.write()?)

@@ -1,3 +1,5 @@
+//! Encodings of instructions, and slots that encode none.
+
 use Register::{R0, R1, R2, R3, R9, R10};
 use insn_codec::{
     AluOp, AtomicOp, ByteOrder, Comparison, Extension, Insn, Operand, Register, SignedSize, Size,
@@ -6,12 +8,13 @@ use insn_codec::{
 };
 use std::process::Abort;
 
-/// Whether these slots spell the instruction, and it is as many slots long.
+/// Whether these slots encode the instruction, and it has this number of slots.
 fn spell(first: u64, second: Option<u64>, insn: Insn, slots: u64) -> bool {
     decode(first, second) == Some(insn) && round_trip(&insn) == Some(insn) && insn.slots() == slots
 }
 
-/// The slot spells the instruction alone and before any other slot, and the instruction that slot.
+/// Asserts that the slot encodes the instruction, alone and before any other slot, and
+/// that the instruction is encoded as it.
 fn check<R: Abort>(rt: &R, bytes: [u8; 8], insn: Insn) {
     let word = u64::from_le_bytes(bytes);
     for second in [None, Some(0), Some(u64::MAX)] {
@@ -20,7 +23,7 @@ fn check<R: Abort>(rt: &R, bytes: [u8; 8], insn: Insn) {
     assert!(rt; encode(&insn) == (word, None), "writes {bytes:?}");
 }
 
-/// The opcodes of an operation: of 32 bits with an immediate and with a register, and of 64 bits.
+/// The opcodes of an operation: for 32 bits with an immediate and with a register, and for 64 bits.
 #[test]
 fn arithmetic(rt: HostRuntime) {
     let rows = [
@@ -111,7 +114,7 @@ fn arithmetic_of_one_operand(rt: HostRuntime) {
     }
 }
 
-/// The opcodes of a comparison: of 64 bits with an immediate and with a register, and of 32 bits.
+/// The opcodes of a comparison: for 64 bits with an immediate and with a register, and for 32 bits.
 #[test]
 fn branches(rt: HostRuntime) {
     let rows = [
@@ -184,7 +187,7 @@ fn jumps_and_calls(rt: HostRuntime) {
     check(&rt, [0x95, 0, 0, 0, 0, 0, 0, 0], Insn::Exit);
 }
 
-/// The opcodes of a size: of a load, a store of an immediate and a store of a register.
+/// The opcodes of a size: for a load, a store of an immediate and a store of a register.
 #[test]
 fn loads_and_stores(rt: HostRuntime) {
     let rows = [
@@ -302,7 +305,7 @@ fn wide_loads(rt: HostRuntime) {
     }
 }
 
-/// A second slot has no opcode, registers or offset, and it has to be there.
+/// A second slot has no opcode, registers or offset, and it is required.
 #[test]
 fn halves_of_wide_loads(rt: HostRuntime) {
     let rows = [
@@ -318,7 +321,7 @@ fn halves_of_wide_loads(rt: HostRuntime) {
     }
 }
 
-/// Slots of which a field is not 0 or out of the table, and opcodes that no row has.
+/// Slots with a field that must be 0 or is not in the table, and opcodes that are not assigned.
 #[test]
 fn nothing_is_spelled(rt: HostRuntime) {
     let rows = [

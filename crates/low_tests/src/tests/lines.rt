@@ -6,7 +6,7 @@ use insn_codec::{
 use std::alloc::{AllocError, Global};
 use std::test::Fail;
 
-/// Statements, how many slots each has, and its line.
+/// Statements, the number of their slots, and their lines.
 #[rattlefmt::skip]
 const LINES: [(Statement, u64, &str); 10] = [
     (Statement::Insn(Insn::Alu { op: AluOp::Mov, width: Width::W64, dst: Register::R0, operand: Operand::Imm(-2147483648) }), 1, "mov64 r0, -2147483648"),
@@ -51,7 +51,7 @@ const LINES: [(Statement, u64, &str); 10] = [
     (Statement::Slot(u64::MAX), 1, ".slot 0xffffffffffffffff"),
 ];
 
-/// Each atomic operation and its word.
+/// Each atomic operation with its mnemonic.
 const ATOMIC_WORDS: [(AtomicOp, &str); 10] = [
     (AtomicOp::Add, "atomic_add"),
     (AtomicOp::Or, "atomic_or"),
@@ -82,7 +82,7 @@ fn has_line(alloc: Global, statement: Statement, line: &str) -> Result<bool, All
     Ok(statement.to_string(alloc)?.as_str() == line)
 }
 
-/// Whether the atomic instruction begins with this word and these bits.
+/// Whether the line of the atomic instruction begins with this mnemonic and these bits.
 fn is_line(alloc: Global, op: AtomicOp, width: Width, word: &str, bits: u8) -> Result<bool, Fail> {
     let line = format!(in alloc; "{word}{bits} [r1+0], r2")?;
     Ok(has_line(alloc, Statement::Insn(atomic(op, width)), line.as_str())?)

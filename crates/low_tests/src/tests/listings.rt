@@ -3,7 +3,7 @@ use disassembler::{DisError, line_at, listing, one_listing, rows_stand};
 use std::alloc::Global;
 use std::test::Fail;
 
-/// A slot of each row of the instruction table, its bytes in the order of storage, and its line.
+/// A slot for each row of the instruction table, as its bytes in storage order, with its line.
 const INSTRUCTIONS: [(u64, &str); 71] = [
     (0x0403_0000_0000_0000, "add32 r3, 0"),
     (0x0c21_0000_0000_0000, "add32 r1, r2"),
@@ -78,7 +78,7 @@ const INSTRUCTIONS: [(u64, &str); 71] = [
     (0xdba1_0000_e100_0000, "atomic_xchg64 [r1+0], r10"),
 ];
 
-/// Slots that spell nothing.
+/// Slots that encode no instruction.
 const SLOTS: [(u64, &str); 9] = [
     (0x0000_0000_0000_0000, ".slot 0x0000000000000000"),
     (0xffff_ffff_ffff_ffff, ".slot 0xffffffffffffffff"),
@@ -102,7 +102,7 @@ const LISTINGS: [(&[u8], &str); 6] = [
     (b"\x18\x01\0\0\x05\0\0\0\0\x01\0\0\0\0\0\0", ".slot 0x1801000005000000\n.slot 0x0001000000000000\n"),
 ];
 
-/// Whether this line, of so many slots, stands at a slot of the code.
+/// Whether the code has this line, for this number of slots, at a slot.
 fn has_line(
     alloc: Global,
     code: &[u8],
@@ -117,7 +117,7 @@ fn has_line(
     Ok(text.as_str() == line && count == slots)
 }
 
-/// Whether a slot's code has this line alone.
+/// Whether the code of a single slot has only this line.
 fn lists(alloc: Global, slot: u64, line: &str) -> Result<bool, DisError> {
     let code = slot.to_be_bytes();
     let text = listing(alloc, &code)?;
@@ -148,7 +148,7 @@ fn code_has_its_listing(rt: HostRuntime) -> Result<(), Fail> {
     Ok(())
 }
 
-/// The slots of a jump, a wide load and an exit, one after the other.
+/// The slots of a jump, a wide load and an exit, in this order.
 #[test]
 fn a_line_begins_at_each_slot(rt: HostRuntime) -> Result<(), Fail> {
     let (code, _) = LISTINGS[3];
@@ -183,7 +183,7 @@ fn refuses_lengths(rt: HostRuntime) -> Result<(), Fail> {
     Ok(())
 }
 
-/// The longest code, of slots that spell nothing: each line has 25 bytes.
+/// The longest code, of slots that encode no instruction: each line has 25 bytes.
 #[test]
 fn lists_the_longest_code(rt: HostRuntime) -> Result<(), Fail> {
     let code = vec![in rt.alloc(); 0; 524_288]?;

@@ -1,4 +1,4 @@
-//! Loads and stores worked by hand.
+//! Loads and stores worked out by hand.
 use Size::{B, Dw, H, W};
 use guest_memory::laws::{
     lent_is_bytes, read_is_bytes, rows_stand, start_is_zero, stores_are_writes, words_are_accessed,
@@ -8,7 +8,7 @@ use guest_memory::{Fault, Guest, Regions, Size, WriteError};
 use std::alloc::Global;
 use std::test::Fail;
 
-/// Addresses, sizes and what a load answers at the start, with nine constants.
+/// Addresses, sizes and the result of a load at the start, with nine constants.
 const LOADS: [(u64, Size, Result<u64, Fault>); 24] = [
     (0x0, B, Err(Fault::F3)),
     (0xffff_ffff, B, Err(Fault::F3)),
@@ -36,7 +36,7 @@ const LOADS: [(u64, Size, Result<u64, Fault>); 24] = [
     (0xffff_ffff_ffff_ffff, Dw, Err(Fault::F3)),
 ];
 
-/// Addresses, sizes and what a store answers, in one memory with nine constants.
+/// Addresses, sizes and the result of a store, in one memory with nine constants.
 const STORES: [(u64, Size, Result<(), WriteError>); 14] = [
     (0xffff_ffff, H, Err(WriteError::Fault(Fault::F3))),
     (0x1_0000_0000, Dw, Ok(())),
@@ -54,7 +54,7 @@ const STORES: [(u64, Size, Result<(), WriteError>); 14] = [
     (0xffff_ffff_ffff_ffff, Dw, Err(WriteError::Fault(Fault::F3))),
 ];
 
-/// Sizes, what 0x8877_6655_4433_2211 leaves of eight bytes 0xff, and the word read again.
+/// Sizes, eight bytes 0xff after a store of 0x8877_6655_4433_2211, and the word that is read again.
 const WORDS: [(Size, u64, u64); 4] = [
     (B, 0xffff_ffff_ffff_ff11, 0x11),
     (H, 0xffff_ffff_ffff_2211, 0x2211),
@@ -70,12 +70,12 @@ fn start(alloc: Global, constants: &[u8]) -> Result<Guest, Fail> {
     Ok(Guest::of_constants(alloc, constants)?)
 }
 
-/// What a load answers.
+/// The result of a load.
 fn load(guest: &Guest, addr: u64, size: Size) -> Result<u64, Fault> {
     guest.read(addr, size)
 }
 
-/// Whether a load answers so.
+/// Whether a load has this result.
 fn loads_as(guest: &Guest, addr: u64, size: Size, answer: Result<u64, Fault>) -> bool {
     load(guest, addr, size) == answer
 }
@@ -85,7 +85,7 @@ fn word(guest: &Guest, addr: u64, size: Size) -> Option<u64> {
     load(guest, addr, size).ok()
 }
 
-/// What a store of 1 answers.
+/// The result of a store of 1.
 fn store(guest: &mut Guest, addr: u64, size: Size) -> Result<(), WriteError> {
     guest.write(addr, size, 1)
 }
@@ -96,7 +96,7 @@ fn stored(mut guest: Guest, addr: u64, size: Size, word: u64) -> Result<Guest, F
     Ok(guest)
 }
 
-/// Whether a store of 1 answers so.
+/// Whether a store of 1 has this result.
 fn stores_as(guest: &mut Guest, addr: u64, size: Size, answer: Result<(), WriteError>) -> bool {
     store(guest, addr, size) == answer
 }
@@ -119,7 +119,7 @@ fn stores(rt: HostRuntime) -> Result<(), Fail> {
     Ok(())
 }
 
-/// The eight bytes, all 0xff, in which a store has put its bytes, and what is loaded again.
+/// The eight bytes, all 0xff before a store, and the word that is read again.
 fn overwritten(alloc: Global, size: Size) -> Result<[Option<u64>; 2], Fail> {
     let guest = stored(start(alloc, b"")?, 0x2_0000_0010, Dw, u64::MAX)?;
     let guest = stored(guest, 0x2_0000_0010, size, 0x8877_6655_4433_2211)?;
@@ -129,7 +129,7 @@ fn overwritten(alloc: Global, size: Size) -> Result<[Option<u64>; 2], Fail> {
     ])
 }
 
-/// The eight bytes before and behind a store.
+/// The eight bytes before and after a store.
 fn around(alloc: Global, size: Size) -> Result<[Option<u64>; 2], Fail> {
     let guest = stored(start(alloc, b"")?, 0x2_0000_0010, size, u64::MAX)?;
     Ok([
@@ -138,7 +138,7 @@ fn around(alloc: Global, size: Size) -> Result<[Option<u64>; 2], Fail> {
     ])
 }
 
-/// Whether this is said of a store before it is made.
+/// Whether `stores` returns this result before the store is made.
 fn may_store_as(guest: &Guest, addr: u64, size: Size, answer: Result<(), WriteError>) -> bool {
     match guest.stores(addr, size) {
         Ok(()) => answer == Ok(()),
@@ -173,8 +173,8 @@ fn stores_nothing_around(rt: HostRuntime) -> Result<(), Fail> {
     Ok(())
 }
 
-/// Where 0x8877_6655_4433_2211 is stored near the border of two double words, the border, and the
-/// eight bytes before and behind it.
+/// Where 0x8877_6655_4433_2211 is stored near the border of two double words, the border,
+/// and the eight bytes before and after it.
 #[rattlefmt::skip]
 const BORDERS: [(u64, Size, u64, u64, u64); 12] = [
     (0x1_0000_00f8, Dw, 0x1_0000_0100, 0x8877_6655_4433_2211, 0),
@@ -191,7 +191,7 @@ const BORDERS: [(u64, Size, u64, u64, u64); 12] = [
     (0x3_0000_0700, Dw, 0x3_0000_0700, 0, 0x8877_6655_4433_2211),
 ];
 
-/// The eight bytes before and behind a border, where a word is stored, and that word.
+/// The eight bytes before and after a border near which a word is stored, and that word.
 fn beside(alloc: Global, addr: u64, size: Size, border: u64) -> Result<[Option<u64>; 3], Fail> {
     let guest = stored(start(alloc, b"")?, addr, size, 0x8877_6655_4433_2211)?;
     Ok([
@@ -221,7 +221,7 @@ fn stores_over_borders(rt: HostRuntime) -> Result<(), Fail> {
     Ok(())
 }
 
-/// The memory's copy.
+/// A copy of the memory.
 fn copied(guest: &Guest) -> Result<Guest, Fail> {
     Ok(guest.copy()?)
 }
@@ -231,8 +231,7 @@ fn put(guest: &mut Guest, addr: u64, size: Size, word: u64) -> Result<(), WriteE
     guest.write(addr, size, word)
 }
 
-/// What a memory and its copy load, each of which has stored at one address after the copy was
-/// made.
+/// The words that a memory and its copy load, after each has stored to one address since the copy was made.
 fn apart(alloc: Global, addr: u64) -> Result<[Option<u64>; 2], Fail> {
     let mut guest = start(alloc, b"")?;
     put(&mut guest, addr, Dw, 1)?;
@@ -250,7 +249,7 @@ fn copies_see_no_later_store(rt: HostRuntime) -> Result<(), Fail> {
     Ok(())
 }
 
-/// The first address of each page of 256 bytes that can be written.
+/// The first address of each writable page of 256 bytes.
 #[rattlefmt::skip]
 const PAGES: [u64; 40] = [
     0x1_0000_0000, 0x1_0000_0100, 0x1_0000_0200, 0x1_0000_0300,
@@ -290,7 +289,7 @@ fn sum(guest: &Guest) -> u64 {
     sum
 }
 
-/// The sums of a memory and of its copy, after each page of the memory was stored to.
+/// The sums of a memory and of its copy, after each page of the memory was written.
 fn sums_apart(alloc: Global) -> Result<[u64; 2], Fail> {
     let guest = filled(start(alloc, b"")?, 1)?;
     let copy = copied(&guest)?;
@@ -326,7 +325,7 @@ fn bytes(guest: &Guest) -> [Option<u64>; 3] {
     ]
 }
 
-/// These bytes of a memory and of its copy, each of which has stored after the copy was made.
+/// These bytes of a memory and of its copy, after each has stored since the copy was made.
 fn bytes_apart(alloc: Global) -> Result<[[Option<u64>; 3]; 2], Fail> {
     let mut guest = start(alloc, b"a")?;
     put(&mut guest, 0x1_0000_0000, B, 1)?;
@@ -344,7 +343,7 @@ fn copies(rt: HostRuntime) -> Result<(), Fail> {
     Ok(())
 }
 
-/// Whether these bytes are lent of the constants.
+/// Whether these bytes of the constants are returned.
 fn lends(guest: &Guest, addr: u64, len: u64, expected: &[u8]) -> bool {
     match guest.constants(addr, len) {
         Some(bytes) => bytes == expected,
@@ -370,12 +369,12 @@ fn lends_no_bytes_anywhere(rt: HostRuntime) -> Result<(), Fail> {
     Ok(())
 }
 
-/// Whether nothing is lent.
+/// Whether no bytes are returned.
 fn lends_none(guest: &Guest, addr: u64, len: u64) -> bool {
     guest.constants(addr, len).is_none()
 }
 
-/// Addresses and lengths of ranges that do not lie in three constants.
+/// Addresses and lengths of ranges that are not completely in three constants.
 const OUTSIDE: [(u64, u64); 6] = [
     (0x4_0000_0001, 3),
     (0x4_0000_0003, 1),

@@ -1,9 +1,10 @@
+//! Scans of text at every length and position.
+
 use text_kernels::{code_points, first_difference, skip_plain};
 
 const SIZE: usize = 200;
 
-// Different bytes in a mixed order; among them are the ends of 0x80..=0xbf, every special byte and
-// their neighbours.
+// Different bytes in a mixed order, including the ends of 0x80..=0xbf, every special byte and its neighbours.
 fn mixed() -> [u8; SIZE] {
     let mut bytes = [0; SIZE];
     let mut byte: u8 = 1;
@@ -14,7 +15,7 @@ fn mixed() -> [u8; SIZE] {
     bytes
 }
 
-/// At each length, against a count that goes on a byte at a time.
+/// At each length, compared with a count byte by byte.
 #[test]
 fn counts_at_each_length(rt: HostRuntime) {
     let bytes = mixed();
@@ -28,7 +29,7 @@ fn counts_at_each_length(rt: HostRuntime) {
     assert_eq!(rt; code_points(&bytes), expected);
 }
 
-/// One byte differs, at each place, and either side has each length.
+/// One byte differs, at each position, and either side has each length.
 #[test]
 fn differs_at_each_place(rt: HostRuntime) {
     let left = mixed();
@@ -51,7 +52,7 @@ fn differs_at_each_place(rt: HostRuntime) {
     }
 }
 
-/// One byte is special, at each place, in a text of each length.
+/// One byte is special, at each position, in a text of each length.
 #[test]
 fn stops_at_each_place(rt: HostRuntime) {
     let specials = [b'"', b'\'', b'\\', b'\n', b'\r'];
@@ -69,7 +70,7 @@ fn stops_at_each_place(rt: HostRuntime) {
     }
 }
 
-// The bytes before the first special one, looked at in turn.
+// The number of bytes before the first special one, by a byte-by-byte search.
 fn plain_before(bytes: &[u8]) -> usize {
     for (place, byte) in bytes.iter().enumerate() {
         if matches!(byte, 10 | 13 | 34 | 39 | 92) {
@@ -79,7 +80,7 @@ fn plain_before(bytes: &[u8]) -> usize {
     bytes.len()
 }
 
-/// From each beginning, among bytes of every kind.
+/// From each start, among bytes of every kind.
 #[test]
 fn stops_among_mixed_bytes(rt: HostRuntime) {
     let bytes = mixed();
@@ -89,20 +90,20 @@ fn stops_among_mixed_bytes(rt: HostRuntime) {
     }
 }
 
-/// Bytes, and how many characters begin in them.
+/// Bytes, and the number of characters that begin in them.
 const COUNTED: [(&[u8], usize); 3] = [(b"", 0), (&[0x80; 33], 0), (&[0xbf; 64], 0)];
 
-/// Bytes, others, and where they first differ.
+/// Bytes, others, and the first position at which they differ.
 const DIFFERENT: [(&[u8], &[u8], usize); 3] = [
     (b"", b"", 0),
     (b"", b"a", 0),
     (b"equal", b"equal", 5),
 ];
 
-/// Bytes, and where the first special one stands.
+/// Bytes, and the position of the first special one.
 const SKIPPED: [(&[u8], usize); 3] = [(b"", 0), (b"plain text`", 11), (b"it's", 2)];
 
-/// Where zeros differ from 64 bytes of which only the last is not zero.
+/// The position at which zeros differ from 64 bytes of which only the last is not zero.
 fn first_of_zeros(zeros: &[u8]) -> usize {
     let mut last = [0; 64];
     last[63] = 1;

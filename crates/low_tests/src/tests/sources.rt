@@ -1,4 +1,4 @@
-//! What the tables of the tests are compared with.
+//! Helper functions of the tests of the assembler.
 
 mod atomics;
 mod instructions;
@@ -11,7 +11,7 @@ use std::alloc::Global;
 use std::process::Abort;
 use std::test::Fail;
 
-/// The slots of the text's code, each as its bytes in the order of storage.
+/// The slots of the text's code, each as its bytes in storage order.
 fn slots_of(alloc: Global, text: &str) -> Result<Vec<u64>, Fail> {
     let code = assemble(alloc, text)?;
     let mut slots = Vec::new(alloc);
@@ -21,13 +21,13 @@ fn slots_of(alloc: Global, text: &str) -> Result<Vec<u64>, Fail> {
     Ok(slots)
 }
 
-/// The one slot of the line's code.
+/// The only slot of the line's code.
 fn word_of(alloc: Global, line: &str) -> Option<u64> {
     let code = assemble(alloc, line).ok()?;
     word(code.as_slice())
 }
 
-/// Eight bytes as one number, in the order of storage.
+/// Eight bytes as one number, in storage order.
 fn word(bytes: &[u8]) -> Option<u64> {
     match bytes {
         [a, b, c, d, e, f, g, h] => Some(u64::from_be_bytes([*a, *b, *c, *d, *e, *f, *g, *h])),
@@ -63,7 +63,7 @@ fn each_slot_has_its_line(rt: HostRuntime) -> Result<(), Fail> {
     assert_lines(&rt, rt.alloc(), &atomics::ROWS)
 }
 
-/// The line of the instruction that the slot spells; none where it spells none.
+/// The line of the instruction that the slot encodes; empty if it encodes none.
 fn line_of(alloc: Global, slot: u64) -> Result<String, Fail> {
     match decode(slot.swap_bytes(), None) {
         Some(insn) => Ok(insn.to_string(alloc)?),
@@ -71,7 +71,7 @@ fn line_of(alloc: Global, slot: u64) -> Result<String, Fail> {
     }
 }
 
-/// The code and the line of the text's refusal, with no code and line 0 if it assembles.
+/// The code and the line of the text's error; an empty code and line 0 if it assembles.
 fn refusal_of(alloc: Global, text: &str) -> (&'static str, usize) {
     match assemble(alloc, text) {
         Ok(_) => ("", 0),
@@ -79,7 +79,7 @@ fn refusal_of(alloc: Global, text: &str) -> (&'static str, usize) {
     }
 }
 
-/// These lines, with as many lines `exit` between them.
+/// These lines, with this many lines `exit` between them.
 fn around(alloc: Global, first: &str, exits: usize, last: &str) -> Result<String, Fail> {
     let mut text = String::from_str(alloc, first)?;
     for _ in 0..exits {

@@ -1,3 +1,5 @@
+//! Arithmetic, sign extension, byte swaps and comparisons of words.
+
 use AluOp::{Add, And, Arsh, Div, Lsh, Mod, Mov, Mul, Or, Rsh, Sdiv, Smod, Sub, Xor};
 use Comparison::{Eq, Ge, Gt, Le, Lt, Ne, Set, Sge, Sgt, Sle, Slt};
 use SignedSize::{B, H, W};
@@ -10,10 +12,10 @@ use bpf_word::{AluOp, Comparison, SignedSize, SwapWidth, alu32, alu64, holds, se
 
 const LEAST: u64 = 0x8000_0000_0000_0000;
 
-/// The operation, the destination's word, the operand's and the result.
+/// The operation, the destination, the operand and the result.
 type Row = (AluOp, u64, u64, u64);
 
-/// Among them divisors of zero, the least value by -1, and amounts at and above the width.
+/// They include divisors of zero, the least value by -1, and shifts by the width and more.
 const ROWS_OF_64: [Row; 50] = [
     (Add, 5, 2, 7),
     (Add, u64::MAX, 1, 0),
@@ -75,7 +77,7 @@ fn operations_on_64_bits(rt: HostRuntime) {
     }
 }
 
-/// The same on the low halves: what stands in the upper ones changes nothing.
+/// Operations on the low halves; the upper halves do not affect the result.
 const ROWS_OF_32: [Row; 31] = [
     (Add, 0xffff_ffff, 1, 0),
     (Add, 0xaaaa_aaaa_0000_0005, 0xbbbb_bbbb_0000_0002, 7),
@@ -154,8 +156,7 @@ fn swaps_bytes(rt: HostRuntime) {
     }
 }
 
-/// A comparison, its left word, its right one and whether it holds. Signed, the greatest word is
-/// -1.
+/// A comparison, its left word, its right word and whether it holds. Read as signed, the greatest word is -1.
 const COMPARISONS: [(Comparison, u64, u64, bool); 25] = [
     (Eq, 5, 5, true),
     (Eq, 0x1_0000_0005, 5, false),

@@ -1,6 +1,6 @@
 //! Lines of atomic instructions and their slots, worked out by hand from the table of operations.
 
-/// A line of each operation at each width, with its slot's bytes in the order of storage.
+/// A line of each operation at each width, with its slot's bytes in storage order.
 pub const ROWS: [(&str, u64); 20] = [
     ("atomic_add32 [r1+4], r2", 0xc321_0400_0000_0000),
     ("atomic_add64 [r10-8], r1", 0xdb1a_f8ff_0000_0000),

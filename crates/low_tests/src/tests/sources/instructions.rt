@@ -1,6 +1,6 @@
 //! Lines of instructions and their slots, worked out by hand from the instruction table.
 
-/// A line of each row of the instruction table, with its slot's bytes in the order of storage.
+/// A line of each row of the instruction table, with its slot's bytes in storage order.
 pub const ROWS: [(&str, u64); 89] = [
     ("add32 r1, 2", 0x0401_0000_0200_0000),
     ("add64 r1, r2", 0x0f21_0000_0000_0000),
@@ -93,7 +93,7 @@ pub const ROWS: [(&str, u64); 89] = [
     ("stxdw [r10+0], r3", 0x7b3a_0000_0000_0000),
 ];
 
-/// Further lines: each operation with the other kind of operand, each comparison with both.
+/// More lines: each operation with the other kind of operand, each comparison with both.
 pub const MORE_ROWS: [(&str, u64); 83] = [
     ("add32 r3, -2", 0x0403_0000_feff_ffff),
     ("add64 r9, r10", 0x0fa9_0000_0000_0000),

@@ -4,7 +4,7 @@ use assembler::{listing_is_source, one_answer, refused_by_cause, source_is_assem
 use std::alloc::Global;
 use std::test::Fail;
 
-/// Programs with the bytes of their slots, each in the order of storage.
+/// Programs with the bytes of their slots, each in storage order.
 #[rattlefmt::skip]
 const PROGRAMS: [(&str, &[u64]); 19] = [
     ("", &[]),
@@ -24,13 +24,13 @@ const PROGRAMS: [(&str, &[u64]); 19] = [
     ("call_local R0\nR0:", &[0x8510_0000_0000_0000]),
     ("_9z:\nja _9z\nb_1:", &[0x0500_ffff_0000_0000]),
     (".slot 0xffffffffffffffff", &[0xffff_ffff_ffff_ffff]),
-    // Slots of older listings keep their bytes, whether they spell an instruction by now or not.
+    // Slots of older listings keep their bytes, even if they encode an instruction now.
     (".slot 0xdb1af8ff01000000\n.slot 0xdb1af8fff0000000\n", &[0xdb1a_f8ff_0100_0000, 0xdb1a_f8ff_f000_0000]),
     ("lddw r3, 0x0123456789abcdef", &[0x1803_0000_efcd_ab89, 0x0000_0000_6745_2301]),
 ];
 
-/// Lines between which stand as many lines `exit`, with the index of a slot and that slot: 16 bits
-/// hold offsets from -32768 to 32767.
+/// Lines with this many lines `exit` between them, the index of a slot and that slot: 16
+/// bits hold offsets from -32768 to 32767.
 #[rattlefmt::skip]
 const FAR: [(&str, usize, &str, usize, u64); 8] = [
     ("ja away\n", 32_767, "away:", 0, 0x0500_ff7f_0000_0000),
@@ -51,7 +51,7 @@ fn programs_have_their_slots(rt: HostRuntime) -> Result<(), Fail> {
     Ok(())
 }
 
-/// The slot at this index in the code of lines, between which stand as many lines `exit`.
+/// The slot at this index in the code of two lines with this many lines `exit` between them.
 fn slot_at(
     alloc: Global,
     first: &str,

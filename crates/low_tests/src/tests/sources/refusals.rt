@@ -1,8 +1,8 @@
-//! Texts that are no program.
+//! Texts that are not programs.
 use super::{around, refusal_of};
 use std::test::Fail;
 
-/// Lines of no form.
+/// Lines without a valid form.
 const FORMLESS: [&str; 62] = [
     ":",
     "9a:",
@@ -68,7 +68,7 @@ const FORMLESS: [&str; 62] = [
     ".slot 0x00000000000000001",
 ];
 
-/// Lines with a number out of its range.
+/// Lines with a number out of range.
 const OUT_OF_RANGE: [&str; 16] = [
     "mov64 r0, 2147483648",
     "mov64 r0, -2147483649",
@@ -88,7 +88,7 @@ const OUT_OF_RANGE: [&str; 16] = [
     "atomic_add64 [r1-32769], r2",
 ];
 
-/// Texts with the code and the line of the first reason.
+/// Texts with the code and the line of the first error.
 const REASONS: [(&str, &str, usize); 18] = [
     ("\n", "A1", 1),
     ("exit\n\nexit\n", "A1", 2),
@@ -110,7 +110,7 @@ const REASONS: [(&str, &str, usize); 18] = [
     ("a:\nmov64 r0, 2147483648\na:", "A2", 2),
 ];
 
-/// Lines between which stand as many lines `exit`, with the code and the line of the reason.
+/// Lines with this many lines `exit` between them, with the code and the line of the error.
 const FAR: [(&str, usize, &str, &str, usize); 7] = [
     ("ja away\n", 32_768, "away:", "A5", 1),
     ("jeq64 r1, r2, away\n", 32_768, "away:", "A5", 1),
