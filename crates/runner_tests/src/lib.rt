@@ -1,4 +1,4 @@
-//! Tests of orders, of what they write, and of the one function of each program.
+//! Tests of command lines, of what the commands write, and of the main function of each program.
 #![tactic(auto)]
 
 #[cfg(test)]

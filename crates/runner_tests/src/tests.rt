@@ -1,4 +1,4 @@
-//! What the tables share.
+//! Definitions that the tests share.
 
 use std::alloc::{AllocError, Global};
 
@@ -12,7 +12,7 @@ mod performing;
 mod programs;
 mod running;
 
-/// The line of standard error for a refusal; none for an empty one.
+/// The line of standard error for a refusal; empty for an empty one.
 pub fn refusal_line(alloc: Global, refusal: &str) -> Result<String, AllocError> {
     if refusal.is_empty() {
         return Ok(String::new(alloc));

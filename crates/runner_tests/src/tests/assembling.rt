@@ -1,4 +1,4 @@
-//! Texts that are assembled, and images that are listed, by their files.
+//! The commands `asm` and `list` on files in memory.
 
 use super::doubles::Folder;
 use super::refusal_line;
@@ -6,7 +6,7 @@ use review_runner::{Done, Order, perform};
 use std::alloc::{AllocError, Global};
 use std::test::Fail;
 
-/// What `asm` with the names of a text and an image leaves.
+/// The outcome of `asm` with the names of a text and an image.
 fn assembled(
     alloc: Global,
     text: &str,
@@ -18,7 +18,7 @@ fn assembled(
     perform(alloc, &Order::Assemble { text, image }, files)
 }
 
-/// Whether this is the status, and these are the bytes for both outputs.
+/// Whether this is the status, and these are the bytes of both outputs.
 fn is_done(done: &Done, status: u8, out: &[u8], err: &[u8]) -> bool {
     done.status == status && done.out.as_slice() == out && done.err.as_slice() == err
 }
@@ -32,10 +32,10 @@ const JUMPS: &[u8] = b"mov64 r0, 1\nja end\nmov64 r0, 2\nend:\nexit";
 const JUMPING: &[u8] =
     b"CELBPF01\x04\0\0\0\0\0\0\0\xb7\0\0\0\x01\0\0\0\x05\0\x01\0\0\0\0\0\xb7\0\0\0\x02\0\0\0\x95\0\0\0\0\0\0\0";
 
-/// What the image's file holds before a text is assembled.
+/// The contents of the image's file before a text is assembled.
 const OLD: &[u8] = b"old";
 
-/// Whether `asm` of this text leaves this image, and nothing on either output.
+/// Whether `asm` of this text writes this image, and nothing to either output.
 fn assembles(alloc: Global, text: &[u8], made: &[u8]) -> Result<bool, AllocError> {
     let image = Vec::from_slice(alloc, OLD)?;
     let mut files = Folder {
@@ -58,7 +58,7 @@ fn assembles_texts(rt: HostRuntime) -> Result<(), Fail> {
     Ok(())
 }
 
-/// What `run-image` leaves of the image that `asm` makes of this text.
+/// The outcome of `run-image` on the image that `asm` makes of this text.
 fn ran(alloc: Global, text: &[u8]) -> Result<Done, AllocError> {
     let mut files = Folder {
         text,
@@ -71,11 +71,11 @@ fn ran(alloc: Global, text: &[u8]) -> Result<Done, AllocError> {
     perform(alloc, &Order::RunImage { image, steps }, &mut files)
 }
 
-/// Puts a list into a list of its own, over and over.
+/// Nests a list in a new list, repeatedly.
 const NESTS: &[u8] =
     b"call 16\nmov64 r6, r0\na:\ncall 16\nmov64 r1, r0\nmov64 r2, r6\ncall 17\nmov64 r6, r0\nja a\n";
 
-/// Texts, how what is printed of their runs ends, and the status. A list of depth 256 is not made.
+/// Texts, the end of the output of their runs, and the status. A list of depth 256 cannot be made.
 const RUNS: [(&[u8], &[u8], u8); 2] = [
     (JUMPS, b"\nstep 3 pc 3 exited 0x0000000000000001\n", 0),
     (NESTS, b"\nstep 1530 pc 5 fault F8\n", 1),
@@ -93,7 +93,7 @@ fn runs_texts(rt: HostRuntime) -> Result<(), Fail> {
     Ok(())
 }
 
-/// An `asm` command: the text, the names of the files, and whether the image can be written.
+/// An `asm` command: the text, the names of the files, and whether the image is writable.
 #[derive(Clone, Copy)]
 struct Assembly<'a> {
     text: &'a [u8],
@@ -102,7 +102,7 @@ struct Assembly<'a> {
     is_writable: bool,
 }
 
-/// Whether the command leaves this line of standard error, and the image's file as it was.
+/// Whether the command writes this line to standard error, and leaves the image's file unchanged.
 fn refuses(alloc: Global, assembly: Assembly<'_>, line: &[u8]) -> Result<bool, AllocError> {
     let image = Vec::from_slice(alloc, OLD)?;
     let mut files = Folder {
@@ -114,7 +114,7 @@ fn refuses(alloc: Global, assembly: Assembly<'_>, line: &[u8]) -> Result<bool, A
     Ok(is_done(&done, 3, b"", line) && files.image.as_slice() == OLD)
 }
 
-/// A text, the names of the files, whether the image can be written, and the refusal.
+/// A text, the names of the files, whether the image is writable, and the refusal.
 const REFUSED: [(&[u8], &str, &str, bool, &str); 10] = [
     (b"mov64 r0,5\n", "a.txt", "a.img", true, "A1 line 1"),
     (b"exit\n\nexit", "a.txt", "a.img", true, "A1 line 2"),
@@ -128,7 +128,7 @@ const REFUSED: [(&[u8], &str, &str, bool, &str); 10] = [
     (b"exit", "a.txt", "a.img", false, "file"),
 ];
 
-/// Whether `asm` refuses these lines so, with as many lines `exit` between them.
+/// Whether `asm` refuses these lines, with this many lines `exit` between them, with this error.
 fn refuses_lines(
     alloc: Global,
     first: &str,
@@ -184,7 +184,7 @@ fn refuses_texts(rt: HostRuntime) -> Result<(), Fail> {
     Ok(())
 }
 
-/// What `list` with this name leaves, where `a.img` holds these bytes.
+/// The outcome of `list` with this name, if `a.img` has these bytes.
 fn listed(alloc: Global, bytes: &[u8], name: &str) -> Result<Done, AllocError> {
     let mut files = Folder {
         text: b"",
@@ -207,7 +207,7 @@ const ADDING: &[u8] =
 const ADDING_LISTING: &[u8] =
     b"mov64 r1, 5\nstdw [r10-8], 7\natomic_fetch_add64 [r10-8], r1\nldxdw r0, [r10-8]\nexit\n";
 
-/// What the image's file holds, the name that is asked for, what is written, and the status.
+/// The contents of the image's file, the name that is given, the output, and the status.
 const LISTED: [(&[u8], &str, &[u8], &[u8], u8); 5] = [
     (JUMPING, "a.img", LISTING, b"", 0),
     (ADDING, "a.img", ADDING_LISTING, b"", 0),

@@ -1,4 +1,4 @@
-//! Images of code that is drawn from a seed.
+//! Images of random code, drawn from a seed.
 
 use assembler::assemble;
 use bpf_machine::{Machine, Status};
@@ -12,7 +12,7 @@ use value_table::Table;
 
 const IMAGES: u64 = 10_000;
 
-/// The steps after which a run that still goes on is left.
+/// The number of steps after which a run that has not ended is abandoned.
 const STEPS: u64 = 1_000;
 
 /// Opcodes of every family: arithmetic of both widths, byte swaps, jumps of both widths, calls, the
@@ -23,14 +23,14 @@ const OPCODES: [u8; 48] = [
     0x6d, 0xa5, 0x06, 0x26, 0x85, 0x95, 0x61, 0x71, 0x79, 0x91, 0x62, 0x7b, 0x7a, 0xc3, 0xdb, 0x18,
 ];
 
-/// The word behind this one: three shifts, each combined by an exclusive or.
+/// The next word of the sequence: three shifts, each combined by an exclusive or (xorshift).
 fn next(word: u64) -> u64 {
     let first = word ^ (word << 13);
     let second = first ^ (first >> 7);
     second ^ (second << 17)
 }
 
-/// One of the opcodes, or for one choice in eight any byte.
+/// One of the opcodes, or in one of eight cases any byte.
 fn opcode(choice: u8, byte: u8) -> u8 {
     if choice % 8 == 0 {
         return byte;
@@ -41,7 +41,7 @@ fn opcode(choice: u8, byte: u8) -> u8 {
     }
 }
 
-/// A slot with registers that there are, an offset from -4 to 4 and a number from -16 to 47.
+/// A slot with valid registers, an offset from -4 to 4 and a number from -16 to 47.
 fn slot(word: u64) -> [u8; 8] {
     let [choice, byte, dst, src, near, number, _, _] = word.to_le_bytes();
     let registers = (dst % 11) | (src % 11).wrapping_mul(16);
@@ -60,7 +60,7 @@ fn slot(word: u64) -> [u8; 8] {
     ]
 }
 
-/// Code of at most 16 slots, and the word behind those that it took.
+/// Code of at most 16 slots, and the next word of the sequence after it.
 fn drawn(alloc: Global, word: u64) -> Result<(Vec<u8>, u64), AllocError> {
     let mut code = Vec::new(alloc);
     let mut word = next(word);
@@ -85,7 +85,7 @@ fn started(alloc: Global, code: Vec<u8>) -> Result<Machine<Table, Guest>, Fail> 
     Ok(Machine::start(alloc, image, Table::of_roots(alloc, &roots)?)?)
 }
 
-/// Whether a run of this code comes to a status within its steps, or goes on behind them.
+/// Whether a run of this code reaches a final status within its steps, or continues after them.
 fn has_status(alloc: Global, code: Vec<u8>) -> Result<bool, Fail> {
     let mut machine = started(alloc, code)?;
     let (steps, status) = machine.run(STEPS)?;
@@ -93,8 +93,7 @@ fn has_status(alloc: Global, code: Vec<u8>) -> Result<bool, Fail> {
     Ok(machine.status() == status && (has_ended || steps == STEPS))
 }
 
-/// How many images of so many stand: their listings give back their code, and their runs come to a
-/// status.
+/// The number of these images that are correct: their listings assemble to their code, and their runs have a status.
 fn standing(alloc: Global, images: u64) -> Result<u64, Fail> {
     let (mut standing, mut word) = (0u64, 26u64);
     for _ in 0..images {

@@ -1,4 +1,4 @@
-//! The codes and the words of errors.
+//! Codes and messages of errors.
 
 use RunError::{NamespaceOrParamsRefused, OutOfSteps, OverLimit, PolicyRefused, ReviewRefused};
 use review_runner::{FileError, OrderError, PolicyRefusal, RunError};
@@ -6,19 +6,19 @@ use std::alloc::{AllocError, Global};
 use std::fmt::Display;
 use std::test::Fail;
 
-/// Whether the error has these words.
+/// Whether the error has this message.
 fn has_words<E: Display>(alloc: Global, error: &E, words: &str) -> Result<bool, AllocError> {
     Ok(format!(in alloc; "{error}")?.as_str() == words)
 }
 
-/// The errors of the command line, with their codes and words.
+/// The errors of the command line, with their codes and messages.
 #[rattlefmt::skip]
 const ORDER_ERRORS: [(OrderError, &str, &str); 2] = [
     (OrderError::InvalidArguments, "U1", "the command line is not one that celbpf takes"),
     (OrderError::Memory, "memory", "out of memory"),
 ];
 
-/// The errors of a review, with their codes and words.
+/// The errors of a review, with their codes and messages.
 const RUN_ERRORS: [(RunError, &str, &str); 6] = [
     (
         PolicyRefused(PolicyRefusal::Memory),
@@ -36,7 +36,7 @@ const RUN_ERRORS: [(RunError, &str, &str); 6] = [
     (RunError::Memory, "memory", "out of memory"),
 ];
 
-/// The errors of a file, with their codes and words.
+/// The errors of a file, with their codes and messages.
 const FILE_ERRORS: [(FileError, &str, &str); 2] = [
     (
         FileError::Failed,

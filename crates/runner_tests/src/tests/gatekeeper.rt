@@ -1,4 +1,4 @@
-//! The gatekeeper whole, over files and streams in memory.
+//! The whole gatekeeper, with files and streams in memory.
 
 use super::doubles::{CutShort, Policies};
 use super::programs::{is_text, words};
@@ -22,7 +22,7 @@ const TWO: &str =
 {"apiVersion":"admission.k8s.io/v1","kind":"AdmissionReview","request":{"uid":"u2","object":{"spec":{"replicas":5}}}}
 "#;
 
-/// The answers under `few` to the first of them, and to both.
+/// The answers of `few` to the first of them, and to both.
 const ONE_ANSWER: &str =
     r#"{"apiVersion":"admission.k8s.io/v1","kind":"AdmissionReview","response":{"allowed":true,"uid":"u1"}}
 "#;
@@ -32,15 +32,15 @@ const TWO_ANSWERS: &str =
 {"apiVersion":"admission.k8s.io/v1","kind":"AdmissionReview","response":{"allowed":false,"status":{"code":422,"message":"failed expression: object.spec.replicas <= 3","reason":"Invalid"},"uid":"u2"}}
 "#;
 
-/// The answers under `few` and `slow`, in either order: what the first does not deny the second does
-/// not decide, and what the first denies is denied.
+/// The answers of `few` and `slow`, in either order: a request that the first does not deny is not decided by
+/// the second, and one that the first denies is denied.
 const ONE_REFUSED: &str =
     r#"{"refused":"N4","uid":"u1","policy":"slow-one","failurePolicy":"Ignore"}
 {"apiVersion":"admission.k8s.io/v1","kind":"AdmissionReview","response":{"allowed":false,"status":{"code":422,"message":"failed expression: object.spec.replicas <= 3","reason":"Invalid"},"uid":"u2"}}
 "#;
 
-/// A review of 1.5 replicas, an empty line, a document that is no review, one that is no JSON, and
-/// a review of 2 replicas whose line has no end.
+/// A review of 1.5 replicas, an empty line, a document that is not a review, one that is not JSON, and a
+/// review of 2 replicas in a line without a line feed.
 const REST: &str =
     r#"{"apiVersion":"admission.k8s.io/v1","kind":"AdmissionReview","request":{"uid":"u3","object":{"spec":{"replicas":1.5}}}}
 
@@ -107,8 +107,8 @@ const ROWS: [(&str, &str, u8, &str, &str); 19] = [
     ("gatekeeper --version --policy missing", TWO, 0, "gatekeeper 0.20261127\n", ""),
 ];
 
-/// Whether the program with these words and this input ends with the status and both outputs, where
-/// standard output has this room.
+/// Whether the program with these words and this input ends with this status and both
+/// outputs, if standard output has this capacity.
 fn ends<R: LineSource>(
     alloc: Global,
     line: &str,

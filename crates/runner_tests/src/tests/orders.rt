@@ -1,10 +1,10 @@
-//! Command lines, each a text of words with one space between them.
+//! Command lines, each a text of words separated by spaces.
 
 use review_runner::{Order, OrderError};
 use std::alloc::Global;
 use std::test::Fail;
 
-/// The order of a command line.
+/// The parsed command line.
 fn order(alloc: Global, line: &str) -> Result<Order, OrderError> {
     let words: Vec<&str> = line.split(' ').collect(alloc)?;
     review_runner::order(alloc, words.as_slice())
@@ -17,7 +17,7 @@ fn is_run(order: &Result<Order, OrderError>, name: &str, number: u64) -> bool {
     }
 }
 
-/// What is asked for, and the order's file and steps.
+/// The command, its file and its steps.
 #[rattlefmt::skip]
 const RUNS: [(&str, &str, u64); 8] = [
     ("celbpf run-image a.img", "a.img", 10_000_000),
@@ -45,7 +45,7 @@ fn is_refused(order: &Result<Order, OrderError>) -> bool {
     }
 }
 
-/// Words that are none of the program's.
+/// Words that the program does not accept.
 const REFUSED: [&str; 23] = [
     "celbpf",
     "celbpf fly a.img",
@@ -109,7 +109,7 @@ fn is_session(order: &Result<Order, OrderError>, review: &str, params: &str) -> 
     }
 }
 
-/// Whether this is the name of a file; the empty one stands for none.
+/// Whether this is the name of a file; the empty name means none.
 fn is_name(given: &Option<String>, name: &str) -> bool {
     match given {
         Some(given) => given.as_str() == name,

@@ -1,4 +1,4 @@
-//! Orders on an image, and sessions with it.
+//! Commands on an image, and sessions with it.
 
 use super::doubles::OneFile;
 use debugger::Counting;
@@ -6,7 +6,7 @@ use review_runner::{DocumentNames, Done, Order, Refusal, debug, perform};
 use std::alloc::{AllocError, Global};
 use std::test::Fail;
 
-/// The most steps where no number is given.
+/// The step limit if no number is given.
 const MOST: u64 = 10_000_000;
 
 /// `r0 = 5`, `r0 += 2`, `exit`.
@@ -16,7 +16,7 @@ const THREE: &[u8] =
 /// `r0 = 5`, `exit`.
 const TWO: &[u8] = b"CELBPF01\x02\0\0\0\0\0\0\0\xb7\0\0\0\x05\0\0\0\x95\0\0\0\0\0\0\0";
 
-/// The same without its last byte.
+/// The image `TWO` without its last byte.
 const CUT: &[u8] = b"CELBPF01\x02\0\0\0\0\0\0\0\xb7\0\0\0\x05\0\0\0\x95\0\0\0\0\0\0";
 
 /// `r0 = 5`, `exit` as an image of version 2.
@@ -31,7 +31,7 @@ const CUT_LOAD: &[u8] = b"CELBPF01\x01\0\0\0\0\0\0\0\x18\0\0\0\0\0\0\0";
 /// `r10 = 0`.
 const FRAME: &[u8] = b"CELBPF01\x01\0\0\0\0\0\0\0\xb7\x0a\0\0\0\0\0\0";
 
-/// What the order to run this image for so many steps leaves, where `a.img` holds these bytes.
+/// The outcome of running this image for this many steps, if `a.img` has these bytes.
 fn run(alloc: Global, name: &str, steps: u64, bytes: &[u8]) -> Result<Done, AllocError> {
     let image = String::from_str(alloc, name)?;
     perform(
@@ -41,12 +41,12 @@ fn run(alloc: Global, name: &str, steps: u64, bytes: &[u8]) -> Result<Done, Allo
     )
 }
 
-/// Whether standard output ends so, with this status and nothing on standard error.
+/// Whether standard output ends with these bytes, with this status and nothing on standard error.
 fn ends_with(done: &Done, end: &[u8], status: u8) -> bool {
     done.status == status && done.err.is_empty() && done.out.ends_with(end)
 }
 
-/// The image, the limit of steps, the end of standard output and the status.
+/// The image, the step limit, the end of standard output and the status.
 const RUNS: [(&[u8], u64, &[u8], u8); 7] = [
     (THREE, MOST, b"\nstep 3 pc 2 exited 0x0000000000000007\n", 0),
     (THREE, 0, b"\nstep 0 pc 0 running\n", 4),
@@ -66,12 +66,12 @@ fn runs_images(rt: HostRuntime) -> Result<(), Fail> {
     Ok(())
 }
 
-/// Whether nothing but this line of standard error is left, and this status.
+/// Whether there is only this line of standard error, and this status.
 fn is_refused(done: &Done, line: &[u8], status: u8) -> bool {
     done.status == status && done.out.is_empty() && done.err.as_slice() == line
 }
 
-/// What `a.img` holds, the file that is asked for, and the line of standard error.
+/// The contents of `a.img`, the file that is given, and the line of standard error.
 const REFUSED: [(&[u8], &str, &[u8]); 7] = [
     (CUT, "a.img", b"celbpf: L5\n"),
     (b"", "a.img", b"celbpf: L1\n"),
@@ -91,7 +91,7 @@ fn refuses_files(rt: HostRuntime) -> Result<(), Fail> {
     Ok(())
 }
 
-/// What a session writes.
+/// The text that a session writes.
 const SAID: &[u8] = b"step 1 pc 1 running\nstep 0 pc 0 running\n? what\n";
 
 /// The names of no documents.
@@ -101,8 +101,8 @@ const NO_DOCUMENTS: DocumentNames = DocumentNames {
     params: None,
 };
 
-/// Whether a session with the image of this name, whose output has this room, ends so and writes
-/// a beginning of what it says.
+/// Whether a session with the image of this name, with an output of this capacity, has
+/// this result and writes a prefix of its text.
 fn debugs(alloc: Global, name: &str, room: usize, end: Result<(), Refusal>) -> bool {
     let mut written = [0u8; 64];
     let (front, _) = written.split_at_mut(room.min(64));

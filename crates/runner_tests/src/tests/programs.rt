@@ -1,4 +1,4 @@
-//! The whole program, over files and streams in memory.
+//! The whole program, with files and streams in memory.
 
 use super::doubles::Folder;
 use super::refusal_line;
@@ -11,7 +11,7 @@ use std::test::Fail;
 /// The image of `r0 = 5` and `exit`.
 const TWO: &[u8] = b"CELBPF01\x02\0\0\0\0\0\0\0\xb7\0\0\0\x05\0\0\0\x95\0\0\0\0\0\0\0";
 
-/// The words of a command line, each after one space.
+/// The words of a command line that are separated by spaces.
 pub fn words(alloc: Global, line: &str) -> Result<Vec<String>, AllocError> {
     let mut words = Vec::new(alloc);
     for word in line.split(' ') {
@@ -20,7 +20,7 @@ pub fn words(alloc: Global, line: &str) -> Result<Vec<String>, AllocError> {
     Ok(words)
 }
 
-/// A text of two instructions and its image, which the program may write.
+/// A text of two instructions and its image, which is writable.
 fn folder<'a>(alloc: Global) -> Result<Folder<'a>, AllocError> {
     Ok(Folder {
         text: b"mov64 r0, 5\nexit",
@@ -29,7 +29,7 @@ fn folder<'a>(alloc: Global) -> Result<Folder<'a>, AllocError> {
     })
 }
 
-/// What the program has done: its code, and the fronts of both outputs.
+/// The outcome of the program: its code, and the first bytes of both outputs.
 #[derive(Drop)]
 struct Said {
     code: ExitCode,
@@ -37,7 +37,7 @@ struct Said {
     err: [u8; 32],
 }
 
-/// What the program does with these words, where standard output has this room.
+/// The outcome of the program with these words, if standard output has this capacity.
 fn program(
     alloc: Global,
     words: Result<Vec<String>, OrderError>,
@@ -57,7 +57,7 @@ fn program(
     Ok(Said { code, out, err })
 }
 
-/// Whether the bytes are those of the text, and zeros.
+/// Whether the bytes are those of the text, followed by zeros.
 pub fn is_text(bytes: &[u8], text: &[u8]) -> bool {
     bytes.starts_with(text) && bytes.get(text.len()) == Some(&0)
 }
@@ -66,7 +66,7 @@ fn is_said(said: &Said, status: u8, out: &[u8], err: &[u8]) -> bool {
     said.code == ExitCode::from(status) && is_text(&said.out, out) && is_text(&said.err, err)
 }
 
-/// The words, the room on standard output, the status, standard output and the refusal.
+/// The words, the capacity of standard output, the status, standard output and the refusal.
 const ROWS: [(&str, usize, u8, &[u8], &str); 10] = [
     ("celbpf list a.img", 31, 0, b"mov64 r0, 5\nexit\n", ""),
     ("celbpf list a.img", 3, 3, b"mov", "file"),

@@ -1,8 +1,8 @@
-//! A reader that breaks off.
+//! A reader that fails.
 
 use std::io::{Error, ErrorKind, Read};
 
-/// Gives its bytes, and fails behind them.
+/// Delivers its bytes, and fails after them.
 #[derive(Drop)]
 pub struct CutShort<'a> {
     pub left: &'a [u8],

@@ -1,9 +1,9 @@
-//! Two files, of which one may be written.
+//! Two files, one of which may be writable.
 
 use review_runner::{FileError, Files};
 use std::alloc::Global;
 
-/// A text `a.txt` and an image `a.img`, which may be one that cannot be written.
+/// A text `a.txt` and an image `a.img`, which may be read-only.
 #[derive(Drop)]
 pub struct Folder<'a> {
     pub text: &'a [u8],

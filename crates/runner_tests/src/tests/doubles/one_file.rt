@@ -3,7 +3,7 @@
 use review_runner::{FileError, Files};
 use std::alloc::Global;
 
-/// One file, named `a.img`, that cannot be written.
+/// A single read-only file, named `a.img`.
 #[derive(Drop)]
 pub struct OneFile<'a> {
     pub bytes: &'a [u8],

@@ -9,12 +9,12 @@ const FEW: &str =
 const EVEN: &str =
     r#"{"apiVersion":"admissionregistration.k8s.io/v1","kind":"ValidatingAdmissionPolicy","spec":{"validations":[{"expression":"object.spec.replicas % 2 == 0","message":"odd","reason":"Forbidden"}]}}"#;
 
-/// 4,096 turns of a loop, each of which takes a step at least.
+/// A loop with 4,096 iterations of at least one step each.
 const SLOW: &str =
     r#"{"apiVersion":"admissionregistration.k8s.io/v1","kind":"ValidatingAdmissionPolicy","metadata":{"name":"slow-one"},"spec":{"failurePolicy":"Ignore","validations":[{"expression":"[1,2,3,4,5,6,7,8,9,10,11,12,13,14,15,16].all(x, [1,2,3,4,5,6,7,8,9,10,11,12,13,14,15,16].all(y, [1,2,3,4,5,6,7,8,9,10,11,12,13,14,15,16].all(z, x + y + z > 0)))"}]}}"#;
 
-/// `few` allows at most 3 replicas, `even` an even number of them, `slow` all after many steps, and
-/// `none` is no policy.
+/// `few` allows at most 3 replicas, `even` an even number of them, `slow` any number
+/// after many steps, and `none` is not a policy.
 #[derive(Drop)]
 pub struct Policies;
 
