@@ -1,4 +1,4 @@
-//! Tests of policies and reviews, by the public calls that decide them.
+//! Tests of policies and reviews, through the public functions that decide them.
 #![tactic(auto)]
 
 #[cfg(test)]

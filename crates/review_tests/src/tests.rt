@@ -1,4 +1,4 @@
-//! What the tables share: documents of policies and reviews, and what the program leaves of them.
+//! Definitions that the tests share: documents of policies and reviews, and the outcomes of the program on them.
 
 use files::Documents;
 use review_runner::{Done, Order, ReviewNames, perform};
@@ -15,7 +15,7 @@ mod reviews;
 mod roots;
 mod seeded;
 
-/// The most steps that a review may take where no number is given.
+/// The step limit of a review if no number is given.
 pub const DEFAULT_STEPS: u64 = 10_000_000;
 
 /// An object of 5 replicas, and one of 3.
@@ -26,7 +26,7 @@ pub const THREE: &str = r#"{"spec":{"replicas":3}}"#;
 /// The specification that allows at most 3 replicas.
 pub const MOST: &str = r#"{"validations":[{"expression":"object.spec.replicas <= 3"}]}"#;
 
-/// The same with a message expression.
+/// The specification `MOST` with a message expression.
 pub const TOLD: &str =
     r#"{"validations":[{"expression":"object.spec.replicas <= 3","messageExpression":"'replicas ' + string(object.spec.replicas) + ' above 3'"}]}"#;
 
@@ -61,7 +61,7 @@ pub fn review_of(alloc: Global, object: &str) -> Result<Vec<u8>, AllocError> {
     )
 }
 
-/// What the program prints with this response.
+/// The program's output with this response.
 pub fn printed(alloc: Global, response: &str) -> Result<Vec<u8>, AllocError> {
     between(
         alloc,
@@ -71,8 +71,7 @@ pub fn printed(alloc: Global, response: &str) -> Result<Vec<u8>, AllocError> {
     )
 }
 
-/// What the program prints of a denial with this message, for the reason that is meant where none
-/// is given.
+/// The program's output for a denial with this message, with the default reason.
 pub fn printed_denial(alloc: Global, message: &str) -> Result<Vec<u8>, AllocError> {
     between(
         alloc,
@@ -82,7 +81,7 @@ pub fn printed_denial(alloc: Global, message: &str) -> Result<Vec<u8>, AllocErro
     )
 }
 
-/// What the review of this object under the policy with this specification leaves.
+/// The outcome of the review of this object under the policy with this specification.
 pub fn reviewed(alloc: Global, spec: &str, object: &str, steps: u64) -> Result<Done, AllocError> {
     let policy = policy_of(alloc, spec)?;
     let review = review_of(alloc, object)?;
@@ -90,7 +89,7 @@ pub fn reviewed(alloc: Global, spec: &str, object: &str, steps: u64) -> Result<D
     answered(alloc, &mut documents, steps)
 }
 
-/// What `review` of these documents leaves.
+/// The outcome of `review` on these documents.
 pub fn answered(
     alloc: Global,
     documents: &mut Documents<'_>,
@@ -105,7 +104,7 @@ pub fn answered(
     perform(alloc, &Order::Review { files, steps }, documents)
 }
 
-/// The name of a document's file, if there is the document.
+/// The name of a document's file, if the document is given.
 fn name_given(
     alloc: Global,
     name: &str,
@@ -117,7 +116,7 @@ fn name_given(
     }
 }
 
-/// What `compile` of the policy among these documents leaves.
+/// The outcome of `compile` on the policy of these documents.
 pub fn compiled(alloc: Global, documents: &mut Documents<'_>) -> Result<Done, AllocError> {
     let order = Order::Compile {
         policy: String::from_str(alloc, "p.json")?,
@@ -126,18 +125,18 @@ pub fn compiled(alloc: Global, documents: &mut Documents<'_>) -> Result<Done, Al
     perform(alloc, &order, documents)
 }
 
-/// Whether this is printed, with this status, and no refusal.
+/// Whether this was printed, with this status, and no refusal.
 pub fn answers(done: &Done, status: u8, printed: &[u8]) -> bool {
     done.status == status && done.err.is_empty() && done.out.as_slice() == printed
 }
 
-/// Whether nothing but this line of standard error is left, and this status.
+/// Whether there is only this line of standard error, and this status.
 pub fn is_refused(done: &Done, status: u8, line: &str) -> bool {
     done.status == status && done.out.is_empty() && done.err.as_slice() == line.as_bytes()
 }
 
-/// Whether the policy is compiled where no refusal is given, and is else refused so by `compile`,
-/// and by `review` with `N1` before it.
+/// Whether the policy is compiled if no refusal is given, or else is refused with it by
+/// `compile`, and by `review` with `N1` before it.
 pub fn comes_to(alloc: Global, policy: &[u8], refusal: Option<&str>) -> Result<bool, Fail> {
     let mut documents = Documents::new(alloc, policy, b"");
     let done = compiled(alloc, &mut documents)?;

@@ -7,8 +7,8 @@ use review_runner::{DocumentNames, debug};
 use std::alloc::Global;
 use std::test::Fail;
 
-/// What a session answers to these lines, with the image of the policy with this specification and
-/// on the review of this object.
+/// The replies of a session to these lines, with the image of the policy with this
+/// specification, on the review of this object.
 fn said(alloc: Global, spec: &str, object: &str, lines: &[u8]) -> Result<String, Fail> {
     let policy = policy_of(alloc, spec)?;
     let review = review_of(alloc, object)?;
@@ -38,8 +38,8 @@ const ERROR_IGNORED: &str =
 const UNDECIDED: &str =
     r#"{"matchConditions":[{"name":"a","expression":"1/0 == 1"}],"validations":[{"expression":"false"}]}"#;
 
-/// A policy's specification, the object under review, and how the answers end from the outcome on,
-/// with which the program exits.
+/// A policy's specification, the object under review, and the end of the replies, from the
+/// outcome with which the program exits on.
 #[rattlefmt::skip]
 const DECISIONS: [(&str, &str, &str); 4] = [
     (MOST, FIVE, " exited 0x0000000000000003\nverdict 3 1\nvalidation 0 1\n"),

@@ -9,7 +9,7 @@ use review_runner::Done;
 use std::alloc::{AllocError, Global};
 use std::test::Fail;
 
-/// What the review of this object leaves, with a namespace and params where they are given.
+/// The outcome of the review of this object, with a namespace and params if they are given.
 fn reviewed_with(
     alloc: Global,
     spec: &str,
@@ -36,11 +36,11 @@ fn bytes_of(document: Option<&str>) -> Option<&[u8]> {
     }
 }
 
-/// Two validations: one by params, one by the namespace.
+/// Two validations: one uses params, the other the namespace.
 const BOTH: &str =
     r#"{"paramKind":{},"validations":[{"expression":"object.n <= params.most","message":"params"},{"expression":"namespaceObject.name == 'a'","message":"namespace"}]}"#;
 
-/// The validations that only hold where neither is given.
+/// Validations that hold only if neither is given.
 const NEITHER: &str =
     r#"{"validations":[{"expression":"params == null","message":"params"},{"expression":"namespaceObject == null","message":"namespace"}]}"#;
 
@@ -51,8 +51,8 @@ const B: Option<&str> = Some("{\"name\":\"b\"}");
 
 const MOST_3: Option<&str> = Some("{\"most\":3}");
 
-/// A policy's specification, the object under review, the namespace and the params, and the message
-/// of the denial, which is empty where the request is allowed.
+/// A policy's specification, the object under review, the namespace and the params, and the message of the
+/// denial, which is empty if the request is allowed.
 const ANSWERED: [(&str, &str, Option<&str>, Option<&str>, &str); 8] = [
     (BOTH, "{\"n\":3}", A, MOST_3, ""),
     (BOTH, "{\"n\":4}", A, MOST_3, "params"),
@@ -78,13 +78,12 @@ fn answers_by_namespace_and_params(rt: HostRuntime) -> Result<(), Fail> {
     Ok(())
 }
 
-/// No validation, which is refused before any document of the review.
+/// A policy without validations, which is refused before any document of the review.
 const EMPTY: &str = r#"{"validations":[]}"#;
 
-/// A policy's specification, the object under review with what follows it in the request, the
-/// namespace, the params, and the refusal. First the forms are tested, of the review, the namespace
-/// and the params; then the roots, in the order of object, oldObject, params, namespace and
-/// request.
+/// A policy's specification, the object under review with the text that follows it in the request, the namespace, the
+/// params, and the refusal. The forms of the review, the namespace and the params are checked first; then the roots,
+/// in the order of object, oldObject, params, namespace and request.
 const REFUSED: [(&str, &str, Option<&str>, Option<&str>, &str); 16] = [
     (MOST, "{}", Some("{}"), Some("{"), "N3"),
     (MOST, "{}", Some("{}"), Some("1"), "N3"),

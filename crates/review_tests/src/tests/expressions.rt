@@ -1,11 +1,11 @@
-//! Expressions as the one validation of a policy, under both failure policies.
+//! Expressions as the only validation of a policy, under both failure policies.
 
 use super::{ALLOWED, DEFAULT_STEPS, answers, printed, printed_denial, reviewed};
 use std::alloc::Global;
 use std::test::Fail;
 
-/// An expression, the object under review, and the statuses under `Fail` and under `Ignore`: true
-/// is allowed under both and false denied, and an error is denied under the first alone.
+/// An expression, the object under review, and the statuses under `Fail` and under `Ignore`: true is allowed under
+/// both, false is denied under both, and an error is denied only under the first.
 const EXPRESSIONS: [(&str, &str, u8, u8); 13] = [
     ("1/0 == 1 || true", "{}", 0, 0),
     ("true && 1/0 == 1", "{}", 1, 0),
@@ -22,7 +22,7 @@ const EXPRESSIONS: [(&str, &str, u8, u8); 13] = [
     ("object.spec.on && true", "{}", 1, 0),
 ];
 
-/// Whether the policy with this validation and failure policy answers with this status.
+/// Whether the policy with this validation and failure policy ends with this status.
 fn ends(
     alloc: Global,
     expression: &str,

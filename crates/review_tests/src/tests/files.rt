@@ -3,8 +3,8 @@
 use review_runner::{FileError, Files};
 use std::alloc::Global;
 
-/// A policy `p.json`, a review `r.json`, a namespace `n.json` and params `a.json` where they are
-/// given, and an image `a.img`, which can be written.
+/// A policy `p.json`, a review `r.json`, a namespace `n.json` and params `a.json` if they
+/// are given, and a writable image `a.img`.
 #[derive(Drop)]
 pub struct Documents<'a> {
     pub policy: &'a [u8],
@@ -26,7 +26,7 @@ impl<'a> Documents<'a> {
         }
     }
 
-    /// What the file of this name holds, if there is one.
+    /// The contents of the file with this name, if there is one.
     fn file(&self, name: &str) -> Option<&[u8]> {
         match name {
             "p.json" => Some(self.policy),
@@ -58,7 +58,7 @@ impl Files for Documents<'_> {
     }
 }
 
-/// A copy of what a file holds, if there is one.
+/// A copy of a file's contents, if there is one.
 fn held(alloc: Global, file: Option<&[u8]>) -> Result<Vec<u8>, FileError> {
     match file {
         Some(bytes) => Ok(Vec::from_slice(alloc, bytes)?),

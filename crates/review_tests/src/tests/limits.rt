@@ -1,11 +1,11 @@
-//! Policies and reviews at the limits of what is taken.
+//! Policies and reviews at the limits.
 
 use super::{ALLOWED, DEFAULT_STEPS, answers, comes_to, is_refused, policy_of, printed, reviewed};
 use std::alloc::{AllocError, Global};
 use std::test::Fail;
 
-/// A text of pieces: one between two others, each of which is repeated so often, and what stands
-/// before and behind all.
+/// A text built of pieces: one between two others, each of which is repeated this
+/// often, and the texts before and after all.
 type Pieces<'a> = (&'a str, &'a str, usize, &'a str, &'a str, &'a str);
 
 fn text_of(alloc: Global, pieces: Pieces<'_>) -> Result<String, AllocError> {
@@ -18,14 +18,14 @@ fn text_of(alloc: Global, pieces: Pieces<'_>) -> Result<String, AllocError> {
     Ok(text)
 }
 
-/// What stands before and behind the expression of the one validation of a specification.
+/// The texts before and after the expression of the only validation of a specification.
 const HEAD: &str = r#"{"validations":[{"expression":""#;
 
 const TAIL: &str = r#""}]}"#;
 
 const SUM_TAIL: &str = r#" == 1"}]}"#;
 
-/// What stands before validations, one of them, and one before others.
+/// The start of a list of validations, one validation, and one that is followed by others.
 const LIST: &str = "{\"validations\":[";
 
 const VALIDATION: &str = r#"{"expression":"true"}"#;
@@ -34,8 +34,8 @@ const BEFORE: &str = r#"{"expression":"true"},"#;
 
 const KIND_HEAD: &str = r#"{"validations":[{"expression":"true"}],"paramKind":{"a":"#;
 
-/// A policy's specification, and why it is refused. Its first list in `paramKind` is four levels
-/// deep in the document, of which 127 are read.
+/// A policy's specification, and its error. Its first list in `paramKind` is four levels deep
+/// in the document; at most 127 levels are read.
 #[rattlefmt::skip]
 const POLICIES: [(Pieces<'static>, Option<&str>); 11] = [
     ((HEAD, "(", 101, "true", ")", TAIL), Some("K6 validation 0 P5 at 100")),
@@ -61,8 +61,8 @@ fn compiles_to_the_limits(rt: HostRuntime) -> Result<(), Fail> {
     Ok(())
 }
 
-/// A specification with 17 validations, each with a text that no other has: two digits, and behind
-/// them 61,998 letters, or this many in the last. They share the text `a`.
+/// A specification with 17 validations, each with a unique text: two digits, followed by 61,998 letters, or by
+/// this many in the last one. They share the text `a`.
 fn with_texts(alloc: Global, last: usize) -> Result<String, AllocError> {
     let mut spec = String::from_str(alloc, LIST)?;
     for i in 0..17 {
@@ -95,8 +95,8 @@ const HAS_ONE: &str = r#"{"validations":[{"expression":"object.items.exists(x, x
 
 const DOUBLES: &str = r#"{"validations":[{"expression":"object.a + object.a == object.a"}]}"#;
 
-/// A policy's specification, the object under review, the most steps, the status, and the refusal,
-/// which is empty where the request is allowed.
+/// A policy's specification, the object under review, the step limit, the status, and the
+/// refusal, which is empty if the request is allowed.
 #[rattlefmt::skip]
 const REVIEWS: [(&str, Pieces<'static>, u64, u8, &str); 3] = [
     (HAS_ONE, ("{\"items\":[1", ",2", 9_999, "", "", "]}"), 1024, 0, ""),

@@ -3,7 +3,7 @@
 use super::{comes_to, policy_of};
 use std::test::Fail;
 
-/// A row a line: a policy's specification, a broken bar and why it is refused.
+/// One row per line: a policy's specification, a broken bar and its error.
 const SPECIFICATIONS: &str = r#"{}¦K3
 {"validations":[]}¦K4
 {"validations":[{"expression":"true","message":"a\nb"}]}¦K8
@@ -30,7 +30,7 @@ fn refuses_specifications(rt: HostRuntime) -> Result<(), Fail> {
     Ok(())
 }
 
-/// A document that is no policy, and why.
+/// Documents that are not policies, with their errors.
 const DOCUMENTS: [(&str, &str); 3] = [("", "K1"), ("{\"apiVersion\":", "K1"), ("[]", "K2")];
 
 #[test]

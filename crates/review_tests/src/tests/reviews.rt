@@ -56,7 +56,7 @@ const TOLD_INT: &str =
 const TOLD_LINES: &str =
     r#"{"validations":[{"expression":"object.spec.replicas <= 3","messageExpression":"'a\\nb'"}]}"#;
 
-/// A policy's specification, the object under review, the most steps, the status and the response.
+/// A policy's specification, the object under review, the step limit, the status and the response.
 const ANSWERED: [(&str, &str, u64, u8, &str); 16] = [
     (MOST, FIVE, DEFAULT_STEPS, 1, MOST_DENIED),
     (MOST, FIVE, 896, 1, MOST_DENIED),
@@ -88,7 +88,7 @@ fn answers_reviews(rt: HostRuntime) -> Result<(), Fail> {
 
 const HALVES: &str = r#"{"spec":{"replicas":1.5}}"#;
 
-/// A policy's specification, the object under review, the most steps, the status and the refusal.
+/// A policy's specification, the object under review, the step limit, the status and the refusal.
 const UNANSWERED: [(&str, &str, u64, u8, &str); 3] = [
     (MOST, HALVES, DEFAULT_STEPS, 3, "N2"),
     (MOST, FIVE, 1, 4, "N4"),

@@ -6,7 +6,7 @@ use std::alloc::{AllocError, Global};
 use std::test::Fail;
 use value_store::{CHARGE_LIMIT, ValueStore};
 
-/// A review of an object, its head, and what stands behind its object.
+/// A review of an object: the text before the object, and the text after it.
 const REVIEW: &[u8] =
     br#"{"apiVersion":"admission.k8s.io/v1","kind":"AdmissionReview","request":{"uid":"u1","object":{"spec":{"replicas":5}}}}"#;
 
@@ -15,7 +15,7 @@ const HEAD: &[u8] =
 
 const TAIL: &[u8] = b"}}";
 
-/// Why these documents are refused.
+/// The error for these documents.
 fn refusal(
     alloc: Global,
     review: Option<&[u8]>,
@@ -33,7 +33,7 @@ fn review_of(alloc: Global, object: &[u8]) -> Result<Vec<u8>, AllocError> {
     Ok(review)
 }
 
-/// What stands at a reference among the roots of the review.
+/// The value at a reference among the roots of the review.
 fn shown(alloc: Global, h: u64) -> Result<String, Fail> {
     let table = roots(alloc, Some(REVIEW), None, None)?;
     if h < table.len() {
@@ -55,7 +55,7 @@ fn shows_roots(rt: HostRuntime) -> Result<(), Fail> {
     Ok(())
 }
 
-/// Objects of reviews, and whether they are refused.
+/// Objects of reviews, and their errors if they are refused.
 const OBJECTS: [(&[u8], Option<RunError>); 5] = [
     (b"{}", None),
     (b"null", None),
@@ -73,7 +73,7 @@ fn refuses_reviews(rt: HostRuntime) -> Result<(), Fail> {
     Ok(())
 }
 
-/// Documents beside the review, and whether they are refused.
+/// Documents other than the review, and their errors if they are refused.
 const OTHERS: [(&[u8], Option<RunError>); 4] = [
     (b"{}", None),
     (b"1", Some(NamespaceOrParamsRefused)),
@@ -94,7 +94,7 @@ fn refuses_namespaces_and_params(rt: HostRuntime) -> Result<(), Fail> {
     Ok(())
 }
 
-/// Lists nested so deep, with an object around them.
+/// Lists nested to this depth, in an object.
 fn nested(alloc: Global, depth: usize) -> Result<Vec<u8>, AllocError> {
     let mut object = Vec::from_slice(alloc, b"{\"a\":")?;
     for _ in 0..depth {
@@ -107,7 +107,7 @@ fn nested(alloc: Global, depth: usize) -> Result<Vec<u8>, AllocError> {
     Ok(object)
 }
 
-/// The review has the object three levels deep, and 127 are read.
+/// The object is three levels deep in the review; at most 127 levels are read.
 #[test]
 fn refuses_deep_reviews(rt: HostRuntime) -> Result<(), Fail> {
     for (depth, cause) in [
@@ -121,7 +121,7 @@ fn refuses_deep_reviews(rt: HostRuntime) -> Result<(), Fail> {
     Ok(())
 }
 
-/// An object whose text alone has as many bytes as may be charged.
+/// An object with a text of as many bytes as may be charged.
 #[test]
 fn refuses_large_reviews(rt: HostRuntime) -> Result<(), Fail> {
     let mut object = Vec::from_slice(rt.alloc(), b"{\"a\":\"")?;

@@ -1,9 +1,9 @@
-//! Reviews under policies that were drawn from a seed.
+//! Reviews under random policies, drawn from a seed.
 //!
-//! A row is a line: a policy's specification, the object under review, the policy's work, the most that may be
-//! charged, the status and the response, with broken bars between them. `tools/seeded-policies --rows` makes the rows
-//! again. Work, charge and response are those of an evaluator that was written apart. What may be charged is the
-//! charge of the roots and 16 for each unit that is spent. No value of a row is too deep.
+//! A row is a line: a policy's specification, the object under review, the policy's work, the maximum charge, the
+//! status and the response, separated by broken bars. `tools/seeded-policies --rows` makes the rows again. Work,
+//! charge and response are those of an independently written evaluator. The maximum charge is that of the roots plus
+//! 16 for each unit of work. No value of a row is too deep.
 
 mod rows_1;
 mod rows_10;
@@ -21,7 +21,7 @@ use std::alloc::{AllocError, Global};
 use std::test::Fail;
 use value_store::CHARGE_LIMIT;
 
-/// The steps for each unit of work within which a program stops.
+/// The number of steps per unit of work within which a program ends.
 const STEPS_A_UNIT: u64 = 128;
 
 /// Whether the review of the row is answered within its steps, with its status and response.
@@ -32,13 +32,13 @@ fn is_answered(alloc: Global, row: &Row<'_>) -> Result<bool, AllocError> {
     Ok(answers(&done, row.status, &wanted))
 }
 
-/// Whether the review of this object still runs after no step.
+/// Whether the review of this object is still running after 0 steps.
 fn is_unended(alloc: Global, spec: &str, object: &str) -> Result<bool, AllocError> {
     let done = reviewed(alloc, spec, object, 0)?;
     Ok(is_refused(&done, 4, "celbpf: N4\n"))
 }
 
-/// What the row says, where it has all its parts.
+/// The parts of a row.
 #[derive(Drop)]
 struct Row<'a> {
     spec: &'a str,
@@ -62,15 +62,15 @@ fn row_of(line: &str) -> Option<Row<'_>> {
     })
 }
 
-/// Whether the row holds: its charge is within the limit, and the review is answered within its steps, but not within
-/// none.
+/// Whether the row holds: its charge is within the limit, and the review is answered
+/// within its steps, but not within 0 steps.
 fn stands(alloc: Global, row: &Row<'_>) -> Result<bool, AllocError> {
     let is_answered = is_answered(alloc, row)?;
     let is_unended = is_unended(alloc, row.spec, row.object)?;
     Ok(row.charge <= CHARGE_LIMIT && is_answered && is_unended)
 }
 
-/// Whether the row of this line stands.
+/// Whether the row of this line holds.
 fn line_stands(alloc: Global, line: &str) -> Result<bool, AllocError> {
     match row_of(line) {
         Some(row) => stands(alloc, &row),
@@ -78,7 +78,7 @@ fn line_stands(alloc: Global, line: &str) -> Result<bool, AllocError> {
     }
 }
 
-/// How many of the lines have rows that stand, and how many lines there are.
+/// The number of lines whose rows hold, and the number of lines.
 fn standing(alloc: Global, lines: &str) -> Result<(u64, u64), AllocError> {
     let (mut standing, mut all) = (0u64, 0u64);
     for line in lines.lines() {
