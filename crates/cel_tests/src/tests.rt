@@ -1,4 +1,4 @@
-//! What the tables share.
+//! Definitions that the tests share.
 
 use cel_macros::{Core, expand};
 use cel_reader::{Expr, read};
@@ -11,7 +11,7 @@ mod tokens;
 mod trees;
 mod types;
 
-/// A text of so many such units, and more.
+/// The text `unit` repeated `count` times, followed by `more`.
 pub fn repeated(alloc: Global, unit: &str, count: usize, more: &str) -> Result<String, AllocError> {
     let mut text = unit.repeat(alloc, count)?;
     text.push_str(more)?;
@@ -28,7 +28,7 @@ pub fn core(alloc: Global, text: &str) -> Option<Core> {
     expand(alloc, tree(alloc, text)?).ok()
 }
 
-/// A line of a table of texts: what stands before its broken bar, and behind it.
+/// A line of a table of texts: the text before its broken bar, and the text after it.
 pub fn cells(line: &str) -> (&str, &str) {
     line.split_once('¦').unwrap_or((line, ""))
 }

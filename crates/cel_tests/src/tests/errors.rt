@@ -1,4 +1,4 @@
-//! The codes and the words of errors.
+//! Codes and messages of errors.
 
 use MacroError::{HasWithoutSelection, InvalidIterationName, WrongArgumentCount};
 use ReadError::{
@@ -12,12 +12,12 @@ use std::alloc::{AllocError, Global};
 use std::fmt::Display;
 use std::test::Fail;
 
-/// Whether the error has these words.
+/// Whether the error has this message.
 fn has_words<E: Display>(alloc: Global, error: &E, words: &str) -> Result<bool, AllocError> {
     Ok(format!(in alloc; "{error}")?.as_str() == words)
 }
 
-/// The errors of a text, with their codes and words.
+/// The errors of a text, with their codes and messages.
 #[rattlefmt::skip]
 const READ_ERRORS: [(ReadError, &str, &str); 7] = [
     (UnknownCharacter(3), "P1", "no token begins at byte 3"),
@@ -29,7 +29,7 @@ const READ_ERRORS: [(ReadError, &str, &str); 7] = [
     (ReadError::Memory, "memory", "out of memory"),
 ];
 
-/// The errors of macros, with their codes and words.
+/// The errors of macros, with their codes and messages.
 #[rattlefmt::skip]
 const MACRO_ERRORS: [(MacroError, &str, &str); 4] = [
     (WrongArgumentCount, "M1", "a macro has another number of arguments"),
@@ -38,7 +38,7 @@ const MACRO_ERRORS: [(MacroError, &str, &str); 4] = [
     (MacroError::Memory, "memory", "out of memory"),
 ];
 
-/// The errors of types, with their codes and words.
+/// The errors of types, with their codes and messages.
 const TYPE_ERRORS: [(TypeError, &str, &str); 3] = [
     (UnknownIdentifier, "Y1", "a name is unknown"),
     (

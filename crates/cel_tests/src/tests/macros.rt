@@ -1,4 +1,4 @@
-//! Macros that are expanded, and why others are not, worked by hand.
+//! Expansions of macros, and why others are refused, worked out by hand.
 
 use super::cells;
 use MacroError::{HasWithoutSelection, InvalidIterationName, WrongArgumentCount};
@@ -7,7 +7,7 @@ use cel_reader::read;
 use std::alloc::Global;
 use std::test::Fail;
 
-/// Texts, and why they are not expanded.
+/// Texts, with the error of their expansion.
 const REFUSED: [(&str, Option<MacroError>); 22] = [
     ("[1].all(x)", Some(WrongArgumentCount)),
     ("has()", Some(WrongArgumentCount)),
@@ -36,7 +36,7 @@ const REFUSED: [(&str, Option<MacroError>); 22] = [
     ("f(1, x.g(2)[y])", None),
 ];
 
-/// A row a line: a text, a broken bar and its expanded expression.
+/// One row per line: a text, a broken bar and its expanded expression.
 const EXPANDED: &str = r#"variables.v¦Variable("v")
 (variables).v.x¦Select(Variable("v"), "x")
 variables['v']¦Index(Name("variables"), Literal(Text("v")))
@@ -51,13 +51,13 @@ x.map(i, i, 1)¦FoldMap("i", Name("x"), Name("i"), Literal(Int(1)))
 [x.filter(i, !i)]¦List([Fold(Filter, "i", Name("x"), Unary(Not, Name("i")))])
 {'a': x.exists(i, i)}¦Map([(Literal(Text("a")), Fold(Exists, "i", Name("x"), Name("i")))])"#;
 
-/// Why the text is not expanded.
+/// The error of the text's expansion, if any.
 fn refusal(alloc: Global, text: &str) -> Result<Option<MacroError>, Fail> {
     let tree = read(alloc, text)?;
     Ok(expand(alloc, tree).err())
 }
 
-/// The expanded expression in words.
+/// The expanded expression as a debug text.
 fn spelled(alloc: Global, text: &str) -> Result<String, Fail> {
     let tree = read(alloc, text)?;
     let core = expand(alloc, tree)?;

@@ -1,4 +1,4 @@
-//! Measures, worked by hand.
+//! Measures of expressions, worked out by hand.
 
 use super::{core, repeated};
 use cel_measures::{depth, need, nodes};
@@ -6,7 +6,7 @@ use cel_types::{CelType, Scope};
 use std::alloc::{AllocError, Global};
 use std::test::Fail;
 
-/// Texts, their nodes and their needs.
+/// Texts, with their nodes and needs.
 #[rattlefmt::skip]
 const MEASURED: [(&str, u64, u64); 38] = [
     ("1", 1, 1),
@@ -49,7 +49,7 @@ const MEASURED: [(&str, u64, u64); 38] = [
     ("(1 + (1 + (1 + (1 + (1 + (1 + (1 + 1))))))).map(x, true, x)", 18, 8),
 ];
 
-/// Texts, and the depth of a variable with this expression, where `v` has depth 1 and `w` has 3.
+/// Texts, and the depth of a variable with this expression, if `v` has depth 1 and `w` has depth 3.
 const DEPTHS: [(&str, u64); 25] = [
     ("1", 1),
     ("object.v", 1),
@@ -117,7 +117,7 @@ fn measures_depths(rt: HostRuntime) {
     }
 }
 
-/// The text of so many plus signs, nested to the right.
+/// The text of this many plus signs, nested to the right.
 fn sums(alloc: Global, signs: usize) -> Result<String, AllocError> {
     let close = ")".repeat(alloc, signs)?;
     let mut text = repeated(alloc, "1+(", signs, "1")?;

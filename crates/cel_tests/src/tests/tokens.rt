@@ -1,4 +1,4 @@
-//! Tokens of texts, and why others have none, worked by hand.
+//! Tokens of texts, and why others have none, worked out by hand.
 
 use super::repeated;
 use ReadError::{IntOutOfRange, InvalidTextLiteral, TextTooLong, UnknownCharacter};
@@ -6,7 +6,7 @@ use cel_tokens::{ReadError, Token, tokens};
 use std::alloc::{AllocError, Global};
 use std::test::Fail;
 
-/// Texts, and their tokens: place, end and kind of each.
+/// Texts, and their tokens: position, end and kind of each.
 const READ: [(&str, &str); 14] = [
     ("--1", "0-1 Mark 1-3 Int(-1) "),
     ("1-1", "0-1 Int(1) 1-2 Mark 2-3 Int(1) "),
@@ -24,7 +24,7 @@ const READ: [(&str, &str); 14] = [
     ("<=<", "0-2 Mark 2-3 Mark "),
 ];
 
-/// Texts that have no tokens, and why.
+/// Texts without tokens, with their errors.
 const REFUSED: [(&str, ReadError); 12] = [
     ("a # b", UnknownCharacter(2)),
     ("a | b", UnknownCharacter(2)),
@@ -40,12 +40,12 @@ const REFUSED: [(&str, ReadError); 12] = [
     ("- 9223372036854775809", IntOutOfRange(2)),
 ];
 
-/// The token in words.
+/// The token as a debug text.
 fn words(alloc: Global, token: &Token) -> Result<String, AllocError> {
     format!(in alloc; "{}-{} {:?} ", token.place, token.end, token.kind)
 }
 
-/// The tokens in words.
+/// The tokens as debug texts.
 fn spelled(alloc: Global, tokens: &[Token]) -> Result<String, AllocError> {
     let mut out = String::new(alloc);
     for token in tokens {
@@ -54,7 +54,7 @@ fn spelled(alloc: Global, tokens: &[Token]) -> Result<String, AllocError> {
     Ok(out)
 }
 
-/// Why the text has no tokens.
+/// The error of the text, if it has no tokens.
 fn refusal(alloc: Global, text: &str) -> Option<ReadError> {
     tokens(alloc, text).err()
 }
@@ -76,7 +76,7 @@ fn refuses_texts(rt: HostRuntime) {
     }
 }
 
-/// How often a text stands before another, and why both have no tokens.
+/// How often a text is repeated before another, and the error of the whole.
 const LIMITS: [(&str, usize, &str, Option<ReadError>); 6] = [
     ("(", 4_096, "", None),
     ("(", 65_536, "", Some(TextTooLong(4_096))),

@@ -1,4 +1,4 @@
-//! Trees of texts, and why others have none, worked by hand.
+//! Trees of texts, and why others have none, worked out by hand.
 
 use super::{cells, repeated};
 use ReadError::{
@@ -8,7 +8,7 @@ use cel_reader::{ReadError, read};
 use std::alloc::Global;
 use std::test::Fail;
 
-/// A row a line: a text, a broken bar and its tree.
+/// One row per line: a text, a broken bar and its tree.
 const TREES: &str = r#"--1¦Unary(Negate, Literal(Int(-1)))
 -9223372036854775808¦Literal(Int(-9223372036854775808))
 R'\d'¦Literal(Text("\\d"))
@@ -48,7 +48,7 @@ a in b¦Binary(In, Name("a"), Name("b"))
 a ? b : c ? d : e¦Ternary(Name("a"), Name("b"), Ternary(Name("c"), Name("d"), Name("e")))
 (a ? b : c) ? d : e¦Ternary(Ternary(Name("a"), Name("b"), Name("c")), Name("d"), Name("e"))"#;
 
-/// Texts that are no expression, and why.
+/// Texts that are not expressions, with their errors.
 const REFUSED: [(&str, ReadError); 36] = [
     ("namespace", UnexpectedToken(0)),
     ("f(1,)", UnexpectedToken(4)),
@@ -88,8 +88,7 @@ const REFUSED: [(&str, ReadError); 36] = [
     ("'\\ud800'", InvalidTextLiteral(0)),
 ];
 
-/// At the limits and beyond them: a unit, how often it stands, what follows it, and why the text is
-/// no expression.
+/// Texts at the limits and beyond them: a unit, how often it is repeated, the text after it, and the error.
 const LIMITS: [(&str, usize, &str, Option<ReadError>); 14] = [
     ("(", 101, "", Some(TooManyOpen(100))),
     ("[", 101, "", Some(TooManyOpen(100))),
@@ -107,7 +106,7 @@ const LIMITS: [(&str, usize, &str, Option<ReadError>); 14] = [
     (" ", 65_537, "", Some(TextTooLong(65_536))),
 ];
 
-/// The tree of the text in words.
+/// The tree of the text as a debug text.
 fn spelled(alloc: Global, text: &str) -> Result<String, Fail> {
     let tree = read(alloc, text)?;
     Ok(format!(in alloc; "{tree:?}")?)
@@ -122,7 +121,7 @@ fn reads_texts(rt: HostRuntime) -> Result<(), Fail> {
     Ok(())
 }
 
-/// Why the text is no expression.
+/// The error of the text, if it is not an expression.
 fn refusal(alloc: Global, text: &str) -> Option<ReadError> {
     read(alloc, text).err()
 }

@@ -1,5 +1,5 @@
-//! The rows of the table of types, with operands of each type that they take, with Dyn in each
-//! place, and with one that they refuse; worked by hand.
+//! The rows of the type table, with operands of each type that they accept, with Dyn as each operand, and
+//! with one that they refuse; worked out by hand.
 
 use super::{core, repeated};
 use cel_types::{CelType, Scope, TypeError, check};
@@ -9,7 +9,7 @@ use std::test::Fail;
 
 mod grids;
 
-/// What is answered to an expression.
+/// The type of an expression, or its error.
 type Answer = Result<CelType, TypeError>;
 
 const BOOL: Answer = Ok(CelType::Bool);
@@ -283,7 +283,7 @@ const MACROS: [(&str, Answer); 35] = [
     ("[1].map(i, variables, x)", MisusedVariables),
 ];
 
-/// A scope where `variables.v` is an int and `variables.s` a text.
+/// A scope in which `variables.v` is an int and `variables.s` a text.
 fn scope(alloc: Global) -> Result<Scope, AllocError> {
     let mut scope = Scope::new(alloc);
     scope.add("v", CelType::Int, 1)?;
@@ -291,14 +291,14 @@ fn scope(alloc: Global) -> Result<Scope, AllocError> {
     Ok(scope)
 }
 
-/// The answer to the text's expression in that scope.
+/// The type of the text's expression in that scope, or its error.
 fn answer(alloc: Global, text: &str) -> Option<Answer> {
     let core = core(alloc, text)?;
     let scope = scope(alloc).ok()?;
     Some(check(&core, &scope))
 }
 
-/// Asserts each of these answers.
+/// Asserts each of these types and errors.
 fn assert_answers(rt: &impl Abort, alloc: Global, rows: &[(&str, Answer)]) {
     for (text, wanted) in rows {
         assert_eq!(rt; answer(alloc, text), Some(*wanted), "row {text}");

@@ -1,4 +1,4 @@
-//! Operands of every type in every place that the table of types has, worked by hand.
+//! Operands of every type for each operand in the type table, worked out by hand.
 
 use super::{Answer, BOOL, DYN, INT, LIST, MAP, NULL, NoMatchingOverload, STRING, answer};
 use std::alloc::{AllocError, Global};
@@ -8,13 +8,13 @@ use std::test::Fail;
 /// One operand of each type: Bool, Int, String, Null, List, Map, Dyn.
 const OPERANDS: [&str; 7] = ["true", "1", "'a'", "null", "[]", "{}", "object"];
 
-/// What is answered where the operand is of each type, in the order above.
+/// The result for an operand of each type, in the order above.
 type Line = [Answer; 7];
 
 /// A line for each type of the first operand, with a column for each type of the second one.
 type Grid = [Line; 7];
 
-/// What stands before two operands, between them and behind them.
+/// The texts before two operands, between them and after them.
 type Form = (&'static str, &'static str, &'static str);
 
 /// Sums.
@@ -84,7 +84,7 @@ const JOINED: Grid = [
     ],
 ];
 
-/// Differences, products, quotients and their rests.
+/// Differences, products, quotients and remainders.
 const COMPUTED: Grid = [
     [
         NoMatchingOverload,
@@ -604,7 +604,7 @@ const TESTED: Grid = [
     ],
 ];
 
-/// A range and a predicate of a macro that answers a truth.
+/// A range and a predicate of a macro that returns a bool.
 const QUANTIFIED: Grid = [
     [
         NoMatchingOverload,
@@ -671,7 +671,7 @@ const QUANTIFIED: Grid = [
     ],
 ];
 
-/// A range and a predicate of a macro that answers a list.
+/// A range and a predicate of a macro that returns a list.
 const SELECTED: Grid = [
     [
         NoMatchingOverload,
@@ -832,7 +832,7 @@ const PAIRED: Grid = [
     [MAP, MAP, MAP, MAP, MAP, MAP, MAP],
 ];
 
-/// What stands before an operand and behind it, and what is answered.
+/// The texts before an operand and after it, and the results.
 const SINGLES: [(&str, &str, Line); 13] = [
     (
         "!",
@@ -993,7 +993,7 @@ const SINGLES: [(&str, &str, Line); 13] = [
     ),
 ];
 
-/// The forms of two operands, and what they answer.
+/// The forms of two operands, with their results.
 const FORMS: [(Form, &Grid); 28] = [
     (("", " + ", ""), &JOINED),
     (("", " - ", ""), &COMPUTED),
@@ -1031,12 +1031,12 @@ fn filled(alloc: Global, form: Form, first: &str, second: &str) -> Result<String
     format!(in alloc; "{front}{first}{middle}{second}{back}")
 }
 
-/// Asserts what the checker answers to this text.
+/// Asserts the checker's result for this text.
 fn assert_answer(rt: &impl Abort, alloc: Global, text: &str, wanted: Answer) {
     assert_eq!(rt; answer(alloc, text), Some(wanted), "row {text}");
 }
 
-/// Asserts what the form answers behind this operand.
+/// Asserts the results for the form with this first operand.
 fn assert_line(
     rt: &impl Abort,
     alloc: Global,
