@@ -8,7 +8,7 @@ use Rattle.expression_code.proofs.Effects.{operand_is, register_set}
 pub has_word : (depth k : ℕ) (b : CpuState) → Framed depth b → k < frame_words → HasWord b.memory.stack (stack_index depth k)
 has_word depth k b f below = grind arith
 
--- a region has word i where its first words are so many
+-- a region has word i if it is long enough
 pub has_memo : (i : ℕ) (m : Memory) → IsMemory m → i < memo_limit → HasWord m.scratch i
 has_memo i m is below = let long = is.scratch in omega arith
 
@@ -35,12 +35,12 @@ module _ (image : Image) (p : ℕ) (b : CpuState) where
       ap (λ (w : ℕ). stored (write_of b.memory ((b.registers R10 + cast_unsigned w64 (word_offset k)) % 2 ^ 64) bytes.Dw w) (at image p b)) (operand_is image p b (Reg src))
       ∙ ap (λ (r : Result Memory Fault). stored r (at image p b)) write
 
-  -- a word of a region is loaded through a register that has its address
+  -- a word of a region is loaded through a register that holds its address
   pub load_word_does : (r : Region) (i : ℕ) (dst src : Register) → IsMemory b.memory → HasWord (bytes_in r b.memory) i → b.registers src ≡ base_of r + 8 * i → b.registers src < 2 ^ 64 → is_frame_pointer dst ≡ false → load_row Dw dst src (pos 0) (at image p b) ≡ at image (p + 1) (set_register b dst (word_in (bytes_in r b.memory) i))
   unfolding load_row
   load_word_does r i dst src is below e small free = grind (arith, read_word, operand_is, register_set)
 
-  -- and stored
+  -- a word of a region is stored through such a register
   pub store_word_does : (r : Region) (i : ℕ) (dst src : Register) → IsMemory b.memory → (r ≡ Constants → ⊥) → HasWord (bytes_in r b.memory) i → b.registers dst ≡ base_of r + 8 * i → b.registers dst < 2 ^ 64 → store_row Dw dst (pos 0) (Reg src) (at image p b) ≡ at image (p + 1) (record b { memory = with_bytes r (put_word (bytes_in r b.memory) i (b.registers src)) b.memory })
   unfolding store_row
   store_word_does r i dst src is writable below e small = grind (arith, write_word, operand_is)

@@ -1,4 +1,4 @@
--- The code of sums and differences of ints, and of joining, gives their meaning.
+-- The code of sums, differences and concatenations gives their values.
 -- For the laws in `specs/Gives/Arithmetic`.
 use Rattle.expression_code.proofs.Prelude.{◌≡◌, ℕ, ◌+◌, ◌^◌, ◌<◌, ◌≤◌, List, Some, refl, sym, subst, arith, suc, [], ◌∷◌, ◌++◌, None, ℤ, pos, ◌+ℤ◌, ◌-ℤ◌, FitsSigned, slice_get, ◌⊎◌, w64, cast_signed, cast_unsigned, IsSigned, signed_of, Names, AluOp, Add, Sub, Comparison, Sge, Sgt, Sle, Slt, Insn, Call, Register, R0, R1, R6, R7, R10, R2, W64, ValueOrError, error, value, int, fits, int_or_error, difference, difference_of, int_part, on_ints, sum_of, alu_result, CpuState, set_register, checked_tail, difference_tail, sum_tail, difference_code, int_operands, sum_code, Context, IsWellFormedState, LeavesValue, RunContext, RunsTo, IsCodeAt, size, slots, answered, IsResultBounded, joined, AdditionsGive, TailGives, join_of, joined_length, Combines, ints, frame_words}
 use Rattle.expression_code.proofs.Sites.{Site, Budget, site_at, in_frame, budget, CombinesAt}
@@ -13,13 +13,13 @@ use Rattle.expression_code.proofs.Operands.{are_ints, are_others, int_is}
 use Rattle.expression_code.proofs.Pieces.{runs_both, shown_behind, size-append, stands_back, stands_front}
 use Rattle.expression_code.specs.Instructions as insn
 
--- ---- the piece of two ints, whose words are in R6 and R7
+-- ---- the piece for two ints, whose words are in R6 and R7
 
 pub record OnInts (s : RunContext) (p : ℕ) (tail : List Insn) (c : Context) (depth k : ℕ) (m n : ℤ) (z : ValueOrError) (steps charge : ℕ) : Type 0 where
   pub runs : (b : CpuState) → IsCodeAt s.image.code p tail → IsWellFormedState c depth k b → b.registers R6 ≡ cast_unsigned w64 m → b.registers R7 ≡ cast_unsigned w64 n
       → FitsSigned w64 m → FitsSigned w64 n → RunsTo s steps charge p b (p + size tail) (LeavesValue c depth k z b)
 
--- the answer is the int whose word is in R1: three slots call for it and go on behind the error
+-- the result is the int whose word is in R1: three slots create it and jump past the error
 module _ (s : RunContext) (c : Context) (depth k o : ℕ) (low : k ≤ frame_words) (piece : List Insn) (has : IsCodeAt s.image.code o piece) (i : ℕ) (call_at : slice_get (slots piece) i ≡ Some (Some (Call (pos 3)))) (jump_at : slice_get (slots piece) (i + 1) ≡ Some (Some (insn.ja 1))) (error_at : slice_get (slots piece) (i + 1 + 1) ≡ Some (Some (insn.mov_imm R0 (pos 0)))) where
   pub answers_int : {t u : ℕ} (b : CpuState) (registers : Register → ℕ) (z : ValueOrError) → registers R10 ≡ b.registers R10 → IsWellFormedState c depth k b
       → registers R1 < 2 ^ 64 → value (int (cast_signed w64 (registers R1))) ≡ z
@@ -98,13 +98,13 @@ difference_runs s p c depth k m n low = record {
   runs = λ b has fits first second fm fn. checked_runs Sub Sle Sgt (λ a z. a -ℤ z) difference_checked s c depth k p low m n has b fits first second fm fn;
 }
 
--- ---- behind operands
+-- ---- after operands
 
--- an int that is named in a table fits
+-- an int in a table fits
 pub int_fits : (c : Context) (depth base r : ℕ) (x : ValueOrError) (z : ℤ) (b : CpuState) → IsWellFormedState c depth base b → Names b.values.values r x → int_part x ≡ Some z → FitsSigned w64 z
 int_fits c depth base r x z b fits named is = subst (IsResultBounded b.values.charge) (int_is x z is) (all_at b.values.charge b.values.values r x fits.values.table.bounded named)
 
--- ---- operands that are to be ints, and a piece that ends with the error for others
+-- ---- operands that must be ints, and a piece that ends with the error for others
 
 module _ (f : ℤ → ℤ → ValueOrError) (s : RunContext) (p k off : ℕ) (tail : List Insn) (c : Context) (depth steps charge : ℕ) (x y : ValueOrError) (long : size tail ≡ off + 1) (error_at : slice_get (slots tail) off ≡ Some (Some (insn.mov_imm R0 (pos 0)))) (gives : (m n : ℤ) → OnInts s (p + 12) tail c depth k m n (f m n) steps charge) (has : IsCodeAt s.image.code p (int_operands off ++ tail)) (b : CpuState) (fits : IsWellFormedState c depth k b) (left : Names b.values.values (b.registers R6) x) (right : Names b.values.values (b.registers R7) y) where
   abbrev whole : ℕ
@@ -134,7 +134,7 @@ module _ (f : ℤ → ℤ → ValueOrError) (s : RunContext) (p k off : ℕ) (ta
   pub ints_run : RunsTo s (12 + steps) (4 + charge) p b whole (LeavesValue c depth k (on_ints f (int_part x) (int_part y)) b)
   ints_run = grind (arith, of_ints, of_others)
 
--- a piece for two ints makes a piece for any operands
+-- a piece for two ints gives a piece for any operands
 pub ints_give : (f : ℤ → ℤ → ValueOrError) (site : Site) (off : ℕ) (tail : List Insn) (t : Budget) (x y : ValueOrError) → size tail ≡ off + 1 → slice_get (slots tail) off ≡ Some (Some (insn.mov_imm R0 (pos 0))) → ((m n : ℤ) → OnInts site.setting (site.slot + 12) tail site.frame.context site.frame.depth site.frame.base m n (f m n) t.steps t.charge) → CombinesAt site (int_operands off ++ tail) R6 R7 x y (on_ints f (int_part x) (int_part y)) (budget (12 + t.steps) (4 + t.charge))
 ints_give f site off tail t x y long error_at gives = record { runs = λ b has fits left right. ints_run f site.setting site.slot site.frame.base off tail site.frame.context site.frame.depth t.steps t.charge x y long error_at gives has b fits left right }
 
@@ -144,7 +144,7 @@ difference_gives s p k c depth x y low =
 
 -- ---- `+`
 
--- all but two ints is joined
+-- everything but two ints is concatenated
 sum_is : (x y : ValueOrError) → (int_part x ≡ None) ⊎ (int_part y ≡ None) → sum_of x y ≡ join_of x y
 sum_is x y none = grind arith
 

@@ -1,11 +1,11 @@
--- The code of comparisons and of membership gives their meaning.
+-- The code of comparisons and of membership gives their values.
 -- For the laws in `specs/Gives/Comparison`.
 use Rattle.expression_code.proofs.Prelude.{◌≡◌, ℕ, ◌+◌, ◌<◌, List, ◌∷◌, subst, arith, pos, Insn, Register, R0, R1, R2, ValueOrError, equal_of, less_of, member_of, not_of, equal_tail, less_tail, not_less_tail, opposite_of, unequal_tail, not_tail, Context, RunContext, ComparisonGives, TailGives, mov_reg, Combines, size, frame_words}
 use Rattle.expression_code.proofs.Sites.{Site, Budget, site_at, in_frame, budget, CombinesAt}
 use Rattle.expression_code.proofs.HelperAnswers.{helpers}
 use Rattle.expression_code.proofs.Operators.{call_on_result, calls_give, combines_then}
 
--- a tail whose meaning has another form
+-- a tail whose value is stated in another form
 same_tail : (site : Site) (tail : List Insn) (r q : Register) (x y z w : ValueOrError) (t : Budget) → z ≡ w
     → CombinesAt site tail r q x y z t → CombinesAt site tail r q x y w t
 same_tail site tail r q x y z w t e h = subst (λ (v : ValueOrError). Combines site.setting site.slot tail r q site.frame.context site.frame.depth site.frame.base x y v t.steps t.charge) e h

@@ -1,4 +1,4 @@
--- What each instruction makes of a CPU state.
+-- The effect of each instruction on a CPU state.
 use Rattle.expression_code.proofs.Prelude.{◌≡◌, ℕ, ◌+◌, ◌%◌, ◌^◌, Some, refl, ap, arith, true, false, ◌-◌, ◌<◌, List, [], ◌∷◌, ◌++◌, length, take, ◌∙◌, length-append, ℤ, pos, ◌+ℤ◌, not, if◌then◌else◌, slice_get, nat_le, eq-eqb, eqb-true, ne_eqb, alu64_of, operated, holds_of, AluOp, Eq, Ne, W64, Comparison, Insn, Operand, Register, Width, Image, load_wide_row, alu_row, fetched, branch_row, jump_row, call_local_row, exit_row, newest, returned, is_frame_pointer, jumped, operand_word, with_register, stopped_by, executed, next_state, step_is_row, alu_result, compares, CpuState, at, set_register, operand_in, take-append_seam, F8, HelperAnswer, charged, R0, R10, charge_limit, ValueOrError, call_row, Frame, Exited, HelperReturns, Refuses, answered, entered, frame_at, resumed, Framed, record_limit, frame_length}
 use Rattle.insn_codec.specs.declared.alu_op.AluOp.TheVariants as op
 use Rattle.bpf_machine.specs.HelperCalls as machine
@@ -11,7 +11,7 @@ module _ (image : Image) (p : ℕ) (b : CpuState) where
   pub register_set : (q : ℕ) (r : Register) (w : ℕ) → with_register r w (at image q b) ≡ at image q (set_register b r w)
   register_set q r w = ap (λ rs. record (at image q b) { registers = rs }) (grind arith)
 
-  -- the machine does the instruction that stands at its slot
+  -- the machine executes the instruction at its slot
   pub does : (i : Insn) → fetched image.code (pos p) ≡ Some (Some i) → next_state (at image p b) ≡ executed i (at image p b)
   does i h = step_is_row (at image p b) i refl h
 
@@ -33,7 +33,7 @@ module _ (image : Image) (p : ℕ) (b : CpuState) where
   unfolding branch_row
   branch_does comparison width dst operand offset = grind (arith, operand_is)
 
--- what arithmetic on whole words gives
+-- the results of arithmetic on whole words
 pub mov_is : (dst operand : ℕ) → alu_result W64 op.Mov dst operand ≡ operand
 unfolding alu64_of operated
 mov_is dst operand = refl
@@ -42,7 +42,7 @@ pub add_is : (dst operand : ℕ) → alu_result W64 op.Add dst operand ≡ (dst 
 unfolding alu64_of operated
 add_is dst operand = refl
 
--- what comparisons of whole words say
+-- the results of comparing whole words
 pub equal_yes : (left right : ℕ) → left ≡ right → compares W64 Eq left right ≡ true
 unfolding holds_of
 equal_yes left right e = eq-eqb left right e
@@ -91,7 +91,7 @@ module _ (image : Image) (p : ℕ) (b : CpuState) where
   unfolding exit_row
   exit_returns caller q frames pointer small = grind (arith, newest-last, older)
 
-  -- a helper's answer is charged, and stops where that is above the limit
+  -- the cost of a helper call is charged, and the machine stops if that is above the limit
   pub call_answers : (helper : ℤ) (w cost : ℕ) (list : List ValueOrError) → HelperReturns helper b w list cost → call_row helper (at image p b) ≡ (if nat_le (b.values.charge + cost) charge_limit then at image (p + 1) (answered b w list (b.values.charge + cost)) else stopped_by F8 (at image p b))
   unfolding call_row
   call_answers helper w cost list e = grind arith

@@ -1,4 +1,4 @@
--- Code that comes to an exit.
+-- Code that reaches an exit.
 use Rattle.expression_code.proofs.Prelude.{◌≡◌, ℕ, ◌+◌, ◌<◌, refl, sym, ap, ◌∙◌, subst, arith, [], Some, pos, Exit, R0, fetched, state_after-more, stays_stopped, State, is_running, next_state, state_after, Exited, CpuState, at, RunContext, RunEnds, Faulted, Arrived, RunsToExit, ExitsOrRunsOut, OutOfBudget, LeavesByExit, pending}
 use Rattle.expression_code.proofs.Effects.{does, exit_ends}
 use Rattle.expression_code.proofs.FirstUses.{uses-pending}

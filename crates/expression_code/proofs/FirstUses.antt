@@ -1,4 +1,4 @@
--- What runs take for the first uses of variables: stretches of a run add up, and more variables or calls take no less.
+-- The cost of first uses in runs: it adds up over parts of a run, and more variables or calls never lower it.
 use Rattle.expression_code.proofs.Prelude.{◌≡◌, ℕ, suc, ◌+◌, ◌≤◌, List, [], ◌∷◌, ◌++◌, length, Bool, true, refl, arith, nat_eq, if◌then◌else◌, eq-eqb, eqb-true, word_in, Image, Frame, OwnBudgets, FirstUse, StayFilled, cost_where, first_uses, is_first_use, is_open, pending, total}
 use Rattle.std.specs.Prelude.{map}
 
@@ -37,7 +37,7 @@ still_empty old new stay i e = eq-eqb (word_in old i) 0 (stay i (eqb-true (word_
 -- ---- all variables
 
 module _ (image : Image) (variables : List FirstUse) (cost : FirstUse → ℕ) where
-  -- what is first used in a stretch is not first used in the next one
+  -- a variable that is first used in one part of a run is not first used in the next
   pub uses-join : (old between new : List ℕ) (calls : List Frame) → StayFilled old between → StayFilled between new
       → first_uses image variables cost old between [] + first_uses image variables cost between new calls ≤ first_uses image variables cost old new calls
   uses-join old between new calls first second = grind (arith, cost-both, still_empty)
@@ -55,12 +55,12 @@ module _ (image : Image) (variables : List FirstUse) (cost : FirstUse → ℕ) w
   pub uses-most : (old new : List ℕ) (calls : List Frame) → first_uses image variables cost old new calls ≤ total (map cost variables)
   uses-most old new calls = cost-total cost _ 0 variables
 
-  -- more variables take no less
+  -- more variables never lower the cost
   pub uses-more : (more : List FirstUse) (old new : List ℕ) (calls : List Frame)
       → first_uses image variables cost old new calls ≤ first_uses image (variables ++ more) cost old new calls
   uses-more more old new calls = grind (arith, cost-append)
 
-  -- one that is first used behind these is paid
+  -- the cost covers a variable after these that is first used
   pub uses-with : (v : FirstUse) (later : List FirstUse) (old new : List ℕ) (calls : List Frame)
       → is_first_use (word_in old (length variables)) (word_in new (length variables)) (is_open image v.routine calls) ≡ true
       → first_uses image variables cost old new calls + cost v ≤ first_uses image (variables ++ v ∷ later) cost old new calls

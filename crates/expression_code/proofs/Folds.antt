@@ -1,3 +1,4 @@
+-- The code of macros gives their folds.
 pub mod Budgets
 pub mod Turn
 pub mod Once

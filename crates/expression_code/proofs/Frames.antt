@@ -1,11 +1,11 @@
--- What is kept when registers, words of the frame, memos and values change.
+-- What is preserved when registers, words of the frame, memos and values change.
 use Rattle.expression_code.proofs.Prelude.{◌≡◌, ℕ, ◌+◌, ◌^◌, ◌<◌, ◌≤◌, List, Some, refl, arith, inr, ◌⊎◌, slice_get, ℤ, Stack, Scratch, Verdict, IsMemory, Memory, put_word-other, put_word-same, with_word, same, ExtendsValues, Names, IsTable, Register, R0, R10, ValueOrError, Roots, CpuState, HelperPlaces, Tells, answered, Context, IsWellFormedState, HasValues, IsMemo, Preserves, LeavesValue, variable_count, Framed, memo_at, set_memo, set_verdict, set_word, stack_index, word_at, charge_limit, frame_words, memo_limit}
 use Rattle.expression_code.proofs.Sites.{StackFrame, in_frame}
 use Rattle.expression_code.proofs.Accesses.{has_memo, has_verdict, has_word}
 
--- ---- names in force
+-- ---- defined names
 
--- what words and memos name, and which words are in use, may change, as long as each word in use names what it named
+-- the contents of words and memos may change, and which words are in use, if each word in use keeps its value
 pub fits_on : (frame : StackFrame) (base1 : ℕ) (old new : CpuState) → frame.base ≤ base1 → IsWellFormedState frame.context frame.depth frame.base old → Framed frame.depth new
     → HasValues frame.context.environment.roots new.values → new.memory.constants ≡ frame.context.constants
     → ((k : ℕ) (u : ValueOrError) → k < frame.base → Names old.values.values (word_at frame.depth k old) u → Names new.values.values (word_at frame.depth k new) u)
@@ -40,7 +40,7 @@ module _ (depth k w : ℕ) (b : CpuState) (f : Framed depth b) (below : k < fram
   pub keeps_stored : (count base : ℕ) → base ≤ k → Preserves count depth base b (set_word depth k w b)
   keeps_stored count base le = grind (arith, word_kept, same)
 
--- ---- what a store into a word that is not in use leaves
+-- ---- the effect of a store into a word that is not in use
 
 pub record Stored (c : Context) (depth base k w : ℕ) (b : CpuState) : Type 0 where
   pub fits : IsWellFormedState c depth base (set_word depth k w b)
@@ -86,19 +86,19 @@ fits_verdict depth i w b f below c base fits =
 pub fits_above : (c : Context) (depth base k : ℕ) (b : CpuState) → base ≤ k → IsWellFormedState c depth base b → IsWellFormedState c depth k b
 fits_above c depth base k b le fits = fits_on (in_frame c depth base) k b b le fits fits.frame fits.values fits.constants (λ j u inside named. named) fits.holds.memos
 
--- a word in use names what it named
+-- a word in use keeps its value
 pub kept_word : {count depth base : ℕ} {a b : CpuState} (k : ℕ) (x : ValueOrError) → k < base → k < frame_words → Preserves count depth base a b
     → Names a.values.values (word_at depth k a) x → Names b.values.values (word_at depth k b) x
 kept_word {depth = depth} {a = a} k x below inside kept named = rw (kept.words depth k inside (inr (refl, below))) (kept.values (word_at depth k a) x named)
 
--- a CPU state that is well-formed with more words in use, in which the words below base are as in one with fewer
+-- a CPU state that is well-formed with more words in use, with the same words below base as one with fewer
 pub fits_below : (c : Context) (depth base k : ℕ) (old new : CpuState) → base ≤ k → base ≤ frame_words → IsWellFormedState c depth base old → Preserves (variable_count c) depth k old new
     → IsWellFormedState c depth k new → IsWellFormedState c depth base new
 fits_below c depth base k old new le low first kept fits =
     fits_on (in_frame c depth base) base old new (omega arith) first fits.frame fits.values fits.constants
     (λ j u inside named. kept_word j u (omega arith) (omega arith) kept named) fits.holds.memos
 
--- ---- what is kept from one CPU state to the next
+-- ---- what is preserved from one CPU state to the next
 
 pub keeps_same : (count depth base : ℕ) (b : CpuState) → Preserves count depth base b b
 keeps_same count depth base b = record { words = λ d k inside h. refl; values = λ r x h. h; records = refl; pointer = refl; verdict = refl; constants = refl; memos = λ i above. refl }
@@ -119,7 +119,7 @@ module _ (c : Context) (depth base : ℕ) (b : CpuState) (registers : Register �
       → LeavesValue c depth base x b (record b { registers = registers })
   shows_registers x fits h = grind arith
 
--- ---- a helper has answered
+-- ---- a helper has returned
 
 module _ (depth base w charge : ℕ) (list : List ValueOrError) (b : CpuState) (extends : ExtendsValues b.values.values list) where
   pub keeps_answered : (count : ℕ) → Preserves count depth base b (answered b w list charge)
@@ -136,12 +136,12 @@ module _ (depth base w charge : ℕ) (list : List ValueOrError) (b : CpuState) (
       (λ k u inside named. extends.kept _ u named) (λ i x is. (grind arith))
 
 module _ {c : Context} {depth base k : ℕ} {x : ValueOrError} {a b d : CpuState} where
-  -- what comes after something else was kept
+  -- what follows a state that was preserved
   pub shows_after : base ≤ k → base ≤ frame_words → Preserves (variable_count c) depth base a b → LeavesValue c depth k x b d → IsWellFormedState c depth base b
       → LeavesValue c depth base x a d
   shows_after le low kept shown first = record { shows = shown.shows; fits = fits_below c depth base k b d le low first shown.keeps shown.fits; keeps = keeps_then le kept shown.keeps }
 
--- ---- a well-formed CPU state, after one from which all was kept that code for an expression preserves
+-- ---- a well-formed CPU state, after one from which everything was preserved that code for an expression preserves
 
 pub record Stays (c : Context) (depth base : ℕ) (old new : CpuState) : Type 0 where
   pub fits : IsWellFormedState c depth base new
@@ -155,7 +155,7 @@ module _ {c : Context} {depth base : ℕ} {a b : CpuState} (st : Stays c depth b
   pub moved : (registers : Register → ℕ) → registers R10 ≡ b.registers R10 → Stays c depth base a (record b { registers = registers })
   moved registers same = grind arith
 
-  -- a helper answers
+  -- a helper returns
   pub placed : {helper : ℤ} {x : ValueOrError} {cost : ℕ} (p : HelperPlaces helper b x cost) → b.values.charge + cost ≤ charge_limit
       → Stays c depth base a (answered b p.word p.list (b.values.charge + cost))
   placed {cost = cost} p paid = record {
@@ -167,6 +167,6 @@ module _ {c : Context} {depth base : ℕ} {a b : CpuState} (st : Stays c depth b
       → Stays c depth base a (answered b w b.values.values (b.values.charge + cost))
   said {w = w} {cost = cost} t paid = grind (arith, fits_answered, same, keeps_then, keeps_answered)
 
-  -- R0 names a value
+  -- R0 holds a value
   pub shown : {x : ValueOrError} → Names b.values.values (b.registers R0) x → LeavesValue c depth base x a b
   shown named = record { shows = named; fits = st.fits; keeps = st.keeps }

@@ -1,4 +1,4 @@
--- What each helper answers, in the meaning's own functions.
+-- The result of each helper, stated with the functions of the meaning.
 use Rattle.expression_code.proofs.Prelude.{◌≡◌, ℕ, ◌+◌, ◌<◌, ◌≤◌, List, [], ◌∷◌, length, Option, Some, None, Bool, refl, sym, ap, ◌∙◌, subst, lit<, arith, ℤ, pos, if◌then◌else◌, signed_decimal, w64, cast_signed, depth_limit, join_row, list_new_row, map_new_row, push_row, put_row, on_lent, on_operand, on_range, on_value, on_values, outcome_of, row_of, equal_row, less_row, member_row, starts_row, ends_row, contains_row, kind_row, int_of_row, int_new_row, text_const_row, text_of_int_row, not_row, Names, field_row, has_row, index_row, size_row, item_row, count_row, of_number, text_part, RowOutcome, Plain, Named, answer_among, found, named, R1, R2, R3, outcome_view, result_depth, Value, ValueOrError, error, value, int, text, list, map, no_items, no_entries, int_part, truth_or_error, Roots, value_or_error, StartsWith, EndsWith, Contains, CpuState, HelperPlaces, Tells, HasValues, HelpersAnswer, Holding, Lends}
 use Rattle.helper_table.specs.Building.{entered}
 use Rattle.helper_table.specs.Outcome.{truth}
@@ -8,7 +8,7 @@ use Rattle.expression_code.proofs.Values.{small_reference}
 
 -- ---- the calls
 
--- a row on what its references name
+-- the row for the values of its references
 one_operand : (vs : List ValueOrError) (h : ℕ) (x : ValueOrError) (row : ValueOrError → RowOutcome) → Names vs h x → on_value vs h row ≡ row x
 one_operand vs h x row named = ap (λ (o : Option ValueOrError). on_operand o row) named
 
@@ -16,7 +16,7 @@ two_operands : (vs : List ValueOrError) (h k : ℕ) (x y : ValueOrError) (row : 
 two_operands vs h k x y row first second = one_operand vs h x (λ u. on_value vs k (row u)) first ∙ one_operand vs k y (row x) second
 
 module _ {roots : Roots} {b : CpuState} (values : HasValues roots b.values) where
-  -- a helper of one operand, of two, and of one with a key
+  -- a helper of one operand, of two operands, and of one operand and a key
   unary : {helper : ℤ} (x y : ValueOrError) (added : ℕ) (row : ValueOrError → RowOutcome) → ((a c d e f : ℕ) → outcome_of helper (a ∷ c ∷ d ∷ e ∷ f ∷ []) b.values.values b.memory.constants ≡ on_value b.values.values a row) → IsNamed y added (row x) → Holding b R1 x → HelperPlaces helper b y (1 + added)
   unary {helper} x y added row says is named =
       let h = b.registers R1 in
@@ -40,7 +40,7 @@ module _ {roots : Roots} {b : CpuState} (values : HasValues roots b.values) wher
       let count = b.registers R3 in
       places helper b (h ∷ from ∷ count ∷ 0 ∷ 0 ∷ []) (three h from count (small_reference b.values h x values.table named) lends.address lends.count) values.table (row x key) y 0 (says _ _ _ _ _ ∙ sym (says h from count 0 0)) (says h from count 0 0 ∙ one_operand b.values.values h x (λ m. on_range b.memory.constants from count (row m)) named ∙ ap (λ (o : Option (List ℕ)). on_lent o (row x)) lends.bytes_are) is
 
--- a row whose answer is another form of the meaning
+-- a row whose result is another form of the meaning
 by_value : (v : Option Value) {y : ValueOrError} → y ≡ value_or_error v → IsNamed y 0 (named v 0)
 by_value v e = subst (λ (y : ValueOrError). IsNamed y 0 (named v 0)) (sym e) (named_is v 0)
 
@@ -51,13 +51,13 @@ by_truth t e = subst (λ (y : ValueOrError). IsNamed y 0 (truth t)) (sym e) (tru
 put_said : (vs : List ValueOrError) (h i j : ℕ) (m k x : ValueOrError) → Names vs h m → Names vs i k → Names vs j x → on_value vs h (λ u. on_values vs i j (put_row u)) ≡ put_row m k x
 put_said vs h i j m k x first second third = one_operand vs h m (λ u. on_values vs i j (put_row u)) first ∙ two_operands vs i j k x (put_row m) second third
 
--- what is no int has no decimal text
+-- a value that is not an int has no decimal text
 no_decimal : (x : ValueOrError) → int_part x ≡ None → IsNamed error 0 (text_of_int_row x)
 unfolding text_of_int_row
 no_decimal (value (int z)) e = absurd (cc)
 no_decimal _ e = Missing refl refl
 
--- all of them
+-- all helpers
 pub helpers : HelpersAnswer
 unfolding of_number row_of kind_row int_of_row int_new_row text_const_row field_row has_row index_row size_row equal_row less_row join_row starts_row ends_row contains_row member_row list_new_row push_row map_new_row put_row item_row count_row text_of_int_row not_row
 helpers = record {

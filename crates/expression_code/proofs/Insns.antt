@@ -1,4 +1,4 @@
--- The numbers of the instructions are in range: code can be spelled where that of its parts can, and is short.
+-- The numbers of the instructions are in range: code can be encoded if the code of its parts can and is short.
 use Rattle.expression_code.proofs.Prelude.{◌≡◌, ℕ, ◌+◌, ◌^◌, ◌<◌, ◌≤◌, List, [], ◌∷◌, ◌++◌, Option, Some, None, refl, arith, ℤ, Bool, pos, bytes_eq, FitsSigned, if◌then◌else◌, AllByRecursion, w32, ints, AluOp, Insn, Call, Register, R0, R1, R2, R6, R7, lookup, Macro, Exists, ExistsOne, Filter, Map, TextTest, entry_code, entry_tail, item_code, list_code, list_head, map_code, map_head, push_tail, difference_code, divided_code, divided_tail, int_operands, negation_tail, product_code, product_tail, sum_code, sum_tail, difference_tail, operand_code, operands_code, equal_tail, less_tail, member_tail, not_less_tail, unequal_tail, leaf_insn, absorbing_code, false_ref, not_tail, ternary_code, true_ref, field_tail, has_tail, index_tail, size_tail, string_tail, test_tail, absorbing_turn, exists_one_end, exists_one_turn, filter_turn, first_empty, first_false, first_true, macro_code, map_turn, map_where_code, held_leaf, name_code, name_leaf, reference_or_error, root_reference, root_references, mov_reg, ja, fold_code, loop_code, loop_head, loop_tail, AreInsns, size, memo_tail, SimpleOperand, Reference, Word, branch_limit, frame_words, fold_limit, memo_limit}
 use Rattle.cel_macros.specs.declared.macros.Macro.TheVariants.{All}
 use Rattle.expression_code.proofs.Loops.{loop_size}
@@ -10,7 +10,7 @@ insns_append (i ∷ is) b first second = (first.0, insns_append is b first.1 sec
 
 -- ---- calls and operands
 
--- the instruction of a simple operand can be spelled
+-- the instruction of a simple operand can be encoded
 abbrev pub IsNear : SimpleOperand → Type 0
 IsNear (Reference n) = FitsSigned w32 n
 IsNear (Word k) = k < frame_words
@@ -18,7 +18,7 @@ IsNear (Word k) = k < frame_words
 pub leaf_insns : (l : SimpleOperand) (r : Register) → IsNear l → AreInsns (leaf_insn l r ∷ [])
 leaf_insns l r near = grind arith
 
--- and that of an operand that is one
+-- the instruction of an operand can be encoded if it is a simple one
 abbrev pub MayBeNear : Option SimpleOperand → Type 0
 MayBeNear (Some l) = IsNear l
 MayBeNear None = Unit {0}
@@ -140,7 +140,7 @@ name_insns n words below = leaf_insns (name_leaf n words) R0 (name_near n words 
 loop_insns : (k : ℕ) (turn : List Insn) → k < fold_limit → size turn ≤ branch_limit → AreInsns turn → AreInsns (loop_code k turn)
 loop_insns k turn below short first = insns_append (loop_head k (size turn + 8)) _ (omega arith) (insns_append turn (loop_tail k (size turn + 7)) first (omega (arith, ints)))
 
--- a part and a short turn behind it
+-- a part followed by a short turn
 turned : (k : ℕ) (range first part turn : List Insn) → size first ≡ 1 → size turn ≤ 20 → k < fold_limit → size part + 50 ≤ branch_limit → AreInsns range
     → AreInsns first → AreInsns part → AreInsns turn → AreInsns (fold_code k range first (part ++ turn))
 turned k range first part turn one few below short a b c d = grind (arith, size-append, loop_size, ints, loop_insns, insns_append)

@@ -1,4 +1,4 @@
--- Ints of 64 bits as words: when results fit, and what tests of words say of ints.
+-- Ints of 64 bits as words: when results fit, and what tests of words show of ints.
 -- For the laws in `specs/Gives/Arithmetic`.
 use Rattle.expression_code.proofs.Prelude.{◌≡◌, ℕ, ◌+◌, ◌-◌, ◌%◌, ◌^◌, ◌<◌, ◌≤◌, true, false, refl, ◌∙◌, rules, arith, sym, ap, mod-lt, FitsSigned, ℤ, pos, ◌+ℤ◌, ◌-ℤ◌, neg_ℤ, w64, cast_signed, cast_unsigned, ints, to_z-of_z, nat_tests, alu64_of, operated, holds_of, IsSigned, signed_of, word_of, falls, falls_over, rises, rises_over, alu_result, compares, negated, Comparison, Sge, Sgt, Sle, Slt, Eq, Ne, W64, error, value, int, fits, int_or_error, difference_is}
 use Rattle.expression_code.proofs.Effects.{differs_no, differs_yes, equal_is, equal_yes}
@@ -23,7 +23,7 @@ fits_is z h = let small = h.sfits in grind (arith, ints)
 pub fits_not : (z : ℤ) → (FitsSigned w64 z → ⊥) → fits z ≡ false
 fits_not z h = grind (arith, ints, nat_tests)
 
--- an int is its own result where it fits, and else the error is
+-- an int is its own result if it fits, else the error is
 pub exact : (z : ℤ) → fits z ≡ true → value (int z) ≡ int_or_error z
 exact z h = rw h refl
 
@@ -39,8 +39,8 @@ difference_word m n h = grind arith
 
 -- ---- sums and differences
 
--- two comparisons tell whether the word w of a result is the number z, for an operand b that is not negative and for
--- one that is
+-- two comparisons show whether the word w of a result is the number z, one for an operand b that is not negative and
+-- one for a negative operand
 pub record Checked (below above : Comparison) (a b w : ℕ) (z : ℤ) : Type 0 where
   pub small : w < 2 ^ 64
   pub rises : compares W64 Slt b 0 ≡ false → compares W64 above w a ≡ false → signed_of 64 w ≡ z
@@ -64,7 +64,7 @@ module _ (a b : ℕ) (ha : a < 2 ^ 64) (hb : b < 2 ^ 64) where
         falls_over = λ negative below fits. let high = fits.1 in grind (arith, ints);
       })
 
--- ---- words, what tests of them say of ints, and negatives
+-- ---- words, what tests of them show of ints, and negation
 
 abbrev pub word : ℤ → ℕ
 word z = cast_unsigned w64 z
@@ -81,14 +81,14 @@ word_fits z h = grind (arith, ints)
 pub number_word : (z : ℤ) → fits z ≡ true → number (word z) ≡ z
 number_word z h = to_z-of_z w64 z (fits_into z h)
 
--- the words of -1 and of the least int
+-- the words of -1 and of the smallest int
 abbrev pub minus_one : ℕ
 minus_one = 2 ^ 64 - 1
 
 abbrev pub least : ℕ
 least = 2 ^ 63
 
--- ---- what comparisons of words say
+-- ---- what comparisons of words show
 
 pub not_equal : (a b : ℕ) → compares W64 Eq a b ≡ false → a ≡ b → ⊥
 not_equal a b h e = let yes = equal_yes a b e in absurd (cc)
@@ -99,7 +99,7 @@ not_different a b h = either (compares W64 Eq a b) (λ t. equal_is a b t) (λ f.
 pub different : (a b : ℕ) → compares W64 Ne a b ≡ true → a ≡ b → ⊥
 different a b h e = let no = differs_no a b e in absurd (cc)
 
--- what tests of their words say of two ints
+-- what tests of their words show of two ints
 module _ (z : ℤ) (hz : fits z ≡ true) where
   pub from_word : (w : ℕ) → word z ≡ w → z ≡ number w
   from_word w e = sym (number_word z hz) ∙ ap number e
@@ -110,9 +110,9 @@ module _ (z : ℤ) (hz : fits z ≡ true) where
   pub is_something : compares W64 Eq (word z) 0 ≡ false → z ≡ pos 0 → ⊥
   is_something h e = not_equal (word z) 0 h (ap word e)
 
--- ---- negatives
+-- ---- negation
 
--- the negative of a word is that of its int, but for the least one, whose negative is none
+-- the negation of a word is that of its int, except for the smallest int, whose negation does not fit
 pub record Negated (a : ℕ) (z : ℤ) : Type 0 where
   pub small : negated W64 a < 2 ^ 64
   pub exact : compares W64 Eq a least ≡ false → (fits (neg_ℤ z) ≡ true) × (number (negated W64 a) ≡ neg_ℤ z)

@@ -1,4 +1,4 @@
--- What a piece gives in a scope it gives where more variables stand behind it.
+-- What a piece gives in a scope, it gives if more variables follow the scope.
 use Rattle.expression_code.proofs.Prelude.{◌≡◌, ℕ, List, ◌++◌, length-append, Bool, ap, ◌∙◌, arith, slice_get, cases_lt, map-append, Insn, Image, Value, ValueOrError, Roots, CpuState, Context, IsWellFormedState, Evaluates, LeavesValue, RunContext, LaterGives, Variable, WiderGives, bindings, scope_setting, FrameUse, used_context}
 use Rattle.expression_code.proofs.Runs.{into, wider}
 use Rattle.expression_code.proofs.Values.{get_before, get_front}

@@ -1,4 +1,4 @@
--- The code of literals without parts and of names gives their meaning.
+-- The code of literals without parts and of names gives their values.
 -- For the laws in `specs/Gives/Leaves`.
 use Rattle.expression_code.proofs.Prelude.{◌≡◌, ℕ, ◌+◌, ◌≤◌, List, length, Option, Some, None, Bool, true, false, refl, ap, subst, arith, ℤ, pos, FitsSigned, bytes_eq, codes, if◌then◌else◌, w64, cast_signed, cast_unsigned, is_utf8, to_z-of_z, Names, R0, R1, R2, Value, ValueOrError, error, value, null, boolean, int, text, Roots, item_or_root, lookup, name_value, root_bindings, value_or_error, CpuState, set_register, HelperPlaces, leaf_code, int_code, null_leaf, text_code, truth_leaf, held_leaf, name_leaf, reference_or_error, root_reference, Context, Evaluates, HasValues, IsHeld, RunContext, LeavesGive, LeavesName, HasText, Lends, IsLeafIn, IsLeafOf, SimpleOperand, Reference, frame_words}
 use Rattle.expression_code.proofs.Sites.{in_frame}
@@ -12,7 +12,7 @@ use Rattle.expression_code.proofs.Operators.{shows_placed}
 use Rattle.expression_code.proofs.Runs.{arrived, done, looser}
 use Rattle.expression_code.proofs.Values.{names_error, names_no, names_null, names_yes}
 
--- a simple operand that names the value in every well-formed CPU state
+-- a simple operand that holds its value in every well-formed CPU state
 pub leaf_gives : (s : RunContext) (p : ℕ) (c : Context) (depth base : ℕ) (l : SimpleOperand) (x : ValueOrError) → IsLeafOf c depth base (Some l) x → Evaluates s p (leaf_code l) c depth base x 1 0
 leaf_gives s p c depth base l x named = record {
   runs = λ b has fits.
@@ -55,7 +55,7 @@ text_gives s p c depth base address t low h utf8 = record {
 
 -- ---- names
 
--- the reference of a root, by which of the names is its own
+-- the reference of a root, by which of the names it has
 root_by : (roots : Roots) (values : Contents) → HasValues roots values → (t u v w x : Bool)
     → Names values.values (cast_unsigned w64 (reference_or_error (if t then Some (pos 4) else if u then Some (pos 5) else if v then Some (pos 6) else if w then Some (pos 7) else if x then Some (pos 8) else None)))
     (value_or_error (if t then Some roots.object else if u then Some roots.old_object else if v then Some roots.params else if w then Some roots.namespace_object else if x then Some roots.request else None))

@@ -1,3 +1,5 @@
+-- The proofs of `expression_code`.
+
 pub mod Runs
 pub mod Effects
 pub mod Accesses

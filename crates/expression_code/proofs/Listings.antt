@@ -1,4 +1,4 @@
--- The laws of instructions in a piece that is written out: places in it are numerals.
+-- The laws of instructions for a literal piece, in which places are numerals.
 use Rattle.expression_code.proofs.Prelude.{◌≡◌, ℕ, suc, ◌+◌, ◌-◌, ◌^◌, ◌<◌, ◌≤◌, ◌∙◌, ap, refl, Bool, Some, List, arith, true, false, ℤ, pos, slice_get, if◌then◌else◌, ints, AluOp, Mov, Comparison, Insn, Alu, Jump, Branch, Call, Load, Store, LoadWide, Operand, Register, R10, Dw, Width, W64, is_frame_pointer, alu_result, compares, charge_limit, ValueOrError, CpuState, at, set_register, operand_in, HelperReturns, Refuses, answered, Frame, RunContext, RunsToWith, StayFilled, put_length as length_insn, slots, IsCodeAt, Framed, memo_address, memo_at, set_memo, set_word, word_at, word_offset, Scratch, Constants, executed, jumped, frame_words, memo_limit}
 use Rattle.expression_code.proofs.Effects.{alu_does, branch_does, does, load_wide_does, mov_is}
 use Rattle.expression_code.proofs.Runs.{either, from_place, looser, one_filled}
@@ -9,7 +9,7 @@ module _ {s : RunContext} {o : ℕ} {piece : List Insn} {n x p' : ℕ} {b : CpuS
   pub begins : RunsToWith s n x (o + 0) b r p' Q → RunsToWith s n x o b r p' Q
   begins c = from_place s o (omega arith) c
 
-  -- an instruction that leaves the records and the charge, and empties no memo
+  -- an instruction that changes neither the records nor the charge, and empties no memo
   goes : {b1 : CpuState} {q p1 : ℕ} (k : ℕ) (i : Insn) → slice_get (slots piece) k ≡ Some (Some i) → executed i (at s.image (o + k) b) ≡ at s.image q b1
       → b1.records ≡ b.records → StayFilled b.memory.scratch b1.memory.scratch → b1.values.charge ≡ b.values.charge → q ≡ p1
       → RunsToWith s n x p1 b1 r p' Q → RunsToWith s (suc n) x (o + k) b r p' Q
@@ -93,7 +93,7 @@ module _ {s : RunContext} {o : ℕ} {piece : List Insn} {n x p' : ℕ} {b : CpuS
   refused {helper} k h r deep = step.refused s (o + k) (o + (k + 1)) b helper (has.here k _ h) r deep
 
 module _ {s : RunContext} {o : ℕ} {piece : List Insn} {n x p' : ℕ} {b : CpuState} {r : List Frame} {Q : CpuState → Type 0} (has : IsCodeAt s.image.code o piece) where
-  -- a helper's answer, at a cost that is left
+  -- a helper call whose cost is within the budget
   pub calls : {helper : ℤ} {w cost : ℕ} {list : List ValueOrError} (k : ℕ) → slice_get (slots piece) k ≡ Some (Some (Call helper))
       → HelperReturns helper b w list cost → cost ≤ x
       → (b.values.charge + cost ≤ charge_limit → RunsToWith s n (x - cost) (o + (k + 1)) (answered b w list (b.values.charge + cost)) r p' Q)

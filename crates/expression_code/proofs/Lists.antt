@@ -1,4 +1,5 @@
--- What is made part by part in a word of the frame, and the code of a list literal, which gives the list of its items or the error.
+-- Values that are built part by part in a word of the frame, and the code of a list literal, which gives the list of
+-- its items.
 -- For the laws in `specs/Gives/Aggregates`.
 use Rattle.expression_code.proofs.Prelude.{ℕ, ◌+◌, ◌<◌, ◌≤◌, List, [], ◌∷◌, ◌++◌, refl, sym, subst, arith, ◌≡◌, max, Option, Some, None, ap, ◌∙◌, ℤ, pos, fold as fold_left, depth_limit, Names, Insn, Call, R0, R1, R2, result_depth, items_depth, depth_of, ValueOrError, Value, error, value, list, Items, no_items, item, items_join, items_of, items_push, CpuState, set_register, HelperPlaces, answered, Context, IsWellFormedState, Evaluates, Preserves, LeavesValue, variable_count, RunContext, RunsTo, Builds, Made, MadeInR0, ItemsGive, ListGives, MayHold, IsCodeAt, size, set_word, word_at, le-leb, pushed, values_in, item_code, list_code, push_tail, frame_words, word_limit}
 use Rattle.expression_code.proofs.Sites.{Site, Budget, site_at, in_frame, budget, past, above, EvaluatesAt, BuildsAt, ItemsAt}
@@ -11,9 +12,9 @@ use Rattle.expression_code.proofs.Values.{small_reference}
 use Rattle.expression_code.proofs.HelperAnswers.{helpers}
 use Rattle.expression_code.specs.Instructions as insn
 
--- ---- what is made part by part
+-- ---- values that are built part by part
 
--- R0 is stored into the word
+-- R0 is stored in the word
 pub made_stored : (c : Context) (depth k : ℕ) (x : ValueOrError) (a b : CpuState) → k < frame_words → result_depth x ≤ depth_limit → LeavesValue c depth k x a b
     → MadeInR0 c depth k x a (set_word depth k (b.registers R0) b)
 made_stored c depth k x a b low within shown =
@@ -21,7 +22,7 @@ made_stored c depth k x a b low within shown =
     let st = stored c depth k k r b shown.fits (omega arith) low (small_reference b.values r x shown.fits.values.table shown.shows) in
     grind (arith, keeps_then)
 
--- what is made is kept while code for a part runs
+-- the value so far is kept while code for a part runs
 pub record Beside (c : Context) (depth k : ℕ) (l x : ValueOrError) (old new : CpuState) : Type 0 where
   pub made : Made c depth k l new
   pub shows : Names new.values.values (new.registers R0) x
@@ -37,13 +38,13 @@ part_runs site part l x t b low has made gives =
     into site.setting (Beside site.frame.context site.frame.depth site.frame.base l x b) (λ b1 g1. beside site.frame.context site.frame.depth site.frame.base l x b b1 low made g1) (gives.runs b has (fits_above site.frame.context site.frame.depth site.frame.base (site.frame.base + 1) b (omega arith) made.fits))
 
 module _ (s : RunContext) {c : Context} {depth k : ℕ} {x : ValueOrError} {a b : CpuState} where
-  -- what the piece before has kept is kept where something is made behind it
+  -- what the earlier piece preserved is preserved when something is built after it
   pub made_behind : {n m p q : ℕ} → Preserves (variable_count c) depth k a b
       → RunsTo s n m p b q (MadeInR0 c depth k x b) → RunsTo s n m p b q (MadeInR0 c depth k x a)
   made_behind kept run =
       into s (MadeInR0 c depth k x a) (λ b1 g. record { made = g.made; shows = g.shows; keeps = keeps_then (omega arith) kept g.keeps }) run
 
--- ---- pieces that make
+-- ---- pieces that build
 
 pub builds_then : (site : Site) (first second : List Insn) (f g : ValueOrError → ValueOrError) (t u : Budget) → BuildsAt site first f t → BuildsAt (past (size first) site) second g u → BuildsAt site (first ++ second) (λ x. g (f x)) (budget (t.steps + u.steps) (t.charge + u.charge))
 builds_then site first second f g t u before after = record {
@@ -75,7 +76,7 @@ module _ (s : RunContext) (p k : ℕ) (helper : ℤ) (empty : ValueOrError) (low
         into s Q (λ b2 g2. record { shows = g2.shows; fits = g2.made.fits; keeps = keeps_then (omega arith) g1.keeps g2.keeps }) (builds.runs b1 empty back g1.made g1.shows));
   }
 
--- ---- pushing from the first item to the last makes the list
+-- ---- appending the items from first to last gives the list
 
 join_none : (is : Items) → items_join is no_items ≡ is
 join_none no_items = refl
@@ -85,7 +86,7 @@ join_push : (is : Items) (v : Value) (js : Items) → items_join (items_push is 
 join_push no_items v js = refl
 join_push (item w is) v js = ap (item w) (join_push is v js)
 
--- a list with these behind its items
+-- a list with these items appended
 abbrev joined_with : Items → Option (List Value) → ValueOrError
 joined_with is (Some vs) = value (list (items_join is (items_of vs)))
 joined_with is None = error
@@ -99,7 +100,7 @@ pushes_are is [] = sym (ap (λ (js : Items). value (list js)) (join_none is))
 pushes_are is (error ∷ xs) = error_stays xs
 pushes_are is (value v ∷ xs) = pushes_are (items_push is v) xs ∙ (grind (arith, join_push))
 
--- ---- how deep a list becomes
+-- ---- the depth of a list
 
 push_depth : (is : Items) (v : Value) → items_depth (items_push is v) ≡ max (items_depth is) (depth_of v)
 push_depth no_items v = omega arith

@@ -1,4 +1,4 @@
--- Operands go into their registers.
+-- Loading operands into registers.
 -- For the laws in `specs/Operators`.
 use Rattle.expression_code.proofs.Prelude.{◌≡◌, ℕ, suc, ◌+◌, ◌<◌, List, [], ◌∷◌, ◌++◌, Option, Some, None, Bool, false, refl, sym, ap, ◌∙◌, append_assoc, subst, arith, inr, nat_eq, if◌then◌else◌, slice_get, w64, cast_unsigned, eq-eqb, Names, register_number, Insn, Register, R0, ValueOrError, is_frame_pointer, Frame, CpuState, put_register, set_register, kept_code, kept_size, operand_code, operands_code, leaf_insn, Context, IsWellFormedState, Evaluates, Preserves, LeavesValue, variable_count, RunContext, RunsTo, RunsToWith, AreApart, IsLeafIn, IsLeafOf, IsCodeAt, size, slots, Framed, set_word, word_at, SimpleOperand, Reference, Word, word_limit}
 use Rattle.expression_code.proofs.Sites.{StackFrame, Budget, in_frame}
@@ -9,7 +9,7 @@ use Rattle.expression_code.proofs.Pieces.{runs_both, size-append, size-cons, sta
 use Rattle.expression_code.proofs.Runs.{and_then, arrived, done, into, looser, to_place}
 use Rattle.expression_code.proofs.Values.{small_reference}
 
--- ---- a register that is written
+-- ---- writing a register
 
 written : (word : Register → ℕ) (r : Register) (w : ℕ) → put_register word r w r ≡ w
 written word r w = ap (λ (t : Bool). if t then w else word r) (eq-eqb (register_number r) (register_number r) refl)
@@ -31,7 +31,7 @@ module _ {s : RunContext} {o : ℕ} {piece : List Insn} {n m p' : ℕ} {b : CpuS
 
 -- ---- one operand
 
--- the register names the value, in a well-formed CPU state again
+-- the register holds the value, and the CPU state is well-formed again
 pub record Loaded (c : Context) (depth base : ℕ) (r : Register) (x : ValueOrError) (old new : CpuState) : Type 0 where
   pub named : Names new.values.values (new.registers r) x
   pub fits : IsWellFormedState c depth base new
@@ -57,9 +57,9 @@ module _ (s : RunContext) (p : ℕ) (r : Register) (free : is_frame_pointer r �
 
 -- ---- two operands
 
--- the value in R0 is kept in word k while a right side is evaluated
+-- the value in R0 is kept in word k while the right side is evaluated
 module _ (s : RunContext) (k : ℕ) (right : List Insn) (c : Context) (depth : ℕ) (x y : ValueOrError) (n m : ℕ) (low : k < word_limit) where
-  -- word k and R0 name both sides
+  -- word k and R0 hold both sides
   pub record Both (b last : CpuState) : Type 0 where
     pub left : Names last.values.values (word_at depth k last) x
     pub shown : LeavesValue c depth k y b last
@@ -81,14 +81,14 @@ module _ (s : RunContext) (k : ℕ) (right : List Insn) (c : Context) (depth : �
       })
       (gives.runs b1 (stands_rest s.image.code q (insn.store k R0) right has) (fits_above c depth k (k + 1) b1 (omega arith) stored1.fits)))))
 
--- the registers name both values, in a well-formed CPU state again
+-- the registers hold both values, and the CPU state is well-formed again
 pub record LoadedBoth (c : Context) (depth k : ℕ) (r q : Register) (x y : ValueOrError) (old new : CpuState) : Type 0 where
   pub first : Names new.values.values (new.registers r) x
   pub second : Names new.values.values (new.registers q) y
   pub fits : IsWellFormedState c depth k new
   pub keeps : Preserves (variable_count c) depth k old new
 
--- a right operand in R0 goes into its register, and the left one, by then a simple operand, into its own
+-- a right operand in R0 is moved to its register, and the left one, now a simple operand, is loaded
 module _ (s : RunContext) (c : Context) (depth k : ℕ) (r q : Register) (apart : AreApart r q) (x y : ValueOrError) where
   pub both_loaded : (p : ℕ) (l : SimpleOperand) (old b : CpuState) → IsCodeAt s.image.code p (insn.mov_reg q R0 ∷ leaf_insn l r ∷ []) → IsLeafIn l depth b x
       → LeavesValue c depth k y old b → RunsTo s 2 0 p b (p + 2) (LoadedBoth c depth k r q x y old)
@@ -111,7 +111,7 @@ module _ (s : RunContext) (c : Context) (depth k : ℕ) (r q : Register) (apart 
       (leaf_step back q y 0 m refl g1.fits.frame apart.second (right b1 (fits_above c depth k (k + 1) b1 (omega arith) g1.fits)) (λ w named.
       arrived s (omega (arith, leaf_size m q)) (grind (arith, unwritten, written)))))
 
-  -- the left one is a simple operand, and the right one is none
+  -- the left one is a simple operand and the right one is not
   left_leaf : (p : ℕ) (t : Budget) (l : SimpleOperand) (left right : List Insn) → k < word_limit → IsLeafOf c depth k (Some l) x → Evaluates s (p + 0) right c depth (k + 1) y t.steps t.charge → (b : CpuState) → IsCodeAt s.image.code p (right ++ insn.mov_reg q R0 ∷ leaf_insn l r ∷ []) → IsWellFormedState c depth k b → RunsTo s (t.steps + 2) (t.charge + 0) p b (p + size (right ++ insn.mov_reg q R0 ∷ leaf_insn l r ∷ [])) (LoadedBoth c depth k r q x y b)
   left_leaf p t l left right low leaf gives b has fits =
       let tail = insn.mov_reg q R0 ∷ leaf_insn l r ∷ [] in

@@ -11,7 +11,7 @@ use Rattle.expression_code.proofs.Operators.{calls_give}
 use Rattle.expression_code.proofs.Pieces.{runs_both, shown_behind, size-append, size-cons, stands_back, stands_front, stands_rest}
 use Rattle.expression_code.specs.Instructions as insn
 
--- ---- operators for which one truth decides: what they make of their sides
+-- ---- operators for which one truth decides: their results
 
 -- a side of such an operator: the truth that decides, the other one, or neither
 pub data Side : Type 0 where
@@ -32,7 +32,7 @@ abbrev is_fine_by : Side → Bool → Bool
 is_fine_by Neither e = e
 is_fine_by _ e = true
 
--- what tests of a reference say of a side
+-- what tests of a reference show of a side
 pub record Tested (decides other : ℤ) (side : Side) (r : ℕ) : Type 0 where
   pub decided : compares W64 Eq r (cast_unsigned w64 decides) ≡ is_decides side
   pub leaves : compares W64 Eq r (cast_unsigned w64 other) ≡ is_leaves side
@@ -50,7 +50,7 @@ pub record Absorbing (decides other : ℤ) (f : ValueOrError → ValueOrError �
   pub left_neither : (x y : ValueOrError) → side x ≡ Neither → is_decides (side y) ≡ false → f x y ≡ error
   pub right_neither : (x y : ValueOrError) → is_decides (side x) ≡ false → side y ≡ Neither → f x y ≡ error
 
--- an answer of the operator: what is neither truth is the error
+-- a result of the operator; one that is neither truth is the error
 abbrev pub is_answer : {decides other : ℤ} {f : ValueOrError → ValueOrError → ValueOrError} → Absorbing decides other f → ValueOrError → Bool
 is_answer op z = is_fine_by (op.side z) (is_error z)
 
@@ -58,15 +58,16 @@ pub told_in : (c : Context) (depth base r : ℕ) (x : ValueOrError) (b : CpuStat
 told_in c depth base r x b fits named = told b.values r x fits.values.table.store fits.values.canonical named
 
 module _ (decides other : ℤ) (f : ValueOrError → ValueOrError → ValueOrError) (op : Absorbing decides other f) (x y : ValueOrError) where
-  -- the other truth on the right side leaves an answer on the left as it is
+  -- if the right side is the other truth, a result on the left is unchanged
   pub left_stays : is_answer op x ≡ true → is_decides (op.side x) ≡ false → op.side y ≡ Leaves → f x y ≡ x
   left_stays fine early is_right = grind arith
 
-  -- a right side that decides is the answer
+  -- a right side that decides is the result
   pub right_named : (values : List ValueOrError) (r : ℕ) → Names values r y → is_decides (op.side y) ≡ true → Names values r (f x y)
   right_named values r named is = subst (Names values r) (sym (op.right_decides x y (grind arith))) named
 
--- where no side decides, the instructions at slots 2 to 4 of a piece make the answer, of the left side's reference in R1 and the right side's in R0
+-- if no side decides, the instructions at slots 2 to 4 of a piece compute the result from the references of both
+-- sides
 module _ (decides other : ℤ) (f : ValueOrError → ValueOrError → ValueOrError) (op : Absorbing decides other f) (s : RunContext) (c : Context) (depth base k o : ℕ) (piece : List Insn) (has : IsCodeAt s.image.code o piece) (has_left : slice_get (slots piece) 2 ≡ Some (Some (insn.jump_if_imm Ne R1 other 1))) (has_right : slice_get (slots piece) 3 ≡ Some (Some (insn.jump_if_imm Eq R0 other 1))) (has_error : slice_get (slots piece) 4 ≡ Some (Some (insn.mov_imm R0 (pos 0)))) (b : CpuState) (fits : IsWellFormedState c depth base b) (x y : ValueOrError) (left : Tested decides other (op.side x) (word_at depth k b)) (right : Tested decides other (op.side y) (b.registers R0)) (named : Names b.values.values (b.registers R0) y) where
   abbrev Answered : Type 0
   Answered = RunsTo s 3 0 (o + 2) (set_register b R1 (word_at depth k b)) (o + 5) (LeavesValue c depth base (f x y) b)
@@ -82,7 +83,7 @@ module _ (decides other : ℤ) (f : ValueOrError → ValueOrError → ValueOrErr
       no has 2 has_left (left.not_leaves ∙ ap (λ (side : Side). not (is_leaves side)) is_left)
       (yes has 3 1 has_right (right.leaves ∙ ap is_leaves is_right)
       (arrived s refl (shows_registers c depth base b _ refl (f x y) fits (rw (op.both_leave x y is_left is_right) named))))
-  -- R0 gets the error's reference
+  -- R0 becomes the error's reference
   answer_by Leaves Neither is_left is_right early h =
       no has 2 has_left (left.not_leaves ∙ ap (λ (side : Side). not (is_leaves side)) is_left)
       (no has 3 has_right (right.leaves ∙ ap is_leaves is_right)
@@ -140,7 +141,7 @@ absorbing_gives decides other f op s p k left right c depth x y n1 x1 n2 x2 low 
 
 -- ---- `&&` and `||`
 
--- what the truth of a side does for `||`, where the flag is true, and for `&&`
+-- the effect of a side's truth on `||`, if the flag is true, or on `&&`
 abbrev side_of : Bool → Truth → Side
 side_of true Yes = Decides
 side_of true No = Leaves
@@ -219,7 +220,7 @@ module _ (s : RunContext) (p base : ℕ) (condition one other : List Insn) (c : 
   end_is : end ≡ p + size (ternary_code condition one other)
   end_is = omega (arith, size-append condition (to_other ∷ to_error ∷ sides), size-cons to_other (to_error ∷ sides), size-cons to_error sides, size-append one (over ∷ (other ++ last)), size-cons over (other ++ last), size-append other last)
 
-  -- what is chosen, where the condition has this truth
+  -- the chosen branch, if the condition has this truth
   chosen_runs : (u : Truth) → truth t ≡ u → (u ≡ Yes → Evaluates s (q + 2) one c depth base x n2 x2) → (u ≡ No → Evaluates s (q + 2 + size one + 1) other c depth base y n3 x3) → (b : CpuState) → IsWellFormedState c depth base b → Told u (is_error t) (b.registers R0) → RunsTo s (2 + (chosen u n2 n3 0 + 1)) (chosen u x2 x3 0) q b end (LeavesValue c depth base (chosen u x y error) b)
   chosen_runs Yes is gives_one gives_other b fits told =
       looser s {n = suc (suc (n2 + 1))} {x = x2 + 0} (2 + (n2 + 1)) x2 (omega arith) (omega arith)

@@ -13,7 +13,7 @@ use Rattle.expression_code.proofs.Values.{all_at, names_error, small_reference}
 by_range : {Q : Type 0} (o : Option (List Value)) → ((items : List Value) → o ≡ Some items → Q) → (o ≡ None → Q) → Q
 by_range o f g = grind arith
 
--- a range that is named in a table has few items
+-- a range in a table has few items
 bounded_range : (n : ℕ) (x : ValueOrError) (items : List Value) → IsResultBounded n x → range_of x ≡ Some items → length items ≤ n
 bounded_range n x items bounded e = grind (arith, length-map)
 
@@ -22,20 +22,20 @@ few_items : (c : Context) (depth base r : ℕ) (x : ValueOrError) (items : List 
 few_items c depth base r x items b fits named range =
     omega (arith, bounded_range b.values.charge x items (all_at b.values.charge b.values.values r x fits.values.table.bounded named) range)
 
--- how many slots a loop and a fold have
+-- the number of slots of a loop and of a fold
 pub loop_size : (k : ℕ) (turn : List Insn) → size (loop_code k turn) ≡ 6 + (size turn + 6)
 loop_size k turn = size-append (loop_head k (size turn + 8)) (turn ++ loop_tail k (size turn + 7)) ∙ ap (λ (n : ℕ). 6 + n) (size-append turn (loop_tail k (size turn + 7)))
 
 pub fold_size : (k : ℕ) (range first turn : List Insn) → size (fold_code k range first turn) ≡ size range + (9 + (size first + (1 + size (loop_code k turn))))
 fold_size k range first turn = grind (arith, size-append, size-cons)
 
--- once the answer is the last, it stays
+-- once the result is the last one, it does not change
 fold_last : (f : ValueOrError → Value → ValueOrError) (is_last : ValueOrError → Bool) (acc : ValueOrError) (vs : List Value)
     → ((a : ValueOrError) (v : Value) → is_last a ≡ true → f a v ≡ a) → is_last acc ≡ true → fold_left f acc vs ≡ acc
 fold_last f is_last acc [] law last = refl
 fold_last f is_last acc (v ∷ vs) law last = ap (λ (a : ValueOrError). fold_left f a vs) (law acc v last) ∙ fold_last f is_last acc vs law last
 
--- the words of a loop before its i-th turn, but for the answer so far
+-- the words of a loop before its i-th turn, except the result so far
 pub record Turns (c : Context) (depth k : ℕ) (range : ValueOrError) (n i : ℕ) (b : CpuState) : Type 0 where
   pub fits : IsWellFormedState c depth k b
   pub names_range : Names b.values.values (word_at depth k b) range
@@ -43,14 +43,14 @@ pub record Turns (c : Context) (depth k : ℕ) (range : ValueOrError) (n i : ℕ
   pub next : word_at depth (k + 2) b ≡ i
 
 module _ {c : Context} {depth k n i : ℕ} {range : ValueOrError} {a b : CpuState} where
-  -- they are the words of a CPU state that keeps them, and in which what it keeps fits
+  -- these words are unchanged in a CPU state that preserves them
   turns_kept : k < fold_limit → Turns c depth k range n i a → Preserves (variable_count c) depth (k + 3) a b → IsWellFormedState c depth k b
       → Turns c depth k range n i b
   turns_kept low turns kept fits = grind (arith, kept_word)
 
 -- ---- the end of a turn
 
--- the place of the next item is told in R2, and the count of the items in R1
+-- R2 holds the index of the next item, and R1 the number of items
 pub record Advanced (c : Context) (depth k : ℕ) (range : ValueOrError) (n i : ℕ) (acc : ValueOrError) (b0 b : CpuState) : Type 0 where
   pub turns : Turns c depth k range n i b
   pub so_far : Names b.values.values (word_at depth (k + 3) b) acc
@@ -78,7 +78,7 @@ module _ (s : RunContext) (c : Context) (depth k : ℕ) (range : ValueOrError) (
 
 -- ---- all turns
 
--- what is left from the end of a turn on, with these items to come
+-- the remaining steps from the end of a turn, with these items to come
 abbrev next_steps : (Value → ℕ) → List Value → ℕ
 next_steps steps [] = 2
 next_steps steps (v ∷ vs) = suc (3 + (steps v + (4 + next_steps steps vs)))
@@ -97,7 +97,7 @@ module _ (s : RunContext) (p k depth : ℕ) (turn : List Insn) (c : Context) (ra
   abbrev Result : CpuState → List Value → ValueOrError → CpuState → Type 0
   Result b0 vs acc = LeavesValue c depth k (fold_left f acc vs) b0
 
-  -- before the i-th turn, behind what was before the first, with these items to come
+  -- the state before the i-th turn, with these items to come; what held before the first turn is preserved
   record Before (vs : List Value) (i : ℕ) (acc : ValueOrError) (b0 b : CpuState) : Type 0 where
     pub keeps : Preserves (variable_count c) depth k b0 b
     pub turns : Turns c depth k range (length items) i b
@@ -121,14 +121,14 @@ module _ (s : RunContext) (p k depth : ℕ) (turn : List Insn) (c : Context) (ra
   has_tail : IsCodeAt s.image.code tail_place tail
   has_tail = stands_back s.image.code (p + 6) turn tail has_turn
 
-  -- the answer is loaded
+  -- the result is loaded
   answers : (i : ℕ) (acc : ValueOrError) (b0 b : CpuState) → Before [] i acc b0 b → RunsTo s 1 0 (tail_place + 5) b end (Result b0 [] acc)
   answers i acc b0 b before =
       load has_tail 5 (k + 3) refl before.turns.fits.frame (omega arith) refl
       (from_place s (tail_place + (5 + 1)) (sym end_is)
       (done s end _ (Result b0 [] acc) (shows_after (omega arith) (omega arith) before.keeps (shows_registers c depth k b _ refl acc before.turns.fits before.so_far) before.turns.fits)))
 
-  -- one turn, with its place in R2, and what comes behind it
+  -- one turn, with its index in R2, and the code after it
   turn_runs : (v : Value) (vs : List Value) (i more more_charge : ℕ) (acc : ValueOrError) (b0 b : CpuState) → Before (v ∷ vs) i acc b0 b → b.registers R2 ≡ i
       → ((b1 : CpuState) → Before vs (i + 1) (f acc v) b0 b1 → b1.registers R1 ≡ length items → b1.registers R2 ≡ i + 1 → RunsTo s more more_charge (tail_place + 4) b1 end (Result b0 vs (f acc v)))
       → RunsTo s (3 + (steps v + (4 + more))) (1 + (charge v + more_charge)) (p + 3) b end (Result b0 (v ∷ vs) acc)
@@ -171,7 +171,7 @@ module _ (s : RunContext) (p k depth : ℕ) (turn : List Insn) (c : Context) (ra
         all = omega arith;
       }) g5.count g5.next)))))))
 
-  -- from the end of a turn on
+  -- from the end of a turn
   next_runs : (vs : List Value) (i : ℕ) (acc : ValueOrError) (b0 b : CpuState) → Before vs i acc b0 b → b.registers R1 ≡ length items → b.registers R2 ≡ i
       → RunsTo s (next_steps steps vs) (loop_charge charge vs) (tail_place + 4) b end (Result b0 vs acc)
   next_runs [] i acc b0 b before count next =
@@ -204,7 +204,7 @@ module _ (s : RunContext) (p k depth : ℕ) (turn : List Insn) (c : Context) (ra
       (turn_runs v vs 0 (next_steps steps vs) (loop_charge charge vs) acc b0 told (told_before b told.registers refl before) turns.next (λ b1 before1 count1 next1.
       next_runs vs (0 + 1) (f acc v) b0 b1 before1 count1 next1))))))
 
--- ---- the range and what comes before the first turn
+-- ---- the range, and the code before the first turn
 
 module _ (s : RunContext) (c : Context) (depth k o off : ℕ) (low : k < fold_limit) (has : IsCodeAt s.image.code o (range_tail k off)) (b : CpuState) (fitting : IsWellFormedState c depth k b) (range : ValueOrError) (named : Names b.values.values (b.registers R0) range) where
   -- before the first turn of a loop
@@ -251,7 +251,7 @@ module _ (s : RunContext) (c : Context) (depth k o off : ℕ) (low : k < fold_li
       (store has 8 (k + 2) refl fits4.frame (omega arith)
       (done s (o + 9) _ _ (grind (arith, range_stored, keeps_then, counted_keeps, keeps_registers)))))))))))
 
-  -- no range: on to the end with the error
+  -- the value is not a range: jumps to the end with the error
   pub no_range_runs : range_of range ≡ None → RunsTo s 6 1 o b (o + (6 + off)) (LeavesValue c depth k error b)
   no_range_runs none =
       let t = helpers.no_count c.environment.roots asks range asks_fits.values named none in

@@ -1,4 +1,5 @@
--- The code of a map literal gives the map of its entries, or the error where a key stands twice or is no text, or a part is the error.
+-- The code of a map literal gives the map of its entries, or the error if a key is repeated or is not a text, or if a
+-- part is the error.
 -- For the laws in `specs/Gives/Aggregates`.
 use Rattle.expression_code.proofs.Prelude.{◌≡◌, ℕ, ◌+◌, max, ◌<◌, ◌≤◌, List, ◌∷◌, ◌++◌, Option, Some, true, refl, sym, subst, arith, append_assoc, is_some, pos, fold as fold_left, le-leb, depth_limit, Names, Grows, enters_by, Insn, R0, R1, R2, R3, result_depth, Value, ValueOrError, value, map, no_entries, value_or_error, CpuState, set_register, entry_code, entry_tail, map_code, Context, Evaluates, RunContext, RunsTo, Builds, EntriesGive, Made, MadeInR0, MapGives, MayHold, with_pair, put_of, IsCodeAt, size, word_at, word_limit}
 use Rattle.expression_code.proofs.Sites.{Site, Budget, site_at, in_frame, budget, past, above, EvaluatesAt, BuildsAt, EntriesAt}
@@ -14,14 +15,14 @@ use Rattle.expression_code.proofs.Operators.{shows_placed}
 use Rattle.expression_code.proofs.Pieces.{size-append, size-cons, stands_back, stands_front}
 use Rattle.expression_code.proofs.Runs.{and_then, arrived, by_limit, done, into, looser, to_place}
 
--- ---- how deep a map becomes
+-- ---- the depth of a map
 
 grown_depth : (o : Option Value) (most : ℕ) → (is_some o ≡ true → Grows o most) → result_depth (value_or_error o) ≤ most
 grown_depth o most grows = grind arith
 
 -- ---- an entry
 
--- word k names the map, word k + 1 the key, and R0 the value
+-- word k holds the map, word k + 1 the key, and R0 the value
 record Ready (c : Context) (depth k : ℕ) (m x y : ValueOrError) (old new : CpuState) : Type 0 where
   beside_it : Beside c depth k m y old new
   key : Names new.values.values (word_at depth (k + 1) new) x

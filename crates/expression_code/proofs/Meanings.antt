@@ -1,4 +1,4 @@
--- What a call leaves, by what its helper's row says, and what the rows say of the meaning of CEL's operations.
+-- The effect of a call, given the row of its helper, and the rows in terms of CEL's operations.
 use Rattle.expression_code.proofs.Prelude.{arith, ◌≡◌, ℕ, ◌+◌, ◌^◌, ◌<◌, ◌≤◌, List, [], ◌∷◌, Option, Some, None, Bool, true, false, refl, sym, ap, ◌∙◌, subst, suc, ◌++◌, length, ℤ, All, nat_le, if◌then◌else◌, option_map, slice_get, le-leb, outcome_of, ExtendsValues, Names, HelperAnswer, Leaves, RowOutcome, Plain, Named, answer_among, charged, truth_word, named, Refused, IsTable, placed_extends, placed_is_named, same, tables_are_kept, F8, charge_limit, Value, ValueOrError, error, value, boolean, text, list, Items, items_join, truth_or_error, value_or_error, CpuState, HelperPlaces, Tells, arguments_in, length-map, depth_limit, grown, sequence, on_texts, item_or_key, count_word, count_part, text_part, joined, outcome_view, depth_of, result_depth, TextTest, text_test_of, range_of, join_of, joined_length}
 use Rattle.std.specs.Prelude.{map as each}
 use Rattle.helper_table.specs.Outcome.{Gives, Halts, truth}
@@ -9,7 +9,7 @@ use Rattle.value_store.specs.Calls as store
 use Rattle.cel_macros.specs.Functions as meant
 use Rattle.cel_macros.specs.Literals as literal
 
--- an outcome names the value or the error
+-- an outcome refers to the value or the error
 pub data IsNamed (x : ValueOrError) (added : ℕ) (o : RowOutcome) : Type 0 where
   Placed : (v : Value) → o ≡ Named v added → x ≡ value v → IsNamed x added o
   Missing : o ≡ Plain 0 added → x ≡ error → IsNamed x added o
@@ -27,8 +27,8 @@ truth_is None = Missing refl refl
 pub three : (a b c : ℕ) → a < 2 ^ 64 → b < 2 ^ 64 → c < 2 ^ 64 → All (λ w. w < 2 ^ 64) (a ∷ b ∷ c ∷ 0 ∷ 0 ∷ [])
 three a b c ha hb hc = grind arith
 
--- a call within the limit leaves what its row says, which is a table again; the words that the row does not read may be
--- any
+-- a call within the limit leaves what its row states, and the values are a table again; the registers that the row
+-- does not read may hold anything
 module _ (helper : ℤ) (b : CpuState) (args : List ℕ) (words : All (λ w. w < 2 ^ 64) args) (table : IsTable b.values) where
   abbrev said : RowOutcome
   said = outcome_of helper args b.values.values b.memory.constants
@@ -36,7 +36,7 @@ module _ (helper : ℤ) (b : CpuState) (args : List ℕ) (words : All (λ w. w <
   within : (w added : ℕ) (vs : List ValueOrError) → b.values.charge + (1 + added) ≤ charge_limit → (if nat_le (b.values.charge + (1 + added)) charge_limit then Leaves w (record { values = vs; charge = b.values.charge + (1 + added) }) else Halts F8) ≡ Leaves w (record { values = vs; charge = b.values.charge + (1 + added) })
   within w added vs paid = rw (le-leb (b.values.charge + (1 + added)) charge_limit paid) refl
 
-  -- a word and values that the row answers are a table's
+  -- a word and values that the row returns belong to a table
   after : (w added : ℕ) (vs : List ValueOrError) → answer_among b.values.values said ≡ Gives w vs (1 + added)
       → b.values.charge + (1 + added) ≤ charge_limit → IsTable (record { values = vs; charge = b.values.charge + (1 + added) })
   after w added vs e paid =
@@ -60,14 +60,14 @@ module _ (helper : ℤ) (b : CpuState) (args : List ℕ) (words : All (λ w. w <
   places_by x added clean (Missing e is) = leaves x added _ _ clean (ap (answer_among b.values.values) e) (rw is (names_error b.values table.store)) (same b.values.values)
   places_by x added clean (Decided t e is) = leaves x added _ _ clean (ap (answer_among b.values.values) e) (rw is (names_truth t)) (same b.values.values)
 
-  -- where the row says a known outcome
+  -- the row states a known outcome
   pub places : (o : RowOutcome) (x : ValueOrError) (added : ℕ) → outcome_of helper (arguments_in b) b.values.values b.memory.constants ≡ said → said ≡ o
       → IsNamed x added o → HelperPlaces helper b x (1 + added)
   places o x added clean e is = places_by x added clean (subst (IsNamed x added) (sym e) is)
 
--- ---- each row says what the operation means
+-- ---- each row states what the operation means
 
--- the text, where there is one, is the same to the row as to the meaning
+-- the row and the meaning see the same text, if there is one
 text_is : (x : ValueOrError) → literal.text_part x ≡ text_part (outcome_view x)
 text_is x = grind arith
 
@@ -77,7 +77,7 @@ test_is t x y = rw (text_is x, text_is y) (grind arith)
 pub contains_texts : (a b : Option (List ℕ)) → on_texts row.contains a b ≡ on_texts meant.contains a b
 contains_texts a b = grind arith
 
--- what was joined is a text or a list
+-- a concatenation is a text or a list
 abbrev JoinedIs : Option Value → Type 0
 JoinedIs o = IsNamed (value_or_error o) (joined_length o) (sequence o)
 

@@ -1,4 +1,4 @@
--- The code of products, quotients and remainders gives their meaning.
+-- The code of products, quotients and remainders gives their values.
 -- For the laws in `specs/Gives/Arithmetic`.
 use Rattle.expression_code.proofs.Prelude.{◌≡◌, ℕ, ◌+◌, ◌≤◌, true, false, not, inl, inr, refl, sym, ap, ◌∙◌, arith, suc, ℤ, ◌*ℤ◌, w64, cast_unsigned, AluOp, Sdiv, Smod, Eq, Ne, Register, R1, R2, R6, R7, R10, W64, ValueOrError, error, fits, product, product_of, quotient, quotient_of, remainder, remainder_of, alu_result, compares, CpuState, set_register, divided_code, divided_tail, least_word, product_code, product_tail, Context, IsWellFormedState, LeavesValue, RunContext, RunsTo, ProductsGive, TailGives, IsCodeAt, frame_words}
 use Rattle.expression_code.proofs.Sites.{site_at, in_frame, budget}
@@ -21,7 +21,7 @@ module _ (s : RunContext) (c : Context) (depth k o : ℕ) (low : k ≤ frame_wor
   Q = LeavesValue c depth k (product m n) b
 
   module _ (registers : Register → ℕ) (pointer : registers R10 ≡ b.registers R10) (r1 : registers R1 ≡ check.result) where
-    -- R1 has the product, which fits
+    -- R1 holds the product, which fits
     answers : {t u : ℕ} → fits (m *ℤ n) ≡ true → RunsTo s (suc (suc t)) (suc u) (o + 10) (record b { registers = registers }) (o + 13) Q
     unfolding product_tail
     answers h = grind (arith, answers_int)
@@ -99,7 +99,7 @@ module _ (op : AluOp) (s : RunContext) (c : Context) (depth k o : ℕ) (low : k 
 divided_runs : (op : AluOp) (f : ℤ → ℤ → ValueOrError) → ((m n : ℤ) → fits m ≡ true → fits n ≡ true → Divided op (cast_unsigned w64 m) (cast_unsigned w64 n) (f m n)) → (s : RunContext) (p : ℕ) (c : Context) (depth k : ℕ) (m n : ℤ) → k ≤ frame_words → OnInts s p (divided_tail op) c depth k m n (f m n) 8 1
 divided_runs op f check s p c depth k m n low = grind (arith, divided_goes, fits_is)
 
--- ---- behind any operands
+-- ---- after any operands
 
 product_gives : TailGives product_code R6 R7 product_of 23 5
 unfolding product_tail

@@ -1,4 +1,4 @@
--- The code of negatives gives their meaning.
+-- The code of negation gives its value.
 -- For the laws in `specs/Gives/Arithmetic`.
 use Rattle.expression_code.proofs.Prelude.{◌≡◌, ℕ, suc, ◌+◌, ◌≤◌, List, Some, None, false, refl, ap, ◌∙◌, subst, arith, ℤ, pos, neg_ℤ, slice_get, w64, cast_signed, kind_number, Names, Eq, Insn, Neg, Register, R1, R2, R6, Width, W64, outcome_view, ValueOrError, error, value, int, neg_row, is_frame_pointer, compares, negated, int_or_error, int_part, CpuState, at, set_register, Tells, answered, least_word, negation_tail, Context, IsWellFormedState, LeavesValue, RunContext, RunsTo, NegationGives, IsCodeAt, slots, frame_words}
 use Rattle.loader.specs.Contents as loader
@@ -38,7 +38,7 @@ module _ (s : RunContext) (c : Context) (depth base o : ℕ) (low : base ≤ fra
   kind : Tells (pos 1) asks (kind_number (outcome_view x)) 1
   kind = helpers.kind c.environment.roots asks x stays1.fits.values named
 
-  -- an operand that is no int
+  -- an operand that is not an int
   of_other : int_part x ≡ None → RunsTo s 11 3 o b (o + 13) (LeavesValue c depth base error b)
   unfolding negation_tail
   of_other none =

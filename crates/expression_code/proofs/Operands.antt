@@ -6,7 +6,7 @@ use Rattle.expression_code.proofs.Listings.{begins, branch, calls, mov, no, yes}
 use Rattle.expression_code.proofs.Frames.{Stays, begun, moved, said}
 use Rattle.expression_code.proofs.Runs.{arrived}
 
--- a helper tells a word, and the values stay
+-- a helper returns a word, and the values are unchanged
 pub fits_told : (c : Context) (depth base : ℕ) (helper : ℤ) (w cost : ℕ) (b : CpuState) → Tells helper b w cost → b.values.charge + cost ≤ charge_limit
     → IsWellFormedState c depth base b → IsWellFormedState c depth base (answered b w b.values.values (b.values.charge + cost))
 fits_told c depth base helper w cost b t paid fits = (said (begun fits) t paid).fits
@@ -25,13 +25,13 @@ kind_of_other x none = grind (arith, differs_yes)
 -- ---- both operands are ints, or not
 
 module _ (s : RunContext) (c : Context) (depth k o off : ℕ) (has : IsCodeAt s.image.code o (int_operands off)) (b : CpuState) (fits : IsWellFormedState c depth k b) (x y : ValueOrError) (left : Names b.values.values (b.registers R6) x) (right : Names b.values.values (b.registers R7) y) where
-  -- R6 and R7 have the words of the ints
+  -- R6 and R7 hold the words of the ints
   pub record AreInts (m n : ℤ) (last : CpuState) : Type 0 where
     pub first : last.registers R6 ≡ cast_unsigned w64 m
     pub second : last.registers R7 ≡ cast_unsigned w64 n
     pub stays : Stays c depth k b last
 
-  -- R6 and R7 name the operands
+  -- R6 and R7 hold the operands
   pub record AreOthers (last : CpuState) : Type 0 where
     pub first : Names last.values.values (last.registers R6) x
     pub second : Names last.values.values (last.registers R7) y
@@ -46,7 +46,7 @@ module _ (s : RunContext) (c : Context) (depth k o off : ℕ) (has : IsCodeAt s.
   kind1 : Tells (pos 1) asks (kind_number (outcome_view x)) 1
   kind1 = helpers.kind c.environment.roots asks x stays1.fits.values left
 
-  -- the kind of the left operand is told
+  -- R0 holds the kind of the left operand
   abbrev asks2 : CpuState
   asks2 = set_register (answered asks (kind_number (outcome_view x)) b.values.values (b.values.charge + 1)) R1 (b.registers R7)
 

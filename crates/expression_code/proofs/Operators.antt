@@ -1,4 +1,4 @@
--- Operands, and pieces behind them.
+-- Operands, followed by pieces.
 -- For the laws in `specs/Operators`.
 use Rattle.expression_code.proofs.Prelude.{◌≡◌, ℕ, suc, ◌+◌, ◌≤◌, List, [], ◌∷◌, ◌++◌, refl, arith, ℤ, Insn, Call, Register, R0, R1, R10, charge_limit, ValueOrError, CpuState, set_register, HelperPlaces, answered, operand_code, operands_code, Context, IsWellFormedState, Evaluates, LeavesValue, RunContext, RunsTo, UnaryHelper, CallsGive, CombinesThen, Converts, ConvertsThen, OneGives, TwoGives, IsCodeAt, size, frame_words}
 use Rattle.expression_code.proofs.Sites.{Site, StackFrame, Budget, in_frame, budget, past, EvaluatesAt, ConvertsAt}
@@ -9,7 +9,7 @@ use Rattle.expression_code.proofs.Loaded.{operand_runs, operands_run}
 use Rattle.expression_code.proofs.Pieces.{runs_both, shown_behind}
 use Rattle.expression_code.proofs.Runs.{done, looser}
 
--- a helper has placed its answer in R0, with other registers than at the start
+-- a helper has left its result in R0; other registers may have changed
 pub shows_placed : (frame : StackFrame) (helper : ℤ) (x : ValueOrError) (cost : ℕ) (b : CpuState) (registers : Register → ℕ) → frame.base ≤ frame_words → registers R10 ≡ b.registers R10 → IsWellFormedState frame.context frame.depth frame.base b → (a : HelperPlaces helper (record b { registers = registers }) x cost) → b.values.charge + cost ≤ charge_limit → LeavesValue frame.context frame.depth frame.base x b (answered (record b { registers = registers }) a.word a.list (b.values.charge + cost))
 shows_placed frame helper x cost b registers low pointer fits a paid = shown (placed (moved (begun fits) registers pointer) a paid) a.names
 
@@ -22,7 +22,7 @@ one_gives s p l operand piece r c depth base x z n1 x1 n2 x2 free leaf gives con
       (λ b1 back g. shown_behind s g.keeps (converts.runs b1 back g.fits g.named)));
 }
 
--- code and a piece behind it that reads R0
+-- code followed by a piece that reads R0
 pub result_gives : (site : Site) (first second : List Insn) (x z : ValueOrError) (t u : Budget) → EvaluatesAt site first x t → ConvertsAt (past (size first) site) second R0 x z u → EvaluatesAt site (first ++ second) z (budget (t.steps + u.steps) (t.charge + u.charge))
 result_gives site first second x z t u gives converts = record {
   runs = λ b has fits.
@@ -50,10 +50,10 @@ combines_then s p k first second r q c depth x y w z n1 x1 n2 x2 before after = 
       runs_both s p first second n2 x2 (LeavesValue c depth k z b) has (λ front. before.runs b front fits left right) (λ b1 back g. shown_behind s g.keeps (after.runs b1 back g.fits g.shows));
 }
 
--- ---- calls of helpers on what stands in their registers
+-- ---- calls of helpers with the values in their registers
 
 module _ (s : RunContext) (p : ℕ) (helper : ℤ) (c : Context) (depth base : ℕ) (low : base ≤ frame_words) where
-  -- the answer, of what the CPU state's registers name
+  -- the result, for the values in the CPU state's registers
   answers : (z : ValueOrError) (b : CpuState) → IsCodeAt s.image.code p (Call helper ∷ []) → IsWellFormedState c depth base b → HelperPlaces helper b z 1 → RunsTo s 1 1 p b (p + 1) (LeavesValue c depth base z b)
   answers z b has fits a =
       looser s {n = suc 0} {x = 1 + 0} 1 1 (omega arith) (omega arith)
@@ -68,7 +68,7 @@ calls_give = record {
   swapped = λ s p k helper f c depth x y low binary. record { runs = λ b has fits left right. answers s p helper c depth k (omega arith) (f y x) b has fits (binary c.environment.roots b y x fits.values right left) };
 }
 
--- a call on what R0 names
+-- a call with the value in R0
 pub call_on_result : (s : RunContext) (p : ℕ) (helper : ℤ) (f : ValueOrError → ValueOrError) (c : Context) (depth base : ℕ) (x : ValueOrError)
     → base ≤ frame_words → UnaryHelper helper f → Converts s p (insn.mov_reg R1 R0 ∷ Call helper ∷ []) R0 c depth base x (f x) 2 1
 call_on_result s p helper f c depth base x low unary = record {

@@ -1,4 +1,4 @@
--- A path that word 0 of the frame keeps.
+-- A path whose value word 0 of the frame keeps.
 use Rattle.expression_code.proofs.Prelude.{◌≡◌, ℕ, suc, ◌+◌, List, [], ◌∷◌, ◌++◌, length, Some, refl, sym, subst, arith, Names, Insn, R0, R1, ValueOrError, Environment, name_value, CpuState, operand_code, leaf_code, name_leaf, field_tail, Context, IsWellFormedState, Evaluates, LeavesValue, RunContext, RunsTo, PathsGive, kept_path_code, outside, path_in, HasText, RootField, nothing_kept, with_path, IsCodeAt, size, set_word, word_at}
 use Rattle.expression_code.specs.Instructions as insn
 use Rattle.expression_code.proofs.Frames.{keeps_then, shows_after, stored}

@@ -1,4 +1,4 @@
--- Pieces of code that stand one after another.
+-- Pieces of code, one after another.
 use Rattle.expression_code.proofs.Prelude.{◌≡◌, ℕ, zero, suc, ◌+◌, ◌*◌, ◌≤◌, List, [], ◌∷◌, ◌++◌, length, replicate, Option, Some, None, refl, sym, ap, ◌∙◌, arith, append_assoc, length-append, zero-add, subst, suc-add, pos, slice_get, slot_count, spelling, Insn, fetched, ValueOrError, CpuState, Context, Preserves, LeavesValue, variable_count, RunContext, RunsTo, insn_slots, slots, size, IsCodeAt}
 use Rattle.expression_code.proofs.Frames.{keeps_then}
 use Rattle.expression_code.proofs.Runs.{and_then, into, to_place}
@@ -60,7 +60,7 @@ module _ (code : List ℕ) (p : ℕ) where
   pub stands_cons : (i : Insn) (is : List Insn) → fetched code (pos p) ≡ Some (Some i) → IsCodeAt code (p + slot_count i) is → IsCodeAt code p (i ∷ is)
   stands_cons i is h s = record { here = cons_here i is h s }
 
--- ---- a run through a piece and one behind it
+-- ---- a run through a piece and the one after it
 
 module _ (s : RunContext) (p : ℕ) (first second : List Insn) {n x : ℕ} {b : CpuState} {P : CpuState → Type 0} where
   pub runs_both : (m y : ℕ) (Q : CpuState → Type 0) → IsCodeAt s.image.code p (first ++ second)
@@ -72,7 +72,7 @@ module _ (s : RunContext) (p : ℕ) (first second : List Insn) {n x : ℕ} {b : 
       to_place s _ place (and_then s m y (p + size first + size second) Q (before (stands_front s.image.code p first second has)) (λ b1 fact. after b1 (stands_back s.image.code p first second has) fact))
 
 module _ (s : RunContext) {c : Context} {depth base : ℕ} {x : ValueOrError} {a b : CpuState} where
-  -- what the piece before has kept is kept where a value is shown behind it
+  -- what the earlier piece preserved is preserved when a value follows
   pub shown_behind : {n m p q : ℕ} {d : CpuState} → Preserves (variable_count c) depth base a b
       → RunsTo s n m p d q (LeavesValue c depth base x b) → RunsTo s n m p d q (LeavesValue c depth base x a)
   shown_behind kept run =

@@ -1,4 +1,4 @@
--- The names that these proofs cite of the library, of the crates below and of the definitions here. Declares nothing.
+-- The names of the library, of the crates below and of the definitions that these proofs use. Declares nothing.
 pub use Rattle.std.proofs.Common.{All, Bool, Equal, FitsSigned, Greater, IfSome, Less, List, None, Ok, Option}
 pub use Rattle.std.proofs.Common.{Ordering, Result, Some, ℕ, ℤ, [], ap, append-nil, append_assoc, ap₂, arith}
 pub use Rattle.std.proofs.Common.{bytes_eq, codes, drop, false, fold, if◌then◌else◌, inl, inr, int_div, int_rem}

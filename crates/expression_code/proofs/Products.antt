@@ -1,4 +1,4 @@
--- Products, quotients and remainders of ints as words, and what shows that a product is no int.
+-- Products, quotients and remainders of ints as words, and how an overflow of a product is found.
 -- For the laws in `specs/Gives/Arithmetic`.
 use lib.IntN.{+ℤ_invr, *ℤ-zero, zero-*ℤ, pos-*ℤ-pos}
 use lib.Signed.{mag_rem}
@@ -24,16 +24,16 @@ first_factor (pos (suc a)) (negsuc b) some = grind (arith, suc-mul, cancel)
 first_factor (negsuc a) (pos (suc b)) some = grind (arith, suc-mul, cancel)
 first_factor (negsuc a) (negsuc b) some = grind (arith, cancel)
 
--- a quotient is no greater than its dividend, and less but for divisors of 1 and -1
+-- the magnitude of a quotient is at most that of its dividend, and less unless the divisor is 1 or -1
 quotient_small : (x y : ℤ) → fits x ≡ true → (x ≡ negsuc (2 ^ 63 - 1) → y ≡ negsuc 0 → ⊥) → fits (int_div x y) ≡ true
 quotient_small x y small far = grind (arith, ints, cancel, either)
 
--- where a quotient of two ints has the word of x, it is x, unless the divisor is -1 and x the least int
+-- if a quotient of two ints has the word of x, it is x, unless the divisor is -1 and x is the smallest int
 same_quotient : (t x y : ℤ) → fits t ≡ true → fits x ≡ true → (x ≡ negsuc (2 ^ 63 - 1) → y ≡ negsuc 0 → ⊥) → word_of 64 (int_div t y) ≡ word x → int_div t y ≡ x
 unfolding word_of
 same_quotient t x y ht hx far e = grind arith
 
--- two ints that are the same once wrapped, and are an int apart, are the same
+-- two numbers that wrap to the same int and differ by an int are equal
 no_rest : (m r t : ℤ) → m +ℤ r ≡ t → int_wrap w64 t ≡ int_wrap w64 m → fits r ≡ true → t ≡ m
 no_rest m r t whole same fit =
     let rest : t +ℤ neg_ℤ m ≡ r = omega (arith, ints) in
@@ -42,7 +42,7 @@ no_rest m r t whole same fit =
     ∙ (int_wrap_fits w64 (pos 0) (fits_into (pos 0) refl)) in
     omega (arith, ints)
 
--- the divisor is not -1, or the dividend not the least int
+-- the divisor is not -1, or the dividend is not the smallest int
 abbrev pub IsFar : ℕ → ℕ → Type 0
 IsFar a b = (compares W64 Ne b minus_one ≡ true) ⊎ (compares W64 Eq a least ≡ false)
 
@@ -60,7 +60,7 @@ remainder_computed a b ha hb some = rw (ne_eqb b 0 some, signed_is w64 a ha, sig
 number_word_of : (z : ℤ) → fits z ≡ true → word_of 64 z ≡ word z
 number_word_of z h = sym (word_is w64 z (grind (arith, ints)))
 
--- a product of two words, and tests that tell where the product of the ints is none
+-- a product of two words, and tests that show whether the product of the ints fits
 pub record Multiplied (a b : ℕ) (z : ℤ) : Type 0 where
   pub result : ℕ
   pub computed : alu_result W64 Mul a b ≡ result
@@ -90,7 +90,7 @@ module _ (x y : ℤ) (hx : fits x ≡ true) (hy : fits y ≡ true) where
   rest_fits : (y ≡ pos 0 → ⊥) → fits (int_rem (number times) y) ≡ true
   rest_fits some = let small = rem_below (number times) y (omega (arith, ints)) in grind (arith, ints)
 
-  -- dividing back gives x only where the product fits
+  -- dividing back gives x only if the product fits
   divides_back : (y ≡ pos 0 → ⊥) → int_div (number times) y ≡ x → number times ≡ x *ℤ y
   divides_back some e =
       let t = number times in
@@ -126,16 +126,16 @@ module _ (x y : ℤ) (hx : fits x ≡ true) (hy : fits y ≡ true) where
     back = λ h far. back_tells (fits (x *ℤ y)) refl h far;
   }
 
--- ---- what a division gives
+-- ---- the result of a division
 
--- a division of two words has a result, and the int of it is the value
+-- a division of two words has a result, and its int is the value
 pub record Computes (op : AluOp) (a b : ℕ) (v : ValueOrError) : Type 0 where
   pub result : ℕ
   pub computed : alu_result W64 op a b ≡ result
   pub small : result < 2 ^ 64
   pub exact : value (int (number result)) ≡ v
 
--- the error where the divisor is zero, or where it is -1 and the dividend the least int
+-- the error if the divisor is zero, or if it is -1 and the dividend is the smallest int
 pub record Divided (op : AluOp) (a b : ℕ) (v : ValueOrError) : Type 0 where
   pub of_zero : compares W64 Eq b 0 ≡ true → v ≡ error
   pub over : compares W64 Ne b minus_one ≡ false → compares W64 Eq a least ≡ true → v ≡ error
@@ -160,7 +160,7 @@ module _ (x y : ℤ) (hx : fits x ≡ true) (hy : fits y ≡ true) where
   y_is : compares W64 Ne (word y) minus_one ≡ false → y ≡ negsuc 0
   y_is h = from_word y hy minus_one (not_different (word y) minus_one h)
 
-  -- a division by what is not zero, whose result fits
+  -- a division whose divisor is not zero and whose result fits
   computes : (op : AluOp) (divide : ℤ → ℤ → ℤ) (v : ValueOrError) → alu_result W64 op (word x) (word y) ≡ word_of 64 (divide (number (word x)) (number (word y)))
       → fits (divide x y) ≡ true → value (int (divide x y)) ≡ v → Computes op (word x) (word y) v
   computes op divide v computed small is = grind (arith, word, number_word, number_word_of, word_fits)

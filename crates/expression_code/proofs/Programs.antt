@@ -23,7 +23,7 @@ pub word_in-zeros : (n i : ℕ) → word_in (replicate n 0) i ≡ 0
 unfolding word_in
 word_in-zeros n i = zeros_word (part (replicate n 0) (8 * i) 8) (All-take (λ b. b ≡ 0) 8 _ (All-drop (λ b. b ≡ 0) (8 * i) _ (All-replicate (λ b. b ≡ 0) n 0 refl)))
 
--- what the first uses of a scope's variables take at most
+-- the largest cost of the first uses of a scope's variables
 pub steps-most : (image : loader.Image) (scope : List Variable) (scratch : List ℕ) → pending (map first_use scope) (λ v. v.steps) scratch ≤ total (first_steps scope)
 steps-most image scope scratch =
     subst (λ (ns : List ℕ). pending (map first_use scope) (λ v. v.steps) scratch ≤ total ns) (map-map (λ (v : FirstUse). v.steps) first_use scope) (pending-most image (map first_use scope) (λ v. v.steps) scratch)
@@ -37,7 +37,7 @@ pub start_is : (image : loader.Image) (values : Contents) → start_state image 
 unfolding start_state
 start_is image values = refl
 
--- a program starts with a well-formed CPU state, and with every memo empty
+-- a program starts with a well-formed CPU state in which every memo is empty
 pub start_fits : (image : loader.Image) (values : Contents) (roots : Roots) (variables : List (List ℕ × ValueOrError)) → All (λ b. b < 256) image.constants → HasValues roots values → IsWellFormedState (routine_context roots variables image.constants) 0 0 (start_body image values)
 unfolding start_memory
 start_fits image values roots variables bytes has = record {

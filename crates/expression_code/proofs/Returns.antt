@@ -1,4 +1,4 @@
--- The routine of a variable comes back to its caller with the value, and with the memo filled.
+-- The routine of a variable returns to its caller with the value, and the memo is filled.
 use Rattle.expression_code.proofs.Prelude.{◌≡◌, ℕ, ◌+◌, ◌<◌, ◌≤◌, List, [], ◌∷◌, ◌++◌, length, length-append, Some, Bool, refl, sym, ap, ◌∙◌, subst, arith, inl, inr, slice_get, cases_eq, cases_lt, length-map, Insn, R0, R1, R2, Image, Value, ValueOrError, Roots, Names, CpuState, set_register, entered, resumed, Context, IsWellFormedState, Evaluates, IsMemo, LeavesValue, RunsToWith, RunContext, FirstUse, FrameUse, IsCodeAt, size, RoutineReturns, Variable, bindings, memo_tail, routine_context, used_context, with_variables, Framed, memo_address, memo_at, set_memo, same, word_limit, record_limit, memo_limit}
 use Rattle.expression_code.proofs.Sites.{in_frame}
 use Rattle.expression_code.proofs.Effects.{add_is}
@@ -22,7 +22,7 @@ module _ (image : Image) (deep : Bool) (paid : List FirstUse) (constants : List 
   abbrev inner_setting : RunContext
   inner_setting = with_variables image deep paid
 
-  -- back in the caller's frame the memo is filled, and the later ones are as before
+  -- back in the caller's frame the memo is filled, and the later memos are unchanged
   pub record Back (caller last : CpuState) : Type 0 where
     pub shown : LeavesValue c depth base v caller last
     pub filled : memo_at index last ≡ last.registers R0 + 1
@@ -45,7 +45,7 @@ module _ (image : Image) (deep : Bool) (paid : List FirstUse) (constants : List 
       abbrev filled_body : CpuState
       filled_body = set_memo index (r + 1) (set_register (set_register (set_register b3 R2 r) R2 (r + 1)) R1 (memo_address index))
 
-      -- the caller goes on
+      -- the caller continues
       abbrev last : CpuState
       last = resumed caller filled_body
 

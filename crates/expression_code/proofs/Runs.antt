@@ -1,4 +1,4 @@
--- How runs are put together.
+-- Composing runs.
 use Rattle.expression_code.proofs.Prelude.{◌≡◌, ℕ, suc, ◌+◌, ◌≤◌, List, [], ◌++◌, append-nil, Bool, refl, sym, ap, ◌∙◌, subst, arith, false, true, ◌<◌, leb-false, leb-true, nat_le, F8, Image, State, next_state, state_after, state_after-zero, state_after-more, state_after-next, state_after-add, Frame, Fault, CpuState, at, RunContext, RunEnds, Faulted, Arrived, RunsTo, IsSpent, RunsToWith, charge_to, steps_to, FirstUse, StayFilled, first_uses, with_variables}
 use Rattle.expression_code.proofs.FirstUses.{uses-join, uses-more}
 
@@ -12,16 +12,16 @@ by_limit d n within above = either (nat_le d n) (λ e. within (leb-true d n e)) 
 pub state_after-first : (k : ℕ) (t : State) → state_after (k + 1) t ≡ state_after k (next_state t)
 state_after-first k t = state_after-more k t ∙ sym (state_after-next k t)
 
--- a reason to stop at a charge is one at a greater charge
+-- a reason to stop at a charge is a reason at a greater charge
 pub over : (s : RunContext) (x y : ℕ) → x ≤ y → IsSpent s x → IsSpent s y
 over s x y le h = grind arith
 
--- where the scratch region is as it was no memo was emptied
+-- if the scratch region is unchanged, no memo was emptied
 unmoved : {old new : List ℕ} → new ≡ old → StayFilled old new
 unmoved {old} {new} e = subst (λ (bytes : List ℕ). StayFilled old bytes) (sym e) (λ i h. h)
 
 module _ (s : RunContext) where
-  -- the first uses of two stretches are first uses of the whole
+  -- the first uses in two parts of a run are first uses in the whole
   joined_steps : (b b1 : CpuState) (scratch : List ℕ) (calls : List Frame) → StayFilled b.memory.scratch b1.memory.scratch
       → StayFilled b1.memory.scratch scratch → steps_to s 0 b b1.memory.scratch [] + steps_to s 0 b1 scratch calls ≤ steps_to s 0 b scratch calls
   joined_steps b b1 scratch calls first second = grind (arith, uses-join)
@@ -29,13 +29,13 @@ module _ (s : RunContext) where
   joined_charge : (b b1 : CpuState) (scratch : List ℕ) (calls : List Frame) → StayFilled b.memory.scratch b1.memory.scratch → StayFilled b1.memory.scratch scratch → first_uses s.image s.variables (λ v. v.charge) b.memory.scratch b1.memory.scratch [] + first_uses s.image s.variables (λ v. v.charge) b1.memory.scratch scratch calls ≤ first_uses s.image s.variables (λ v. v.charge) b.memory.scratch scratch calls
   joined_charge b b1 scratch calls first second = uses-join s.image s.variables (λ v. v.charge) b.memory.scratch b1.memory.scratch scratch calls first second
 
-  -- nothing more to do
+  -- nothing is left to do
   pub done : (p : ℕ) (b : CpuState) (Q : CpuState → Type 0) → Q b → RunsTo s 0 0 p b p Q
   done p b Q q = record { steps = 0; ends = Arrived b (state_after-zero (at s.image p b)) refl (λ i h. h) (omega arith) (omega arith) q }
 
-  -- where a run is to arrive: with these records, at slot p', with the fact Q
+  -- the end of a run: these records, slot p' and the fact Q
   module _ {r : List Frame} {p' : ℕ} {Q : CpuState → Type 0} where
-    -- the end of what comes after k steps is the end of the whole
+    -- the end of the rest after k steps is the end of the whole run
     later : {n m x y : ℕ} {b b1 : CpuState} {t : State} (k j : ℕ) → b1.records ≡ b.records → StayFilled b.memory.scratch b1.memory.scratch → k + m ≤ steps_to s n b b1.memory.scratch [] → b1.values.charge + y ≤ charge_to s x b b1.memory.scratch [] → RunEnds s m y b1 r p' Q j t → RunEnds s n x b r p' Q (k + j) t
     later {n} {m} {x} {y} {b} {b1} {t} k j same stay hk hx (Faulted calls e frames f l o) =
         let steps = joined_steps b b1 t.memory.scratch calls stay f in
@@ -68,18 +68,18 @@ module _ (s : RunContext) where
         let same : k + c.steps ≡ c.steps + k = omega arith in
         record { steps = k + c.steps; ends = subst (RunEnds s (n + m) (x + y) b r p' Q (k + c.steps)) (sym (ap (λ (i : ℕ). state_after i (at s.image p b)) same ∙ parts)) (later k c.steps frames f (omega arith) (omega arith) c.ends) }
 
-    -- a step, and what comes after it
+    -- a step, followed by the rest
     pub step : {m y p1 : ℕ} {b1 : CpuState} (n x p : ℕ) (b : CpuState) → next_state (at s.image p b) ≡ at s.image p1 b1 → b1.records ≡ b.records → StayFilled b.memory.scratch b1.memory.scratch → suc m ≤ n → b1.values.charge + y ≤ b.values.charge + x → RunsToWith s m y p1 b1 r p' Q → RunsToWith s n x p b r p' Q
     step {m} {y} {p1} {b1} n x p b e same stay hk hx c =
         let twice : 1 + c.steps ≡ c.steps + 1 = omega arith in
         let after : state_after (1 + c.steps) (at s.image p b) ≡ state_after c.steps (at s.image p1 b1) = ap (λ (k : ℕ). state_after k (at s.image p b)) twice ∙ state_after-first c.steps (at s.image p b) ∙ ap (state_after c.steps) e in
         record { steps = 1 + c.steps; ends = subst (RunEnds s n x b r p' Q (1 + c.steps)) (sym after) (later 1 c.steps same stay (omega arith) (omega arith) c.ends) }
 
-    -- a step that leaves the records and the charge, and empties no memo
+    -- a step that changes neither the records nor the charge, and empties no memo
     pub one_filled : {n x p1 : ℕ} {b1 : CpuState} (p : ℕ) (b : CpuState) → next_state (at s.image p b) ≡ at s.image p1 b1 → b1.records ≡ b.records → StayFilled b.memory.scratch b1.memory.scratch → b1.values.charge ≡ b.values.charge → RunsToWith s n x p1 b1 r p' Q → RunsToWith s (suc n) x p b r p' Q
     one_filled {n} {x} {p1} {b1} p b e same stay v c = step (suc n) x p b e same stay (omega arith) (omega arith) c
 
-    -- a step that leaves the records, the scratch region and the charge
+    -- a step that changes neither the records, the scratch region nor the charge
     pub one : {n x p1 : ℕ} {b1 : CpuState} (p : ℕ) (b : CpuState) → next_state (at s.image p b) ≡ at s.image p1 b1 → b1.records ≡ b.records → b1.memory.scratch ≡ b.memory.scratch → b1.values.charge ≡ b.values.charge → RunsToWith s n x p1 b1 r p' Q → RunsToWith s (suc n) x p b r p' Q
     one p b e same m v c = one_filled p b e same (unmoved m) v c
 
@@ -99,29 +99,29 @@ module _ (s : RunContext) where
   pub into : {n x p : ℕ} {b : CpuState} {r : List Frame} {p1 : ℕ} {P : CpuState → Type 0} (Q : CpuState → Type 0) → ((b1 : CpuState) → P b1 → Q b1) → RunsToWith s n x p b r p1 P → RunsToWith s n x p b r p1 Q
   into Q f c = record { steps = c.steps; ends = ends_into f c.ends }
 
-  -- nothing more to do, whatever is left of the budgets
+  -- nothing is left to do, for any remaining budgets
   pub arrived : {n x p q : ℕ} {b : CpuState} {Q : CpuState → Type 0} → p ≡ q → Q b → RunsTo s n x p b q Q
   arrived {n} {x} {p} {q} {b} {Q} e fact = to_place q e (looser n x (omega arith) (omega arith) (done p b Q fact))
 
-  -- the first of two stretches
+  -- the first of two parts
   module _ {n x p : ℕ} {b : CpuState} {p1 : ℕ} {P : CpuState → Type 0} where
-    -- one stretch after another
+    -- one part after another
     pub and_then : (m y p2 : ℕ) (Q : CpuState → Type 0) → RunsTo s n x p b p1 P → ((b1 : CpuState) → P b1 → RunsTo s m y p1 b1 p2 Q)
         → RunsTo s (n + m) (x + y) p b p2 Q
     and_then m y p2 Q c go = chain c.steps c.ends (λ b1 q same. subst (λ (r : List Frame). RunsToWith s m y p1 b1 r p2 Q) same (go b1 q))
 
-    -- a stretch, and another one that comes back to other records
+    -- a part, followed by one that ends with other records
     pub and_back : {r : List Frame} (m y p2 : ℕ) (Q : CpuState → Type 0) → RunsTo s n x p b p1 P
         → ((b1 : CpuState) → P b1 → RunsToWith s m y p1 b1 r p2 Q) → RunsToWith s (n + m) (x + y) p b r p2 Q
     and_back m y p2 Q c go = chain c.steps c.ends (λ b1 q same. go b1 q)
 
-  -- a step that ends the run with the records of the CPU state that it reaches
+  -- a step that ends the run with the records of the CPU state it reaches
   pub last : {p1 : ℕ} {Q : CpuState → Type 0} (p : ℕ) (b b1 : CpuState) → next_state (at s.image p b) ≡ at s.image p1 b1
       → b1.memory.scratch ≡ b.memory.scratch → b1.values.charge ≡ b.values.charge → Q b1 → RunsToWith s 1 0 p b b1.records p1 Q
   last p b b1 e m v q =
       record { steps = 1; ends = Arrived b1 (state_after-first 0 (at s.image p b) ∙ state_after-zero _ ∙ e) refl (unmoved m) (omega arith) (omega arith) q }
 
--- ---- a run where some variables are paid is one where more are
+-- ---- a run with some variables paid for is one with more paid for
 
 module _ (image : Image) (deep : Bool) (few more : List FirstUse) where
   ends_wider : {n x k p : ℕ} {b : CpuState} {r : List Frame} {Q : CpuState → Type 0} {t : State} → RunEnds (with_variables image deep few) n x b r p Q k t

@@ -15,7 +15,7 @@ split [] i v e = absurd (cc)
 split (u ∷ more) zero v e = let same : u ≡ v = cc in record { before = []; later = more; long = refl; is = ap (λ (w : Variable). w ∷ more) same }
 split (u ∷ more) (suc i) v e = let rest = split more i v e in record { before = u ∷ rest.before; later = rest.later; long = ap suc rest.long; is = ap (λ (vs : List Variable). u ∷ vs) rest.is }
 
--- ---- the name of a variable stands for its value
+-- ---- the name of a variable has the variable's value
 
 found_value : (name : List ℕ) (scope : List Variable) (i : ℕ) (v : Variable) → place_named name scope ≡ Some i → slice_get scope i ≡ Some v → lookup name (bindings scope) ≡ Some v.value
 found_value name [] i v at e = absurd (cc)
@@ -52,7 +52,7 @@ scope_gives image deep roots constants scope words items name i v p depth base o
 
 -- ---- one more variable
 
--- the last variable of some is the new one, and each other one stands among the old ones
+-- the last variable is the new one, and each other one is among the old ones
 data Placed (scope before later : List Variable) (u v : Variable) : Type 0 where
   Newest : scope ≡ before → u ≡ v → Placed scope before later u v
   Older : (rest : List Variable) → scope ≡ before ++ v ∷ rest → Placed scope before later u v

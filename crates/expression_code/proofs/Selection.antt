@@ -1,4 +1,4 @@
--- The code of selections, indices, sizes, texts and tests of texts gives their meaning.
+-- The code of selections, indices, sizes, texts and tests of texts gives their values.
 -- For the laws in `specs/Gives/Selection`.
 use Rattle.expression_code.proofs.Prelude.{◌≡◌, ℕ, ◌+◌, ◌≤◌, List, length, Some, None, refl, arith, suc, ℤ, pos, signed_decimal, kind_number, Names, R1, R2, R3, R6, outcome_view, ValueOrError, error, value, null, int, text, int_part, TextTest, StartsWith, EndsWith, Contains, size_of, string_of, text_test_of, field_of, has_of, index_of, CpuState, set_register, HelperPlaces, answered, call_with_text, string_tail, test_tail, Context, IsWellFormedState, HasValues, LeavesValue, RunContext, RunsTo, TailGives, KeyedGives, SelectionGives, text_length, Holding, KeyHelper, IsCodeAt, frame_words}
 use Rattle.expression_code.proofs.Sites.{in_frame}
@@ -29,7 +29,7 @@ test_gives Contains s p k c depth x y low = calls_give.two s p k (pos 14) (text_
 -- ---- the text of a value
 
 module _ (s : RunContext) (p : ℕ) (c : Context) (depth base : ℕ) (low : base ≤ frame_words) (b : CpuState) (has : IsCodeAt s.image.code p string_tail) (fits : IsWellFormedState c depth base b) where
-  -- before and after the call that tells the kind
+  -- before and after the call that returns the kind
   abbrev asks : CpuState
   asks = set_register b R1 (b.registers R6)
 
@@ -39,7 +39,7 @@ module _ (s : RunContext) (p : ℕ) (c : Context) (depth base : ℕ) (low : base
   asks_stay : Stays c depth base b asks
   asks_stay = moved (begun fits) asks.registers refl
 
-  -- a text stays
+  -- a text is unchanged
   text_runs : {u : ℕ} (t : List ℕ) → Names b.values.values (b.registers R6) (value (text t))
       → RunsTo s 5 (suc u) p b (p + 7) (LeavesValue c depth base (value (text t)) b)
   text_runs t named =
@@ -52,7 +52,7 @@ module _ (s : RunContext) (p : ℕ) (c : Context) (depth base : ℕ) (low : base
       (jump has 4 2 refl
       (arrived s refl (shown (moved (said asks_stay kind paid) _ refl) named)))))))
 
-  -- of all else helper 22 is asked
+  -- any other value is passed to helper 22
   made_runs : (x y : ValueOrError) (cost : ℕ) → Names b.values.values (b.registers R6) x → (kind_number (outcome_view x) ≡ 4 → ⊥) → ((d : CpuState) → HasValues c.environment.roots d.values → Holding d R1 x → HelperPlaces (pos 22) d y cost) → RunsTo s 5 (1 + (cost + 0)) p b (p + 7) (LeavesValue c depth base y b)
   made_runs x y cost named other makes =
       let w = kind_number (outcome_view x) in

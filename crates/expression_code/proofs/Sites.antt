@@ -1,7 +1,8 @@
--- Where a piece of code runs, and what it takes: what the laws of pieces speak of together.
+-- The place where a piece of code runs, and its cost: the arguments that the laws of pieces share.
 use Rattle.expression_code.proofs.Prelude.{ℕ, ◌+◌, List, Insn, Register, ValueOrError, Context, Evaluates, Converts, Combines, Builds, ItemsGive, EntriesGive, RunContext}
 
--- a frame of the stack: what names stand for in it, how many local calls are open, and the first of its words that is free
+-- a frame of the stack: the values of names in it, the number of open local calls, and the first of its words that is
+-- free
 pub record StackFrame : Type 0 where
   pub context : Context
   pub depth : ℕ
@@ -10,7 +11,7 @@ pub record StackFrame : Type 0 where
 abbrev pub in_frame : Context → ℕ → ℕ → StackFrame
 in_frame c depth base = record { context = c; depth = depth; base = base }
 
--- where a piece runs: in this setting, from this slot on, in this frame
+-- where a piece runs: in this run context, from this slot on, in this frame
 pub record Site : Type 0 where
   pub setting : RunContext
   pub slot : ℕ
@@ -23,11 +24,11 @@ site_at s p frame = record { setting = s; slot = p; frame = frame }
 abbrev pub past : ℕ → Site → Site
 past n site = record site { slot = site.slot + n }
 
--- where n more words of the frame are in use
+-- with n more words of the frame in use
 abbrev pub above : ℕ → Site → Site
 above n site = record site { frame = record site.frame { base = site.frame.base + n } }
 
--- how many steps code takes, and how much charge
+-- a number of steps and a charge
 pub record Budget : Type 0 where
   pub steps : ℕ
   pub charge : ℕ
@@ -35,7 +36,7 @@ pub record Budget : Type 0 where
 abbrev pub budget : ℕ → ℕ → Budget
 budget n x = record { steps = n; charge = x }
 
--- ---- what a piece gives at a site, within a budget
+-- ---- the result of a piece at a site, within a budget
 
 abbrev pub EvaluatesAt : Site → List Insn → ValueOrError → Budget → Type 0
 EvaluatesAt site piece x t = Evaluates site.setting site.slot piece site.frame.context site.frame.depth site.frame.base x t.steps t.charge

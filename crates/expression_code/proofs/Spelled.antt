@@ -1,4 +1,4 @@
--- Where the bytes that spell a piece stand, the piece stands.
+-- If the code contains the bytes of a piece's encoding, the machine finds the piece there.
 use Rattle.expression_code.proofs.Prelude.{◌≡◌, ℕ, ◌+◌, ◌*◌, ◌<◌, List, [], ◌∷◌, ◌++◌, length, drop, Some, refl, sym, ap, ◌∙◌, arith, append_assoc, length-append, length-drop, All, pos, drop-append_seam, drop-drop, lt-ltb, spelling, slot_count, Insn, DecodesSpelling, fetched, insn_at, AreInsns, SpelledStands, IsCodeAt, spellings}
 use Rattle.bpf_machine.specs.Decoding.{slot_count as code_slots}
 use Rattle.expression_code.proofs.Pieces.{length-spelling, some_slots, stands_cons}

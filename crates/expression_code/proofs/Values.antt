@@ -1,8 +1,8 @@
--- References, and what tests of them say of what they name.
+-- References, and what tests of them show of their values.
 use Rattle.expression_code.proofs.Prelude.{◌≡◌, ℕ, zero, suc, ◌^◌, ◌<◌, List, Bool, true, false, not, refl, ap, arith, Some, length, ◌++◌, ◌∷◌, [], subst, nat_eq, slice_get, All, ne_eqb, slice_get_within, holds_of, Names, IsTable, IsResultBounded, Eq, Ne, W64, AreCanonical, IsStore, Value, ValueOrError, error, value, null, boolean, is_error, Truth, Yes, No, Other, truth, is_no, is_yes, compares, All-head, All-tail}
 use Rattle.value_store.specs.Placing.{Contents}
 
--- a table's references are short, and so words
+-- the references of a table are small, so they are words
 pub short_reference : (values : Contents) (r : ℕ) (x : ValueOrError) → IsTable values → Names values.values r x → r < 2 ^ 32
 short_reference values r x table named = grind (arith, slice_get_within)
 
@@ -29,7 +29,7 @@ all_at n [] r x all e = absurd (cc)
 all_at n (v ∷ vs) zero x all e = let same : v ≡ x = cc in subst (IsResultBounded n) same (All-head (IsResultBounded n) v vs all)
 all_at n (v ∷ vs) (suc r) x all e = all_at n vs r x (All-tail (IsResultBounded n) v vs all) e
 
--- what stands first in every store
+-- the first values of every store
 module _ (values : Contents) (store : IsStore values) where
   pub names_error : Names values.values 0 error
   names_error = ap (λ (vs : List ValueOrError). slice_get vs 0) store.values_are
@@ -43,7 +43,7 @@ module _ (values : Contents) (store : IsStore values) where
   pub names_yes : Names values.values 3 (value (boolean true))
   names_yes = ap (λ (vs : List ValueOrError). slice_get vs 3) store.values_are
 
--- what tests of a reference for the truths and the error say
+-- what tests of a reference for the truths and the error show
 pub record Told (t : Truth) (fails : Bool) (r : ℕ) : Type 0 where
   pub no : compares W64 Eq r 2 ≡ is_no t
   pub not_no : compares W64 Ne r 2 ≡ not (is_no t)

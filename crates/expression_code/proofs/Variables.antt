@@ -1,4 +1,4 @@
--- A variable's use gives its value, and what its first use takes is paid beside its budgets.
+-- The use of a variable gives its value; the cost of its first use is paid in addition to its budgets.
 use Rattle.expression_code.proofs.Prelude.{◌≡◌, ℕ, ◌+◌, ◌<◌, ◌≤◌, List, [], ◌∷◌, ◌++◌, length, append_assoc, Bool, sym, ap, ◌∙◌, subst, arith, ◌-◌, ◌^◌, refl, inl, inr, ℤ, pos, ◌+ℤ◌, Some, word_in, CallLocal, Image, fetched, State, next_state, state_after, Frame, CpuState, at, set_register, entered, frame_at, RunContext, RunEnds, Faulted, Arrived, RunsTo, RunsToWith, FirstUse, first_uses, with_variables, VariableGives, memo_tail, routine_context, use_code, used_context, Framed, memo_at, memo_address, nat_tests, Insn, R0, R1, Value, ValueOrError, Roots, FrameUse, IsCodeAt, Context, IsWellFormedState, Evaluates, LeavesValue, Names, record_limit, memo_limit, word_limit}
 use Rattle.expression_code.proofs.Effects.{call_local_does, does, add_is, differs_no, differs_yes}
 use Rattle.expression_code.proofs.FirstUses.{uses-more_calls, uses-with}
@@ -8,17 +8,17 @@ use Rattle.expression_code.proofs.Values.{get_at, short_reference}
 use Rattle.expression_code.proofs.Listings.{alu, begins, load_memo, load_wide, no, yes}
 use Rattle.expression_code.proofs.Returns.{comes_back}
 
--- ---- the first call of a variable's routine: what the routine takes is paid as the variable's first use
+-- ---- the first call of a variable's routine: its cost is paid as the variable's first use
 
 module _ (image : Image) (deep : Bool) (before later : List FirstUse) (v : FirstUse) (q : ℕ) (b : CpuState) (offset : ℤ) (call : fetched image.code (pos q) ≡ Some (Some (CallLocal offset))) (place : pos q +ℤ pos 1 +ℤ offset ≡ pos v.routine) (empty : memo_at (length before) b ≡ 0) where
   abbrev outer : RunContext
   outer = with_variables image deep (before ++ v ∷ later)
 
-  -- in a run that has stopped the routine is open
+  -- in a run that has stopped, the routine is open
   paid_open : (cost : FirstUse → ℕ) (scratch : List ℕ) (calls : List Frame) → first_uses image before cost b.memory.scratch scratch calls + cost v ≤ first_uses image (before ++ v ∷ later) cost b.memory.scratch scratch (frame_at q b ∷ calls)
   paid_open cost scratch calls = grind (arith, nat_tests, uses-with, uses-more_calls)
 
-  -- in one that has come back the memo is filled
+  -- in a run that has returned, the memo is filled
   paid_filled : (cost : FirstUse → ℕ) (scratch : List ℕ) → (word_in scratch (length before) ≡ 0 → ⊥)
       → first_uses image before cost b.memory.scratch scratch [] + cost v ≤ first_uses image (before ++ v ∷ later) cost b.memory.scratch scratch []
   paid_filled cost scratch filled = grind (arith, uses-with, nat_tests)

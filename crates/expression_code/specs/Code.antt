@@ -1,5 +1,5 @@
--- The code of constructs, made of the code of their parts. Code leaves the reference of its value in R0, and uses the
--- frame's words from its base on; what stands in them below the base stays.
+-- The code of constructs, built from the code of their parts. Code leaves the reference of its value in R0. It uses
+-- the words of the frame from its base on; those below the base are unchanged.
 pub mod Leaves
 pub mod Calls
 pub mod Literals

@@ -1,4 +1,4 @@
--- What a CPU state holds of an environment, and what code for an expression leaves.
+-- How a CPU state represents an environment, and what code for an expression leaves.
 use Rattle.std.specs.Prelude.{◌≡◌, ℕ, ◌+◌, ◌<◌, ◌≤◌, ◌⊎◌, List, length, Option, Some, None, slice_get}
 use Rattle.helper_table.specs.Laws.{Names}
 use Rattle.helper_table.specs.Tables.{IsTable}
@@ -14,13 +14,13 @@ use Rattle.expression_code.specs.Paths.{FrameUse, RootField, path_value}
 use Rattle.expression_code.specs.Pieces.{IsCodeAt, size}
 use Rattle.expression_code.specs.Words.{Framed, memo_at, word_at}
 
--- what names stand for, the words of the frame that hold items and a path's value, and the bytes of the constants
+-- the values of names, the words of the frame that hold items and a path's value, and the bytes of the constants
 pub record Context : Type 0 where
   pub environment : Environment
   pub words : FrameUse
   pub constants : List ℕ
 
--- the roots stand at the references 4 to 8
+-- the roots have the references 4 to 8
 pub record HasRoots (list : List ValueOrError) (roots : Roots) : Type 0 where
   pub object : Names list 4 (value roots.object)
   pub old_object : Names list 5 (value roots.old_object)
@@ -28,13 +28,14 @@ pub record HasRoots (list : List ValueOrError) (roots : Roots) : Type 0 where
   pub namespace_object : Names list 7 (value roots.namespace_object)
   pub request : Names list 8 (value roots.request)
 
--- values as a program has them: those of a table, the error and the truths at their own references alone, and the roots
+-- the values at the start of a program: those of a table, with the error and the truths only at their own references,
+-- and the roots
 pub record HasValues (roots : Roots) (values : Contents) : Type 0 where
   pub table : IsTable values
   pub canonical : AreCanonical values.values
   pub stand : HasRoots values.values roots
 
--- a name has a word below base which holds its item, or neither a word nor an item
+-- a name has a word below base that holds its item, or it has neither a word nor an item
 abbrev pub IsHeld : ℕ → ℕ → CpuState → Option ℕ → Option Value → Type 0
 IsHeld depth base b (Some k) (Some v) = (k < base) × Names b.values.values (word_at depth k b) (value v)
 IsHeld depth base b None None = Unit {0}
@@ -44,27 +45,27 @@ IsHeld depth base b _ _ = ⊥
 abbrev pub IsMemo : List ValueOrError → ℕ → ValueOrError → Type 0
 IsMemo list word x = (word ≡ 0) ⊎ ((r : ℕ) × (word ≡ r + 1) × Names list r x)
 
--- a path is kept in word 0, which is in use, and names the path's value or the error
+-- if a path is kept, word 0 is in use and holds the path's value or the error
 abbrev pub HoldsPath : Option RootField → Roots → List (List ℕ × Value) → ℕ → ℕ → CpuState → Type 0
 HoldsPath path roots items depth base b = (x : RootField) → path ≡ Some x
     → (0 < base) × Names b.values.values (word_at depth 0 b) (path_value x roots items)
 
--- each iteration name's word holds its item, word 0 the value of a path that is kept, and each variable's memo is empty
--- or filled
+-- the word of each iteration name holds its item, word 0 the value of a kept path, and the memo of each variable is
+-- empty or filled
 pub record HoldsEnvironment (c : Context) (depth base : ℕ) (b : CpuState) : Type 0 where
   pub names : (n : List ℕ) → IsHeld depth base b (lookup n c.words.items) (lookup n c.environment.items)
   pub path : HoldsPath c.words.path c.environment.roots c.environment.items depth base b
   pub memos : (i : ℕ) (x : List ℕ × ValueOrError) → slice_get c.environment.variables i ≡ Some x → IsMemo b.values.values (memo_at i b) x.1
 
--- a CPU state from which code for an expression may run: the words of its frame below base are in use
+-- a CPU state in which code for an expression may run; the words of its frame below base are in use
 pub record IsWellFormedState (c : Context) (depth base : ℕ) (b : CpuState) : Type 0 where
   pub frame : Framed depth b
   pub values : HasValues c.environment.roots b.values
   pub holds : HoldsEnvironment c depth base b
   pub constants : b.memory.constants ≡ c.constants
 
--- what code for an expression preserves: the words below base and those of the callers, the values that were there, the
--- records, the frame pointer, the verdict region, the constants, and all memos but the first `count`
+-- What code for an expression preserves: the words below base and those of the callers, the existing values, the
+-- records, the frame pointer, the verdict region, the constants, and all memos except the first `count`.
 pub record Preserves (count depth base : ℕ) (old new : CpuState) : Type 0 where
   pub words : (d k : ℕ) → k < frame_words → (d < depth) ⊎ ((d ≡ depth) × (k < base)) → word_at d k new ≡ word_at d k old
   pub values : (r : ℕ) (x : ValueOrError) → Names old.values.values r x → Names new.values.values r x
@@ -74,18 +75,18 @@ pub record Preserves (count depth base : ℕ) (old new : CpuState) : Type 0 wher
   pub constants : new.memory.constants ≡ old.memory.constants
   pub memos : (i : ℕ) → count ≤ i → memo_at i new ≡ memo_at i old
 
--- how many variables an expression may use
+-- the number of variables that an expression may use
 abbrev pub variable_count : Context → ℕ
 variable_count c = length c.environment.variables
 
--- R0 names the value or the error, in a well-formed CPU state again
+-- R0 holds the value or the error, and the CPU state is well-formed again
 pub record LeavesValue (c : Context) (depth base : ℕ) (x : ValueOrError) (old new : CpuState) : Type 0 where
   pub shows : Names new.values.values (new.registers R0) x
   pub fits : IsWellFormedState c depth base new
   pub keeps : Preserves (variable_count c) depth base old new
 
--- where the piece is at slot p, it evaluates to the value or the error from each well-formed CPU state, within so many
--- steps and so much charge
+-- If the image has the piece at slot p, it gives the value or the error from each well-formed CPU state, within this
+-- number of steps and this charge.
 pub record Evaluates (s : RunContext) (p : ℕ) (piece : List Insn) (c : Context)
     (depth base : ℕ) (x : ValueOrError) (steps charge : ℕ) : Type 0 where
   pub runs : (b : CpuState) → IsCodeAt s.image.code p piece → IsWellFormedState c depth base b

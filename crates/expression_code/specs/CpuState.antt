@@ -1,4 +1,4 @@
--- The machine's state, with its place and status apart.
+-- The state of the machine, without its place and status.
 use Rattle.std.specs.Prelude.{ℕ, pos, List, [], ◌∷◌, nat_eq, if◌then◌else◌}
 use Rattle.std.specs.Int.{w64, cast_unsigned}
 use Rattle.guest_memory.specs.Memory.{Memory}
@@ -12,7 +12,7 @@ use Rattle.bpf_machine.specs.State.{State}
 use Rattle.bpf_machine.specs.declared.frame.Frame.{Frame}
 use Rattle.bpf_machine.specs.declared.status.Status.TheVariants.{Running}
 
--- all that instructions read and change, the place aside; `values` are those that the program can name
+-- everything that instructions read and change except the place; `values` are those that the program can refer to
 pub record CpuState : Type 0 where
   pub registers : Register → ℕ
   pub records : List Frame
@@ -23,7 +23,7 @@ pub record CpuState : Type 0 where
 abbrev pub register_words : (Register → ℕ) → List ℕ
 register_words word = word R0 ∷ word R1 ∷ word R2 ∷ word R3 ∷ word R4 ∷ word R5 ∷ word R6 ∷ word R7 ∷ word R8 ∷ word R9 ∷ word R10 ∷ []
 
--- the machine runs the image, and is at slot p with the CPU state
+-- the state of a machine that runs the image, at slot p with this CPU state
 abbrev pub at : loader.Image → ℕ → CpuState → State
 at image p b = record {
   image = image;
@@ -35,7 +35,7 @@ at image p b = record {
   status = Running;
 }
 
--- the registers, one of them with another word
+-- the registers, with another word in one of them
 abbrev pub put_register : (Register → ℕ) → Register → ℕ → Register → ℕ
 put_register word r w q = if nat_eq (register_number q) (register_number r) then w else word q
 

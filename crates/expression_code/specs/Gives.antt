@@ -1,4 +1,4 @@
--- What the code of constructs gives, where the code of their parts gives this.
+-- What the code of constructs gives, if the code of their parts gives their values.
 pub mod Leaves
 pub mod Selection
 pub mod Logic

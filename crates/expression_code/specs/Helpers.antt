@@ -1,4 +1,4 @@
--- What each helper answers, in terms of what its operands name and of the meaning of CEL's operations.
+-- The result of each helper, from the values of its operands and the meaning of CEL's operations.
 use Rattle.std.specs.Prelude.{◌≡◌, ℕ, ◌+◌, ◌^◌, ◌<◌, ◌≤◌, ℤ, pos, true, List, length, Option, Some, None, slice_get}
 use Rattle.std.specs.Fmt.{signed_decimal}
 use Rattle.std.specs.Int.{w64, cast_signed, cast_unsigned}
@@ -25,47 +25,47 @@ use Rattle.expression_code.specs.CpuState.{CpuState}
 use Rattle.expression_code.specs.Calls.{HelperPlaces, Refuses, Tells}
 use Rattle.expression_code.specs.Contexts.{HasValues}
 
--- the register names the value or the error
+-- the register holds the value or the error
 abbrev pub Holding : CpuState → Register → ValueOrError → Type 0
 Holding b r x = Names b.values.values (b.registers r) x
 
--- the registers r and s have the address and the length of a range of constants with these bytes
+-- registers r and s hold the address and the length of a range of the constants with these bytes
 pub record Lends (b : CpuState) (r s : Register) (bytes : List ℕ) : Type 0 where
   pub bytes_are : bytes_at b.memory.constants (b.registers r) (b.registers s) ≡ Some bytes
   pub address : b.registers r < 2 ^ 64
   pub count : b.registers s < 2 ^ 64
 
--- a helper of one operand, in R1, whose answer is a function of what it names
+-- a helper of one operand, in R1, whose result is a function of the operand's value
 abbrev pub UnaryHelper : ℤ → (ValueOrError → ValueOrError) → Type 0
 UnaryHelper helper f = (roots : Roots) (b : CpuState) (x : ValueOrError) → HasValues roots b.values → Holding b R1 x
     → HelperPlaces helper b (f x) 1
 
--- a helper of two operands, in R1 and R2, whose answer is a function of what they name
+-- a helper of two operands, in R1 and R2, whose result is a function of their values
 abbrev pub BinaryHelper : ℤ → (ValueOrError → ValueOrError → ValueOrError) → Type 0
 BinaryHelper helper f = (roots : Roots) (b : CpuState) (x y : ValueOrError) → HasValues roots b.values → Holding b R1 x → Holding b R2 y
     → HelperPlaces helper b (f x y) 1
 
--- helpers that ask for a key
+-- a helper that looks up a key
 abbrev pub KeyHelper : ℤ → (ValueOrError → List ℕ → ValueOrError) → Type 0
 KeyHelper helper f = (roots : Roots) (b : CpuState) (x : ValueOrError) (key : List ℕ) → HasValues roots b.values → Holding b R1 x
     → Lends b R2 R3 key → HelperPlaces helper b (f x key) 1
 
--- two texts or two lists, one behind the other, and else the error
+-- the concatenation of two texts or two lists, else the error
 abbrev pub join_of : ValueOrError → ValueOrError → ValueOrError
 join_of x y = value_or_error (joined (Some x) (Some y))
 
--- the bytes or items of what was joined
+-- the number of bytes or items of a concatenation
 abbrev pub joined_length : Option Value → ℕ
 joined_length (Some (text s)) = length s
 joined_length (Some (list is)) = length (list_of is)
 joined_length _ = 0
 
--- a map with one more entry; the error where the key stands already or is no text, or where the map or the value is
--- none
+-- a map with one more entry; the error if the key already exists or is not a text, or if the map or the value is the
+-- error
 abbrev pub put_of : ValueOrError → ValueOrError → ValueOrError → ValueOrError
 put_of m k x = value_or_error (entered (Some m) (Some k) (Some x))
 
--- what each helper answers, and where it stops
+-- the result of each helper, and when it stops
 pub record HelpersAnswer : Type 0 where
   pub kind : (roots : Roots) (b : CpuState) (x : ValueOrError) → HasValues roots b.values → Holding b R1 x
       → Tells (pos 1) b (kind_number (outcome_view x)) 1

@@ -1,5 +1,5 @@
--- Short words for the instructions that code is made of. A frame's words are counted from 0: word k begins 8 * (k + 1)
--- bytes below R10.
+-- Short names for the instructions of code. The words of a frame are counted from 0: word k begins 8 * (k + 1) bytes
+-- below R10.
 use Rattle.std.specs.Prelude.{ℕ, ℤ, pos, negsuc, min}
 use Rattle.insn_codec.specs.declared.alu_op.AluOp.{AluOp, TheVariants.Mov}
 use Rattle.insn_codec.specs.declared.comparison.Comparison.{Comparison}
@@ -26,14 +26,14 @@ mov_reg r s = compute Mov r s
 abbrev pub mov_imm : Register → ℤ → Insn
 mov_imm r n = Alu Mov W64 r (Imm n)
 
--- the number of bytes of a text, which is an immediate of 32 bits wherever the text stands in an image
+-- loads the number of bytes of a text, which is a 32-bit immediate for each text in an image
 abbrev pub put_length : Register → ℕ → Insn
 put_length r n = mov_imm r (pos (min n 0x7fff_ffff))
 
 abbrev pub lddw : Register → ℕ → Insn
 lddw r w = LoadWide r w
 
--- a jump over so many slots where the register and the number compare so, and where two registers do
+-- jumps over this number of slots if the comparison of the register and the number holds, or that of two registers
 abbrev pub jump_if_imm : Comparison → Register → ℤ → ℕ → Insn
 jump_if_imm c r n off = Branch c W64 r (Imm n) (pos off)
 
@@ -43,6 +43,6 @@ jump_if_reg c r s off = Branch c W64 r (Reg s) (pos off)
 abbrev pub ja : ℕ → Insn
 ja off = Jump (pos off)
 
--- a jump back where two registers compare so, to the place of the instruction so many slots before this one
+-- jumps back if the comparison of two registers holds; the target is this number of slots before this instruction
 abbrev pub back_where : Comparison → Register → Register → ℕ → Insn
 back_where c r s off = Branch c W64 r (Reg s) (negsuc off)

@@ -1,3 +1,5 @@
+-- Definitions and laws for code that gives values: instructions, runs, budgets, and the code of each construct.
+
 pub mod Limits
 pub mod CpuState
 pub mod Words

@@ -1,4 +1,4 @@
--- The limits of an expression and of its code, and what its budgets are counted by.
+-- The limits of an expression and of its code, and the units of its budgets.
 use Rattle.std.specs.Prelude.{ℕ}
 
 -- ---- limits of an expression
@@ -7,7 +7,7 @@ use Rattle.std.specs.Prelude.{ℕ}
 abbrev pub frame_words : ℕ
 frame_words = 64
 
--- the most words of its frame that the code of an expression needs
+-- the largest number of words of its frame that the code of an expression may need
 abbrev pub word_limit : ℕ
 word_limit = 60
 
@@ -19,11 +19,11 @@ fold_limit = 56
 abbrev pub variable_depth_limit : ℕ
 variable_depth_limit = 6
 
--- the most variables: the scratch region has a memo of 8 bytes for each
+-- the largest number of variables: the scratch region has a memo of 8 bytes for each
 abbrev pub memo_limit : ℕ
 memo_limit = 512
 
--- the most nodes of all expressions together: an image has `slots_per_node` slots for each
+-- the largest number of nodes of all expressions together: an image has `slots_per_node` slots for each
 abbrev pub node_limit : ℕ
 node_limit = 512
 
@@ -37,11 +37,11 @@ slots_per_node = 128
 abbrev pub steps_per_visit : ℕ
 steps_per_visit = 128
 
--- the charge for each 1 of what is spent
+-- the charge for each unit of cost
 abbrev pub charge_per_unit : ℕ
 charge_per_unit = 16
 
--- ---- budgets of a part, which leave the rest for a path that is kept before the part
+-- ---- budgets of a part; the rest pays for a path that is kept before the part
 
 -- the slots of a part for each of its nodes
 abbrev pub part_slots_per_node : ℕ
@@ -51,40 +51,40 @@ part_slots_per_node = 63
 abbrev pub part_steps_per_visit : ℕ
 part_steps_per_visit = 120
 
--- the charge of a part for each 1 of what is spent
+-- the charge of a part for each unit of cost
 abbrev pub part_charge_per_unit : ℕ
 part_charge_per_unit = 15
 
 -- ---- reach of jumps and calls
 
--- a jump leaves out fewer slots than this: its offset has 16 bits
+-- a jump skips fewer slots than this: its offset has 16 bits
 abbrev pub jump_limit : ℕ
 jump_limit = 32768
 
--- the most slots of a part: `part_slots_per_node` for each of `node_limit` nodes
+-- the largest number of slots of a part: `part_slots_per_node` for each of `node_limit` nodes
 abbrev pub part_slot_limit : ℕ
 part_slot_limit = 32256
 
--- the most slots of a turn of a loop, or of a routine: those of a part, and what comes with it
+-- the largest number of slots of a loop's turn or of a routine: those of a part, and a few more
 abbrev pub turn_slot_limit : ℕ
 turn_slot_limit = 32300
 
--- the most slots that a piece leaves out by a jump, beside its own
+-- the largest number of slots that a piece skips by a jump, without its own
 abbrev pub branch_limit : ℕ
 branch_limit = 32700
 
--- an expression is put after at most so many slots: its calls, of 32 bits, reach each routine
+-- the largest number of slots after which an expression is added: its 32-bit calls reach each routine
 abbrev pub code_limit : ℕ
 code_limit = 0x7fff_0000
 
--- the slots of a routine, and of a piece of code, begin at most here
+-- the last slot at which a routine or a piece of code may begin
 abbrev pub slot_reach : ℕ
 slot_reach = 0x7fff_ff00
 
--- the slots that an offset of 32 bits reaches
+-- the number of slots that a 32-bit offset reaches
 abbrev pub call_reach : ℕ
 call_reach = 0x8000_0000
 
--- what a part leaves of each of its budgets for the instructions around it
+-- the part of each budget that is left for the instructions around a part
 abbrev pub budget_reserve : ℕ
 budget_reserve = 8

@@ -10,13 +10,13 @@ use Rattle.expression_code.specs.Code.Leaves.{leaf_code}
 use Rattle.expression_code.specs.Rows.{runs}
 use Rattle.expression_code.specs.declared.simple_operand.SimpleOperand.TheVariants.{Word}
 
--- `[true, false].exists_one(x, x)`: 12 steps for the list, 7 for its count, 2 for the first answer, 3 to the first
--- item, 15 and 10 for the items, 1 behind them, 2 for the end, and the exit
+-- `[true, false].exists_one(x, x)`: 12 steps for the list, 7 for its count, 2 for the first result, 3 to the first
+-- item, 15 and 10 for the items, 1 after them, 2 for the end, and the exit
 abbrev pub one_of_two : List Insn
 one_of_two = exists_one_code 0 (list_code (item_code (truth_code true) 0 ++ item_code (truth_code false) 0) 0) (leaf_code (Word 4))
     ++ Exit ∷ []
 
--- `[false, null].all(x, x)`: 12 steps for the list, 7 for its count, 2 for the first answer, 8 for the first item,
+-- `[false, null].all(x, x)`: 12 steps for the list, 7 for its count, 2 for the first result, 8 for the first item,
 -- which decides, and the exit
 abbrev pub first_decides : List Insn
 first_decides = all_code 0 (list_code (item_code (truth_code false) 0 ++ item_code null_code 0) 0) (leaf_code (Word 4)) ++ Exit ∷ []

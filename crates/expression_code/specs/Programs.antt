@@ -19,7 +19,7 @@ use Rattle.expression_code.specs.FirstUses.{FirstUse}
 use Rattle.expression_code.specs.Pieces.{AreInsns, spellings}
 use Rattle.expression_code.specs.Variables.{routine_context, with_variables}
 
--- before the first step
+-- the registers before the first step
 abbrev pub start_registers : Register → ℕ
 start_registers r = if nat_eq (register_number r) 10 then 0x1_0000_0200 else 0
 
@@ -32,8 +32,8 @@ abbrev pub total : List ℕ → ℕ
 total [] = 0
 total (n ∷ ns) = n + total ns
 
--- an image whose code begins with a piece for a value and an exit, run from the start, has exited with a reference of
--- the value or of the error, or stopped for its charge or a depth, after its steps and those of its variables
+-- An image whose code begins with a piece for a value and an exit is run from the start. After its steps and those of
+-- its variables it has exited with a reference of the value or of the error, or stopped for its charge or a depth.
 abbrev pub ProgramExits : Type 0
 ProgramExits =
     (image : loader.Image) (deep : Bool) (values : Contents) (roots : Roots) (piece : List Insn) (routines : List ℕ)

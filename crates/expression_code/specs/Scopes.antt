@@ -1,4 +1,4 @@
--- The variables of a scope, each with its routine; one may use those before it.
+-- The variables of a scope with their routines. A variable may use the earlier ones.
 -- For `codegen/src/code/variables.rt`; proofs in `proofs/Scopes`, `proofs/Returns` and `proofs/Later`.
 use Rattle.std.specs.Prelude.{◌≡◌, ℕ, suc, ◌+◌, ◌<◌, ◌≤◌, ℤ, pos, ◌+ℤ◌, Bool, List, [], ◌∷◌, ◌++◌, length, Option, Some, None, slice_get}
 use Rattle.std.specs.Prelude.{bytes_eq, option_map, if◌then◌else◌}
@@ -20,8 +20,8 @@ use Rattle.expression_code.specs.Pieces.{IsCodeAt}
 use Rattle.expression_code.specs.Variables.{memo_tail, routine_context, use_code, used_context, with_variables}
 use Rattle.expression_code.specs.Words.{memo_at}
 
--- a variable: its name and its value or error; the slot and the code of its routine; how many frames a use of it opens
--- at most, its own included; and what its value takes
+-- a variable: its name, its value or error, the slot and the code of its routine, the largest number of frames that a
+-- use opens, including its own, and the cost of its value
 pub record Variable : Type 0 where
   pub name : List ℕ
   pub value : ValueOrError
@@ -31,15 +31,15 @@ pub record Variable : Type 0 where
   pub steps : ℕ
   pub charge : ℕ
 
--- what names stand for
+-- the values of the names
 abbrev pub bindings : List Variable → List (List ℕ × ValueOrError)
 bindings = each (λ v. (v.name, v.value))
 
--- what the first use of each takes: the call, the memo and the exit take at most 9 steps more
+-- the steps of each variable's first use: at most 9 more than those of its value, for the call, the memo and the exit
 abbrev pub first_steps : List Variable → List ℕ
 first_steps = each (λ v. v.steps + 9)
 
--- the charge that the first use of each takes
+-- the charge of each variable's first use
 abbrev pub first_charges : List Variable → List ℕ
 first_charges = each (λ v. v.charge)
 
@@ -47,12 +47,12 @@ first_charges = each (λ v. v.charge)
 abbrev pub first_use : Variable → FirstUse
 first_use v = record { routine = v.routine; steps = v.steps + 9; charge = v.charge }
 
--- the run context in which the variables may be used
+-- the run context in which these variables may be used
 abbrev pub scope_setting : Image → Bool → List Variable → RunContext
 scope_setting image deep scope = with_variables image deep (each first_use scope)
 
--- the routine of the variable after these is in the image, and evaluates to its value in their run context wherever
--- enough frames are left
+-- the routine of the variable after these is in the image, and evaluates to its value in their run context if there
+-- are enough frames
 pub record HasRoutine (image : Image) (deep : Bool) (roots : Roots) (constants : List ℕ)
     (before : List Variable) (v : Variable) : Type 0 where
   pub stands : IsCodeAt image.code v.routine (v.body ++ memo_tail (length before))
@@ -66,13 +66,13 @@ abbrev pub IsScope : Image → Bool → Roots → List ℕ → List Variable →
 IsScope image deep roots constants scope =
     (before later : List Variable) (v : Variable) → scope ≡ before ++ v ∷ later → HasRoutine image deep roots constants before v
 
--- the place of the first variable of a name
+-- the place of the first variable with this name
 abbrev pub place_named : List ℕ → List Variable → Option ℕ
 place_named n [] = None
 place_named n (v ∷ more) = if bytes_eq v.name n then Some 0 else option_map suc (place_named n more)
 
--- the use of a variable, found by its name, gives what the name stands for, with 5 steps of its own, wherever enough
--- frames are left
+-- the use of a variable, found by its name, gives the variable's value if there are enough frames; 5 steps are its
+-- own
 abbrev pub ScopeGives : Type 0
 ScopeGives =
     (image : Image) (deep : Bool) (roots : Roots) (constants : List ℕ) (scope : List Variable) (words : FrameUse)
@@ -83,22 +83,22 @@ ScopeGives =
     → Evaluates (scope_setting image deep scope) p (use_code i offset)
     (used_context roots items words constants (bindings scope)) depth base (variable_value name (bindings scope)) 5 0
 
--- no variables are a scope
+-- the empty list of variables is a scope
 abbrev pub NoScope : Type 0
 NoScope = (image : Image) (deep : Bool) (roots : Roots) (constants : List ℕ) → IsScope image deep roots constants []
 
--- the first variables of a scope are one
+-- the first variables of a scope are a scope
 abbrev pub ScopeBegins : Type 0
 ScopeBegins = (image : Image) (deep : Bool) (roots : Roots) (constants : List ℕ) (scope more : List Variable)
     → IsScope image deep roots constants (scope ++ more) → IsScope image deep roots constants scope
 
--- a scope with one more variable, which may use those before it, is one
+-- a scope with one more variable, which may use the earlier ones, is a scope
 abbrev pub ScopeGrows : Type 0
 ScopeGrows = (image : Image) (deep : Bool) (roots : Roots) (constants : List ℕ) (scope : List Variable) (v : Variable)
     → IsScope image deep roots constants scope → HasRoutine image deep roots constants scope v
     → IsScope image deep roots constants (scope ++ v ∷ [])
 
--- what a piece gives in a scope it gives where more variables stand behind it, whose memos it leaves
+-- what a piece gives in a scope, it gives if more variables follow the scope; their memos are unchanged
 abbrev pub LaterGives : Type 0
 LaterGives =
     (image : Image) (deep : Bool) (roots : Roots) (constants : List ℕ) (scope later : List Variable) (words : FrameUse)
@@ -108,23 +108,23 @@ LaterGives =
     → Evaluates (scope_setting image deep scope) p piece (used_context roots items words constants (bindings (scope ++ later))) depth base x
     steps charge
 
--- and where first uses of more variables are paid
+-- the same, if the first uses of more variables are paid for
 abbrev pub WiderGives : Type 0
 WiderGives = (image : Image) (deep : Bool) (scope more : List Variable) (p : ℕ) (piece : List Insn) (c : Context) (depth base : ℕ)
     (x : ValueOrError) (steps charge : ℕ)
     → Evaluates (scope_setting image deep scope) p piece c depth base x steps charge
     → Evaluates (scope_setting image deep (scope ++ more)) p piece c depth base x steps charge
 
--- called from slot q with a well-formed CPU state, the routine of variable i at slot p comes back to the slot behind
--- the call: the call's record is popped, R0 names the value or the error, the caller's CPU state is well-formed again
--- and keeps what code for an expression keeps, and the memo is filled
+-- Called from slot q in a well-formed CPU state, the routine of variable i at slot p returns to the slot after the
+-- call. The call's record is removed, R0 holds the value or the error, and the memo is filled. The caller's CPU state
+-- is well-formed again, and keeps what code for an expression preserves.
 abbrev pub Returns : RunContext → ℕ → ℕ → Context → ℕ → ℕ → ValueOrError → ℕ → ℕ → Type 0
 Returns s p i c depth base x steps charge = (q : ℕ) (b : CpuState) → IsWellFormedState c depth base b
     → RunsToWith s steps charge p (entered q b) b.records (q + 1)
     (λ new. LeavesValue c depth base x b new × (memo_at i new ≡ new.registers R0 + 1))
 
--- the routine of a variable behind a scope, whose code gives its value where these first uses are paid, returns it so,
--- in 5 steps more than that takes
+-- if the code of the next variable's routine gives its value with these first uses paid for, the routine returns it
+-- in 5 more steps
 abbrev pub RoutineReturns : Type 0
 RoutineReturns = (image : Image) (deep : Bool) (paid : List FirstUse) (roots : Roots) (constants : List ℕ) (scope : List Variable)
     (v : Variable) (words : FrameUse) (items : List (List ℕ × Value)) (depth base : ℕ)

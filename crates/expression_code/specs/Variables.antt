@@ -1,4 +1,4 @@
--- Variables: each has a memo, a word of the scratch region, and a routine that fills it on first use.
+-- Variables. Each has a memo, which is a word of the scratch region, and a routine that fills it at the first use.
 -- Emitted by `codegen/src/code/variables.rt`; proofs in `proofs/Variables` and `proofs/Returns`.
 use Rattle.std.specs.Prelude.{◌≡◌, ℕ, ◌+◌, ◌<◌, ◌≤◌, ℤ, pos, negsuc, ◌+ℤ◌, List, [], ◌∷◌, ◌++◌, length, Bool}
 use Rattle.bpf_machine.specs.Limits.{record_limit}
@@ -22,12 +22,12 @@ use Rattle.expression_code.specs.Paths.{FrameUse, nothing_kept}
 use Rattle.expression_code.specs.Pieces.{IsCodeAt}
 use Rattle.expression_code.specs.Words.{memo_address}
 
--- the slots of the use of a variable
+-- the number of slots of the use of a variable
 abbrev pub use_slots : ℕ
 use_slots = 6
 
--- R0 gets the reference of variable i: 1 less than its memo, which the routine fills where it is empty, so that 1 less
--- is no reference
+-- Loads the reference of variable i into R0: its memo less 1. If the memo is empty, the routine is called, which
+-- fills it.
 abbrev pub use_code : ℕ → ℤ → List Insn
 use_code i offset =
     LoadWide R1 (memo_address i)
@@ -37,8 +37,8 @@ use_code i offset =
     ∷ CallLocal offset
     ∷ []
 
--- the end of the routine of variable i: its memo gets 1 more than the reference in R0, so that 0 stands for no value
--- yet, and the error's reference can be told from it
+-- The end of the routine of variable i: stores the reference in R0 plus 1 in its memo. So 0 means that there is no
+-- value yet, and differs from the error's reference.
 abbrev pub memo_tail : ℕ → List Insn
 memo_tail i =
     mov_reg R2 R0
@@ -52,18 +52,19 @@ memo_tail i =
 abbrev pub with_variables : Image → Bool → List FirstUse → RunContext
 with_variables image deep variables = record { image = image; variables = variables; is_deep = deep }
 
--- in a routine, as at the start of a program, no iteration name is in force; the variables before its own can be used
+-- the context of a routine: as at the start of a program, no iteration name is defined; the earlier variables may be
+-- used
 abbrev pub routine_context : Roots → List (List ℕ × ValueOrError) → List ℕ → Context
 routine_context roots variables constants =
     record { environment = record { roots = roots; items = []; variables = variables }; words = nothing_kept; constants = constants }
 
--- the context of an expression that sees these items and variables
+-- the context of an expression with these items and variables
 abbrev pub used_context : Roots → List (List ℕ × Value) → FrameUse → List ℕ → List (List ℕ × ValueOrError) → Context
 used_context roots items words constants variables =
     record { environment = record { roots = roots; items = items; variables = variables }; words = words; constants = constants }
 
--- code for a variable's value, with those before it, makes a routine; its use gives the value, with 5 steps of its own,
--- and with at most 9 more than that code takes where it is the first
+-- The code of a variable's value, which may use the earlier variables, can be composed to a routine. A use of the
+-- variable gives its value with 5 steps of its own, and at most 9 more than that code takes if it is the first use.
 abbrev pub VariableGives : Type 0
 VariableGives = (image : Image) (deep : Bool) (before behind : List FirstUse) (constants : List ℕ) (words : FrameUse)
     (roots : Roots) (items : List (List ℕ × Value)) (variables later : List (List ℕ × ValueOrError)) (name : List ℕ)

@@ -8,19 +8,20 @@ use Rattle.bpf_machine.specs.declared.frame.Frame.{Frame}
 use Rattle.expression_code.specs.CpuState.{CpuState}
 use Rattle.expression_code.specs.Limits.{frame_words}
 
--- the frame pointer where so many local calls are open
+-- the frame pointer while this number of local calls is open
 abbrev pub pointer_of : ℕ → ℕ
 pointer_of depth = base_of Stack + frame_length + frame_length * depth
 
--- word k of a frame begins 8 * (k + 1) bytes below the frame pointer: its number among the words of the stack
+-- the index of word k of a frame among the words of the stack; the word begins 8 * (k + 1) bytes below the frame
+-- pointer
 abbrev pub stack_index : ℕ → ℕ → ℕ
 stack_index depth k = frame_words * depth + (frame_words - 1) - k
 
--- where it begins, counted from the frame pointer
+-- the offset of word k from the frame pointer
 abbrev pub word_offset : ℕ → ℤ
 word_offset k = negsuc (8 * k + 7)
 
--- word k of the frame at which so many local calls are open
+-- word k of the frame for this number of open local calls
 abbrev pub word_at : ℕ → ℕ → CpuState → ℕ
 word_at depth k b = word_in b.memory.stack (stack_index depth k)
 
@@ -28,7 +29,7 @@ word_at depth k b = word_in b.memory.stack (stack_index depth k)
 abbrev pub set_word : ℕ → ℕ → ℕ → CpuState → CpuState
 set_word depth k w b = record b { memory = record b.memory { stack = put_word b.memory.stack (stack_index depth k) w } }
 
--- where word i of the scratch region begins, which is the memo of variable i
+-- the address of word i of the scratch region, which is the memo of variable i
 abbrev pub memo_address : ℕ → ℕ
 memo_address i = base_of Scratch + 8 * i
 
@@ -40,7 +41,7 @@ memo_at i b = word_in b.memory.scratch i
 abbrev pub set_memo : ℕ → ℕ → CpuState → CpuState
 set_memo i w b = record b { memory = record b.memory { scratch = put_word b.memory.scratch i w } }
 
--- where word i of the verdict region begins
+-- the address of word i of the verdict region
 abbrev pub verdict_address : ℕ → ℕ
 verdict_address i = base_of Verdict + 8 * i
 
@@ -52,13 +53,13 @@ verdict_at i b = word_in b.memory.verdict i
 abbrev pub set_verdict : ℕ → ℕ → CpuState → CpuState
 set_verdict i w b = record b { memory = record b.memory { verdict = put_word b.memory.verdict i w } }
 
--- so many local calls are open: their records, the frame pointer, and memory
+-- this number of local calls is open: the records, the frame pointer and the memory agree with it
 pub record HasFrame (depth pointer : ℕ) (records : List Frame) (m : Memory) : Type 0 where
   pub shallow : depth ≤ record_limit
   pub pointer_is : pointer ≡ pointer_of depth
   pub records_are : length records ≡ depth
   pub memory : IsMemory m
 
--- the same of a CPU state, whose R10 is the frame pointer
+-- the same for a CPU state; R10 is the frame pointer
 abbrev pub Framed : ℕ → CpuState → Type 0
 Framed depth b = HasFrame depth (b.registers R10) b.records b.memory

@@ -1,4 +1,4 @@
-//! The numbers of the helpers that code calls, and of what they answer.
+//! The numbers of the helpers that code calls, and of kinds of values.
 
 /// The kind of a value.
 pub const KIND: i32 = 1;
@@ -6,7 +6,7 @@ pub const KIND: i32 = 1;
 /// An int as a word.
 pub const INT_OF: i32 = 2;
 
-/// The int that a word is, read as signed.
+/// The int of a word, read as signed.
 pub const INT_NEW: i32 = 3;
 
 /// The text in a range of constants.
@@ -18,7 +18,7 @@ pub const FIELD: i32 = 5;
 /// Whether a map has a key in the constants.
 pub const HAS: i32 = 6;
 
-/// An item of a list at an int, or a map's value at a text.
+/// An item of a list at an int, or the value of a map at a text.
 pub const INDEX: i32 = 7;
 
 /// The number of code points, items or entries, as a value.
@@ -27,10 +27,10 @@ pub const SIZE: i32 = 8;
 /// Whether two values are equal.
 pub const EQUAL: i32 = 9;
 
-/// Whether the first of two values is below the second.
+/// Whether the first of two values is less than the second.
 pub const LESS: i32 = 10;
 
-/// Two texts or two lists, one after the other.
+/// Concatenates two texts or two lists.
 pub const JOIN: i32 = 11;
 
 /// Whether a text begins with another.
@@ -39,7 +39,7 @@ pub const STARTS: i32 = 12;
 /// Whether a text ends with another.
 pub const ENDS: i32 = 13;
 
-/// Whether a text stands in another.
+/// Whether a text contains another.
 pub const CONTAINS: i32 = 14;
 
 /// Whether a value is an item of a list, or a key of a map.
@@ -48,25 +48,25 @@ pub const MEMBER: i32 = 15;
 /// An empty list.
 pub const LIST_NEW: i32 = 16;
 
-/// A list with one item more.
+/// A list with one more item.
 pub const PUSH: i32 = 17;
 
 /// An empty map.
 pub const MAP_NEW: i32 = 18;
 
-/// A map with one entry more.
+/// A map with one more entry.
 pub const PUT: i32 = 19;
 
-/// An item of a list, or a key of a map, at a place.
+/// The item of a list, or the key of a map, at an index.
 pub const ITEM: i32 = 20;
 
-/// The number of items or entries, as a word; -1 of what has neither.
+/// The number of items or entries, as a word; -1 if the value has neither.
 pub const COUNT: i32 = 21;
 
 /// The decimal text of an int.
 pub const TEXT_OF_INT: i32 = 22;
 
-/// The other truth.
+/// The negation of a truth.
 pub const NOT: i32 = 23;
 
 /// The kind of an int.

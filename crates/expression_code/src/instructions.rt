@@ -1,4 +1,4 @@
-//! Instructions in short words, for the crates that write code.
+//! Short names for instructions, for the crates that generate code.
 
 ghost use Rattle.std.specs.Prelude.{◌≡◌, ◌<◌, pos};
 ghost use Rattle.expression_code.specs.Instructions as specs;
@@ -6,7 +6,7 @@ ghost use Rattle.expression_code.specs.Limits.{jump_limit};
 
 use insn_codec::{AluOp, Comparison, Insn, Operand, Register, Size, Width};
 
-/// The first register gets the second one's word.
+/// Copies the second register to the first.
 pub fn mov_reg(dst: Register, src: Register) -> Insn
     ensures { result ≡ specs.mov_reg dst src }
 {
@@ -18,7 +18,7 @@ pub fn mov_reg(dst: Register, src: Register) -> Insn
     }
 }
 
-/// The register gets the number.
+/// Loads the number into the register.
 pub fn mov_imm(dst: Register, n: i32) -> Insn
     ensures { result ≡ specs.mov_imm dst n }
 {
@@ -30,7 +30,7 @@ pub fn mov_imm(dst: Register, n: i32) -> Insn
     }
 }
 
-/// The number is added to the register.
+/// Adds the number to the register.
 pub fn add(dst: Register, n: i32) -> Insn
     ensures { result ≡ Insn.Alu AluOp.Add Width.W64 dst (Operand.Imm n) }
 {
@@ -42,7 +42,7 @@ pub fn add(dst: Register, n: i32) -> Insn
     }
 }
 
-/// The first register gets the word at the address in the second one.
+/// Loads the word at the address in the second register into the first.
 pub fn load_at(dst: Register, src: Register) -> Insn
     ensures { result ≡ Insn.Load Size.Dw dst src (pos 0) }
 {
@@ -54,7 +54,7 @@ pub fn load_at(dst: Register, src: Register) -> Insn
     }
 }
 
-/// The word at the address in the first register gets the second one.
+/// Stores the second register at the address in the first.
 pub fn store_at(dst: Register, src: Register) -> Insn
     ensures { result ≡ Insn.Store Size.Dw dst (pos 0) src }
 {
@@ -66,21 +66,21 @@ pub fn store_at(dst: Register, src: Register) -> Insn
     }
 }
 
-/// The register gets the word; this takes two slots.
+/// Loads the word into the register. Takes two slots.
 pub fn lddw(dst: Register, value: u64) -> Insn
     ensures { result ≡ specs.lddw dst value }
 {
     Insn::LoadWide { dst, value }
 }
 
-/// The call of the helper of this number.
+/// Calls the helper with this number.
 pub fn call(helper: i32) -> Insn
     ensures { result ≡ Insn.Call helper }
 {
     Insn::Call { helper }
 }
 
-/// A jump over so many slots where the register and the number compare so.
+/// Jumps over this number of slots if the comparison of the register and the number holds.
 pub fn jump_if_imm(comparison: Comparison, dst: Register, n: i32, slots: usize) -> Insn
     requires { slots < jump_limit }
     ensures { result ≡ specs.jump_if_imm comparison dst n slots }

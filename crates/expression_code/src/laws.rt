@@ -1,4 +1,4 @@
-//! Laws of code, each the clause of a function that does nothing.
+//! Laws of code. Each is the clause of a function that does nothing.
 ghost use Rattle.expression_code.specs.Engine.{OwnBudgets};
 ghost use Rattle.expression_code.specs.Gives.Aggregates.{ListGives, MapGives};
 ghost use Rattle.expression_code.specs.Gives.Arithmetic.{AdditionsGive, NegationGives, ProductsGive};
@@ -20,8 +20,7 @@ ghost use Rattle.expression_code.specs.Variables.{VariableGives};
 
 use bpf_machine::laws::decodes_spelling;
 
-/// Where the bytes that spell a piece stand in the code, the machine finds the piece's
-/// instructions.
+/// If the code contains the encoding of a piece, the machine finds the piece's instructions there.
 #[tactic(auto, using(crate::proofs::Spelled::spelled_stands))]
 pub fn spelled_stands()
     ensures { SpelledStands }
@@ -29,15 +28,14 @@ pub fn spelled_stands()
     decodes_spelling();
 }
 
-/// What each helper answers, of what its operands name.
+/// The result of each helper, for given operand values.
 #[tactic(auto, using(crate::proofs::HelperAnswers::helpers))]
 pub fn helpers_answer()
     ensures { HelpersAnswer }
 {}
 
-/// Code for one or two operands, put into registers, with a piece behind it gives what the piece
-/// makes of them, one piece goes on with what another gives, and the call of a helper is such a
-/// piece.
+/// The code of one or two operands in registers, followed by a piece, gives what the piece computes
+/// from them. A piece may follow another one, and the call of a helper is such a piece.
 #[tactic(auto, using(crate::proofs::Operators::one_gives, crate::proofs::Operators::two_gives, crate::proofs::Operators::converts_then, crate::proofs::Operators::combines_then, crate::proofs::Operators::calls_give))]
 pub fn operands_give()
     ensures one { OneGives }
@@ -47,95 +45,96 @@ pub fn operands_give()
     ensures calls { CallsGive }
 {}
 
-/// Code for their operands makes code for `&&`, `||`, `!` and the conditional; `&&` and `||` leave
-/// early where the left side decides, and of the conditional only the chosen side runs.
+/// The code of operands can be composed to code for `&&`, `||`, `!` and the conditional. `&&` and
+/// `||` skip the right side if the left side decides, and only the chosen branch of a conditional
+/// runs.
 #[tactic(auto, using(crate::proofs::Logic::logic_gives))]
 pub fn logic_gives()
     ensures { LogicGives }
 {}
 
-/// Code for items makes code for a list, and code for keys and values makes code for a map, of
-/// which a part that is the error, a doubled key and a key that is no text make the error; it stops
-/// for a depth only where an item or a value is as deep as a list or a map may be.
+/// The code of items can be composed to code for a list, and the code of keys and values to code
+/// for a map. The result is the error if a part is the error, a key is repeated, or a key is not a
+/// text. It stops for a depth only if an item or a value already has the greatest depth.
 #[tactic(auto, using(crate::proofs::Lists::list_gives, crate::proofs::Maps::map_gives))]
 pub fn aggregates_give()
     ensures list { ListGives }
     ensures map { MapGives }
 {}
 
-/// Pieces behind two operands give comparisons and membership.
+/// The pieces for comparisons and membership give their results.
 #[tactic(auto, using(crate::proofs::Comparison::comparison_gives))]
 pub fn comparison_gives()
     ensures { ComparisonGives }
 {}
 
-/// Pieces behind two operands give `+`, on ints, texts and lists, and `-`; a result that is no int
-/// of 64 bits is the error.
+/// The pieces for `+`, on ints, texts and lists, and for `-` give their results. A result that does
+/// not fit 64 bits signed is the error.
 #[tactic(auto, using(crate::proofs::Additions::additions_give))]
 pub fn additions_give()
     ensures { AdditionsGive }
 {}
 
-/// Pieces behind two operands give `*`, `/` and `%` on ints; a product that is no int of 64 bits, a
-/// divisor of zero, and the least int divided by -1 are the error.
+/// The pieces for `*`, `/` and `%` on ints give their results. A product that does not fit 64 bits
+/// signed, a divisor of zero, and the smallest int divided by -1 give the error.
 #[tactic(auto, using(crate::proofs::Multiplications::products_give))]
 pub fn products_give()
     ensures { ProductsGive }
 {}
 
-/// The piece behind an operand gives its negative; that of the least int is the error.
+/// The piece for negation gives its result. The negation of the smallest int is the error.
 #[tactic(auto, using(crate::proofs::Negation::negation_gives))]
 pub fn negation_gives()
     ensures { NegationGives }
 {}
 
-/// Code for a range, for a first answer and for a turn makes a loop over the range's items, which
-/// gives the fold; it leaves early where no further item changes the answer.
+/// The code for a range, a first result and a turn can be composed to a loop over the range's
+/// items, which gives the fold. It ends early if no further item changes the result.
 pub fn fold_gives()
     ensures { FoldGives }
 {}
 
-/// Literals without parts, and names, have code that gives their values; simple operands name them.
+/// Literals without parts and names have code that gives their values. Simple operands hold them.
 #[tactic(auto, using(crate::proofs::Leaves::leaves_give, crate::proofs::Leaves::leaves_name))]
 pub fn leaves_give()
     ensures give { LeavesGive }
     ensures name { LeavesName }
 {}
 
-/// Word 0 of the frame, where it keeps a path, is a simple operand that names its value; code for
-/// the path, a store into the word, and code that finds the path there make code, behind which the
-/// word is free.
+/// Word 0 of the frame, if it keeps a path, is a simple operand that holds the path's value. The
+/// code of the path, a store into the word, and code that uses it can be composed; the word is free
+/// afterwards.
 #[tactic(auto, using(crate::proofs::Paths::paths_give))]
 pub fn paths_give()
     ensures { PathsGive }
 {}
 
-/// Behind the code of an operand stands the code for a field, for whether there is one, for a size
-/// and for a text, and behind that of two the code for an index and for tests of texts.
+/// The code after one operand gives a field, whether it exists, a size or a text; the code after
+/// two operands gives an index or a test of texts.
 #[tactic(auto, using(crate::proofs::Selection::selection_gives))]
 pub fn selection_gives()
     ensures { SelectionGives }
 {}
 
-/// Code for a range and for a part makes the code of each macro, within budgets of the visits and
-/// of what is spent: `all` and `exists` leave early, a `map` with a predicate runs its transform
-/// where that is true, a range that is neither list nor map makes the error, and a list is refused
-/// for its depth only where an item that it is to hold is too deep.
+/// The code of a range and of a part can be composed to code for each macro, within budgets counted
+/// by visits and costs. `all` and `exists` end early, and a `map` with a predicate runs its
+/// transform only if the predicate is true. A range that is neither a list nor a map gives the
+/// error. The machine stops for a depth only if the new list would hold an item that is too deep.
 pub fn macros_give()
     ensures macros { MacroGives }
     ensures map_where { MapWhereGives }
 {}
 
-/// The use of a variable gives its value, and what its routine takes counts as the variable's first
+/// The use of a variable gives its value. The cost of its routine counts as the variable's first
 /// use.
 #[tactic(auto, using(crate::proofs::Variables::variable_gives))]
 pub fn variable_gives()
     ensures { VariableGives }
 {}
 
-/// The use of a variable of a scope, found by its name, gives what the name stands for; a scope is
-/// made one variable after another, each with a routine that may use those before it and that comes
-/// back to its caller; and what is given in a scope is given where more variables stand behind it.
+/// The use of a variable of a scope, found by its name, gives the variable's value. A scope is
+/// extended one variable at a time; the routine of each may use the earlier ones and returns to its
+/// caller. Facts about a scope also hold if more variables follow it.
 pub fn scopes_give()
     ensures uses { ScopeGives }
     ensures none { NoScope }
@@ -146,14 +145,14 @@ pub fn scopes_give()
     ensures returns { RoutineReturns }
 {}
 
-/// The budgets of a run are its own alone where no variable is first used in it, and where the
-/// first uses of none are paid.
+/// The budgets of a run are its own if it is not the first to use a variable, or if no variable's
+/// first use is paid for.
 #[tactic(auto, using(crate::proofs::FirstUses::own_budgets))]
 pub fn budgets_are_own()
     ensures { OwnBudgets }
 {}
 
-/// Programs run by hand, and which variables runs use first.
+/// Programs run by hand, and the variables that runs use first.
 #[tactic(auto, using(crate::proofs::Rows::rows_stand))]
 pub fn rows_stand()
     ensures { RunEndRowsHold }
@@ -165,8 +164,8 @@ pub fn macro_rows_stand()
     ensures { MacroRowsStand }
 {}
 
-/// A program whose code begins with a piece for a value and an exit leaves a reference of it, or
-/// has stopped for its charge or a depth, after its steps and those of its variables.
+/// A program whose code begins with a piece for a value and an exit leaves a reference of the
+/// value, or has stopped for its charge or a depth, after its steps and those of its variables.
 pub fn program_exits()
     ensures { ProgramExits }
 {

@@ -1,12 +1,12 @@
-//! The ground of the code generator: what it means that code gives a value, within budgets of steps
-//! and of charge, on the machine and with its helpers.
+//! The basis of the code generator: what it means that code gives a value, within budgets of steps
+//! and charge, on the machine and with its helpers.
 //!
-//! `instructions`, `helpers`, `references` and `simple_operand` are what code is written with. They
-//! are public for the crates above, which make code of expressions and of policies, and are no part
-//! of the program's own surface.
+//! `instructions`, `helpers`, `references` and `simple_operand` are used to write code. They are
+//! public for the crates above, which compile expressions and policies, and are not part of the
+//! program's own interface.
 //!
-//! `laws` has the laws for crates above, each on a function that does nothing. The public lemmas of
-//! `proofs/` are for crates above too.
+//! `laws` has the laws for the crates above, each on a function that does nothing. The public
+//! lemmas of `proofs/` are for these crates too.
 #![tactic(auto)]
 
 pub mod helpers;

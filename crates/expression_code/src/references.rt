@@ -1,4 +1,4 @@
-//! The references of values that stand in their places from the start.
+//! The references of the values that exist from the start.
 
 /// The error.
 pub const ERROR: i32 = 0;

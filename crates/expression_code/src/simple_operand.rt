@@ -1,10 +1,10 @@
-//! Values that one instruction puts into a register.
+//! Values that one instruction loads into a register.
 
-/// A value that one instruction puts into any register.
+/// A value that one instruction loads into any register.
 #[derive(Clone, Copy)]
 pub enum SimpleOperand {
-    /// What stands at a reference of its own.
+    /// The value with this reference.
     Reference(i32),
-    /// What a word of the frame names.
+    /// The value whose reference is in this word of the frame.
     Word(usize),
 }

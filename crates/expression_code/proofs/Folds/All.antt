@@ -13,11 +13,11 @@ use Rattle.expression_code.proofs.Pieces.{size-append}
 use Rattle.expression_code.proofs.Runs.{to_place}
 use Rattle.expression_code.proofs.Loops.{fold_size, loop_size}
 
--- a macro that answers what its fold makes
+-- a macro whose result is its fold
 folds : (m : Macro) (f : Value → ValueOrError) (o : Option (List Value)) → ((a : ValueOrError) → end_of m a ≡ a) → fold_of (step_of m f) (start_of m) o ≡ folded m f o
 folds m f o same = grind arith
 
--- an item that a filter is to keep
+-- an item that a filter keeps
 kept_deep : (v : Value) (t : Truth) → t ≡ Yes → is_too_deep (value v) ≡ true → chosen t (is_too_deep (value v)) false false ≡ true
 kept_deep v t is deep = ap (λ (u : Truth). chosen u (is_too_deep (value v)) false false) is ∙ deep
 
@@ -28,16 +28,16 @@ module _ (s : RunContext) (p k depth : ℕ) (range part : List Insn) (c : Contex
   abbrev charge : ℕ
   charge = charge_budget (9 + x + items_spent spent (range_of r))
 
-  -- where the first answer is made, and where the tail of a turn stands
+  -- the slots of the first result and of a turn's tail
   abbrev start_at : ℕ
   start_at = p + size range + 9
 
   abbrev tail_at : ℕ
   tail_at = p + size range + 17 + size part
 
-  -- a loop whose turns are the part and a tail behind it
+  -- a loop whose turn is the part followed by a tail
   module _ (first tail : List Insn) (start : ValueOrError) (g : ValueOrError → Value → ValueOrError) (is_last is_fine : ValueOrError → Bool) (more cost : ℕ) (one : size first ≡ 1) (not_last : is_last start ≡ false) (fine : is_fine start ≡ true) (gives_first : Evaluates s start_at first c depth (k + 3) start 1 1) (tails : (items : List Value) → range_of r ≡ Some items → TailRuns (site_at s tail_at (in_frame c depth k)) (p + size (fold_code k range first (part ++ tail))) tail items f g is_last is_fine (λ v. more) (λ v. cost)) where
-    -- three steps are left for a piece behind it
+    -- three steps are left for a piece after it
     loop_gives : more ≤ 8 → cost ≤ 8 → Evaluates s p (fold_code k range first (part ++ tail)) c depth k (fold_of g start (range_of r)) (steps - 3) charge
     loop_gives few cheap =
         fold_within s p k depth range first (part ++ tail) c r start g is_last is_fine w x visits spent (λ v. step_budget (visits v) + more) (λ v. charge_budget (spent v) + cost) low not_last fine one gives_range gives_first
@@ -46,7 +46,7 @@ module _ (s : RunContext) (p k depth : ℕ) (range part : List Insn) (c : Contex
         (tails items is))
         (λ v. omega arith) (λ v. omega arith)
 
-    -- it is the whole macro
+    -- the loop is the whole macro
     whole_gives : (z : ValueOrError) → fold_of g start (range_of r) ≡ z → more ≤ 8 → cost ≤ 8 → Evaluates s p (fold_code k range first (part ++ tail)) c depth k z steps charge
     whole_gives z is few cheap = grind (arith, gives_within, loop_gives)
 

@@ -1,4 +1,5 @@
--- What loops take is within the budgets of macros, what the answers before the first item take, and the depth of what is made.
+-- The costs of loops are within the budgets of macros; the costs of the first results; and the depth of the list that
+-- a macro builds.
 -- For `Folds/All` and `Folds/MapsWhere`.
 use Rattle.expression_code.proofs.Prelude.{ℕ, ◌+◌, ◌*◌, ◌≤◌, List, [], ◌∷◌, Option, arith, ◌≡◌, ◌-◌, ◌<◌, Some, Bool, true, false, subst, refl, Insn, Value, ValueOrError, value, boolean, list, no_items, Context, Evaluates, RunContext, each_spent, each_visits, items_spent, items_visits, charge_budget, step_budget, is_too_deep, fold_charge, fold_steps, loop_charge, loop_steps, TurnGives, fold_code, fold_of, range_of, size, pos, nat_le, ◌||◌, first_empty, first_false, first_true, depth_limit, result_depth, pushed, when_true, Truth, Yes, nat_tests, part_steps_per_visit, part_charge_per_unit, fold_limit, frame_words}
 use Rattle.expression_code.proofs.Sites.{in_frame}
@@ -15,7 +16,7 @@ pub gives_within : (s : RunContext) (p : ℕ) (piece : List Insn) (c : Context) 
     → Evaluates s p piece c depth base x n1 x1 → Evaluates s p piece c depth base x n2 x2
 gives_within s p piece c depth base x n1 x1 n2 x2 steps charge gives = record { runs = λ b has fits. looser s n2 x2 steps charge (gives.runs b has fits) }
 
--- the steps that a turn leaves of its budget, for the 8 that the loop takes for it and for more
+-- the steps that a turn leaves of its budget: 8 for the loop, and more
 abbrev pub turn_reserve : ℕ
 turn_reserve = 11
 
@@ -37,7 +38,7 @@ module _ (charge spent : Value → ℕ) (turn : (v : Value) → charge v + 1 ≤
 
 -- ---- a fold within the budgets of a macro
 
--- three steps are left for a piece behind the loop
+-- three steps are left for a piece after the loop
 pub fold_within : (s : RunContext) (p k depth : ℕ) (range first turn : List Insn) (c : Context) (r acc : ValueOrError) (g : ValueOrError → Value → ValueOrError) (is_last is_fine : ValueOrError → Bool) (w x : ℕ) (visits spent steps charge : Value → ℕ)
     → k < fold_limit → is_last acc ≡ false → is_fine acc ≡ true → size first ≡ 1
     → Evaluates s p range c depth k r (step_budget w) (charge_budget x)
@@ -54,7 +55,7 @@ fold_within s p k depth range first turn c r acc g is_last is_fine w x visits sp
     gives_within s p (fold_code k range first turn) c depth k (fold_of g acc (range_of r)) _ _ (step_budget (1 + w + items_visits visits (range_of r)) - 3) (charge_budget (9 + x + items_spent spent (range_of r))) (omega arith) (omega arith)
     (fold_gives s p k depth (step_budget w) (charge_budget x) 1 1 range first turn c r acc g is_last is_fine steps charge low not_last fine gives_range gives_first (λ items is. subst (λ (i : ℕ). TurnGives s i end turn c depth k items g is_last is_fine steps charge) place (turns items is)))
 
--- ---- the answers before the first item
+-- ---- the results before the first item
 
 module _ (s : RunContext) (p : ℕ) (c : Context) (depth base : ℕ) (low : base ≤ frame_words) where
   pub true_gives : Evaluates s p first_true c depth base (value (boolean true)) 1 1
@@ -72,12 +73,12 @@ module _ (s : RunContext) (p : ℕ) (c : Context) (depth base : ℕ) (low : base
         (done s (p + 1) _ _ (shows_placed (in_frame c depth base) (pos 16) (value (list no_items)) 1 b b.registers low refl fits place paid))));
   }
 
--- ---- the depth of the list that a macro makes: it stays within its limit, where no item that it is to hold is too deep
+-- ---- the depth of the list that a macro builds: it stays within its limit if no item to be kept is too deep
 
 push_within : (acc x : ValueOrError) → result_depth acc ≤ depth_limit → result_depth x < depth_limit → result_depth (pushed acc x) ≤ depth_limit
 push_within acc x a b = omega (arith, pushed_depth acc x)
 
--- the answer so far is no deeper than a list may be, or depths are excused
+-- the result so far is not deeper than a list may be, or depths are excused
 abbrev pub is_shallow : Bool → ValueOrError → Bool
 is_shallow deep acc = deep || nat_le (result_depth acc) depth_limit
 
@@ -90,7 +91,7 @@ pub chosen_shallow : (deep : Bool) (t : Truth) (acc x : ValueOrError) → (t ≡
     → is_shallow deep (when_true t (pushed acc x) acc) ≡ true
 chosen_shallow deep t acc x may fine = grind (arith, nat_tests, push_within)
 
--- a refusal is excused
+-- stopping for a depth is excused
 pub deep_excused : (deep : Bool) (acc x : ValueOrError) → (is_too_deep x ≡ true → deep ≡ true) → is_shallow deep acc ≡ true
     → depth_limit < result_depth (pushed acc x) → deep ≡ true
 deep_excused deep acc x may fine above = grind (arith, nat_tests, push_within)

@@ -1,4 +1,4 @@
--- The code of `map` with a predicate gives its fold: the transform runs where the predicate is true.
+-- The code of `map` with a predicate gives its fold: the transform runs if the predicate is true.
 use Rattle.expression_code.proofs.Prelude.{◌≡◌, ℕ, suc, ◌+◌, ◌*◌, ◌<◌, ◌≤◌, List, [], ◌∷◌, ◌++◌, Some, Bool, true, false, refl, subst, arith, pos, Eq, Ne, Insn, R0, Value, ValueOrError, error, value, list, no_items, is_error, map_step, pushed, when_true, Truth, Yes, No, Other, chosen, truth, range_of, CpuState, first_empty, map_where_code, map_where_turn, false_ref, true_ref, Context, Evaluates, RunContext, RunsTo, IsItem, MapWhereGives, charge_budget, is_too_deep, items_spent, items_visits, step_budget, Turned, fold_code, with_item, IsCodeAt, size, fold_limit, part_steps_per_visit, part_charge_per_unit}
 use Rattle.expression_code.proofs.Sites.{site_at, in_frame, budget}
 use Rattle.expression_code.specs.Instructions as insn
@@ -12,7 +12,7 @@ use Rattle.expression_code.proofs.Pieces.{size-append, size-cons, stands_back, s
 use Rattle.expression_code.proofs.Runs.{and_then, arrived, from_place, looser, to_place}
 use Rattle.expression_code.proofs.Values.{Told, names_error}
 
--- ---- the tail behind the predicate
+-- ---- the tail after the predicate
 
 module _ (s : RunContext) (q : ℕ) (transform : List Insn) (c : Context) (depth k : ℕ) (n : List ℕ) (acc : ValueOrError) (v : Value) (x y : ValueOrError) (n2 x2 : ℕ) (low : k < fold_limit) (has : IsCodeAt s.image.code q (map_where_turn transform k)) where
   abbrev to_kept : Insn
@@ -72,7 +72,7 @@ module _ (s : RunContext) (q : ℕ) (transform : List Insn) (c : Context) (depth
 
 -- ---- the whole
 
--- budgets of what runs where a predicate is true
+-- budgets of the code that runs if a predicate is true
 chosen_steps : (t : Truth) (n : ℕ) → chosen t (step_budget n) 0 0 ≤ part_steps_per_visit * chosen t n 0 0
 chosen_steps t n = grind arith
 

@@ -1,5 +1,5 @@
--- The fold that the code of `exists_one` makes: false where the predicate was never true, true where it was once, null
--- where it was more often, and the error where it was neither true nor false. It need not count further than to two.
+-- The fold that the code of `exists_one` computes: false if the predicate was never true, true if it was once, null
+-- if it was more often, and the error if it was neither true nor false. It only has to count up to two.
 use Rattle.expression_code.proofs.Prelude.{◌≡◌, ℕ, zero, suc, ◌+◌, List, [], ◌∷◌, Option, Some, None, Bool, true, false, refl, sym, ap, ◌∙◌, arith, pos, fold as fold_left, Value, ValueOrError, error, value, boolean, null, int, ExistsOne, end_of, folded, is_error, one_more, step_of, when_true, Truth, Yes, No, Other, truth, fold_of}
 
 abbrev pub once_more : Truth → Bool → ValueOrError
@@ -7,7 +7,7 @@ once_more u true = error
 once_more No false = value (boolean true)
 once_more _ false = value null
 
--- the answer after one more item, for which the predicate gives x
+-- the result after one more item, for which the predicate gives x
 abbrev pub once_step : ValueOrError → ValueOrError → ValueOrError
 once_step acc x = when_true (truth x) (once_more (truth acc) (is_error acc)) acc
 
@@ -16,11 +16,11 @@ once_by u true = error
 once_by Yes false = value (boolean true)
 once_by _ false = value (boolean false)
 
--- more often than once is not once
+-- more than once is not once
 abbrev pub once_end : ValueOrError → ValueOrError
 once_end acc = once_by (truth acc) (is_error acc)
 
--- the answer so far where the predicate was true so often
+-- the result after the predicate was true this number of times
 abbrev once_count : ℕ → ValueOrError
 once_count zero = value (boolean false)
 once_count (suc zero) = value (boolean true)

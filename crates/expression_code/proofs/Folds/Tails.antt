@@ -1,4 +1,4 @@
--- What the tails of turns do behind the code of their part.
+-- The tails of turns, after the code of the macro's part.
 use Rattle.expression_code.proofs.Prelude.{◌≡◌, ℕ, ◌+◌, ◌<◌, true, false, refl, ap, ◌∙◌, arith, List, [], ◌∷◌, Bool, suc, ℤ, pos, Names, R0, R1, R2, R10, ValueOrError, error, value, boolean, null, CpuState, set_register, Context, IsWellFormedState, LeavesValue, RunContext, RunsTo, Turned, IsCodeAt, word_at, absorbing_turn, filter_turn, map_turn, exists_one_turn, exists_one_end, depth_limit, Insn, Call, result_depth, pushed, is_error, when_true, Truth, Yes, No, Other, truth, Eq, W64, compares, Register, fold_limit}
 use Rattle.expression_code.proofs.Sites.{in_frame}
 use Rattle.expression_code.proofs.Logic.{Absorbing, Decides, Leaves, Neither, Side, Tested, is_answer, is_decides, is_leaves, left_stays, right_named, told_in}
@@ -49,7 +49,7 @@ module _ (decides other : ℤ) (f : ValueOrError → ValueOrError → ValueOrErr
 
 -- ---- `map` and `filter`: a list that would be too deep stops the machine
 
--- R0 behind the answer so far
+-- appends R0 to the result so far
 abbrev pub push_code : ℕ → List Insn
 push_code k = insn.mov_reg R2 R0 ∷ insn.load R1 (k + 3) ∷ Call (pos 17) ∷ []
 
@@ -67,14 +67,14 @@ module _ (s : RunContext) (c : Context) (depth k o : ℕ) (low : k < fold_limit)
       arrived s refl (shows_placed (in_frame c depth (k + 5)) (pos 17) (pushed acc y) 2 b asks.registers (omega arith) refl fits place paid)))
       (λ deep. refused has 2 refl (helpers.push_deep asks acc y left right deep) (may deep)))))
 
--- and that is the next answer
+-- and this is the next result
 module _ (s : RunContext) (c : Context) (depth k o : ℕ) (low : k < fold_limit) (b : CpuState) (outer : IsWellFormedState c depth k b) (fits : IsWellFormedState c depth (k + 5) b) (acc y : ValueOrError) (has : IsCodeAt s.image.code o (map_turn k)) (right : Names b.values.values (b.registers R0) y) (left : Names b.values.values (word_at depth (k + 3) b) acc) where
   pub map_turns : (depth_limit < result_depth (pushed acc y) → s.is_deep ≡ true) → RunsTo s 4 2 o b (o + 4) (Turned c depth k (pushed acc y) b)
   map_turns may =
       and_then s 1 0 (o + 4) (Turned c depth k (pushed acc y) b) (push_runs s c depth k o low b fits acc y (stands_front s.image.code o (push_code k) (insn.store (k + 3) R0 ∷ []) has) right left may) (λ b1 shown.
       store has 3 (k + 3) refl shown.fits.frame (omega arith) (arrived s refl (turned_put low outer shown)))
 
--- R0 names the predicate's value, word k + 3 the list so far and word k + 4 the item
+-- R0 holds the predicate's value, word k + 3 the list so far and word k + 4 the item
 module _ (s : RunContext) (c : Context) (depth k o : ℕ) (low : k < fold_limit) (b : CpuState) (outer : IsWellFormedState c depth k b) (fits : IsWellFormedState c depth (k + 5) b) (acc x : ValueOrError) (has : IsCodeAt s.image.code o (filter_turn k)) (so_far : Names b.values.values (word_at depth (k + 3) b) acc) (item : Names b.values.values (word_at depth (k + 4) b) x) where
   filter_by : (t : Truth) (f : Bool) → (t ≡ Yes → depth_limit < result_depth (pushed acc x) → s.is_deep ≡ true) → Told t f (b.registers R0)
       → RunsTo s 7 2 o b (o + 8) (Turned c depth k (when_true t (pushed acc x) acc) b)
@@ -108,7 +108,7 @@ module _ (s : RunContext) (c : Context) (depth k o : ℕ) (low : k < fold_limit)
       → Names b.values.values (b.registers R0) y → RunsTo s 7 2 o b (o + 8) (Turned c depth k (when_true (truth y) (pushed acc x) acc) b)
   filter_turns y may named = filter_by (truth y) (is_error y) may (told b.values _ y fits.values.table.store fits.values.canonical named)
 
--- ---- `exists_one`, and what is done behind its loop
+-- ---- `exists_one`, and the code after its loop
 
 module _ (s : RunContext) (c : Context) (depth k o : ℕ) (low : k < fold_limit) (b : CpuState) (outer : IsWellFormedState c depth k b) (fits : IsWellFormedState c depth (k + 5) b) (acc : ValueOrError) (has : IsCodeAt s.image.code o (exists_one_turn k)) (so_far : Names b.values.values (word_at depth (k + 3) b) acc) where
   abbrev r : ℕ
@@ -117,7 +117,7 @@ module _ (s : RunContext) (c : Context) (depth k o : ℕ) (low : k < fold_limit)
   abbrev loaded : CpuState
   loaded = set_register b R1 r
 
-  -- R0 names the next answer
+  -- R0 holds the next result
   puts : {t u : ℕ} (registers : Register → ℕ) (x : ValueOrError) → registers R10 ≡ b.registers R10 → Names b.values.values (registers R0) x
       → RunsTo s (suc t) u (o + 8) (record b { registers = registers }) (o + 9) (Turned c depth k x b)
   unfolding exists_one_turn
@@ -125,7 +125,7 @@ module _ (s : RunContext) (c : Context) (depth k o : ℕ) (low : k < fold_limit)
       let shown = shows_registers c depth (k + 5) b registers pointer x fits named in
       store has 8 (k + 3) refl shown.fits.frame (omega arith) (arrived s refl (turned_put low outer shown))
 
-  -- one more item for which the predicate is true; more often than once is null
+  -- one more item for which the predicate is true; more than once is null
   counts : compares W64 Eq (b.registers R0) 3 ≡ true → (u : Truth) (g : Bool) → Told u g r
       → RunsTo s 5 0 (o + 3) loaded (o + 9) (Turned c depth k (once_more u g) b)
   unfolding exists_one_turn
@@ -163,7 +163,7 @@ module _ (s : RunContext) (c : Context) (depth k o : ℕ) (low : k < fold_limit)
   pub once_turns : (y : ValueOrError) → Names b.values.values (b.registers R0) y → RunsTo s 8 0 o b (o + 9) (Turned c depth k (once_step acc y) b)
   once_turns y named = turn_by (truth y) (is_error y) (told b.values _ y fits.values.table.store fits.values.canonical named)
 
--- behind the loop
+-- after the loop
 module _ (s : RunContext) (c : Context) (depth base o : ℕ) (b : CpuState) (fits : IsWellFormedState c depth base b) (acc : ValueOrError) (has : IsCodeAt s.image.code o exists_one_end) (named : Names b.values.values (b.registers R0) acc) where
   end_by : (u : Truth) (g : Bool) → Told u g (b.registers R0) → RunsTo s 3 0 o b (o + 3) (LeavesValue c depth base (once_by u g) b)
   end_by u true seen =

@@ -1,4 +1,4 @@
--- A turn of a macro: the code of its part, a tail behind it, and the next answer in its word.
+-- A turn of a macro: the code of its part, a tail, and the next result in its word.
 use Rattle.expression_code.proofs.Prelude.{◌≡◌, ℕ, ◌+◌, ◌<◌, arith, List, ◌++◌, Some, Bool, true, false, Names, Register, R0, R10, ValueOrError, Value, value, CpuState, Context, IsWellFormedState, Preserves, LeavesValue, variable_count, Evaluates, Turned, AtTurn, TurnGives, with_item, set_word, word_at, slice_get, Insn, RunContext, RunsTo, IsCodeAt, size, fold_limit}
 use Rattle.expression_code.proofs.Sites.{Site, StackFrame, Budget, site_at, in_frame, budget}
 use Rattle.expression_code.proofs.Frames.{fits_below, keeps_same, keeps_stored, keeps_then, stored, kept_word}
@@ -7,16 +7,16 @@ use Rattle.expression_code.proofs.Pieces.{size-append, stands_back, stands_front
 use Rattle.expression_code.proofs.Runs.{and_then, into, to_place}
 
 module _ {c : Context} {depth k : ℕ} {x : ValueOrError} {b : CpuState} (low : k < fold_limit) where
-  -- the answer stays, and only registers have changed
+  -- the result is unchanged; only registers have changed
   pub turned_registers : (registers : Register → ℕ) → registers R10 ≡ b.registers R10 → IsWellFormedState c depth k b
       → Names b.values.values (word_at depth (k + 3) b) x → Turned c depth k x b (record b { registers = registers })
   turned_registers registers same fits named = grind arith
 
-  -- all stays
+  -- nothing has changed
   pub turned_same : IsWellFormedState c depth k b → Names b.values.values (word_at depth (k + 3) b) x → Turned c depth k x b b
   turned_same fits named = record { fits = fits; so_far = named; keeps = keeps_same (variable_count c) depth (k + 3) b }
 
-  -- R0, which names the next answer, is put into its word
+  -- R0, which holds the next result, is stored in its word
   pub turned_put : {b1 : CpuState} → IsWellFormedState c depth k b → LeavesValue c depth (k + 5) x b b1 → Turned c depth k x b (set_word depth (k + 3) (b1.registers R0) b1)
   turned_put {b1} fits shown =
       let r = b1.registers R0 in
@@ -24,13 +24,13 @@ module _ {c : Context} {depth k : ℕ} {x : ValueOrError} {b : CpuState} (low : 
       let put = stored c depth k (k + 3) r b1 fits1 (omega arith) (omega arith) (small_reference b1.values r x fits1.values.table shown.shows) in
       grind (arith, keeps_then, keeps_same, keeps_stored)
 
--- something was kept before the turn
+-- the state before the turn was preserved
 pub turned_after : {c : Context} {depth k : ℕ} {x : ValueOrError} {a b d : CpuState} → Preserves (variable_count c) depth (k + 5) a b → Turned c depth k x b d → Turned c depth k x a d
 turned_after {c} {depth} {k} {x} {a} kept turned = grind arith
 
--- ---- the code of the part, and a tail behind it
+-- ---- the code of the part, followed by a tail
 
--- after the item's body its name is gone
+-- after the part the item's name is no longer defined
 fits_outside : (c : Context) (depth k : ℕ) (n : List ℕ) (v : Value) (old new : CpuState) → k < fold_limit → IsWellFormedState c depth k old
     → Preserves (variable_count c) depth (k + 5) old new → IsWellFormedState (with_item c k n v) depth (k + 5) new → IsWellFormedState c depth (k + 5) new
 fits_outside c depth k n v old new low first kept fits = grind arith
@@ -42,7 +42,7 @@ pub item_gives : (site : Site) (piece : List Insn) (n : List ℕ) (acc : ValueOr
 item_gives site piece n acc v x t b low gives has turn =
     into site.setting (LeavesValue site.frame.context site.frame.depth (site.frame.base + 5) x b) (λ b1 shown. record { shows = shown.shows; fits = fits_outside site.frame.context site.frame.depth site.frame.base n v b b1 low turn.fits shown.keeps shown.fits; keeps = shown.keeps }) (gives.runs b has (grind arith))
 
--- a CPU state after the part, whose value R0 names
+-- a CPU state after the part; R0 holds its value
 pub record BehindPart (c : Context) (depth k : ℕ) (acc : ValueOrError) (v : Value) (x : ValueOrError) (b : CpuState) : Type 0 where
   pub outer : IsWellFormedState c depth k b
   pub fits : IsWellFormedState c depth (k + 5) b
@@ -59,8 +59,8 @@ behind frame acc v x b b1 low first shown so_far item = record {
   part_is = shown.shows;
 }
 
--- what a tail that stands at slot q does behind a part that gives f v: it makes the next answer, and leaves for slot
--- `end` where that is the last
+-- The effect of a tail at slot q after a part that gives f v: it computes the next result, and jumps to slot `end` if
+-- that is the last one.
 pub record TailRuns (site : Site) (end : ℕ) (tail : List Insn) (items : List Value) (f : Value → ValueOrError) (g : ValueOrError → Value → ValueOrError) (is_last is_fine : ValueOrError → Bool) (steps charge : Value → ℕ) : Type 0 where
   pub goes_on : (b : CpuState) (acc : ValueOrError) (i : ℕ) (v : Value) → slice_get items i ≡ Some v → is_fine acc ≡ true → IsCodeAt site.setting.image.code site.slot tail → BehindPart site.frame.context site.frame.depth site.frame.base acc v (f v) b → is_last acc ≡ false → is_last (g acc v) ≡ false → RunsTo site.setting (steps v) (charge v) site.slot b (site.slot + size tail) (Turned site.frame.context site.frame.depth site.frame.base (g acc v) b)
   pub leaves : (b : CpuState) (acc : ValueOrError) (i : ℕ) (v : Value) → slice_get items i ≡ Some v → is_fine acc ≡ true → IsCodeAt site.setting.image.code site.slot tail → BehindPart site.frame.context site.frame.depth site.frame.base acc v (f v) b → is_last acc ≡ false → is_last (g acc v) ≡ true → RunsTo site.setting (steps v) (charge v) site.slot b end (LeavesValue site.frame.context site.frame.depth (site.frame.base + 5) (g acc v) b)

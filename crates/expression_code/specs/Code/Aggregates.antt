@@ -1,33 +1,33 @@
--- List and map literals. What is made so far stands in word k and, between the parts, in R0; the parts use the words
--- behind it. Emitted by `codegen/src/code/aggregates.rt`; laws in `Gives/Aggregates`, proofs in `proofs/Lists`,
+-- List and map literals. The list or map so far is in word k and, between the parts, in R0; the parts use the words
+-- after it. Emitted by `codegen/src/code/aggregates.rt`; laws in `Gives/Aggregates`, proofs in `proofs/Lists`,
 -- `proofs/Maps` and `proofs/Insertions`.
 use Rattle.std.specs.Prelude.{ℕ, ◌+◌, pos, List, [], ◌∷◌, ◌++◌}
 use Rattle.insn_codec.specs.declared.insn.Insn.{Insn, TheVariants.Call}
 use Rattle.insn_codec.specs.declared.register.Register.TheVariants.{R0, R1, R2, R3}
 use Rattle.expression_code.specs.Instructions.{mov_reg, load, store}
 
--- the slots of an empty list or map before its parts
+-- the number of slots of an empty list or map, before its parts
 abbrev pub head_slots : ℕ
 head_slots = 2
 
--- the slots after an item, of `push_tail`
+-- the number of slots after an item, of `push_tail`
 abbrev pub push_slots : ℕ
 push_slots = 4
 
--- the slot of the store between a key and its value
+-- the number of slots between a key and its value, for a store
 abbrev pub key_slots : ℕ
 key_slots = 1
 
--- the slots after the value of a key, of `entry_tail`
+-- the number of slots after the value of a key, of `entry_tail`
 abbrev pub put_slots : ℕ
 put_slots = 5
 
--- an empty list in word k
+-- stores an empty list in word k
 abbrev pub list_head : ℕ → List Insn
 list_head k = Call (pos 16) ∷ store k R0 ∷ []
 
--- R0 behind the items of the list of word k; an item that is the error makes the list the error, and further items
--- leave it so
+-- appends R0 to the list in word k; an item that is the error makes the list the error, which further items do not
+-- change
 abbrev pub push_tail : ℕ → List Insn
 push_tail k = mov_reg R2 R0 ∷ load R1 k ∷ Call (pos 17) ∷ store k R0 ∷ []
 
@@ -37,11 +37,11 @@ item_code item k = item ++ push_tail k
 abbrev pub list_code : List Insn → ℕ → List Insn
 list_code items k = list_head k ++ items
 
--- an empty map in word k
+-- stores an empty map in word k
 abbrev pub map_head : ℕ → List Insn
 map_head k = Call (pos 18) ∷ store k R0 ∷ []
 
--- the value in R0 under the key of word k + 1 into the map of word k
+-- puts the value in R0 into the map in word k, with the key in word k + 1
 abbrev pub entry_tail : ℕ → List Insn
 entry_tail k = mov_reg R3 R0 ∷ load R2 (k + 1) ∷ load R1 k ∷ Call (pos 19) ∷ store k R0 ∷ []
 

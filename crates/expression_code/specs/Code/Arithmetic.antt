@@ -1,5 +1,5 @@
--- Arithmetic on ints of 64 bits, and the joining of texts and lists. A result that does not fit is found by comparing
--- words, and of a product by dividing it back.
+-- Arithmetic on 64-bit ints, and concatenation of texts and lists. An overflow is found by comparing words; that of a
+-- product by dividing it back.
 -- Emitted by `codegen/src/code/arithmetic.rt`; laws in `Gives/Arithmetic`, proofs in `proofs/Additions`,
 -- `proofs/Multiplications`, `proofs/Products`, `proofs/Negation` and `proofs/Ints`.
 use Rattle.std.specs.Prelude.{ℕ, ◌+◌, ◌^◌, ℤ, pos, negsuc, List, [], ◌∷◌, ◌++◌}
@@ -11,23 +11,23 @@ use Rattle.insn_codec.specs.declared.register.Register.TheVariants.{R0, R1, R2, 
 use Rattle.insn_codec.specs.declared.width.Width.TheVariants.{W64}
 use Rattle.expression_code.specs.Instructions.{compute, mov_reg, lddw, mov_imm, ja, jump_if_imm, jump_if_reg}
 
--- the kind of an int, as helper 1 answers it
+-- the kind of an int, as helper 1 returns it
 abbrev pub int_kind : ℤ
 int_kind = pos 3
 
--- the word of the least int
+-- the word of the smallest int
 abbrev pub least_word : ℕ
 least_word = 2 ^ 63
 
--- the slots of `int_operands` after its test of R6, and after that of R7
+-- the number of slots of `int_operands` after its test of R6, and after that of R7
 abbrev pub after_left_kind : ℕ
 after_left_kind = 9
 
 abbrev pub after_right_kind : ℕ
 after_right_kind = 6
 
--- the slot of a tail to which operands that are no ints lead: that of a sum joins them, those of a difference, of a
--- product and of a quotient or remainder load the error
+-- the slot of a tail for operands that are not ints: in a sum they are concatenated, in a difference, product,
+-- quotient or remainder the error is loaded
 abbrev pub sum_join_slot : ℕ
 sum_join_slot = 10
 
@@ -40,7 +40,7 @@ product_error_slot = 12
 abbrev pub divided_error_slot : ℕ
 divided_error_slot = 9
 
--- the ints that R6 and R7 name, into these; where they name no ints, on to the slot so many behind these
+-- replaces the references in R6 and R7 by their ints; if one is not an int, skips this number of further slots
 abbrev pub int_operands : ℕ → List Insn
 int_operands off =
     mov_reg R1 R6
@@ -57,12 +57,12 @@ int_operands off =
     ∷ mov_reg R7 R0
     ∷ []
 
--- the int of R1, and behind it the error
+-- the int of R1, followed by the error
 abbrev pub int_answer : List Insn
 int_answer = Call (pos 3) ∷ ja 1 ∷ mov_imm R0 (pos 0) ∷ []
 
--- a sum or a difference of R6 and R7: where R7 is negative it fits unless the one comparison with R6 holds, else unless
--- the other does
+-- The sum or difference of R6 and R7. If R7 is negative, it fits unless the one comparison with R6 holds, otherwise
+-- unless the other one holds.
 abbrev pub checked_tail : AluOp → Comparison → Comparison → List Insn
 checked_tail op below above =
     mov_reg R1 R6
@@ -81,7 +81,8 @@ sum_tail = checked_tail Add Sge Slt
 abbrev pub difference_tail : List Insn
 difference_tail = checked_tail Sub Sle Sgt
 
--- R6 * R7: it fits where R7 is 0, or where it divided by R7 is R6 and the operands are not the least int and -1
+-- R6 * R7. It fits if R7 is 0, or if the product divided by R7 is R6 and the operands are not the smallest int and
+-- -1.
 unfoldable pub product_tail : List Insn
 product_tail =
     mov_reg R1 R6
@@ -95,7 +96,7 @@ product_tail =
     ∷ jump_if_reg Ne R2 R6 2
     ∷ int_answer
 
--- R6 / R7 or R6 % R7: the error where R7 is 0, and of the least int and -1
+-- R6 / R7 or R6 % R7; the error if R7 is 0, and for the smallest int and -1
 abbrev pub divided_tail : AluOp → List Insn
 divided_tail op =
     jump_if_imm Eq R7 (pos 0) 8
@@ -106,7 +107,7 @@ divided_tail op =
     ∷ compute op R1 R7
     ∷ int_answer
 
--- R6 - R7 of what they name
+-- R6 - R7 for the values in them
 abbrev pub difference_code : List Insn
 difference_code = int_operands difference_error_slot ++ difference_tail
 
@@ -118,11 +119,11 @@ product_code = int_operands product_error_slot ++ product_tail
 abbrev pub divided_code : AluOp → List Insn
 divided_code op = int_operands divided_error_slot ++ divided_tail op
 
--- R6 + R7: of two ints their sum, of all else what joining gives
+-- R6 + R7: the sum of two ints, otherwise the concatenation
 abbrev pub sum_code : List Insn
 sum_code = int_operands sum_join_slot ++ (sum_tail ++ ja 3 ∷ mov_reg R1 R6 ∷ mov_reg R2 R7 ∷ Call (pos 11) ∷ [])
 
--- -R6: the error of the least int, and of all that is no int
+-- -R6: the error for the smallest int, and for a value that is not an int
 unfoldable pub negation_tail : List Insn
 negation_tail =
     mov_reg R1 R6

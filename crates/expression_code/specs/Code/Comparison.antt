@@ -6,7 +6,7 @@ use Rattle.insn_codec.specs.declared.register.Register.TheVariants.{R0, R1}
 use Rattle.expression_code.specs.Code.Logic.{not_tail}
 use Rattle.expression_code.specs.Instructions.{mov_reg}
 
--- the opposite of a truth behind what gives it
+-- the negation of a truth, after the code that gives it
 abbrev pub opposite_of : List Insn → List Insn
 opposite_of tail = tail ++ mov_reg R1 R0 ∷ not_tail
 

@@ -1,5 +1,5 @@
--- Macros: loops over the items of a list or the keys of a map, with the answer so far and the item in words of the
--- frame. Emitted by `codegen/src/code/folds.rt`; laws in `Gives/Folds` and `Loops`, proofs in `proofs/Folds` and
+-- Macros: loops over the items of a list or the keys of a map. Words of the frame hold the result so far and the
+-- item. Emitted by `codegen/src/code/folds.rt`; laws in `Gives/Folds` and `Loops`, proofs in `proofs/Folds` and
 -- `proofs/Loops`.
 use Rattle.std.specs.Prelude.{ℕ, ◌+◌, ℤ, pos, List, [], ◌∷◌, ◌++◌}
 use Rattle.insn_codec.specs.declared.comparison.Comparison.TheVariants.{Eq, Ne}
@@ -11,8 +11,8 @@ use Rattle.expression_code.specs.Instructions.{mov_reg, load, mov_imm, ja, jump_
 use Rattle.expression_code.specs.Loops.{answer_word, fold_code, item_word}
 use Rattle.expression_code.specs.Pieces.{size}
 
--- `all` and `exists`: R0 names the predicate's value, and the answer so far does not decide; a value that decides ends
--- the loop, the other truth leaves the answer as it is, and what is neither makes it the error
+-- `all` and `exists`. R0 holds the predicate's value, and the result so far does not decide. A value that decides
+-- ends the loop, the other truth keeps the result, and any other value makes it the error.
 abbrev pub absorbing_turn : ℤ → ℤ → ℕ → List Insn
 absorbing_turn decides other k =
     jump_if_imm Eq R0 decides 9
@@ -21,8 +21,8 @@ absorbing_turn decides other k =
     ∷ store (answer_word k) R0
     ∷ []
 
--- `exists_one`: the answer so far is false where the predicate was never true, true where it was once, null where it
--- was more often, and the error
+-- `exists_one`. The result so far is false if the predicate was never true, true if it was once, null if it was more
+-- often, or the error.
 unfoldable pub exists_one_turn : ℕ → List Insn
 exists_one_turn k =
     jump_if_imm Eq R0 false_ref 8
@@ -36,11 +36,11 @@ exists_one_turn k =
     ∷ store (answer_word k) R0
     ∷ []
 
--- more often than once is not once
+-- null becomes false at the end: more than once is not once
 abbrev pub exists_one_end : List Insn
 exists_one_end = jump_if_imm Eq R0 (pos 0) 2 ∷ jump_if_imm Eq R0 true_ref 1 ∷ mov_imm R0 false_ref ∷ []
 
--- `filter`: the item behind the answer so far where the predicate is true
+-- `filter`: appends the item to the result so far if the predicate is true
 unfoldable pub filter_turn : ℕ → List Insn
 filter_turn k =
     jump_if_imm Eq R0 false_ref 7
@@ -53,15 +53,15 @@ filter_turn k =
     ∷ store (answer_word k) R0
     ∷ []
 
--- `map`: the transform's value behind the answer so far
+-- `map`: appends the transform's value to the result so far
 abbrev pub map_turn : ℕ → List Insn
 map_turn k = mov_reg R2 R0 ∷ load R1 (answer_word k) ∷ Call (pos 17) ∷ store (answer_word k) R0 ∷ []
 
--- the slots between the predicate and the transform: two jumps
+-- the number of slots between the predicate and the transform: two jumps
 abbrev pub predicate_slots : ℕ
 predicate_slots = 2
 
--- `map` with a predicate, whose value is in R0: the transform where it is true
+-- `map` with a predicate, whose value is in R0: runs the transform if it is true
 abbrev pub map_where_turn : List Insn → ℕ → List Insn
 map_where_turn transform k =
     jump_if_imm Eq R0 false_ref (size transform + 7)
@@ -75,7 +75,7 @@ map_where_turn transform k =
     ∷ store (answer_word k) R0
     ∷ [])
 
--- the answer before the first item
+-- the result before the first item
 abbrev pub first_true : List Insn
 first_true = mov_imm R0 true_ref ∷ []
 

@@ -1,4 +1,4 @@
--- Leaves: values that one instruction puts into a register.
+-- Simple operands: values that one instruction loads into a register.
 -- The code's `SimpleOperand` (`src/simple_operand.rt`); laws in `Gives/Leaves`, proofs in `proofs/Leaves`.
 use Rattle.std.specs.Prelude.{ℕ, ◌<◌, List, [], ◌∷◌}
 use Rattle.insn_codec.specs.declared.insn.Insn.{Insn}
@@ -7,17 +7,17 @@ use Rattle.expression_code.specs.Limits.{frame_words}
 use Rattle.expression_code.specs.Instructions.{load, mov_imm}
 use Rattle.expression_code.specs.declared.simple_operand.SimpleOperand.{SimpleOperand, TheVariants.Reference, TheVariants.Word}
 
--- the simple operand into a register
+-- loads the simple operand into a register
 abbrev pub leaf_insn : SimpleOperand → Register → Insn
 leaf_insn (Reference n) r = mov_imm r n
 leaf_insn (Word k) r = load r k
 
--- the word of the frame that it names; 0 where it names none
+-- the word of the frame that it uses, or 0
 abbrev pub word_of : SimpleOperand → ℕ
 word_of (Reference n) = 0
 word_of (Word k) = k
 
--- which is one of a frame
+-- the word is one of a frame
 abbrev pub IsFrameWord : SimpleOperand → Type 0
 IsFrameWord l = word_of l < frame_words
 

@@ -1,4 +1,4 @@
--- Literals of null, truths, ints and texts.
+-- Literals: null, truths, ints and texts.
 -- Emitted by `codegen/src/code/literals.rt`; laws in `Gives/Leaves`, proofs in `proofs/Leaves`.
 use Rattle.std.specs.Prelude.{ℕ, ℤ, pos, Bool, true, false, List, [], ◌∷◌}
 use Rattle.std.specs.Int.{w64, cast_unsigned}
@@ -27,6 +27,6 @@ truth_code b = leaf_code (truth_leaf b)
 abbrev pub int_code : ℤ → List Insn
 int_code z = lddw R1 (cast_unsigned w64 z) ∷ Call (pos 3) ∷ []
 
--- a text of so many bytes, which begins at an address among the constants
+-- a text with this address among the constants and this number of bytes
 abbrev pub text_code : ℕ → ℕ → List Insn
 text_code address count = lddw R1 address ∷ put_length R2 count ∷ Call (pos 4) ∷ []

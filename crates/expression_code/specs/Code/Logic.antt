@@ -1,4 +1,4 @@
--- Logical operators and the conditional. References 2 and 3 are those of false and true, 0 is the error's.
+-- Logical operators and the conditional. The references of the error, false and true are 0, 2 and 3.
 -- Emitted by `codegen/src/code/logic.rt`; laws in `Gives/Logic`, proofs in `proofs/Logic`.
 use Rattle.std.specs.Prelude.{ℕ, ◌+◌, ℤ, pos, List, [], ◌∷◌, ◌++◌}
 use Rattle.insn_codec.specs.declared.comparison.Comparison.TheVariants.{Eq, Ne}
@@ -15,8 +15,8 @@ false_ref = pos 2
 abbrev pub true_ref : ℤ
 true_ref = pos 3
 
--- the operator for which the one truth decides, with its right side in R0 and its left side, which does not decide, in
--- word k: R0 stays where it decides, and where both sides are the other truth
+-- The result of an operator for which one truth decides. The right side is in R0; the left side, which does not
+-- decide, is in word k. R0 is unchanged if it decides, or if both sides are the other truth.
 abbrev pub absorbing_tail : ℤ → ℤ → ℕ → List Insn
 absorbing_tail decides other k =
     load R1 k
@@ -26,32 +26,33 @@ absorbing_tail decides other k =
     ∷ mov_imm R0 (pos 0)
     ∷ []
 
--- the slots between the sides of an operator: a jump, and the store of the left side
+-- the number of slots between the sides of an operator: a jump, and the store of the left side
 abbrev pub left_slots : ℕ
 left_slots = 2
 
--- the slots after a condition: two jumps
+-- the number of slots after a condition: two jumps
 abbrev pub ternary_jump_slots : ℕ
 ternary_jump_slots = 2
 
--- the slot of the jump between the two branches
+-- the slot of the jump between the branches
 abbrev pub branch_slots : ℕ
 branch_slots = 1
 
--- the slots that a left side which decides leaves out beside those of the right one: its store, and `absorbing_tail`
+-- the number of slots, without those of the right side, that are skipped if the left side decides: its store, and
+-- `absorbing_tail`
 abbrev pub absorbed_slots : ℕ
 absorbed_slots = 6
 
--- where the left side decides, the right one is left out
+-- if the left side decides, the right side is skipped
 abbrev pub absorbing_code : ℤ → ℤ → List Insn → List Insn → ℕ → List Insn
 absorbing_code decides other left right k =
     left ++ jump_if_imm Eq R0 decides (size right + absorbed_slots) ∷ store k R0 ∷ (right ++ absorbing_tail decides other k)
 
--- left && right, with the left side in word k
+-- left && right; the left side is in word k
 abbrev pub and_code : List Insn → List Insn → ℕ → List Insn
 and_code left right k = absorbing_code false_ref true_ref left right k
 
--- left || right, with the left side in word k
+-- left || right; the left side is in word k
 abbrev pub or_code : List Insn → List Insn → ℕ → List Insn
 or_code left right k = absorbing_code true_ref false_ref left right k
 
@@ -59,7 +60,7 @@ or_code left right k = absorbing_code true_ref false_ref left right k
 abbrev pub not_tail : List Insn
 not_tail = Call (pos 23) ∷ []
 
--- what stands where the condition is true or where it is false, or the error where it is neither
+-- the first branch if the condition is true, the second if it is false, else the error
 abbrev pub ternary_code : List Insn → List Insn → List Insn → List Insn
 ternary_code condition if_true if_false =
     condition

@@ -1,4 +1,4 @@
--- Selection, indices, and functions of texts and sizes.
+-- Field selection, indexing, and functions of texts and sizes.
 -- Emitted by `codegen/src/code/selection.rt`; laws in `Gives/Selection`, proofs in `proofs/Selection`.
 use Rattle.std.specs.Prelude.{ℕ, ℤ, pos, List, [], ◌∷◌}
 use Rattle.insn_codec.specs.declared.comparison.Comparison.TheVariants.{Ne}
@@ -7,7 +7,7 @@ use Rattle.insn_codec.specs.declared.register.Register.TheVariants.{R0, R1, R2, 
 use Rattle.cel_macros.specs.declared.text_test.TextTest.{TextTest, TheVariants.StartsWith, TheVariants.EndsWith, TheVariants.Contains}
 use Rattle.expression_code.specs.Instructions.{mov_reg, lddw, put_length, ja, jump_if_imm}
 
--- the helper's answer on R1 and a text of so many bytes, which begins at an address among the constants
+-- calls a helper with R1 and a text with this address among the constants and this number of bytes
 abbrev pub call_with_text : ℤ → ℕ → ℕ → List Insn
 call_with_text helper address count = lddw R2 address ∷ put_length R3 count ∷ Call helper ∷ []
 
@@ -27,7 +27,7 @@ index_tail = Call (pos 7) ∷ []
 abbrev pub size_tail : List Insn
 size_tail = Call (pos 8) ∷ []
 
--- string(R6): a text as it is, and of an int its decimal text
+-- string(R6): a text is unchanged, an int becomes decimal
 abbrev pub string_tail : List Insn
 string_tail =
     mov_reg R1 R6
@@ -39,7 +39,7 @@ string_tail =
     ∷ Call (pos 22)
     ∷ []
 
--- the number of the helper that makes the test
+-- the number of the helper for this test
 abbrev pub test_helper : TextTest → ℤ
 test_helper StartsWith = pos 12
 test_helper EndsWith = pos 13

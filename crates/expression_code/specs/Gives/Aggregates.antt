@@ -1,5 +1,5 @@
--- List and map literals (cel-spec, Aggregate Literals). Items are pushed and entries are put in the order of the text.
--- The code is listed in `Code/Aggregates`; proofs in `proofs/Lists`, `proofs/Maps` and `proofs/Insertions`.
+-- List and map literals (cel-spec, Aggregate Literals). Items are appended and entries are put in source order. The
+-- code is listed in `Code/Aggregates`; proofs in `proofs/Lists`, `proofs/Maps` and `proofs/Insertions`.
 use Rattle.std.specs.Prelude.{◌≡◌, ℕ, ◌+◌, ◌<◌, ◌≤◌, nat_le, true, List, [], ◌∷◌, ◌++◌}
 use Rattle.std.specs.Prelude.{fold as fold_left}
 use Rattle.helper_table.specs.Building.{depth_limit}
@@ -19,11 +19,11 @@ use Rattle.expression_code.specs.Helpers.{put_of}
 use Rattle.expression_code.specs.Pieces.{IsCodeAt, size}
 use Rattle.expression_code.specs.Words.{word_at}
 
--- a list or a map may hold it: what is too deep for them comes only where the run context says that a value may be
+-- a list or a map may hold it: if it is too deep for them, the run context allows that
 abbrev pub MayHold : RunContext → ValueOrError → Type 0
 MayHold s x = nat_le depth_limit (result_depth x) ≡ true → s.is_deep ≡ true
 
--- word k names what is made so far, which is not too deep
+-- word k holds the value so far, which is not too deep
 pub record Made (c : Context) (depth k : ℕ) (x : ValueOrError) (b : CpuState) : Type 0 where
   pub named : Names b.values.values (word_at depth k b) x
   pub within : result_depth x ≤ depth_limit
@@ -35,18 +35,18 @@ pub record MadeInR0 (c : Context) (depth k : ℕ) (x : ValueOrError) (old new : 
   pub shows : Names new.values.values (new.registers R0) x
   pub keeps : Preserves (variable_count c) depth k old new
 
--- the piece makes f x of the x in word k and R0
+-- the piece computes f x from the x in word k and R0
 pub record Builds (s : RunContext) (p : ℕ) (piece : List Insn) (c : Context) (depth k : ℕ) (f : ValueOrError → ValueOrError)
     (steps charge : ℕ) : Type 0 where
   pub runs : (b : CpuState) (x : ValueOrError) → IsCodeAt s.image.code p piece → Made c depth k x b
       → Names b.values.values (b.registers R0) x
       → RunsTo s steps charge p b (p + size piece) (MadeInR0 c depth k (f x) b)
 
--- the piece pushes these items, of which each may be the error
+-- the piece appends these items, each of which may be the error
 abbrev pub ItemsGive : RunContext → ℕ → List Insn → Context → ℕ → ℕ → List ValueOrError → ℕ → ℕ → Type 0
 ItemsGive s p piece c depth k xs steps charge = Builds s p piece c depth k (λ l. fold_left pushed l xs) steps charge
 
--- a map with one more entry, of a key and a value
+-- a map with one more entry
 abbrev pub with_pair : ValueOrError → (ValueOrError × ValueOrError) → ValueOrError
 with_pair m e = put_of m e.0 e.1
 
@@ -54,7 +54,7 @@ with_pair m e = put_of m e.0 e.1
 abbrev pub EntriesGive : RunContext → ℕ → List Insn → Context → ℕ → ℕ → List (ValueOrError × ValueOrError) → ℕ → ℕ → Type 0
 EntriesGive s p piece c depth k es steps charge = Builds s p piece c depth k (λ m. fold_left with_pair m es) steps charge
 
--- a list takes 2 steps and 1 of charge beside its items, an item 4 steps and 2 of charge of its own
+-- A list takes 2 steps and 1 of charge besides its items. An item takes 4 steps and 2 of charge besides its own.
 pub record ListGives : Type 0 where
   pub none : (s : RunContext) (p : ℕ) (c : Context) (depth k : ℕ) → ItemsGive s p [] c depth k [] 0 0
   pub more : (s : RunContext) (p k : ℕ) (item items : List Insn) (c : Context) (depth : ℕ)
@@ -69,7 +69,7 @@ pub record ListGives : Type 0 where
       → ItemsGive s (p + 2) items c depth k xs n x
       → Evaluates s p (list_code items k) c depth k (list_literal xs) (2 + n) (1 + x)
 
--- a map takes 2 steps and 1 of charge beside its entries, an entry 6 steps and 2 of charge of its own
+-- A map takes 2 steps and 1 of charge besides its entries. An entry takes 6 steps and 2 of charge besides its own.
 pub record MapGives : Type 0 where
   pub none : (s : RunContext) (p : ℕ) (c : Context) (depth k : ℕ) → EntriesGive s p [] c depth k [] 0 0
   pub more : (s : RunContext) (p k : ℕ) (key entry entries : List Insn) (c : Context) (depth : ℕ)

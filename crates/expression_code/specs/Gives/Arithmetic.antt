@@ -1,4 +1,4 @@
--- Arithmetic on ints, and joining.
+-- Arithmetic on ints, and concatenation.
 -- The code is listed in `Code/Arithmetic`; proofs in `proofs/Additions`, `proofs/Multiplications`, `proofs/Products`,
 -- `proofs/Negation` and `proofs/Ints`.
 use Rattle.std.specs.Prelude.{ℕ, ◌+◌, ◌<◌, ◌≤◌, Some}
@@ -15,19 +15,19 @@ use Rattle.expression_code.specs.Gives.Comparison.{TailGives}
 use Rattle.expression_code.specs.Helpers.{joined_length}
 use Rattle.expression_code.specs.Operators.{Combines, Converts}
 
--- what the code of + and - behind its operands gives
+-- the results of the code of + and -
 pub record AdditionsGive : Type 0 where
   pub sum : (s : RunContext) (p k : ℕ) (c : Context) (depth : ℕ) (x y : ValueOrError) → k < frame_words
       → Combines s p sum_code R6 R7 c depth k x y (sum_of x y) 20 (5 + joined_length (joined (Some x) (Some y)))
   pub difference : TailGives difference_code R6 R7 difference_of 19 5
 
--- what the code of * / and % behind its operands gives
+-- the results of the code of *, / and %
 pub record ProductsGive : Type 0 where
   pub product : TailGives product_code R6 R7 product_of 23 5
   pub quotient : TailGives (divided_code Sdiv) R6 R7 quotient_of 20 5
   pub remainder : TailGives (divided_code Smod) R6 R7 remainder_of 20 5
 
--- what the code of a - before its operand gives
+-- the result of the code of negation
 abbrev pub NegationGives : Type 0
 NegationGives = (s : RunContext) (p : ℕ) (c : Context) (depth base : ℕ) (x : ValueOrError) → base ≤ frame_words
     → Converts s p negation_tail R6 c depth base x (negation_of x) 11 3

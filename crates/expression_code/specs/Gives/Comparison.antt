@@ -11,13 +11,13 @@ use Rattle.expression_code.specs.Contexts.{Context}
 use Rattle.expression_code.specs.Engine.{RunContext}
 use Rattle.expression_code.specs.Operators.{Combines}
 
--- the piece behind two operands gives the operation's value, within so many steps and so much charge
+-- the piece after two operands gives the operation's value, within this number of steps and this charge
 abbrev pub TailGives : List Insn → Register → Register → (ValueOrError → ValueOrError → ValueOrError) → ℕ → ℕ → Type 0
 TailGives tail r q f steps charge =
     (s : RunContext) (p k : ℕ) (c : Context) (depth : ℕ) (x y : ValueOrError) → k < frame_words
     → Combines s p tail r q c depth k x y (f x y) steps charge
 
--- what the code of each comparison behind its operands gives
+-- the results of the code of each comparison
 pub record ComparisonGives : Type 0 where
   pub equal : TailGives equal_tail R1 R2 equal_of 1 1
   pub unequal : TailGives unequal_tail R1 R2 unequal_of 3 2

@@ -1,5 +1,5 @@
--- Macros, within the budgets of a part: steps for each visit of a node or an item and charge for each 1 of what was
--- spent, less a reserve of each.
+-- Macros, within the budgets of a part: a number of steps for each visit of a node or an item, and a charge for each
+-- unit of cost, each less a reserve.
 -- The code is listed in `Code/Folds`; proofs in `proofs/Folds` and `proofs/Loops`.
 use Rattle.std.specs.Prelude.{◌≡◌, ℕ, ◌+◌, ◌-◌, ◌*◌, ◌<◌, nat_le, Bool, true, false, List, [], ◌∷◌, Option, Some, None, slice_get}
 use Rattle.helper_table.specs.Building.{depth_limit}
@@ -17,39 +17,39 @@ use Rattle.expression_code.specs.Engine.{RunContext}
 use Rattle.expression_code.specs.Loops.{with_item, slots_before_turn, turn_word}
 use Rattle.expression_code.specs.Pieces.{size}
 
--- the steps that so many visits allow
+-- the steps allowed for this number of visits
 abbrev pub step_budget : ℕ → ℕ
 step_budget visits = part_steps_per_visit * visits - budget_reserve
 
--- the charge that so much spent allows
+-- the charge allowed for this cost
 abbrev pub charge_budget : ℕ → ℕ
 charge_budget spent = part_charge_per_unit * spent - budget_reserve
 
--- each item is a visit, beside those of its part
+-- the visits of the items: one for each, and those of its part
 abbrev pub each_visits : (Value → ℕ) → List Value → ℕ
 each_visits visits [] = 0
 each_visits visits (v ∷ vs) = 1 + visits v + each_visits visits vs
 
--- the visits of a range's items; none where it is no range
+-- the visits of a range's items; none if the value is not a range
 abbrev pub items_visits : (Value → ℕ) → Option (List Value) → ℕ
 items_visits visits (Some vs) = each_visits visits vs
 items_visits visits None = 0
 
--- and spends eight, beside what its part spends
+-- the cost of the items: eight for each, and that of its part
 abbrev pub each_spent : (Value → ℕ) → List Value → ℕ
 each_spent spent [] = 0
 each_spent spent (v ∷ vs) = 8 + spent v + each_spent spent vs
 
--- what a range's items spend; nothing where it is no range
+-- the cost of a range's items; none if the value is not a range
 abbrev pub items_spent : (Value → ℕ) → Option (List Value) → ℕ
 items_spent spent (Some vs) = each_spent spent vs
 items_spent spent None = 0
 
--- a list has a depth of at most 255, and is deeper than all that it holds
+-- a list has a depth of at most 255, and is deeper than everything that it holds
 abbrev pub is_too_deep : ValueOrError → Bool
 is_too_deep x = nat_le depth_limit (result_depth x)
 
--- the macro is to hold what is too deep of the item v, for which its part gives x
+-- for item v, whose part gives x, the macro would hold a value that is too deep
 abbrev pub holds_too_deep : Macro → Value → ValueOrError → Bool
 holds_too_deep All v x = false
 holds_too_deep Exists v x = false
@@ -57,14 +57,14 @@ holds_too_deep ExistsOne v x = false
 holds_too_deep Filter v x = chosen (truth x) (is_too_deep (value v)) false false
 holds_too_deep Map v x = is_too_deep x
 
--- v stands among the items of the range
+-- v is one of the items of the range
 pub record IsItem (range : ValueOrError) (v : Value) : Type 0 where
   pub items : List Value
   pub place : ℕ
   pub range_is : range_of range ≡ Some items
   pub item_is : slice_get items place ≡ Some v
 
--- the code of the range and of the part, which runs for each item, makes the macro
+-- the code of a range, and of a part that runs for each item, gives the macro's value
 abbrev pub MacroGives : Type 0
 MacroGives =
     (m : Macro) (s : RunContext) (p k depth : ℕ) (range part : List Insn) (c : Context) (n : List ℕ) (r : ValueOrError)
@@ -78,7 +78,7 @@ MacroGives =
     → Evaluates s p (macro_code m k range part) c depth k (folded m f (range_of r)) (step_budget (1 + w + items_visits visits (range_of r)))
     (charge_budget (9 + x + items_spent spent (range_of r)))
 
--- `map` with a predicate, whose value for v is t v; the transform runs where that is true
+-- `map` with a predicate, whose value for v is t v; the transform runs if that is true
 abbrev pub MapWhereGives : Type 0
 MapWhereGives =
     (s : RunContext) (p k depth : ℕ) (range predicate transform : List Insn) (c : Context) (n : List ℕ) (r : ValueOrError)

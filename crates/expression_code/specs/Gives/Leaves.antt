@@ -15,14 +15,14 @@ use Rattle.expression_code.specs.Gives.Selection.{HasText}
 use Rattle.expression_code.specs.Operators.{IsLeafOf}
 use Rattle.expression_code.specs.declared.simple_operand.SimpleOperand.TheVariants.{Reference}
 
--- what simple operands name
+-- the values of simple operands
 pub record LeavesName : Type 0 where
   pub null : (c : Context) (depth base : ℕ) → IsLeafOf c depth base (Some null_leaf) (value null)
   pub truth : (c : Context) (depth base : ℕ) (b : Bool) → IsLeafOf c depth base (Some (truth_leaf b)) (value (boolean b))
   pub name : (c : Context) (depth base : ℕ) (n : List ℕ) → base ≤ frame_words
       → IsLeafOf c depth base (Some (name_leaf n c.words.items)) (name_value n c.environment)
 
--- what the code of a literal and of a name gives
+-- the results of the code of literals and names
 pub record LeavesGive : Type 0 where
   pub null : (s : RunContext) (p : ℕ) (c : Context) (depth base : ℕ) → base ≤ frame_words
       → Evaluates s p null_code c depth base (value null) 1 0

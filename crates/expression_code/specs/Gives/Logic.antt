@@ -12,8 +12,8 @@ use Rattle.expression_code.specs.Engine.{RunContext}
 use Rattle.expression_code.specs.Operators.{Converts}
 use Rattle.expression_code.specs.Pieces.{size}
 
--- an operator for which one truth decides, with 7 steps of its own; the right side is left out where the left one
--- decides
+-- an operator for which one truth decides, with 7 steps of its own; if the left side decides, the right side is
+-- skipped
 abbrev pub AbsorbingGives : ℤ → ℤ → (ValueOrError → ValueOrError → ValueOrError) → Type 0
 AbsorbingGives decides other f =
     (s : RunContext) (p k : ℕ) (left right : List Insn) (c : Context) (depth : ℕ) (x y : ValueOrError) (n1 x1 n2 x2 : ℕ)
@@ -22,7 +22,7 @@ AbsorbingGives decides other f =
     → Evaluates s (p + size left + 2) right c depth (k + 1) y n2 x2
     → Evaluates s p (absorbing_code decides other left right k) c depth k (f x y) (n1 + (2 + (n2 + 5))) (x1 + x2)
 
--- only the side that is chosen runs
+-- only the chosen branch runs
 abbrev pub TernaryGives : Type 0
 TernaryGives =
     (s : RunContext) (p base : ℕ) (condition yes no : List Insn) (c : Context) (depth : ℕ) (t x y : ValueOrError) (n1 x1 n2 x2 n3 x3 : ℕ)
@@ -33,7 +33,7 @@ TernaryGives =
     → Evaluates s p (ternary_code condition yes no) c depth base (ternary_of t x y) (n1 + (2 + (chosen (truth t) n2 n3 0 + 1)))
     (x1 + chosen (truth t) x2 x3 0)
 
--- what the code of each logical operator and of the conditional gives
+-- the results of the code of each logical operator and of the conditional
 pub record LogicGives : Type 0 where
   pub and : AbsorbingGives false_ref true_ref and_of
   pub or : AbsorbingGives true_ref false_ref or_of

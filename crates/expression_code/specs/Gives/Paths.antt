@@ -1,4 +1,4 @@
--- A path that word 0 of the frame keeps.
+-- A path whose value word 0 of the frame keeps.
 -- Used by `codegen/src/code/paths.rt`; proofs in `proofs/Paths`.
 use Rattle.std.specs.Prelude.{◌≡◌, ℕ, ◌+◌, List, ◌∷◌, ◌++◌, length, Some}
 use Rattle.insn_codec.specs.declared.insn.Insn.{Insn}
@@ -16,25 +16,25 @@ use Rattle.expression_code.specs.Operators.{IsLeafOf}
 use Rattle.expression_code.specs.Paths.{FrameUse, RootField, path_value, nothing_kept, with_path}
 use Rattle.expression_code.specs.declared.simple_operand.SimpleOperand.TheVariants.{Reference, Word}
 
--- what a path stands for in a context
+-- the value of a path in a context
 abbrev pub path_in : RootField → Context → ValueOrError
 path_in path c = path_value path c.environment.roots c.environment.items
 
--- the path into word 0, where its field's text has this address, and code behind it that finds it there
+-- stores the path's value in word 0, where the following code finds it; this is the address of the field's text
 abbrev pub kept_path_code : RootField → ℕ → List Insn → List Insn
 kept_path_code path address rest =
     leaf_insn (Reference (root_reference path.root)) R1 ∷ (field_tail address (length path.field) ++ store 0 R0 ∷ rest)
 
--- an environment outside of every macro, where word 0 keeps a path or nothing
+-- a context outside all macros, where word 0 keeps a path or nothing
 abbrev pub outside : Environment → List ℕ → FrameUse → Context
 outside environment constants words = record { environment = environment; words = words; constants = constants }
 
--- what a kept path gives
+-- the results of a kept path
 pub record PathsGive : Type 0 where
-  -- its word names its value or the error
+  -- its word holds its value or the error
   pub names : (c : Context) (depth base : ℕ) (path : RootField) → c.words.path ≡ Some path
       → IsLeafOf c depth base (Some (Word 0)) (path_in path c)
-  -- code that finds it in word 0, behind the path's own code and a store; behind both the word is free again
+  -- code after the path's own code and a store can use the value in word 0; afterwards the word is free again
   pub kept : (s : RunContext) (p depth address : ℕ) (path : RootField) (rest : List Insn) (environment : Environment) (constants : List ℕ)
       (x : ValueOrError) (n m : ℕ)
       → HasText constants address path.field

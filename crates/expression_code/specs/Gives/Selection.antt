@@ -15,24 +15,24 @@ use Rattle.expression_code.specs.Engine.{RunContext}
 use Rattle.expression_code.specs.Gives.Comparison.{TailGives}
 use Rattle.expression_code.specs.Operators.{Converts}
 
--- the bytes of a text stand at an address among the constants, and their number is an immediate
+-- the bytes of a text are at this address among the constants, and their number is an immediate
 pub record HasText (constants : List ℕ) (address : ℕ) (bytes : List ℕ) : Type 0 where
   pub bytes_are : bytes_at constants address (length bytes) ≡ Some bytes
   pub address_is_word : address < 2 ^ 64
   pub length_is_immediate : length bytes < 2 ^ 31
 
--- the piece behind an operand asks for a key whose text stands at the address
+-- the piece after an operand looks up a key whose text is at this address
 abbrev pub KeyedGives : (ℕ → ℕ → List Insn) → (ValueOrError → List ℕ → ValueOrError) → ℕ → ℕ → Type 0
 KeyedGives tail f steps charge =
     (s : RunContext) (p : ℕ) (c : Context) (depth base : ℕ) (x : ValueOrError) (address : ℕ) (key : List ℕ) → base ≤ frame_words
     → HasText c.constants address key → Converts s p (tail address (length key)) R1 c depth base x (f x key) steps charge
 
--- how many bytes a text has, and else 0
+-- the number of bytes of a text, 0 for other values
 abbrev pub text_length : ValueOrError → ℕ
 text_length (value (text s)) = length s
 text_length _ = 0
 
--- what the code of fields, indices, functions and tests behind its operands gives
+-- the results of the code of fields, indices, functions and tests
 pub record SelectionGives : Type 0 where
   pub field : KeyedGives field_tail field_of 3 1
   pub has : KeyedGives has_tail has_of 3 1

@@ -1,3 +1,5 @@
+-- Proofs of `laws::macros_give`: the result meets the contract.
+
 use Rattle.expression_code.proofs.Folds.All.{macro_gives}
 use Rattle.expression_code.proofs.Folds.MapsWhere.{map_where_gives}
 use Rattle.expression_code.proofs.laws.macros_give.Goals as goal

@@ -1,3 +1,5 @@
+-- Proofs of `laws::program_exits`: the result meets the contract.
+
 use Rattle.expression_code.proofs.Programs.{program_exits}
 use Rattle.expression_code.proofs.laws.program_exits.Goals as goal
 

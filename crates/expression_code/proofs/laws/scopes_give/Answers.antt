@@ -1,3 +1,5 @@
+-- Proofs of `laws::scopes_give`: the result meets the contract.
+
 use Rattle.expression_code.proofs.Later.{later_gives, wider_gives}
 use Rattle.expression_code.proofs.Returns.{routine_returns}
 use Rattle.expression_code.proofs.Scopes.{no_scope, scope_begins, scope_gives, scope_grows}
