@@ -11,7 +11,6 @@ use crate::part::Part;
 use crate::text::{keys, text};
 
 /// Whether two cells are of one kind and have the same simple value, number of items, or keys.
-/// keys.
 pub(crate) fn alike(backings: &Backings, left: Content, right: Content) -> bool
     requires left { IsReadable backings.now left }
     requires right { IsReadable backings.now right }
