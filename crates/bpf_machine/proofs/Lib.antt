@@ -1,3 +1,5 @@
+-- The proofs of `bpf_machine`.
+
 pub mod Decoded
 pub mod Nulls
 pub mod Registers

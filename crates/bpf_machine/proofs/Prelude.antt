@@ -1,4 +1,4 @@
--- The names that these proofs cite of the library, of the crates below and of the definitions here. Declares nothing.
+-- The names of the library, of the crates below and of the definitions that these proofs use. Declares nothing.
 pub use Rattle.std.proofs.Common.{All, Bool, Err, FitsSigned, List, None, Ok, Option, Result, Some, Vec, ℕ, ℤ, []}
 pub use Rattle.std.proofs.Common.{add-one, ap, append_assoc, arith, drop, false, if◌then◌else◌, inl, inr, length}
 pub use Rattle.std.proofs.Common.{length-append, lit≤, ltb-true, map, nat_le, nat_lt, option_and_then, option_map}

@@ -1,3 +1,5 @@
+-- The definition of the machine: its state, its steps by RFC 9669, and its runs.
+
 pub mod Limits
 pub mod State
 pub mod Decoding

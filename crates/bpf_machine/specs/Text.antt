@@ -1,4 +1,4 @@
--- The printed text of a state: what the debugger answers to a move and to `r`.
+-- The printed text of a state, as the debugger prints it after a move and for `r`.
 use Rattle.std.specs.Prelude.{ℕ, ℤ, zero, suc, List, [], ◌∷◌, ◌++◌, codes, decimal, slice_index}
 use Rattle.std.specs.Fmt.{signed_decimal}
 use Rattle.guest_memory.specs.ErrorCodes.{fault_code}
@@ -11,18 +11,18 @@ use Rattle.bpf_machine.specs.declared.status.Status.{Status, TheVariants.Running
 abbrev pub word_text : ℕ → List ℕ
 word_text w = wide_text w
 
--- a status in print: with the word in R0 at the exit, or the name of the fault
+-- a printed status: with the word in R0 after an exit, or with the name of the fault
 abbrev pub status_text : Status → List ℕ
 status_text Running = codes "running"
 status_text (Exited w) = codes "exited " ++ word_text w
 status_text (Fault f) = codes "fault " ++ fault_code f
 
--- the line of a move to step k, at this `pc` and with this status
+-- the line after a move to step k, with this `pc` and status
 unfoldable pub move_line : ℕ → ℤ → Status → List ℕ
 move_line k pc status = codes "step " ++
     (decimal k ++ (codes " pc " ++ (signed_decimal pc ++ (codes " " ++ (status_text status ++ 10 ∷ [])))))
 
--- the line of a move to step k, where the run stands in this state
+-- the line after a move to step k, in this state
 abbrev pub move_text : ℕ → State → List ℕ
 move_text k s = move_line k s.pc s.status
 

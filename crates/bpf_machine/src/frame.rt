@@ -1,7 +1,7 @@
-//! What a local call saves.
+//! The record of a local call.
 
-/// The record of a local call: where its caller goes on, in slots, and the caller's R6 to R9
-/// (RFC 9669, section 4.3).
+/// The record of a local call: the slot where the caller continues, and the caller's R6 to R9 (RFC
+/// 9669, section 4.3).
 #[derive(Clone, Copy, Debug, PartialEq, Eq)]
 pub struct Frame {
     pub return_pc: i64,

@@ -1,4 +1,4 @@
-//! Laws of the machine, each the clause of a function that does nothing.
+//! Laws of the machine. Each is the clause of a function that does nothing.
 #![tactic(auto, using(crate::proofs::States::states_are_kept, crate::proofs::States::step_is_row))]
 
 ghost use Rattle.bpf_machine.specs.Decoding.{DecodesSpelling};
@@ -13,7 +13,7 @@ use guest_memory::laws::{read_is_bytes, start_is_zero, write_is_bytes};
 use helper_table::laws::tables_are_kept;
 use insn_codec::spelled_is_spelling;
 
-/// A run of at most n steps stops at one place, which `stop_place` computes.
+/// A run of at most n steps stops at one step, which `stop_place` computes.
 pub fn stops_once()
     ensures { StopsOnce }
 {}
@@ -23,7 +23,7 @@ pub fn rows_stand()
     ensures { MachineRowsHold }
 {}
 
-/// What single instructions compute, and where short programs end.
+/// The results of single instructions, and the ends of short programs.
 pub fn instructions_stand()
     ensures programs { ProgramRowsHold }
     ensures arithmetic { ArithmeticRowsHold }
@@ -31,20 +31,20 @@ pub fn instructions_stand()
     ensures atomics { AtomicRowsHold }
 {}
 
-/// What the machine finds at a slot is what the code spells there.
+/// The machine finds at a slot the instruction that the code encodes there.
 pub fn decodes_spelling()
     ensures { DecodesSpelling }
 {
     spelled_is_spelling();
 }
 
-/// The step of a machine that runs is the row of the instruction that stands at `pc`.
+/// The step of a running machine is the row of the instruction at `pc`.
 pub fn steps_are_rows()
     ensures { StepsAreRows }
 {}
 
-/// Every state of a run from a start on a table has eleven registers with a word each, at most
-/// seven records, memory of its sizes, and the values of a table.
+/// Every state of a run that starts on a table has eleven registers with one word each, at most
+/// seven records, memory regions of the right sizes, and the values of a table.
 pub fn states_are_kept()
     ensures { StatesAreKept }
 {
@@ -57,7 +57,7 @@ pub fn states_are_kept()
     start_is_zero();
 }
 
-/// Five roots that are not refused start with a table.
+/// The values at the start with five accepted roots are a table.
 pub fn starts_are_tables()
     ensures { StartsAreTables }
 {}

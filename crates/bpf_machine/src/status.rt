@@ -1,4 +1,4 @@
-//! Whether a machine goes on.
+//! The status of a machine.
 ghost use Rattle.std.specs.Prelude.{Some};
 ghost use Rattle.bpf_machine.specs.Text.{status_text};
 
@@ -6,11 +6,11 @@ use crate::word_text::WordText;
 use guest_memory::Fault;
 use std::fmt;
 
-/// Whether a machine goes on, or how it has stopped.
+/// Whether a machine is running, or how it has stopped.
 #[derive(Clone, Copy, Debug, PartialEq, Eq)]
 pub enum Status {
     Running,
-    /// The program has ended and left this word in R0.
+    /// The program ended with this word in R0.
     Exited(u64),
     Fault(Fault),
 }

@@ -1,10 +1,10 @@
-//! Words in print.
+//! Printed words.
 ghost use Rattle.std.specs.Prelude.{Some};
 ghost use Rattle.bpf_machine.specs.Text.{word_text};
 
 use std::fmt;
 
-/// A word that is shown as `0x` and 16 lower-case hex digits.
+/// A word that prints as `0x` and 16 lower-case hex digits.
 #[derive(Clone, Copy, Debug, PartialEq, Eq)]
 pub struct WordText(pub u64);
 

@@ -1,3 +1,5 @@
+-- Proofs of `laws::instructions_stand`: the result meets the contract.
+
 use Rattle.bpf_machine.proofs.Prelude.{rules, spelled, candidate_at, arithmetic_at, atomic_at, branch_at, jump_at, memory_at, wide_at, null_values, start_state, insn_at, alu_row, call_local_row, exit_row, jump_row, load_row, load_wide_row, store_row, constants_of, read_of, write_of, start_memory, next_state, alu32_of, alu64_of, operated, state_after, stop_place, hex_digits, move_line}
 use Rattle.std.specs.Fmt.{digits}
 use Rattle.bpf_word.specs.Bytes.{swap_of}

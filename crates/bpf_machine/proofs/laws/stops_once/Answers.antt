@@ -1,3 +1,5 @@
+-- Proofs of `laws::stops_once`: the result meets the contract.
+
 use Rattle.bpf_machine.proofs.Prelude.{stop_place_only}
 use Rattle.bpf_machine.proofs.laws.stops_once.Goals as goal
 
