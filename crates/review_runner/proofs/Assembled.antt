@@ -5,7 +5,7 @@ use Rattle.admission.proofs.Results.{ok_same}
 
 -- ---- the image's file
 
--- the first line of a text says something, and then memory ran out
+-- the first line of a text has content, and then an allocation failed
 text_alone : (held : List ℕ) → IsUtf8 held → FirstLineSays (lines_of held) → MayRunOut ProgramText (Ok held)
 text_alone held utf8 says = ((λ e. cc), λ h is. subst (λ (t : List ℕ). IsUtf8 t × FirstLineSays (lines_of t)) (ok_same _ _ _ refl is) (utf8, says))
 
@@ -13,7 +13,7 @@ no_code : IsOk (file_from (image_from First [] [])) → ⊥
 unfolding image_from
 no_code some = cc
 
--- code that an image can have has a source whose first line says something
+-- code that fits an image has a source whose first line has content
 first_of : (labels : List ℕ → Option ℕ) (lines : List (List ℕ)) (items : List SourceItem) (code : List ℕ) → EachSays lines items → StandFor labels 0 items code
     → IsOk (file_from (image_from First code [])) → FirstLineSays lines
 first_of labels lines items code each stand some = grind (arith, no_code)
@@ -32,7 +32,7 @@ pub of_cause : (held : List ℕ) (e : AsmError) → IsUtf8 held → AssembleRetu
 of_cause held asm_error.Memory utf8 answer = inr (refl, text_alone held utf8 answer)
 of_cause held e utf8 answer = inl (no_program utf8 answer)
 
--- memory may run out once the image's file is made
+-- an allocation may fail once the image's file is made
 pub may_run_out : (reading : FileRead) (due : Result (List ℕ) Refusal) (file : List ℕ) → Assembled reading due → due ≡ Ok file → MayRunOut ProgramText reading
 may_run_out reading due file (program utf8 source) is = text_alone _ utf8 (of_source _ _ source (subst IsOk (sym is) refl))
 may_run_out reading due file made is = cc

@@ -1,17 +1,17 @@
--- Files that are read one after the other.
+-- Files are read one after the other.
 use Rattle.review_runner.proofs.Prelude.{ℕ, List, Option, Some, None, Ok, Err, refl, HoldsFiles, IsReadingGiven, ReadingGiven, held_by, FileSystem, IsReading, FileRead, DocumentFiles}
 use Rattle.host.specs.declared.file_error.FileError.TheVariants as file_error
 
--- a read of a file that may be left out
+-- the read of an optional file
 abbrev pub Read : Option FileSystem → Option (List ℕ) → Type 0
 Read known name = (reading : ReadingGiven) × IsReadingGiven known name reading
 
--- of a file that is not read nothing is known
+-- nothing is known of a file that is not read
 pub unread : (known : Option FileSystem) (name : Option (List ℕ)) → Read known name
 unread known (Some name) = (Err file_error.Memory, λ f is. tt)
 unread known None = (Ok None, refl)
 
--- what is held by four reads
+-- the contents given by four reads
 pub holds : (known : Option FileSystem) (name : List ℕ) (files : DocumentFiles) (s : FileRead) → IsReading known name s
     → (r : Read known files.review) (n : Read known files.namespace) (p : Read known files.params) → HoldsFiles known name files (held_by s r.0 n.0 p.0)
 holds known name files s is r n p = record {

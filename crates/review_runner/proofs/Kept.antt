@@ -1,4 +1,4 @@
--- A property of the rows that each use of an argument keeps is kept over a whole walk without faults.
+-- If each use of an argument keeps a property of the rows, a whole parse without errors keeps it.
 use Rattle.review_runner.proofs.Prelude.{◌≡◌, ℕ, zero, suc, List, [], ◌∷◌, Option, Some, None, Bool, true, false, is_some, arith, ⊤, if◌then◌else◌, fold, find, option_map_or, Kinds, or_else, Shape, Held, Names, Row, Rule, Step, Text, Waiting, Walk, after_flag, after_step, arg_by_id, attached_value, bundle_step, flag_met, long_met, long_or_other, option_met, reacted, settled, settled_rows, used, with_default, word_met, bundle_step_fault, flag_word_fault, long_fault, option_fault, react_fault, settle_fault, step_fault, turn_fault, use_fault, word_fault}
 use Rattle.clap.specs.Walk.{Outcome, bundle_met, walked}
 use Rattle.clap.specs.Faults.{flags_fault, walk_fault}

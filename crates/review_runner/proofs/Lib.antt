@@ -1,3 +1,5 @@
+-- The proofs of `review_runner`.
+
 pub mod Assembled
 pub mod HeldFiles
 pub mod Kept

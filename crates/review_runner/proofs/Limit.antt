@@ -1,4 +1,4 @@
--- The steps of an order whose words are taken are at most 1,000,000,000.
+-- An order whose words are accepted has at most 1,000,000,000 steps.
 use Rattle.review_runner.proofs.Prelude.{◌≡◌, ◌≤◌, List, [], ◌∷◌, ◌++◌, Option, Some, None, Result, IfOk, Bool, true, false, subst, arith, codes, if◌then◌else◌, find, unwrap_or, option_map, option_and_then, slice_get, digits_value, without_leading_plus, option_map_or, bytes_eq-Decides, is_unsigned_in, values_kinds, App, Shape, built, label_of, rows_at, read_as, Row, Rule, Text, answers_to, at_row, default_rows, nothing_held, one_of, reading_by, row_text, rows_after, walk, walk_from, with_default, with_values, entered_fault, level_fault, ErrorKind, ValueSource, CommandLine, file_rule, option_rule, required_option_rule, list_app, steps_rule, making_app, with_documents, review_app, deciding_app, running_app, run_image_app, debug_app, bare_app, celbpf_app, faults, entered, number_of, number_written, OrderReturns, IsWithinLimits, assemble_in, compile_in, debug_in, list_in, order_in, order_view, review_in, run_image_in, order_named, CodeOrder, OrderError, step_limit, default_steps}
 use Rattle.std.specs.Str.{bytes_eq}
 use Rattle.clap.specs.Simple.{entered as entered_of}
@@ -142,7 +142,7 @@ of_order : (o : Option (Text × List Row)) → AtOption (λ q. RowsOk q.1) o
     → AtOption IsWithinLimits (order_in o)
 of_order o h = grind (arith, of_order_named)
 
--- the answer's order is within the limits
+-- the order that is returned is within the limits
 pub within_limits : (words : List Text) (r : Result CodeOrder OrderError) → OrderReturns words r
     → IfOk r (λ o. IsWithinLimits (order_view o))
 within_limits words r h = grind (arith, of_words, of_order, AtOption)

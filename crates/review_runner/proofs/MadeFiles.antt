@@ -15,13 +15,13 @@ of_failure ProgramText e = inl no_file
 policy_may : (reading : FileRead) (due : Result (List ℕ) Refusal) (file : List ℕ) → CompiledFrom OneImage reading due → due ≡ Ok file → reading ≡ Err Failed → ⊥
 policy_may reading due file made is fails = grind arith
 
--- memory may run out once the image's file is made
+-- an allocation may fail once the image's file is made
 may_run_out : (kind : SourceKind) (reading : FileRead) (file : List ℕ) → ImageFileFrom OneImage kind reading (Ok file) → MayRunOut kind reading
 may_run_out kind reading file made = grind (arith, policy_may, text_may)
 
 -- ---- the files
 
--- files that stay are kept
+-- unchanged files are kept
 pub same_files : (old new : Option FileSystem) → new ≡ old → KeepsFiles old new
 same_files old new stays f known = (f, stays ∙ known, record { holds = λ name. refl; takes = refl })
 

@@ -1,4 +1,4 @@
--- Orders that are done, and what they leave.
+-- Orders that are carried out, and their outputs.
 use Rattle.review_runner.proofs.Prelude.{◌≡◌, ◌∙◌, ℕ, true, false, List, [], Result, Ok, Err, Option, refl, sym, ap, subst, arith, IfOk, IsErr, OnErr, OnOk, AllocError, OneImage, FileSystem, KeepsFiles, OpensFile, RunsOut, ReviewFiles, Order, is_session, OrderOutcome, output_by, output_of, refused, report_of, lacks_memory, performs, IsDone, LacksMemory, Performs, PerformsBy, WritesImage, only_reads, named_files, unread, Done as CodeDone, Refusal, Memory, SourceKind, PolicyDocument, ProgramText}
 use Rattle.std.proofs.Common.{◌≢◌}
 use Rattle.review_runner.specs.Order.{assemble, compile, debug, list, review, run_image}
@@ -11,7 +11,7 @@ use Rattle.review_runner.proofs.MadeFiles.{same_files}
 
 -- ---- files
 
--- an order that only reads leaves the files
+-- an order that only reads does not change the files
 pub stays : (old new : Option FileSystem) (wanted : Order) (outcome : OrderOutcome) → PerformsBy OneImage old wanted new outcome → only_reads wanted ≡ true → new ≡ old
 stays old new wanted outcome p is = grind arith
 
@@ -25,7 +25,7 @@ kept_by_order old new wanted outcome p is = grind (arith, kept_by_image)
 kept_by_lack : (old new : Option FileSystem) (wanted : Order) → LacksMemory old wanted new → KeepsFiles old new
 kept_by_lack old new wanted l = grind arith
 
--- an order that is refused keeps the files
+-- an order that is refused does not change the files
 pub kept : (old new : Option FileSystem) (wanted : Order) (r : Refusal) → PerformsBy OneImage old wanted new (Err r) → KeepsFiles old new
 kept old new wanted r p = by (Err r) p refl
   where
@@ -45,7 +45,7 @@ unread_review known files =
     holds known files.policy (named_files files) (Err file_error.Memory) (λ f is. tt) (unread_file known (named_files files).review) (unread_file known (named_files files).namespace)
     (unread_file known (named_files files).params)
 
--- memory may run out before a file is read
+-- an allocation may fail before a file is read
 pub no_room : (old : Option FileSystem) (wanted : Order) → is_session wanted ≡ false → PerformsBy OneImage old wanted old (Err Memory)
 no_room old (compile policy image) is = lacks_memory (same_files old old refl, unread_source PolicyDocument old policy)
 no_room old (review files n) is = performs (record { held = Err file_error.Memory; holds = unread_review old files; stays = refl; reviews = unread })
@@ -54,13 +54,13 @@ no_room old (assemble text image) is = lacks_memory (same_files old old refl, un
 no_room old (list image) is = lacks_memory (refl, unread_image old image)
 no_room old (debug image documents) is = cc
 
--- ---- what is to be written
+-- ---- the outputs
 
--- what is written of an answer, and this to standard error
+-- the outputs for a result, with these bytes on standard error
 abbrev pub answered_with : CodeReport → List ℕ → Done
 answered_with answer err = record { status = answer.status; out = answer.out.items; err = err }
 
--- an order that was answered
+-- an order with a result
 pub is_answered : (old new : Option FileSystem) (wanted : Order) (answer : CodeReport) (err : List ℕ) → PerformsBy OneImage old wanted new (Ok (report_of answer)) → err ≡ []
     → IsDone OneImage old wanted new (answered_with answer err)
 is_answered old new wanted answer err p none = by (Ok (report_of answer)) p refl
@@ -74,7 +74,7 @@ is_answered old new wanted answer err p none = by (Ok (report_of answer)) p refl
     }
     by outcome (lacks_memory l) is = cc
 
--- an order that was refused
+-- an order with a refusal
 pub is_refused : (old new : Option FileSystem) (wanted : Order) (r : Refusal) (result : Result CodeDone AllocError) → PerformsBy OneImage old wanted new (Err r) → OnOk result (r ≢ Memory)
     → IfOk result (λ d. output_of d ≡ refused r) → IfOk result (λ d. IsDone OneImage old wanted new (output_of d))
 is_refused old new wanted r (Err e) p other is = tt

@@ -15,7 +15,7 @@ review_by : (known : Option FileSystem) (name : List ℕ) (s : FileRead) (r n p 
     → held_by s r n p ≡ Ok h → IsSome h.review
 review_by known name s r n p h is are = grind arith
 
--- a review that has a name was read, if all was
+-- a review with a name was read, if all files were read
 pub has_review : (known : Option FileSystem) (name bytes : List ℕ) (namespace params : Option (List ℕ)) (h : SessionFiles)
     → HoldsFiles known name (record { review = Some bytes; namespace = namespace; params = params }) (Ok h) → IsSome h.review
 has_review known name bytes namespace params h holds = review_by known bytes _ _ _ _ h holds.readings.is_review holds.are

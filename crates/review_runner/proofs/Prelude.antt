@@ -1,4 +1,4 @@
--- The names that these proofs cite of the library, of the crates below and of the definitions here. Declares nothing.
+-- The names of the library, of the crates below and of the definitions that these proofs use. Declares nothing.
 pub use Rattle.std.proofs.Common.{Bool, Equal, Err, FitsSigned, Float, Greater, IfOk, IsErr, IsErrAnd, IsOk, IsSome}
 pub use Rattle.std.proofs.Common.{Less, List, None, Ok, OnErr, OnOk, Option, Ordering, Result, Some, String, Vec, ℕ}
 pub use Rattle.std.proofs.Common.{[], ap, append-nil, append_assoc, arith, bytes_eq, codes, cond, decimal, drop}

@@ -1,4 +1,4 @@
--- How the program ends.
+-- The end of the program.
 use Rattle.review_runner.proofs.Prelude.{◌≡◌, ◌∙◌, ℕ, ◌<◌, ◌==◌, ◌∷◌, ◌++◌, Bool, true, false, List, [], length, take, Option, Result, Ok, Err, Some, refl, sym, ap, subst, arith, append-nil, OnErr, OnOk, OneImage, AddsBytes, Stream, one_more, FileSystem, Order, OrderOutcome, output_by, output_of, IsDone, Performs, performs, AnswersOrder, AsksOrder, ProgramEffect, DoesOrder, Ending, EndsBy, Given, Puts, System, WritesBytes, WritesPart, cut, ending_line, order, does_order, whole, Done as CodeDone, Refusal, File}
 use Rattle.streams.specs.declared.failed.Failed.{Failed}
 use Rattle.review_runner.specs.Output.{Done}
@@ -29,7 +29,7 @@ pub puts_all : (old new : Stream) (bytes : List ℕ) (result : Result (Unit {0})
 puts_all old new bytes (Ok u) some adds failed part fails = (record { adds = adds; failed = failed }, λ none. absurd (some none))
 puts_all old new bytes (Err e) some adds failed part fails = record { many = part.0; is_cut = part.1; adds = part.2; failed = fails }
 
--- ---- what comes of an order
+-- ---- the result of an order
 
 module _ (files files_after : Option FileSystem) (asked : Order) (old new : Stream) where
   abbrev Answers : Ending → Type 0
@@ -47,7 +47,7 @@ module _ (files files_after : Option FileSystem) (asked : Order) (old new : Stre
     record { status = ap (λ (o : Done). o.status) is; line = ap (λ (o : Done). o.err) is },
   )
 
-  -- an order was done, and what it leaves for standard output was written
+  -- an order was carried out, and its output was written to standard output
   pub was_put : (d : CodeDone) → IsDone OneImage files asked files_after (output_of d) → Puts old new d.out.items (Ok tt) → EndsBy Answers (Ok d)
   was_put d done puts = whole_by d done.outcome done.performs done.output_is puts
 
@@ -56,7 +56,7 @@ module _ (files files_after : Option FileSystem) (asked : Order) (old new : Stre
       record { outcome = Ok report; performs = performs p; delivers = cut (subst (WritesPart old new) (ap (λ (o : Done). o.out) is) part) }
   cut_by d (Err r) p is part = absurd (omega (arith, part.is_cut, ap length (ap (λ (o : Done). o.out) is)))
 
-  -- and the same where a write failed
+  -- the same if a write failed
   pub was_cut : (d : CodeDone) → IsDone OneImage files asked files_after (output_of d) → WritesPart old new d.out.items → Answers (Err File)
   was_cut d done part = cut_by d done.outcome done.performs done.output_is part
 
@@ -72,7 +72,7 @@ pub as_asked : (given : Given) (old new : System) (asked : Order) (result : Resu
 as_asked given old new asked (Ok d) asks by = (by.0, does_order asks by.1, by.2)
 as_asked given old new asked (Err r) asks by = does_order asks by
 
--- what is left was written
+-- the remaining output was written
 pub closes : (given : Given) (old new : System) (errors errors_after : Stream) (d : CodeDone) (status : ℕ) → EndsBy (ProgramEffect OneImage given old new) (Ok d) → status ≡ d.status
     → ((ending : Ending) → d.err.items ≡ ending_line ending → WritesError errors errors_after ending) → ProgramResult OneImage given old new errors errors_after status
 closes given old new errors errors_after d status by is says =

@@ -1,17 +1,17 @@
--- What is made of a read.
+-- Results of reads.
 use Rattle.review_runner.proofs.Prelude.{◌≡◌, ℕ, List, Option, Result, Ok, Err, sym, subst, arith, LoadError, OneImage, FileSystem, IsReading, FileRead, IsDueResult, IsUnrefused, OpensFile, opened, opened_by, list, run_image, OrderOutcome, Report, run_image_outcome, run_outcome, succeeded, Listing, ListingOutcome, PerformsBy, lacks_memory, listed, performs, unlisted, file_refusal, run_of, run_of_file, FileError, Refusal, Memory}
 use Rattle.loader.specs.Contents.{Image}
 use Rattle.admission.proofs.Results.{not_both}
 
--- ---- answers
+-- ---- results
 
--- a failed read is answered
+-- a failed read is reported
 pub read_failed : (A : Type 0) (e : FileError) → IsDueResult {A = A} (Err (file_refusal e)) (Err (file_refusal e))
 read_failed A e = grind arith
 
 -- ---- runs
 
--- an image was opened, and then memory ran out
+-- an image was opened, and then an allocation failed
 pub opened_unrefused : (known : Option FileSystem) (name : List ℕ) (image : Image) → OpensFile known name (Ok image) → OpensFile known name (Err Memory)
 opened_unrefused known name image o = record { reading = o.reading; is_reading = o.is_reading; opens = λ r due. absurd (not_both _ image r o.opens due) }
 

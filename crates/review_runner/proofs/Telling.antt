@@ -1,4 +1,4 @@
--- What a session on the image of a policy tells of the policy's verdict.
+-- The policy's verdict as a session with its image prints it.
 use Rattle.review_runner.proofs.Prelude.{◌≡◌, ℕ, ◌≤◌, false, List, [], ◌∷◌, ◌++◌, length, Some, Result, Ok, refl, sym, ap, ◌∙◌, subst, arith, codes, inl, inr, fold_push, version_number, image_in, LoadError, Contents, Roots, State, start_state, state_after, HasValues, IsProgram, Policy, Decides, OutOfBudget, LeavesByExit, policy_in, policy_of, PolicyTree, FailurePolicy, Line, SessionState, answer_of, answer_to, command_of, form_of, Dialogue, granted, dialogue_after, dialogue_of, with_answer, verdict_lines, verdict_text, Documents, decision, started, start_of, started_on, opened_by, GivenHaveValues, PolicyRun, held_with, IsDecided, TellsVerdict, VerdictIsTold, shown_after, start, session_state_after}
 use Rattle.loader.specs.Contents as loader
 use Rattle.policy_glue.specs.Documents as policy
@@ -29,14 +29,14 @@ heard : (s : State) (t : Dialogue) (l : Line) → t.session_state.ended ≡ fals
 unfolding dialogue_after
 heard s t l on = rw on refl
 
--- what it writes behind these lines, where the session goes on
+-- what it prints after these lines, if the session continues
 written : (s : State) (lines : List Line) → (dialogue_of s lines).session_state.ended ≡ false
     → (dialogue_of s (lines ++ granted (codes "w") ∷ [])).text ≡ (dialogue_of s lines).text ++ verdict_text (state_after (dialogue_of s lines).session_state.place s)
 written s lines on = grind (arith, answered, heard, fold_push)
 
 -- ---- a policy's image
 
--- the image has version 2, in every state
+-- the image has version 2 in every state
 version_is : (f : FailurePolicy) (t : PolicyTree) (image : loader.Image) (values : Contents) (k : ℕ) → IsProgram f t image
     → version_number (state_after k (start_state image values)).image.version ≡ 2
 version_is f t image values k program = ap (λ (i : loader.Image). version_number i.version) (image_of_start image values k) ∙ ap version_number program.version

@@ -1,4 +1,4 @@
--- The lines of words of the verdict region, by lists of words.
+-- The lines of the words of the verdict region, stated for lists of words.
 use Rattle.review_runner.proofs.Prelude.{◌≡◌, ℕ, zero, suc, ◌+◌, ◌*◌, ◌<◌, ◌≤◌, List, [], ◌∷◌, ◌++◌, length, refl, sym, ap, ◌∙◌, subst, append_assoc, append-nil, arith, codes, decimal, map, slice_get, slice_index, word_in, part, word_of, ValueOrError, IsLayout, IsMessageWord, finding_word, message_in, outcome_word, truth_word, Finding, Verdict, FailurePolicy, verdict_line, verdict_lines, verdict_word, word_line, word_lines, AreMessageReferences, numbered_lines, outcome_line, told_text}
 use Rattle.guest_memory.specs.Memory.{Memory}
 
@@ -10,7 +10,7 @@ module _ (name : List ℕ) (words : ℕ → ℕ) where
   lines_from i zero = []
   lines_from i (suc n) = word_line name i (words i) ++ lines_from (suc i) n
 
-  -- of the first so many
+  -- the lines of the first n words
   lines_before : ℕ → List ℕ
   lines_before zero = []
   lines_before (suc i) = lines_before i ++ word_line name i (words i)
@@ -28,7 +28,7 @@ module _ (name : List ℕ) (words : ℕ → ℕ) where
   unfolding word_line
   silent i w none = rw none refl
 
-  -- words that are those of a list, and 0 behind it
+  -- the words are those of a list, followed by 0
   are_numbered : (ws : List ℕ) (n i : ℕ) → length ws ≤ n → ((j k : ℕ) → k ≡ i + j → j < n → words k ≡ slice_index ws j) → lines_from i n ≡ numbered_lines name i ws
   unfolding lines_from
   are_numbered [] zero i short is = refl
@@ -51,7 +51,7 @@ module _ (name : List ℕ) (words : ℕ → ℕ) where
   lines_are m from n ws here short is =
       in_region m from here n ∙ sym (from_start n) ∙ are_numbered ws n 0 short (λ j k e lt. let same : k ≡ j = omega (arith, e) in ap words same ∙ is j lt)
 
--- ---- what validations came to
+-- ---- results of validations
 
 truth_at : (xs : List Finding) (i : ℕ) → finding_word (slice_get xs i) ≡ slice_index (map (λ x. truth_word x.truth) xs) i
 truth_at [] i = refl
@@ -135,7 +135,7 @@ module _ (f : FailurePolicy) (v : Verdict) (values : List ValueOrError) (m : Mem
       lines_are (codes "message") message_word m 528 64 (references_from values message_word 0 v.findings)
       (λ i. word_here m (528 + 8 * i) (66 + i) (omega arith)) (omega (arith, few, as_many_references values message_word 0 v.findings)) (λ i lt. reference_at values message_word v.findings 64 0 i i named (omega arith) lt)
 
-  -- the words of its layout are shown as the verdict's
+  -- the printed words of its layout are the verdict's
   pub text_is : verdict_lines 2 m ≡ told_text f v references
   unfolding verdict_lines told_text
   text_is = grind (arith, head, validations, messages)

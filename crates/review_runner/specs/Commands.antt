@@ -1,4 +1,4 @@
--- The commands of celbpf in clap's own words, and what clap makes of a command line.
+-- The commands of celbpf as declared to clap, and clap's result for a command line.
 use Rattle.std.specs.Prelude.{true, List, Option, codes}
 use Rattle.clap.specs.Words.{App, Kinds, Row, Rule, Text, fault_of, new_app, new_rule, subcommand_of, with_rule, with_subcommand}
 use Rattle.clap.specs.Simple.{on_top}
@@ -6,7 +6,7 @@ use Rattle.cli.specs.Arguments.{option_rule, required_option_rule, steps_rule, w
 
 -- ---- arguments
 
--- a file's name, which has to be there
+-- a required file name
 unfoldable pub file_rule : Text → Rule
 file_rule name = record (new_rule name) { required = true }
 
@@ -16,7 +16,7 @@ file_rule name = record (new_rule name) { required = true }
 unfoldable pub run_image_app : App
 run_image_app = with_rule (with_rule (new_app (codes "run-image")) (file_rule (codes "IMAGE"))) steps_rule
 
--- a command NAME SOURCE IMAGE, which makes an image's file of another one
+-- a command NAME SOURCE IMAGE, which makes the file of an image from another file
 unfoldable pub making_app : Text → Text → App
 making_app name source = with_rule (with_rule (new_app name) (file_rule source)) (file_rule (codes "IMAGE"))
 
@@ -34,7 +34,7 @@ review_app =
     with_rule (with_documents (with_rule (with_rule (new_app (codes "review")) (required_option_rule (codes "policy")))
     (required_option_rule (codes "review")))) steps_rule
 
--- celbpf alone does nothing: it wants a command
+-- celbpf alone does nothing: a command is required
 unfoldable pub bare_app : App
 bare_app = on_top (λ s. record s { subcommand_required = true }) (new_app (codes "celbpf"))
 
@@ -42,17 +42,17 @@ bare_app = on_top (λ s. record s { subcommand_required = true }) (new_app (code
 unfoldable pub running_app : App
 running_app = with_subcommand (with_subcommand bare_app run_image_app.top) debug_app.top
 
--- those, and the commands on a policy
+-- these commands, and those for policies
 unfoldable pub deciding_app : App
 deciding_app = with_subcommand (with_subcommand running_app (making_app (codes "compile") (codes "POLICY")).top) review_app.top
 
--- and those that write an image of a text and list one
+-- these commands, and those that assemble a text and list an image
 unfoldable pub celbpf_app : App
 celbpf_app = with_subcommand (with_subcommand deciding_app (making_app (codes "asm") (codes "TEXT")).top) list_app.top
 
 -- ---- a command line
 
--- the reasons to refuse the words, of which there are none where they are taken
+-- the errors of the words; there are none if the words are accepted
 unfoldable pub faults : List Text → Kinds
 faults words = fault_of celbpf_app words
 

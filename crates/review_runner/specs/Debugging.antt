@@ -1,4 +1,4 @@
--- What debugging an image in a file does, on the roots of documents in files.
+-- Debugging an image in a file, on the roots of documents in files.
 use Rattle.std.specs.Prelude.{◌≡◌, ℕ, List, ◌⊎◌, Option, option_map, Result, Ok, Err}
 use Rattle.loader.specs.Contents.{Image}
 use Rattle.loader.specs.Format.{image_in}
@@ -22,7 +22,7 @@ use Rattle.cli.specs.GivenFiles.{ReadingGiven, IsReadingGiven}
 
 -- ---- files
 
--- what the reads of the file of an image or a policy and of the documents' may answer
+-- possible results of reading the file of an image or a policy, and the files of the documents
 pub record Readings (known : Option FileSystem) (name : List ℕ) (files : DocumentFiles) : Type 0 where
   pub subject : FileRead
   pub review : ReadingGiven
@@ -40,7 +40,7 @@ pub record SessionFiles : Type 0 where
   pub namespace : Option (List ℕ)
   pub params : Option (List ℕ)
 
--- the bytes of the code's files
+-- file contents of the code
 abbrev pub held_view : HeldFiles → SessionFiles
 held_view h = record {
   subject = h.subject.items;
@@ -49,12 +49,12 @@ held_view h = record {
   params = option_map (λ b. b.items) h.params;
 }
 
--- the same of what the code answers
+-- a result of the code
 abbrev pub held_of : Result HeldFiles FileError → Result SessionFiles FileError
 held_of (Ok h) = Ok (held_view h)
 held_of (Err e) = Err e
 
--- those bytes, or the first read that failed, in the order of the words
+-- these bytes, or the first failed read in the order of the words
 abbrev pub held_by : FileRead → ReadingGiven → ReadingGiven → ReadingGiven → Result SessionFiles FileError
 held_by (Ok subject) (Ok review) (Ok namespace) (Ok params) =
     Ok (record { subject = subject; review = review; namespace = namespace; params = params })
@@ -63,7 +63,7 @@ held_by (Ok subject) (Ok review) (Err e) params = Err e
 held_by (Ok subject) (Err e) namespace params = Err e
 held_by (Err e) review namespace params = Err e
 
--- the files of these names hold this, or a read failed
+-- the files with these names have these contents, or a read failed
 pub record HoldsFiles (known : Option FileSystem) (name : List ℕ) (files : DocumentFiles)
     (held : Result SessionFiles FileError) : Type 0 where
   pub readings : Readings known name files
@@ -71,7 +71,7 @@ pub record HoldsFiles (known : Option FileSystem) (name : List ℕ) (files : Doc
 
 -- ---- the start
 
--- the image that the files hold, or why there is none
+-- the image in the files, or why there is none
 abbrev pub image_of : Result SessionFiles FileError → Result Image Refusal
 image_of (Ok held) = opened_by (image_in held.subject)
 image_of (Err e) = Err (file_refusal e)
@@ -81,24 +81,24 @@ abbrev pub started : Image → Result store.Contents RunError → Result State R
 started image (Ok values) = Ok (start_state image values)
 started image (Err e) = Err (run_refusal e)
 
--- the same on the documents that the files hold, or why there is no image
+-- the state at the start on the documents in the files, or why there is no image
 abbrev pub started_on : Result Image Refusal → SessionFiles → Result State Refusal
 started_on (Ok image) held = started image (contents_given held.review held.namespace held.params)
 started_on (Err r) held = Err r
 
--- the state at the start of a session with these files, or the first refusal: of the files, of the image, of the
+-- the state at the start of a session with these files, or the first refusal: of the files, the image, or the
 -- documents
 abbrev pub start_of : Result SessionFiles FileError → Result State Refusal
 start_of (Ok held) = started_on (opened_by (image_in held.subject)) held
 start_of (Err e) = Err (file_refusal e)
 
--- the start is the one that is due; or memory ran out, where neither a file nor the image is refused
+-- the start is the one that is due; or an allocation failed, if neither a file nor the image is refused
 abbrev pub SessionStarts : {A : Type 0} → (A → State) → Result SessionFiles FileError → Result A Refusal → Type 0
 SessionStarts see held (Ok a) = start_of held ≡ Ok (see a)
 SessionStarts see held (Err Memory) = IsUnrefused (image_of held)
 SessionStarts see held (Err r) = start_of held ≡ Err r
 
--- the start of a session, whatever the files hold
+-- the start of a session, for any contents of the files
 pub record StartsSession (known : Option FileSystem) (name : List ℕ) (files : DocumentFiles) (result : Result State Refusal) : Type 0 where
   pub held : Result SessionFiles FileError
   pub holds : HoldsFiles known name files held
@@ -106,7 +106,7 @@ pub record StartsSession (known : Option FileSystem) (name : List ℕ) (files : 
 
 -- ---- sessions
 
--- a session with the image in the file of this name, on the roots of the documents in these files
+-- a session with the image in the file with this name, on the roots of the documents in these files
 pub record Debugs (known : Option FileSystem) (name : List ℕ) (files : DocumentFiles) (r r_after w w_after : Stream)
     (result : Result (Unit {0}) SessionError) : Type 0 where
   pub state : State
@@ -120,7 +120,7 @@ pub record DebugsNone (known : Option FileSystem) (name : List ℕ) (files : Doc
   pub none_read : r_after ≡ r
   pub none_written : w_after ≡ w
 
--- what was read and written, by the result
+-- what was read and written, for each result
 abbrev pub DebugsByResult : Option FileSystem → List ℕ → DocumentFiles → Stream → Stream → Stream → Stream
     → Result (Unit {0}) Refusal → Type 0
 DebugsByResult known name files r r_after w w_after (Ok u) = Debugs known name files r r_after w w_after (Ok u)

@@ -1,3 +1,5 @@
+-- Definitions for celbpf: its commands and orders, what each does, and the whole program.
+
 pub mod Running
 pub mod Output
 pub mod Commands

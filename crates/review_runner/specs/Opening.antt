@@ -12,22 +12,22 @@ abbrev pub opened_by : Result Image LoadError → Result Image Refusal
 opened_by (Ok image) = Ok image
 opened_by (Err e) = Err (load_refusal e)
 
--- the image in a file, by what a read answered, or why there is none
+-- the image in a file, given the result of reading it, or why there is none
 abbrev pub opened : FileRead → Result Image Refusal
 opened (Ok file) = opened_by (image_in file)
 opened (Err e) = Err (file_refusal e)
 
--- nothing is refused, or for want of memory alone
+-- there is no refusal except a failed allocation
 abbrev pub IsUnrefused : {A : Type 0} → Result A Refusal → Type 0
 IsUnrefused due = (r : Refusal) → due ≡ Err r → r ≡ Memory
 
--- the answer is the one that is due, or want of memory where no other refusal is due
+-- the result is the one that is due; or a failed allocation, if no other refusal is due
 abbrev pub IsDueResult : {A : Type 0} → Result A Refusal → Result A Refusal → Type 0
 IsDueResult due (Ok a) = due ≡ Ok a
 IsDueResult due (Err Memory) = IsUnrefused due
 IsDueResult due (Err r) = due ≡ Err r
 
--- the image in the file of this name, by what a read of it answered
+-- the image in the file with this name, given the result of reading it
 pub record OpensFile (known : Option FileSystem) (name : List ℕ) (result : Result Image Refusal) : Type 0 where
   pub reading : FileRead
   pub is_reading : IsReading known name reading

@@ -13,13 +13,13 @@ use Rattle.review_runner.specs.declared.command_line.order.Order.{Order as CodeO
 use Rattle.review_runner.specs.declared.command_line.order.Order.TheVariants as code
 use Rattle.host.specs.declared.order_error.OrderError.{OrderError, TheVariants.InvalidArguments, TheVariants.Memory}
 
--- the file names of the documents of a review, which may be left out
+-- the file names of the documents of a review; each is optional
 pub record DocumentFiles : Type 0 where
   pub review : Option Text
   pub namespace : Option Text
   pub params : Option Text
 
--- the code's names
+-- file names of the code
 abbrev pub files_view : DocumentNames → DocumentFiles
 files_view names = record {
   review = option_map string_bytes names.review;
@@ -27,14 +27,14 @@ files_view names = record {
   params = option_map string_bytes names.params;
 }
 
--- the file names of a policy and of the documents of a review, of which the last two may be left out
+-- the file names of a policy and of the documents of a review; the last two are optional
 pub record ReviewFiles : Type 0 where
   pub policy : Text
   pub review : Text
   pub namespace : Option Text
   pub params : Option Text
 
--- the code's names
+-- file names of the code
 abbrev pub review_files_view : ReviewNames → ReviewFiles
 review_files_view names = record {
   policy = string_bytes names.policy;
@@ -43,13 +43,13 @@ review_files_view names = record {
   params = option_map string_bytes names.params;
 }
 
--- what is asked for, as plain data: a constructor for each command
+-- what is asked for, as plain data; one constructor for each command
 pub data Order : Type 0 where
   -- the file names of a policy and of its image
   compile : Text → Text → Order
-  -- the files of a policy and of a review's documents, and the most steps
+  -- the files of a policy and of a review's documents, and the limit of steps
   review : ReviewFiles → ℕ → Order
-  -- the image's file name, and the most steps
+  -- the image's file name, and the limit of steps
   run_image : Text → ℕ → Order
   -- the file names of a program's text and of its image
   assemble : Text → Text → Order
@@ -58,7 +58,7 @@ pub data Order : Type 0 where
   -- the image's file name, and those of the documents
   debug : Text → DocumentFiles → Order
 
--- the code's order
+-- an order of the code
 abbrev pub order_view : CodeOrder → Order
 order_view (code.Compile policy image) = compile (string_bytes policy) (string_bytes image)
 order_view (code.Review files steps) = review (review_files_view files) steps
@@ -69,7 +69,7 @@ order_view (code.Debug image names) = debug (string_bytes image) (files_view nam
 
 -- ---- from the values of a command's arguments to its order
 
--- a value that is not there is read as the empty name, or as the default number of steps
+-- a missing value is read as the empty name, or as the default limit of steps
 unfoldable pub compile_in : List Row → Order
 compile_in rows = compile (unwrap_or (first_of (codes "POLICY") rows) []) (unwrap_or (first_of (codes "IMAGE") rows) [])
 
@@ -103,7 +103,7 @@ debug_in rows = debug (unwrap_or (first_of (codes "IMAGE") rows) []) (record {
   params = first_of (codes "params") rows;
 })
 
--- by the command's name; the last command is the one that is left
+-- the order for a command's name; any name that is left is the last command's
 abbrev pub order_named : Text → List Row → Order
 order_named name rows =
     if bytes_eq name (codes "compile") then compile_in rows
@@ -113,26 +113,26 @@ order_named name rows =
     else (if bytes_eq name (codes "list") then list_in rows
     else debug_in rows))))
 
--- the order of a command that was entered
+-- the order for a command that was entered
 abbrev pub order_in : Option (Text × List Row) → Option Order
 order_in (Some p) = Some (order_named p.0 p.1)
 order_in None = None
 
--- ---- answers
+-- ---- results of the code
 
--- of one command, whose words were taken: its order, unless memory runs out
+-- for one command whose words are accepted: its order, unless an allocation fails
 abbrev pub CommandReturns : Order → Result CodeOrder OrderError → Type 0
 CommandReturns wanted (Ok o) = wanted ≡ order_view o
 CommandReturns wanted (Err InvalidArguments) = ⊥
 CommandReturns wanted (Err Memory) = Unit {0}
 
--- of the whole command line: an order only where the words are taken, and then theirs
+-- for the whole command line: an order only if the words are accepted, and then theirs
 abbrev pub OrderReturns : List Text → Result CodeOrder OrderError → Type 0
 OrderReturns words result = TakesWords (faults words) (λ o. order_in (entered words) ≡ Some (order_view o)) result
 
 -- ---- kinds
 
--- a session, which reads and writes as it goes on
+-- a session, which reads and writes while it runs
 abbrev pub is_session : Order → Bool
 is_session (compile policy image) = false
 is_session (review files steps) = false
@@ -143,7 +143,7 @@ is_session (debug image documents) = true
 
 -- ---- limits
 
--- no order asks for more steps than a run may have
+-- no order has a limit of steps above that of a run
 abbrev pub IsWithinLimits : Order → Type 0
 IsWithinLimits (review files steps) = steps ≤ step_limit
 IsWithinLimits (run_image image steps) = steps ≤ step_limit

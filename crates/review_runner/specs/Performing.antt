@@ -1,4 +1,4 @@
--- What an order other than a session does to the files, and what comes of it.
+-- The effect of an order other than a session on the files, and its result.
 use Rattle.std.specs.Prelude.{◌≡◌, ℕ, Bool, true, false, List, [], Result, Ok, Err, Option}
 use Rattle.insn_codec.specs.Statements.{Listing}
 use Rattle.loader.specs.Contents.{Image}
@@ -15,7 +15,7 @@ use Rattle.review_runner.specs.declared.images.source_kind.SourceKind.{SourceKin
 
 -- ---- single orders
 
--- `run-image`, whatever its file holds
+-- `run-image`, for any contents of its file
 pub record RunsImage (old : Option FileSystem) (image : List ℕ) (n : ℕ) (new : Option FileSystem) (outcome : OrderOutcome) : Type 0 where
   pub reading : FileRead
   pub is_reading : IsReading old image reading
@@ -27,14 +27,14 @@ pub data ListingOutcome : Result Image Refusal → OrderOutcome → Type 0 where
   unlisted : {r : Refusal} → ListingOutcome (Err r) (Err r)
   listed : {image : Image} {text : List ℕ} → Listing image.code text → ListingOutcome (Ok image) (Ok (succeeded text))
 
--- `list`, whatever its file holds
+-- `list`, for any contents of its file
 pub record ListsImage (old : Option FileSystem) (image : List ℕ) (new : Option FileSystem) (outcome : OrderOutcome) : Type 0 where
   pub reading : FileRead
   pub is_reading : IsReading old image reading
   pub stays : new ≡ old
   pub is_listed : ListingOutcome (opened reading) outcome
 
--- this file is written: a refusal before it leaves the files
+-- this file is written; after an earlier refusal the files are unchanged
 pub data WritesImage (old : Option FileSystem) (name : List ℕ)
     : Result (List ℕ) Refusal → Option FileSystem → OrderOutcome → Type 0 where
   nothing : {r : Refusal} → WritesImage old name (Err r) old (Err r)
@@ -43,7 +43,7 @@ pub data WritesImage (old : Option FileSystem) (name : List ℕ)
   failed : {bytes : List ℕ} {new : Option FileSystem} → IsWriting old name bytes new (Err Failed)
       → WritesImage old name (Ok bytes) new (Err File)
 
--- `compile` and `asm`, whatever their files hold
+-- `compile` and `asm`, for any contents of their files
 pub record MakesFile (chosen : Images) (kind : SourceKind) (old : Option FileSystem) (source image : List ℕ)
     (new : Option FileSystem) (outcome : OrderOutcome) : Type 0 where
   pub reading : FileRead
@@ -52,14 +52,14 @@ pub record MakesFile (chosen : Images) (kind : SourceKind) (old : Option FileSys
   pub made : ImageFileFrom chosen kind reading file
   pub writes : WritesImage old image file new outcome
 
--- the order that makes a file of a file
+-- the order that makes one file from another
 abbrev pub making : SourceKind → List ℕ → List ℕ → Order
 making PolicyDocument source image = compile source image
 making ProgramText source image = assemble source image
 
 -- ---- all orders
 
--- what an order does: a session does not go this way
+-- the effect of an order; sessions are not included
 abbrev pub Performs : Images → Option FileSystem → Order → Option FileSystem → OrderOutcome → Type 0
 Performs chosen old (compile policy image) new outcome = MakesFile chosen PolicyDocument old policy image new outcome
 Performs chosen old (review files n) new outcome = ReviewsFiles chosen old files n new outcome
@@ -68,7 +68,8 @@ Performs chosen old (assemble text image) new outcome = MakesFile chosen Program
 Performs chosen old (list image) new outcome = ListsImage old image new outcome
 Performs chosen old (debug image documents) new outcome = ⊥
 
--- memory ran out: known files stay, and in what some reading gave no refusal stood before anything grew
+-- An allocation failed: known files are unchanged, and for some results of the reads nothing was refused before the
+-- first allocation.
 abbrev pub LacksMemory : Option FileSystem → Order → Option FileSystem → Type 0
 LacksMemory old (compile policy image) new = KeepsFiles old new × RunsOut PolicyDocument old policy
 LacksMemory old (review files n) new = ⊥
@@ -77,12 +78,12 @@ LacksMemory old (assemble text image) new = KeepsFiles old new × RunsOut Progra
 LacksMemory old (list image) new = (new ≡ old) × OpensFile old image (Err Memory)
 LacksMemory old (debug image documents) new = ⊥
 
--- what comes of an order, with memory or without
+-- the result of an order, with or without a failed allocation
 pub data PerformsBy (chosen : Images) (old : Option FileSystem) (wanted : Order) (new : Option FileSystem) : OrderOutcome → Type 0 where
   performs : {outcome : OrderOutcome} → Performs chosen old wanted new outcome → PerformsBy chosen old wanted new outcome
   lacks_memory : LacksMemory old wanted new → PerformsBy chosen old wanted new (Err Memory)
 
--- what is to be written once an order is done
+-- the outputs of an order that was carried out
 pub record IsDone (chosen : Images) (old : Option FileSystem) (wanted : Order) (new : Option FileSystem) (output : Done) : Type 0 where
   pub outcome : OrderOutcome
   pub performs : Performs chosen old wanted new outcome

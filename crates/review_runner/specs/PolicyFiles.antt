@@ -19,7 +19,7 @@ use Rattle.admission.specs.declared.run_error.RunError.{RunError}
 
 -- ---- images
 
--- the file of a chosen image of a policy, by what a read of the policy's file answered
+-- the file of a chosen image of a policy, given the result of reading the policy's file
 pub data CompiledFrom (chosen : Images) : FileRead → Result (List ℕ) Refusal → Type 0 where
   no_file : {e : FileError} → CompiledFrom chosen (Err e) (Err (file_refusal e))
   no_image : {document : List ℕ} {e : PolicyRefusal} → IsPolicyRefused document e → CompiledFrom chosen (Ok document) (Err (CodePolicy e))
@@ -28,24 +28,24 @@ pub data CompiledFrom (chosen : Images) : FileRead → Result (List ℕ) Refusal
 
 -- ---- reviews
 
--- what the files of an image or a policy, and of a review's documents hold
+-- the contents of the files of an image or a policy, and of a review's documents
 abbrev pub held_with : List ℕ → Documents → SessionFiles
 held_with subject d = record { subject = subject; review = Some d.review; namespace = d.namespace; params = d.params }
 
--- the same of a policy and a review, or why it is not read
+-- the contents of the files of a policy and a review, or why they are not read
 abbrev pub held_of_review : Result Documents FileError → Result SessionFiles FileError
 held_of_review (Ok d) = Ok (held_with d.policy d)
 held_of_review (Err e) = Err e
 
--- the names of the files of a review's documents, the first of which is there
+-- the names of the files of a review's documents; the first is required
 abbrev pub named_files : ReviewFiles → DocumentFiles
 named_files files = record { review = Some files.review; namespace = files.namespace; params = files.params }
 
--- the files of these names hold these documents, or a read failed
+-- the files with these names hold these documents, or a read failed
 abbrev pub HoldsReview : Option FileSystem → ReviewFiles → Result Documents FileError → Type 0
 HoldsReview known files held = HoldsFiles known files.policy (named_files files) (held_of_review held)
 
--- 0 where the response allows the request, and 1 where it does not
+-- 0 if the response allows the request, 1 if it does not
 abbrev pub answer_status : Bool → ℕ
 answer_status true = 0
 answer_status false = 1
@@ -54,18 +54,18 @@ answer_status false = 1
 abbrev pub answer_report : Reply → Report
 answer_report a = record { status = answer_status a.allowed; out = a.response ++ 10 ∷ [] }
 
--- what comes of a review that was answered, or refused
+-- the result of a review with a response, or of its refusal
 abbrev pub review_outcome : Result Reply RunError → OrderOutcome
 review_outcome (Ok a) = Ok (answer_report a)
 review_outcome (Err e) = Err (run_refusal e)
 
--- what comes of a review with these documents
+-- the result of a review with these documents
 pub data ReviewsHeld (chosen : Images) (n : ℕ) : Result Documents FileError → OrderOutcome → Type 0 where
   unread : {e : FileError} → ReviewsHeld chosen n (Err e) (Err (file_refusal e))
   reviewed : {d : Documents} (answer : Result Reply RunError) → Reviews d n answer → RunAgrees chosen d n answer
       → ReviewsHeld chosen n (Ok d) (review_outcome answer)
 
--- `review`, whatever its files hold
+-- `review`, for any contents of its files
 pub record ReviewsFiles (chosen : Images) (old : Option FileSystem) (files : ReviewFiles) (n : ℕ) (new : Option FileSystem)
     (outcome : OrderOutcome) : Type 0 where
   pub held : Result Documents FileError

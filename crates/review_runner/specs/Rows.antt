@@ -1,14 +1,14 @@
--- Command lines written out.
+-- Literal command lines.
 use Rattle.std.specs.Prelude.{◌≡◌, List, [], ◌∷◌, ◌++◌, Some, None, codes}
 use Rattle.clap.specs.Words.{Text}
 use Rattle.review_runner.specs.Commands.{faults, entered}
 use Rattle.review_runner.specs.Order.{DocumentFiles, ReviewFiles, Order, order_in}
 
--- the words are taken, and ask for this
+-- the words are accepted, and give this order
 abbrev pub IsTakenAs : List Text → Order → Type 0
 IsTakenAs words wanted = (faults words ≡ []) × (order_in (entered words) ≡ Some wanted)
 
--- clap does not take the words
+-- clap refuses the words
 abbrev pub AreWordsRefused : List Text → Type 0
 AreWordsRefused words = faults words ≡ [] → ⊥
 

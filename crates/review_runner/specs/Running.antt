@@ -1,4 +1,4 @@
--- What running an image answers.
+-- The result of running an image.
 use Rattle.std.specs.Prelude.{◌≡◌, ℕ, List, ◌++◌, Result, Ok, Err, IsOk, Vec}
 use Rattle.std.specs.declared.alloc.Global.{Global}
 use Rattle.loader.specs.Contents.{Image}
@@ -10,29 +10,29 @@ use Rattle.bpf_machine.specs.Text.{move_text, registers_text}
 use Rattle.bpf_machine.specs.Trace.{state_after, stop_place}
 use Rattle.bpf_machine.specs.declared.status.Status.{Status}
 
--- what a run shows, and how it stands
+-- the output of a run, and its status
 pub record RunShown : Type 0 where
   pub text : List ℕ
   pub status : Status
 
--- the state after so many steps, as the debugger answers `r` and a move there
+-- the state after this number of steps, printed as the debugger prints `r` and a move to this step
 abbrev pub run_shown : ℕ → State → RunShown
 run_shown steps s = record { text = registers_text s ++ move_text steps s; status = s.status }
 
--- the same where a run of at most n steps stands
+-- the same for the end of a run of at most n steps
 unfoldable pub shown_after : ℕ → State → RunShown
 shown_after n s = run_shown (stop_place n s) (state_after (stop_place n s) s)
 
--- what a run of at most n steps shows of the image in a file, on five null roots, or why the file holds none
+-- the output of a run of at most n steps of an image, on five null roots, or why the file holds no image
 abbrev pub run_of : Result Image LoadError → ℕ → Result RunShown LoadError
 run_of (Ok image) n = Ok (shown_after n (start_state image null_values))
 run_of (Err e) n = Err e
 
--- the same of the bytes of a file
+-- the same for the bytes of a file
 unfoldable pub run_of_file : List ℕ → ℕ → Result RunShown LoadError
 run_of_file file n = run_of (image_in file) n
 
--- the answer is the one that is due, or that there is no memory where the file holds an image
+-- the result is the one that is due; or an allocation failed, if the file holds an image
 abbrev pub RunImageReturns : Result RunShown LoadError → Result (Vec ℕ Global × Status) LoadError → Type 0
 RunImageReturns due (Ok r) = due ≡ Ok (record { text = r.0.items; status = r.1 })
 RunImageReturns due (Err TooShort) = due ≡ Err TooShort

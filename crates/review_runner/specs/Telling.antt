@@ -1,4 +1,4 @@
--- What a session with the image of a policy, on the documents of a review, tells of the policy's verdict.
+-- The policy's verdict as a session prints it, with the image of a policy on the documents of a review.
 use Rattle.std.specs.Prelude.{◌≡◌, ℕ, suc, ◌*◌, ◌≤◌, ◌⊎◌, false, List, [], ◌∷◌, ◌++◌, map, count_by, codes, decimal, Ok}
 use Rattle.guest_memory.specs.declared.fault.Fault.TheVariants.{F8}
 use Rattle.loader.specs.Format.{image_in}
@@ -18,9 +18,9 @@ use Rattle.review_runner.specs.Debugging.{start_of}
 use Rattle.review_runner.specs.PolicyFiles.{held_with}
 use Rattle.admission.specs.Standing.{PolicyRun, stands}
 
--- ---- the answer to `w`
+-- ---- the output of `w`
 
--- a line for each of these words that is not 0, with its number, which for the first is this one
+-- a line with its number for each of these words that is not 0; the first word has this number
 abbrev pub numbered_lines : List ℕ → ℕ → List ℕ → List ℕ
 numbered_lines name i [] = []
 numbered_lines name i (w ∷ ws) = word_line name i w ++ numbered_lines name (suc i) ws
@@ -30,14 +30,14 @@ abbrev pub outcome_line : FailurePolicy → Verdict → List ℕ
 outcome_line f v =
     codes "verdict " ++ (decimal (outcome_word v.outcome) ++ (codes " " ++ (decimal (count_by (is_denial f) v.findings) ++ 10 ∷ [])))
 
--- these, each validation that was false (1) or an error (2), and each message by its reference
+-- these, each validation that is false (1) or an error (2), and the reference of each message
 unfoldable pub told_text : FailurePolicy → Verdict → List ℕ → List ℕ
 told_text f v references =
     outcome_line f v
     ++ (numbered_lines (codes "validation") 0 (map (λ x. truth_word x.truth) v.findings)
     ++ numbered_lines (codes "message") 0 references)
 
--- for each finding the reference of a text that is its message, and 0 where it has none
+-- for each finding the reference of its message text, or 0 if it has none
 abbrev pub AreMessageReferences : List ValueOrError → List Finding → List ℕ → Type 0
 AreMessageReferences values [] [] = Unit {0}
 AreMessageReferences values (x ∷ xs) (h ∷ hs) = IsMessageWord values h x.message × AreMessageReferences values xs hs
@@ -46,29 +46,30 @@ AreMessageReferences values _ _ = ⊥
 -- ---- sessions
 
 module _ {d : Documents} (run : PolicyRun d) where
-  -- the state at its start
+  -- the state at the start of the session
   abbrev pub start : State
   start = start_state run.image (started run.case.roots)
 
-  -- what the session knows after these lines
+  -- the session's own state after these lines
   abbrev pub session_state_after : List Line → SessionState
   session_state_after lines = (dialogue_of start lines).session_state
 
-  -- the state that it shows then
+  -- the state of the machine that it then shows
   abbrev pub shown_after : List Line → State
   shown_after lines = stands run (session_state_after lines).place
 
-  -- it goes on, and shows a state that is stopped, or one after `steps_per_visit` steps for each unit of the policy's work
+  -- the session continues, and shows a stopped state, or one after `steps_per_visit` steps for each unit of the
+  -- policy's work
   pub record IsDecided (lines : List Line) : Type 0 where
     pub goes_on : (session_state_after lines).ended ≡ false
     pub is_there : (is_running (shown_after lines).status ≡ false) ⊎ (steps_per_visit * work run.case ≤ (session_state_after lines).place)
 
-  -- one more line `w` writes this text
+  -- a further line `w` prints this text
   abbrev pub Writes : List Line → List ℕ → Type 0
   Writes lines text = (dialogue_of start (lines ++ granted (codes "w") ∷ [])).text ≡ (dialogue_of start lines).text ++ text
 
-  -- the program has exited with the policy's outcome, and `w` writes its verdict; or it was stopped by F8, beyond the
-  -- bound on its charge or at a value that is too deep
+  -- The program has exited with the policy's outcome, and `w` prints its verdict; or F8 stopped it, because the bound
+  -- on its charge is passed or a value is too deep.
   pub data TellsVerdict (lines : List Line) : Type 0 where
     told : (references : List ℕ)
         → (shown_after lines).status ≡ Exited (outcome_word (decision run.case).outcome)
@@ -76,7 +77,7 @@ module _ {d : Documents} (run : PolicyRun d) where
         → Writes lines (told_text run.case.policy.parsed.failure_policy (decision run.case) references) → TellsVerdict lines
     over : (shown_after lines).status ≡ Fault F8 → IsBeyond run.case → TellsVerdict lines
 
--- whatever lines were answered before, of whatever moves forward and back
+-- this holds after any lines, with moves in both directions
 pub record VerdictIsTold : Type 0 where
   pub starts : (d : Documents) (run : PolicyRun d) (file : List ℕ) → image_in file ≡ Ok run.image
       → start_of (Ok (held_with file d)) ≡ Ok (start run)

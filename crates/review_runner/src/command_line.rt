@@ -1,4 +1,4 @@
-//! The words of the command line, and the order that they give.
+//! The command line, and the order that it gives.
 
 mod commands;
 pub(crate) mod order;

@@ -1,4 +1,4 @@
-//! The names of files, and what files hold.
+//! File names, and the contents of files.
 
 pub(crate) mod document_names;
 pub(crate) mod held_files;

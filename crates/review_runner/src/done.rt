@@ -1,4 +1,4 @@
-//! What a finished order leaves to be written.
+//! The output of a finished order.
 ghost use Rattle.std.specs.Prelude.{◌≡◌, ◌≢◌, ◌≤◌, [], vec_capacity, vec_len, IfOk, OnErr, OnOk};
 ghost use Rattle.cli.specs.Refusals.{longest_line};
 ghost use Rattle.cli.specs.declared.refusal.Refusal.TheVariants as cause;
@@ -16,7 +16,7 @@ pub struct Done {
 }
 
 impl Done {
-    /// Done well, with nothing left to be written.
+    /// Success, with no output.
     pub(crate) fn nothing(alloc: Global) -> Done
         ensures { output_of result ≡ record { status = 0; out = []; err = [] } }
     {
@@ -27,8 +27,8 @@ impl Done {
         }
     }
 
-    /// What the program writes in place of an answer, of which want of memory is none: the
-    /// refusal's line, in the room that is given.
+    /// The output for a refusal: its line, in a buffer with enough capacity. A failed allocation is
+    /// an error instead.
     pub(crate) fn of_refusal(
         alloc: Global,
         refusal: Refusal,
@@ -47,7 +47,7 @@ impl Done {
         }
     }
 
-    /// The refusal's line, in the room that is given, and its status.
+    /// The line and the status of a refusal, in a buffer with enough capacity.
     fn told(alloc: Global, refusal: Refusal, room: Vec<u8>) -> Done
         requires empty { room.items ≡ [] }
         requires len { vec_len room ≡ 0 }

@@ -1,4 +1,4 @@
-//! What is done with images: they are made, run, listed and debugged.
+//! The commands on images: making, running, listing and debugging them.
 
 pub(crate) mod assembling;
 pub(crate) mod compiling;

@@ -1,6 +1,6 @@
-//! What the program does: orders read from the words of a command line, and done with files and
-//! streams that the caller gives. `exit_code` is the program whole; `order` reads the words,
-//! `perform` does an order and `debug` a session.
+//! Reads orders from a command line and carries them out with files and streams from the caller.
+//! `exit_code` is the whole program; `order` reads the words, `perform` carries out an order, and
+//! `debug` runs a session.
 #![tactic(auto)]
 
 mod command_line;

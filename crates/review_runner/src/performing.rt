@@ -1,4 +1,4 @@
-//! Orders, done with files that the caller gives.
+//! Carries out orders with files from the caller.
 ghost use Rattle.std.specs.Prelude.{◌≡◌, false, true, Err, IfOk, OnErr};
 ghost use Rattle.policy_glue.specs.OneImage.{OneImage};
 ghost use Rattle.host.specs.FileSystem.{KeepsFiles};
@@ -21,18 +21,20 @@ use cli::{LONGEST_LINE, Refusal};
 use host::Files;
 use std::alloc::{AllocError, Global};
 
-/// Does the order and answers what is to be written and the program's status. A refusal is an
-/// answer too; the one error is want of memory, which leaves the files. A session is for `debug`.
+/// Carries out the order; returns the output and the exit status. A refusal is a result too. The
+/// only error is a failed allocation, after which the files are unchanged. Sessions are run by
+/// `debug`.
 pub fn perform<F: Files>(alloc: Global, order: &Order, files: &mut F) -> Result<Done, AllocError>
     requires { is_session (order_view order.now) ≡ false }
     ensures done { IfOk result (λ d. IsDone OneImage (F.known files.old) (order_view order.now) (F.known files.new) (output_of d)) }
-    // Memory runs out only where the order may lack it. That a refusal behind a read is answered as itself is no
-    // clause, since no contract tells which reads were refused memory.
+    // An allocation may fail only for orders that allocate. No clause says that a refusal after a
+    // read is reported as itself, because no contract states which reads failed for memory.
     ensures lacks { OnErr result (PerformsBy OneImage (F.known files.old) (order_view order.now) (F.known files.new) (Err Memory)) }
     ensures memory { OnErr result (KeepsFiles (F.known files.old) (F.known files.new)) }
     ensures stays { only_reads (order_view order.now) ≡ true → F.known files.new ≡ F.known files.old }
 {
-    // The room for a refusal's line comes first: no refusal is lost for want of memory behind it.
+    // The capacity for a refusal's line is reserved first, so that no refusal is lost to a failed
+    // allocation.
     let room = Vec::with_capacity(alloc, LONGEST_LINE)?;
     match answer(alloc, order, files) {
         Ok(answer) => Ok(Done {
@@ -44,8 +46,8 @@ pub fn perform<F: Files>(alloc: Global, order: &Order, files: &mut F) -> Result<
     }
 }
 
-/// What is answered to an order, or its refusal. What is refused before anything grows is answered
-/// as itself.
+/// The result of an order, or its refusal. A refusal before the first allocation is returned as
+/// itself.
 fn answer<F: Files>(alloc: Global, order: &Order, files: &mut F) -> Result<Report, Refusal>
     requires { is_session (order_view order.now) ≡ false }
     ensures { PerformsBy OneImage (F.known files.old) (order_view order.now) (F.known files.new) (outcome_of result) }
@@ -69,7 +71,7 @@ fn answer<F: Files>(alloc: Global, order: &Order, files: &mut F) -> Result<Repor
     }
 }
 
-/// Runs the image in the file of this name.
+/// Runs the image in the file with this name.
 fn run_file<F: Files>(
     alloc: Global,
     image: &str,

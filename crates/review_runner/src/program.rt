@@ -1,4 +1,4 @@
-//! The program: from its words to its exit code.
+//! The program, from its words to its exit code.
 ghost use Rattle.std.specs.Prelude.{◌≡◌, false, Err, map, string_bytes};
 ghost use Rattle.std.specs.Process.{exit_status};
 ghost use Rattle.policy_glue.specs.OneImage.{OneImage};
@@ -18,10 +18,10 @@ use std::alloc::Global;
 use std::process::ExitCode;
 use streams::{Failed, Sink, Source, write_all};
 
-/// Does what the words ask for, the program's own name first, and answers the code that the program
-/// ends with. A refusal is one line of standard error; if that cannot be written, the code is the
-/// same. `words` is `InvalidArguments` if the system's words are no texts, and `Memory` where there
-/// is no memory for them.
+/// Carries out what the words ask for, and returns the exit code. The program's name comes first. A
+/// refusal is one line on standard error; the exit code is the same if that line cannot be written.
+/// `words` is `InvalidArguments` if an argument is not UTF-8, and `Memory` if an allocation for
+/// them failed.
 pub fn exit_code<F: Files, R: Source, W: Sink, E: Sink>(
     alloc: Global,
     words: Result<Vec<String>, OrderError>,
@@ -42,8 +42,8 @@ pub fn exit_code<F: Files, R: Source, W: Sink, E: Sink>(
     }
 }
 
-/// Writes what is left for standard error, and answers the code that the program ends with. If it
-/// cannot be written, the code is the same.
+/// Writes the output for standard error and returns the exit code. The code is the same if the
+/// write fails.
 #[tactic(auto, using(cli::proofs::Endings::says))]
 fn left<E: Sink>(done: &Done, errors: &mut E) -> ExitCode
     ensures status { exit_status result ≡ done.now.status }
@@ -55,7 +55,7 @@ fn left<E: Sink>(done: &Done, errors: &mut E) -> ExitCode
     ExitCode::from(done.status)
 }
 
-/// Does what the words ask for, and answers what is left for standard error.
+/// Carries out what the words ask for; returns the output for standard error.
 fn ending<F: Files, R: Source, W: Sink>(
     alloc: Global,
     words: Result<Vec<String>, OrderError>,
@@ -72,7 +72,7 @@ fn ending<F: Files, R: Source, W: Sink>(
     done(alloc, &asked, files, input, output)
 }
 
-/// Does the order, and answers what is left for standard error.
+/// Carries out the order; returns the output for standard error.
 fn done<F: Files, R: Source, W: Sink>(
     alloc: Global,
     order: &Order,
@@ -97,8 +97,8 @@ fn done<F: Files, R: Source, W: Sink>(
     }
 }
 
-/// Does an order other than a session, writes what it leaves for standard output, and answers what
-/// it leaves.
+/// Carries out an order other than a session, writes its output for standard output, and returns
+/// all its output.
 fn answer<F: Files, W: Sink>(
     alloc: Global,
     order: &Order,
@@ -117,7 +117,7 @@ fn answer<F: Files, W: Sink>(
     }
 }
 
-/// Writes the bytes, of which there may be none.
+/// Writes the bytes; nothing if there are none.
 fn put<W: Sink>(bytes: &[u8], output: &mut W) -> Result<(), Failed>
     ensures { Puts (stream (W.taken output.old) (W.failed output.old)) (stream (W.taken output.new) (W.failed output.new)) bytes.now result }
 {
@@ -127,7 +127,7 @@ fn put<W: Sink>(bytes: &[u8], output: &mut W) -> Result<(), Failed>
     write_all(output, bytes)
 }
 
-/// The order that the words give.
+/// Reads the command line.
 fn asked_order(alloc: Global, words: &[String]) -> Result<Order, OrderError>
     ensures { OrderReturns (map string_bytes words.now) result }
 {

@@ -1,4 +1,4 @@
-//! What comes of an order.
+//! The result of an order.
 ghost use Rattle.std.specs.Prelude.{◌≡◌};
 ghost use Rattle.review_runner.specs.Output.{report_of, succeeded};
 
@@ -10,7 +10,7 @@ pub struct Report {
 }
 
 impl Report {
-    /// Done well, with these bytes for standard output.
+    /// Success, with these bytes for standard output.
     pub fn succeeded(out: Vec<u8>) -> Report
         ensures { report_of result ≡ succeeded out.items }
     {

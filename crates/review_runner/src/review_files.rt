@@ -39,7 +39,7 @@ pub fn review_files<F: Files>(
     review_held(alloc, &held, steps)
 }
 
-/// Reviews these documents, of which the review is one.
+/// Decides the review in these documents.
 fn review_held(alloc: Global, held: &HeldFiles, steps: u64) -> Result<Report, Refusal>
     requires { IsSome (held_view held.now).review }
     ensures { (d : Documents) → held_with d.policy d ≡ held_view held.now → ReviewsHeld OneImage steps (Ok d) (outcome_of result) }
@@ -58,7 +58,7 @@ fn review_held(alloc: Global, held: &HeldFiles, steps: u64) -> Result<Report, Re
     Ok(printed(reply)?)
 }
 
-/// The reply as the program prints it.
+/// The reply in printed form.
 fn printed(reply: Reply) -> Result<Report, AllocError>
     ensures { IfOk result (λ a. report_of a ≡ answer_report (record { response = reply.response.items; allowed = reply.allowed })) }
 {
@@ -68,7 +68,7 @@ fn printed(reply: Reply) -> Result<Report, AllocError>
     Ok(Report { status, out })
 }
 
-/// The program's status after a review that was answered.
+/// The exit status after a review with a response.
 fn status_of(allowed: bool) -> u8
     ensures { result ≡ answer_status allowed }
 {

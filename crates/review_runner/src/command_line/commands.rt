@@ -1,4 +1,4 @@
-//! The commands of the program as `clap` is told them, and what it makes of the words.
+//! The commands of the program as they are declared to `clap`.
 ghost use Rattle.std.specs.Prelude.{◌≡◌, map, IfOk, false, true};
 ghost use Rattle.clap.specs.Words.{app_of, has_subcommand, rule_of, subcommand_rows_of};
 ghost use Rattle.clap.specs.declared.builder.command.Command.TheViews.{out-Command as fields_of};
@@ -12,7 +12,7 @@ use cli::{option_argument, parse, required_option_argument, steps_argument, with
 use host::OrderError;
 use std::alloc::{AllocError, Global};
 
-// the name of a file, which has to be there
+// a required file name
 #[tactic(auto, unfolding(crate::specs::Commands::file_rule))]
 fn file_argument<'a>(alloc: Global, name: &'a str) -> Arg<'a>
     ensures rule { rule_of result ≡ file_rule name.entry.now }
@@ -30,7 +30,7 @@ fn run_image_command<'a>(alloc: Global) -> Result<Command<'a>, AllocError>
     command.arg(steps_argument(alloc))
 }
 
-// a command that makes an image's file of another one
+// a command that makes the file of an image from another file
 #[tactic(auto, unfolding(crate::specs::Commands::making_app))]
 fn making_command<'a>(
     alloc: Global,
@@ -82,7 +82,7 @@ fn running_command<'a>(alloc: Global) -> Result<Command<'a>, AllocError>
     command.subcommand(debug_command(alloc)?)
 }
 
-// those, and the commands on a policy
+// these commands, and those for policies
 #[tactic(auto, unfolding(crate::specs::Commands::deciding_app))]
 fn deciding_command<'a>(alloc: Global) -> Result<Command<'a>, AllocError>
     ensures shape { IfOk result (λ c. app_of c ≡ deciding_app) }
@@ -93,7 +93,7 @@ fn deciding_command<'a>(alloc: Global) -> Result<Command<'a>, AllocError>
     command.subcommand(review_command(alloc)?)
 }
 
-// the program, with each of its commands
+// the program, with all its commands
 #[tactic(auto, unfolding(crate::specs::Commands::celbpf_app))]
 fn celbpf_command<'a>(alloc: Global) -> Result<Command<'a>, AllocError>
     ensures shape { IfOk result (λ c. app_of c ≡ celbpf_app) }
@@ -104,7 +104,7 @@ fn celbpf_command<'a>(alloc: Global) -> Result<Command<'a>, AllocError>
     command.subcommand(list_command(alloc)?)
 }
 
-// what `clap` makes of the words, the program's name first, or why it does not take them
+// the arguments that `clap` finds in the words, or its error. The program's name comes first.
 pub fn celbpf_matches<'a>(alloc: Global, words: &'a [&'a str]) -> Result<ArgMatches<'a>, OrderError>
     ensures rows { IfOk result (λ m. subcommand_rows_of m ≡ entered (map (λ s. s.now) words.entry.now)) }
     ensures taken { TakesWords (faults (map (λ s. s.now) words.entry.now)) (λ _. Unit {0}) result }

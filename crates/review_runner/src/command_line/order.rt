@@ -1,53 +1,53 @@
-//! One order to the program: a command with its arguments.
+//! One order: a command with its arguments.
 
 use crate::documents::document_names::DocumentNames;
 use crate::documents::review_names::ReviewNames;
 
-/// What the program is asked to do, one variant a command.
+/// What the program is asked to do; one variant for each command.
 #[derive(Debug, Drop)]
 pub enum Order {
-    /// `compile POLICY IMAGE`: the image of a policy's program.
+    /// `compile POLICY IMAGE`: compiles a policy to an image.
     Compile {
-        /// The file name of the policy as it was given, which may be empty.
+        /// The file name of the policy as given. It may be empty.
         policy: String,
-        /// The image's file name as it was given, which may be empty.
+        /// The image's file name as given. It may be empty.
         image: String,
     },
-    /// `review --policy F --review F [--namespace F] [--params F] [--steps N]`: the response to a
-    /// review under a policy.
+    /// `review --policy F --review F [--namespace F] [--params F] [--steps N]`: prints the response
+    /// to a review under a policy.
     Review {
         /// The files of the policy and of the review's documents.
         files: ReviewNames,
-        /// The most instructions that may run, from 0 to 1,000,000,000; 10,000,000 where no number
-        /// was given.
+        /// The largest number of instructions that may run, from 0 to 1,000,000,000. The default is
+        /// 10,000,000.
         steps: u64,
     },
-    /// `run-image IMAGE [--steps N]`: run a program image.
+    /// `run-image IMAGE [--steps N]`: runs an image.
     RunImage {
-        /// The image's file name as it was given, which may be empty.
+        /// The image's file name as given. It may be empty.
         image: String,
-        /// The most instructions that may run, from 0 to 1,000,000,000; 10,000,000 where no number
-        /// was given.
+        /// The largest number of instructions that may run, from 0 to 1,000,000,000. The default is
+        /// 10,000,000.
         steps: u64,
     },
-    /// `asm TEXT IMAGE`: the image of a program's text, without constants.
+    /// `asm TEXT IMAGE`: assembles a program's text to an image without constants.
     Assemble {
-        /// The file name of the text as it was given, which may be empty.
+        /// The file name of the text as given. It may be empty.
         text: String,
-        /// The image's file name as it was given, which may be empty.
+        /// The image's file name as given. It may be empty.
         image: String,
     },
-    /// `list IMAGE`: the listing of a program image's code.
+    /// `list IMAGE`: lists the code of an image.
     List {
-        /// The image's file name as it was given, which may be empty.
+        /// The image's file name as given. It may be empty.
         image: String,
     },
-    /// `debug IMAGE [--review F] [--namespace F] [--params F]`: a session with a program image, on
+    /// `debug IMAGE [--review F] [--namespace F] [--params F]`: debugs an image in a session on
     /// standard input and output.
     Debug {
-        /// The image's file name as it was given, which may be empty.
+        /// The image's file name as given. It may be empty.
         image: String,
-        /// The files of the documents whose roots the program runs on.
+        /// The files of the documents that give the roots for the program.
         documents: DocumentNames,
     },
 }

@@ -1,4 +1,4 @@
-//! From the words of a command line to the order that they give.
+//! Reads the command line.
 ghost use Rattle.std.specs.Prelude.{map, IfOk};
 ghost use Rattle.clap.specs.Words.{found_of, rows_of};
 ghost use Rattle.review_runner.specs.Order.{assemble_in, compile_in, debug_in, list_in, order_view, review_in, run_image_in, order_named};
@@ -75,7 +75,7 @@ fn debug_order(alloc: Global, matches: &ArgMatches) -> Result<Order, OrderError>
     Ok(Order::Debug { image, documents })
 }
 
-// the order of the command `name`: the last command answers to every name that is left
+// the order of the command `name`; any name that is left is the last command's
 fn order_named(alloc: Global, name: &str, matches: &ArgMatches) -> Result<Order, OrderError>
     ensures { CommandReturns (order_named name.now (rows_of (found_of matches.now))) result }
 {
@@ -100,14 +100,14 @@ fn given_order<'a>(alloc: Global, words: &'a [&'a str]) -> Result<Order, OrderEr
     }
 }
 
-/// Reads the words of a command line, the program's own name first.
+/// Reads the words of a command line. The program's name comes first.
 ///
-/// Of a number, a leading `+` and leading zeros are taken. A file name may be empty.
+/// A number may have a leading `+` and leading zeros. A file name may be empty.
 ///
 /// # Errors
 ///
-/// `InvalidArguments` exactly if `clap` refuses the words, as it does at `--help`; `Memory` where
-/// memory runs out, which says nothing of the words.
+/// `InvalidArguments` exactly if `clap` refuses the words, as it does for `--help`. `Memory` if an
+/// allocation fails, which says nothing about the words.
 #[tactic(auto, using(crate::proofs::Limit::within_limits))]
 pub fn order<'a>(alloc: Global, words: &'a [&'a str]) -> Result<Order, OrderError>
     ensures answer { OrderReturns (map (λ s. s.now) words.entry.now) result }

@@ -1,6 +1,6 @@
 //! The files of a review's documents.
 
-/// The file names of the documents of a review as they were given, each of which may be left out.
+/// The file names of the documents of a review as given. Each is optional.
 #[derive(Debug, Drop)]
 pub struct DocumentNames {
     /// The review.

@@ -1,4 +1,4 @@
-//! What the files of documents hold.
+//! The contents of the files of documents.
 ghost use Rattle.std.specs.Prelude.{◌≡◌, option_map, string_bytes};
 ghost use Rattle.review_runner.specs.Debugging.{held_of, HoldsFiles};
 ghost use Rattle.review_runner.specs.Order.{DocumentFiles};
@@ -7,7 +7,7 @@ use cli::{read_given, read_named};
 use host::{FileError, Files};
 use std::alloc::Global;
 
-/// The bytes of the file of an image or a policy, and of those of a review's documents.
+/// The bytes of the file of an image or a policy, and of the files of a review's documents.
 #[derive(Drop)]
 pub struct HeldFiles {
     /// The image or the policy.
@@ -17,7 +17,7 @@ pub struct HeldFiles {
     pub params: Option<Vec<u8>>,
 }
 
-/// What the files of these names hold, read in this order.
+/// Reads the files with these names, in this order.
 pub fn read_files<F: Files>(
     alloc: Global,
     subject: &str,

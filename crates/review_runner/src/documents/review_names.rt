@@ -1,7 +1,6 @@
 //! The files of a review under a policy.
 
-/// The file names of a policy and of the documents of a review as they were given, which may be
-/// empty.
+/// The file names of a policy and of the documents of a review as given. They may be empty.
 #[derive(Debug, Drop)]
 pub struct ReviewNames {
     /// The policy.

@@ -1,4 +1,4 @@
-//! From a program's text to the file of its image.
+//! Assembles a program's text to the file of an image.
 ghost use Rattle.std.specs.Prelude.{Ok};
 ghost use Rattle.policy_glue.specs.OneImage.{OneImage};
 ghost use Rattle.review_runner.specs.Making.{FileBy, MadeBy};
@@ -9,7 +9,7 @@ use loader::Image;
 use std::alloc::Global;
 use std::str;
 
-/// The bytes of the image's file, by what the file of the text holds.
+/// The bytes of the image's file, given the bytes of the text's file.
 pub fn assembled_file(alloc: Global, held: &[u8]) -> Result<Vec<u8>, Refusal>
     ensures { MadeBy OneImage ProgramText (Ok held.now) result }
 {

@@ -1,4 +1,4 @@
-//! From the document of a policy to the file of its image.
+//! Compiles the document of a policy to the file of an image.
 ghost use Rattle.std.specs.Prelude.{Ok};
 ghost use Rattle.policy_glue.specs.OneImage.{OneImage};
 ghost use Rattle.review_runner.specs.Making.{MadeBy};
@@ -8,7 +8,7 @@ use admission::compile_document;
 use cli::Refusal;
 use std::alloc::Global;
 
-/// The bytes of the image's file, by the document of the policy.
+/// The bytes of the image's file, given the document of the policy.
 pub fn compiled_file(alloc: Global, document: &[u8]) -> Result<Vec<u8>, Refusal>
     ensures { MadeBy OneImage PolicyDocument (Ok document.now) result }
 {

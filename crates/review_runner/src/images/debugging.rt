@@ -1,4 +1,4 @@
-//! Sessions with the image in a file.
+//! Debug sessions with an image in a file.
 ghost use Rattle.std.specs.Prelude.{◌≡◌, Ok};
 ghost use Rattle.value_table.specs.Held.{held_contents};
 ghost use Rattle.bpf_machine.specs.State.{start_state};
@@ -18,15 +18,15 @@ use streams::{Sink, Source};
 use value_store::ValueStore;
 use value_table::Table;
 
-/// A session with the image in the file of this name, on the roots of the documents in files: reads
-/// command lines from `r` and writes the answers to `w`. The files are read, in the order of the
-/// words, before any of them is tested, and the image and then the documents before anything is read
-/// from `r`.
+/// A session with the image in the file with this name, on the roots of the documents in files. It
+/// reads command lines from `r` and writes the output to `w`. All files are read first, in the
+/// order of the words; then the image is checked, and then the documents; then lines are read from
+/// `r`.
 ///
 /// # Errors
 ///
-/// `File`, `Image` and `Run` where there is nothing to debug, `Input` and `Output` where the
-/// session broke off, and `Memory` before its first line.
+/// `File`, `Image` and `Run` if there is nothing to debug, `Input` and `Output` if the session
+/// broke off, `Memory` if an allocation failed before its first line.
 pub fn debug<F: Files, R: Source, W: Sink>(
     alloc: Global,
     image: &str,
@@ -47,7 +47,7 @@ pub fn debug<F: Files, R: Source, W: Sink>(
     Ok(session(alloc, image, table, r, w)?)
 }
 
-/// What the files of the image and of the documents hold.
+/// Reads the files of the image and of the documents.
 fn read_documents<F: Files>(
     alloc: Global,
     image: &str,
@@ -67,7 +67,7 @@ fn read_documents<F: Files>(
     )
 }
 
-/// The image in its file, and the roots of the documents in theirs.
+/// The image, and the roots of the documents, in these files.
 fn start(alloc: Global, held: &HeldFiles) -> Result<(Image, Table), Refusal>
     ensures { SessionStarts (λ p. start_state p.0 (held_contents p.1)) (Ok (held_view held.now)) result }
 {

@@ -22,7 +22,7 @@ pub fn list_file<F: Files>(alloc: Global, image: &str, files: &mut F) -> Result<
     Ok(list_image(alloc, &opened)?)
 }
 
-/// Lists the image's code, which is whole and not too long.
+/// Lists the image's code, which has whole slots and is not too long.
 #[tactic(auto, using(crate::proofs::Readings::listing_was))]
 fn list_image(alloc: Global, image: &Image) -> Result<Report, AllocError>
     ensures { IfOk result (λ a. ListingOutcome (Ok image.now) (Ok (report_of a))) }

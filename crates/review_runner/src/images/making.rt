@@ -1,4 +1,4 @@
-//! From a file to the file of the image that is made from it.
+//! Makes the file of an image from another file.
 ghost use Rattle.std.specs.Prelude.{◌≡◌, Ok};
 ghost use Rattle.policy_glue.specs.OneImage.{OneImage};
 ghost use Rattle.review_runner.specs.Making.{MadeBy, MadeOf};
@@ -13,8 +13,7 @@ use cli::Refusal;
 use host::Files;
 use std::alloc::Global;
 
-/// Writes the image that is made from one file into another. A refusal leaves the files as they
-/// were.
+/// Makes an image from one file and writes it to another. After a refusal the files are unchanged.
 pub fn make_file<F: Files>(
     alloc: Global,
     kind: SourceKind,
@@ -29,7 +28,7 @@ pub fn make_file<F: Files>(
     Ok(Report::succeeded(Vec::new(alloc)))
 }
 
-/// The bytes of the image's file, by the file of this name.
+/// The bytes of the image's file, made from the file with this name.
 fn made_file<F: Files>(
     alloc: Global,
     kind: SourceKind,
@@ -43,7 +42,7 @@ fn made_file<F: Files>(
     file_by(alloc, kind, &held)
 }
 
-/// The bytes of the image's file, by what the file of this kind holds.
+/// The bytes of the image's file, given the contents of a file of this kind.
 fn file_by(alloc: Global, kind: SourceKind, held: &[u8]) -> Result<Vec<u8>, Refusal>
     ensures { MadeBy OneImage kind (Ok held.now) result }
 {

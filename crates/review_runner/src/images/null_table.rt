@@ -1,4 +1,4 @@
-//! The values that an image runs on where no review is given.
+//! The values for an image that runs without a review.
 ghost use Rattle.std.specs.Prelude.{◌≡◌, IfOk};
 ghost use Rattle.value_table.specs.Held.{held_contents};
 ghost use Rattle.bpf_machine.specs.State.{null_values};

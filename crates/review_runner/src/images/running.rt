@@ -1,4 +1,4 @@
-//! Images run from their bytes to printed registers.
+//! Runs images and prints their registers.
 ghost use Rattle.review_runner.specs.Running.{run_of_file, RunImageReturns};
 
 use crate::images::null_table::null_table;
@@ -9,15 +9,15 @@ use loader::{Image, LoadError};
 use std::alloc::Global;
 use value_table::Table;
 
-/// Why an image was not run: its file's refusal, or want of memory.
+/// Why an image was not run: the refusal of its file, or a failed allocation.
 pub type RunImageError = LoadError;
 
-/// Runs the image that the file holds on five null roots, for at most `n` steps. The bytes are
-/// the lines of r0 to r10 and the line of the move to the step where the run stands.
+/// Runs the image in these bytes on five null roots, for at most `n` steps. The result is the lines
+/// of r0 to r10, and the line of a move to the step where the run ended.
 ///
 /// # Errors
 ///
-/// The first refusal of the file, a `LoadError`; or, if the file holds an image, `Memory`.
+/// The first refusal of the file. `Memory` if the file holds an image and an allocation fails.
 #[tactic(auto, unfolding(crate::specs::Running::run_of_file, crate::specs::Running::shown_after))]
 pub fn run_image(alloc: Global, file: &[u8], n: u64) -> Result<(Vec<u8>, Status), RunImageError>
     ensures { RunImageReturns (run_of_file file.now n) result }

@@ -1,6 +1,6 @@
-//! What the file of an image is made from.
+//! What an image is made from.
 
-/// What the file of an image is made from.
+/// What an image is made from.
 #[derive(Clone, Copy)]
 pub enum SourceKind {
     /// The document of a policy.

@@ -1,3 +1,5 @@
+-- Proofs of `performing::answer`: the result meets the contract.
+
 use Rattle.review_runner.proofs.performing.answer.Goals as goal
 
 pub returns-in-Compile : goal.returns-in-Compile

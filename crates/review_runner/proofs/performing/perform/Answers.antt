@@ -1,3 +1,5 @@
+-- Proofs of `performing::perform`: the result meets the contract.
+
 use Rattle.review_runner.proofs.Prelude.{refl}
 use Rattle.review_runner.proofs.MadeFiles.{same_files}
 use Rattle.review_runner.proofs.Performed.{is_answered, is_refused, kept_on_err, lacks_on_err, no_room, stays}

@@ -1,3 +1,5 @@
+-- Proofs of `program::answer`: the result meets the contract.
+
 use Rattle.review_runner.proofs.Prelude.{Err, refl}
 use Rattle.review_runner.specs.Program.{refused}
 use Rattle.review_runner.proofs.Programs.{was_cut, was_put}

@@ -1,3 +1,5 @@
+-- Proofs of `program::done`: the result meets the contract.
+
 use Rattle.review_runner.proofs.Prelude.{Ok, Err, refl, ap, session}
 use Rattle.review_runner.proofs.Programs.{as_task}
 use Rattle.review_runner.specs.Output.{Done}

@@ -1,3 +1,5 @@
+-- Proofs of `program::ending`: the result meets the contract.
+
 use Rattle.review_runner.proofs.Prelude.{refl, faults, no_words}
 use Rattle.review_runner.specs.Program.{nothing}
 use Rattle.review_runner.proofs.Programs.{as_asked}

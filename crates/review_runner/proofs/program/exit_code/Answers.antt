@@ -1,3 +1,5 @@
+-- Proofs of `program::exit_code`: the result meets the contract.
+
 use Rattle.review_runner.proofs.Prelude.{Err}
 use Rattle.review_runner.proofs.Programs.{closes}
 use Rattle.review_runner.proofs.program.exit_code.Goals as goal

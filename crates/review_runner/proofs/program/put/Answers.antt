@@ -1,3 +1,5 @@
+-- Proofs of `program::put`: the result meets the contract.
+
 use Rattle.review_runner.proofs.Programs.{is_none, is_some, puts_all, puts_none}
 use Rattle.review_runner.proofs.program.put.Goals as goal
 

@@ -1,3 +1,5 @@
+-- Proofs of `review_files::review_files`: the result meets the contract; its calls meet what they require.
+
 use Rattle.review_runner.proofs.Prelude.{Err, performs, unread}
 use Rattle.review_runner.proofs.PolicyFiles.{has_review, was_held}
 use Rattle.admission.proofs.Results.{is_err}

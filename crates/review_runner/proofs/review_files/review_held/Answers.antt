@@ -1,3 +1,5 @@
+-- Proofs of `review_files::review_held`: the result meets the contract.
+
 use Rattle.review_runner.proofs.Prelude.{◌∙◌, Some, Ok, Err, ap, sym, option_map, held_view, reviewed}
 use Rattle.admission.specs.declared.run_error.RunError.TheVariants.{Memory}
 use Rattle.review_runner.proofs.PolicyFiles.{same_documents, was_reviewed}

@@ -1,3 +1,5 @@
+-- Proofs of `rows::run_image_rows_stand`: the result meets the contract.
+
 use Rattle.review_runner.proofs.Prelude.{refl}
 use Rattle.review_runner.proofs.Shape.{words_on_literals}
 use Rattle.review_runner.proofs.rows.run_image_rows_stand.Goals as goal

@@ -1,3 +1,5 @@
+-- Proofs of `command_line::commands::celbpf_matches`: the result meets the contract.
+
 use Rattle.review_runner.proofs.Prelude.{ap, ◌∙◌, map, List, subst, IfOk-weaker, fault_of, is_simple, is_simple_and_free, subcommand_of, subcommand_required, celbpf_app, bare_app, deciding_app, running_app, faults, entered}
 use Rattle.clap.specs.Words.{App, Text}
 use Rattle.cli.specs.Parsing.{TakesWords}

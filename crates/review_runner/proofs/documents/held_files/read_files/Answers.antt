@@ -1,3 +1,5 @@
+-- Proofs of `documents::held_files::read_files`: the result meets the contract.
+
 use Rattle.review_runner.proofs.Prelude.{Ok, Err}
 use Rattle.review_runner.proofs.HeldFiles.{holds, unread}
 use Rattle.admission.proofs.Results.{is_err}

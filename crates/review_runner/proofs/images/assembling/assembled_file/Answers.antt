@@ -1,3 +1,5 @@
+-- Proofs of `images::assembling::assembled_file`: the result meets the contract.
+
 use Rattle.review_runner.proofs.Prelude.{inl, no_text}
 use Rattle.review_runner.proofs.Assembled.{of_cause, of_code}
 use Rattle.admission.proofs.Results.{is_err}

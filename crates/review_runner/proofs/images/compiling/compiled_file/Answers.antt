@@ -1,3 +1,5 @@
+-- Proofs of `images::compiling::compiled_file`: the result meets the contract.
+
 use Rattle.review_runner.proofs.Prelude.{inr, refl, image}
 use Rattle.review_runner.proofs.PolicyFiles.{refused_so}
 use Rattle.admission.proofs.Results.{is_err}

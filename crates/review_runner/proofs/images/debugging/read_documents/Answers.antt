@@ -1,3 +1,5 @@
+-- Proofs of `images::debugging::read_documents`: the result meets the contract.
+
 use Rattle.review_runner.proofs.images.debugging.read_documents.Goals as goal
 
 pub returns-clause-held : goal.returns-clause-held

@@ -1,3 +1,5 @@
+-- Proofs of `images::listing::list_file`: the result meets the contract.
+
 use Rattle.review_runner.proofs.Prelude.{lacks_memory}
 use Rattle.review_runner.proofs.Readings.{not_listed, opened_unrefused, was_listed}
 use Rattle.admission.proofs.Results.{is_err}

@@ -1,3 +1,5 @@
+-- Proofs of `images::making::made_file`: the result meets the contract.
+
 use Rattle.review_runner.proofs.Prelude.{Ok, Err}
 use Rattle.review_runner.proofs.MadeFiles.{of_failure}
 use Rattle.admission.proofs.Results.{is_err}

@@ -1,3 +1,5 @@
+-- Proofs of `images::making::make_file`: the result meets the contract.
+
 use Rattle.review_runner.proofs.Prelude.{ap, ◌∙◌, succeeded}
 use Rattle.review_runner.proofs.MadeFiles.{not_made, not_written, was_written}
 use Rattle.admission.proofs.Results.{is_err}

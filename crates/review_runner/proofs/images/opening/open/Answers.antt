@@ -1,3 +1,5 @@
+-- Proofs of `images::opening::open`: the result meets the contract.
+
 use Rattle.review_runner.proofs.Prelude.{Ok, Err}
 use Rattle.review_runner.proofs.Readings.{read_failed}
 use Rattle.admission.proofs.Results.{is_err}

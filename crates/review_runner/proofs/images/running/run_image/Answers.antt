@@ -1,3 +1,5 @@
+-- Proofs of `images::running::run_image`: the result meets the contract.
+
 use Rattle.review_runner.proofs.Prelude.{refl, run_of_file}
 use Rattle.admission.proofs.Results.{is_err}
 use Rattle.review_runner.proofs.images.running.run_image.Goals as goal
