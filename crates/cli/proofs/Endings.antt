@@ -1,4 +1,4 @@
--- How a program begins and ends.
+-- The start and the end of a program.
 use Rattle.cli.proofs.Prelude.{◌≡◌, ℕ, ◌<◌, List, length, take, Result, Ok, Err, subst, inl, inr, OnErr, OnOk, AddsBytes, Stream, one_more, Ending, WritesBytes, WritesPart, ending_line}
 use Rattle.streams.specs.declared.failed.Failed.{Failed}
 use Rattle.clap.specs.Words.{Kinds, Text}
@@ -14,7 +14,7 @@ says old new bytes ending (Ok u) line adds failed part fails = inl (subst (Write
 says old new bytes ending (Err e) line adds failed part fails =
     inr (subst (WritesPart old new) line (record { many = part.0; is_cut = part.1; adds = part.2; failed = fails }))
 
--- words that are not taken
+-- words that are refused
 pub words_refused : (faults : List Text → Kinds) (words : List Text) (e : OrderError) → IsNotTaken (faults words) e → AsksNothing faults (Ok words) (order_refusal e)
 words_refused faults words InvalidArguments bad = not_taken bad
 words_refused faults words order_error.Memory u = no_memory

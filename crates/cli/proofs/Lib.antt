@@ -1,3 +1,5 @@
+-- The proofs of `cli`.
+
 pub mod Number
 pub mod Endings
 pub mod Prelude

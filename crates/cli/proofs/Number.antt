@@ -1,7 +1,7 @@
--- What clap reads as a u64 is the number that the text stands for.
+-- What clap parses as a u64 is the number that the text represents.
 use Rattle.cli.proofs.Prelude.{◌≡◌, ℕ, ◌^◌, ◌<◌, List, [], ◌∷◌, Option, Some, None, Result, true, refl, ◌∙◌, arith, and_from, and_parts, lt-ltb, ltb-true, AllDigits, IsNumeral, ParsesUnsigned, digits_value, ReadsOne, are_digits, number_written, number_of}
 
--- ---- a test that is true, and the facts that it tests
+-- ---- a test is true if the facts that it tests hold
 
 digits_true : (t : List ℕ) → AllDigits 10 t → are_digits t ≡ true
 digits_true [] h = refl
@@ -23,7 +23,7 @@ when_it_fits t v h is = grind (arith, and_from, digits_true, lt-ltb)
 unless_it_fits : (t : List ℕ) → (Fits t → ⊥) → None ≡ number_written t
 unless_it_fits t not_so = grind (arith, and_parts, ltb-true, of_digits_true)
 
--- ---- what was read, where Read says how clap reads a text
+-- ---- the number that was parsed, where Read states how clap parses a text
 
 pub of_a_text : {E : Type 0} (Read : List ℕ → Result ℕ E → Type 0) (t : List ℕ) (r : Option ℕ)
     → ReadsOne Read t r → ((x : Result ℕ E) → Read t x → ParsesUnsigned 64 10 t x)

@@ -1,18 +1,18 @@
--- The arguments that both programs take, in clap's own words.
+-- The arguments that both programs accept, as declared to clap.
 use Rattle.std.specs.Prelude.{true, [], ◌∷◌, Some, codes}
 use Rattle.clap.specs.Words.{App, Rule, Text, new_rule, with_rule}
 use Rattle.clap.specs.declared.builder.value_parser.ValueParser.TheVariants as parser
 use Rattle.cli.specs.Limits.{step_limit}
 
--- an option with a file's name, which may be left out
+-- an optional file name
 unfoldable pub option_rule : Text → Rule
 option_rule name = record (new_rule name) { long = Some name }
 
--- one that has to be there
+-- a required file name
 unfoldable pub required_option_rule : Text → Rule
 required_option_rule name = record (new_rule name) { long = Some name; required = true }
 
--- a number of steps, at most 1,000,000,000 of them
+-- a number of steps, at most 1,000,000,000
 unfoldable pub steps_rule : Rule
 steps_rule = record (new_rule (codes "steps")) {
   long = Some (codes "steps");
@@ -20,6 +20,6 @@ steps_rule = record (new_rule (codes "steps")) {
   parser = Some (parser.Unsigned 0 step_limit);
 }
 
--- a command, and [--namespace F] [--params F]
+-- a command with [--namespace F] [--params F]
 unfoldable pub with_documents : App → App
 with_documents app = with_rule (with_rule app (option_rule (codes "namespace"))) (option_rule (codes "params"))

@@ -9,23 +9,23 @@ use Rattle.cli.specs.Refusals.{order_refusal, refusal_line, refusal_status}
 use Rattle.host.specs.declared.order_error.OrderError.{OrderError}
 use Rattle.cli.specs.declared.refusal.Refusal.{Refusal, TheVariants.Memory, TheVariants.Words}
 
--- the words that the system gave, the program's name first, or why it gave none
+-- the words from the system, with the program's name first, or why there are none
 abbrev pub Given : Type 0
 Given = Result (List Text) OrderError
 
--- the same of what the code is given
+-- words that the code is given
 abbrev pub given_of : Result (Vec (String Global) Global) OrderError → Given
 given_of (Ok words) = Ok (map string_bytes words.items)
 given_of (Err e) = Err e
 
--- the words are taken, and ask for this: by these faults of words, and by what words ask for
+-- the words are accepted, and give this order; both are stated for given functions
 pub record Asks {A : Type 0} (faults : List Text → Kinds) (order_of : List Text → A) (given : Given) (order : A) : Type 0 where
   pub words : List Text
   pub are_given : given ≡ Ok words
   pub are_taken : faults words ≡ []
   pub asked : order_of words ≡ order
 
--- the words ask for nothing that can be done
+-- the words give no order
 pub data AsksNothing (faults : List Text → Kinds) : Given → Refusal → Type 0 where
   no_words : {e : OrderError} → AsksNothing faults (Err e) (order_refusal e)
   not_taken : {words : List Text} → (faults words ≡ [] → ⊥) → AsksNothing faults (Ok words) Words
@@ -41,25 +41,25 @@ pub record System : Type 0 where
 abbrev pub system : Option FileSystem → Stream → Stream → System
 system files input output = record { files = files; input = input; output = output }
 
--- how the program ends: with a status, or by a refusal
+-- the end of a program: a status, or a refusal
 abbrev pub Ending : Type 0
 Ending = Result ℕ Refusal
 
--- the status that the program ends with
+-- the exit status
 abbrev pub ending_status : Ending → ℕ
 ending_status (Ok status) = status
 ending_status (Err r) = refusal_status r
 
--- the line of a refusal, and else nothing
+-- the line of a refusal, else nothing
 abbrev pub ending_line : Ending → List ℕ
 ending_line (Ok status) = []
 ending_line (Err r) = refusal_line r
 
--- standard error took the line of a refusal, or a beginning of it where a write failed
+-- standard error received the line of a refusal, or the beginning of it if a write failed
 abbrev pub WritesError : Stream → Stream → Ending → Type 0
 WritesError old new ending = WritesBytes old new (ending_line ending) ⊎ WritesPart old new (ending_line ending)
 
--- a program ends with this status, by what it does until then
+-- a program ends with this status, after this effect
 pub record ProgramEnds (does_until : Ending → Type 0) (errors errors_after : Stream) (status : ℕ) : Type 0 where
   pub ending : Ending
   pub does : does_until ending

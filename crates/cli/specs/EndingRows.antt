@@ -1,4 +1,4 @@
--- Files that may be left out, words of command lines and ends of programs: what may be, and what may not.
+-- Optional files, words of command lines, and ends of programs: what can happen, and what cannot.
 use Rattle.std.specs.Prelude.{◌≡◌, ℕ, List, [], ◌∷◌, Some, None, Ok, Err, length, codes}
 use Rattle.clap.specs.Words.{Kinds, Text}
 use Rattle.host.specs.Rows.{files, first, third}
@@ -38,11 +38,11 @@ pub record AskingRowsStand : Type 0 where
   pub words_for_memory : AsksNothing faultless (Err order_error.Memory) Words → ⊥
   pub memory_for_words : AsksNothing faultless (Err order_error.InvalidArguments) Memory → ⊥
 
--- the program is done with this status
+-- the program succeeds with this status
 abbrev pub IsEndingDone : ℕ → Ending → Type 0
 IsEndingDone status ending = ending ≡ Ok status
 
--- the program is refused for its words
+-- the program refuses its words
 abbrev pub IsRefused : Ending → Type 0
 IsRefused ending = ending ≡ Err Words
 

@@ -1,3 +1,5 @@
+-- Definitions that both programs share: arguments, optional files, refusals, and ends of programs.
+
 pub mod Limits
 pub mod Refusals
 pub mod Number

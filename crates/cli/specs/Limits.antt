@@ -1,10 +1,10 @@
--- The steps of a run that both programs make.
+-- Limits of steps for both programs.
 use Rattle.std.specs.Prelude.{ℕ}
 
--- the most steps that a run may be given
+-- the largest number of steps of a run
 abbrev pub step_limit : ℕ
 step_limit = 1000000000
 
--- the steps of a run if the arguments give no number
+-- the number of steps of a run if none is given
 abbrev pub default_steps : ℕ
 default_steps = 10000000

@@ -1,4 +1,4 @@
--- The refusals of the programs: their status, and their line on standard error.
+-- The refusals of the programs: their exit status, and their line on standard error.
 use Rattle.std.specs.Prelude.{ℕ, List, [], ◌∷◌, ◌++◌, codes}
 use Rattle.assembler.specs.ErrorCodes.{asm_error_code, asm_error_line}
 use Rattle.assembler.specs.declared.asm_error.AsmError.{AsmError}
@@ -24,53 +24,53 @@ use Rattle.admission.specs.declared.run_error.RunError.TheVariants as run_error
 use Rattle.cli.specs.declared.refusal.Refusal.{Refusal}
 use Rattle.cli.specs.declared.refusal.Refusal.TheVariants.{Words, Image, File, Text, Program, Policy, Run, Input, Output, Memory}
 
--- why no order was read
+-- the refusal if no order was read
 abbrev pub order_refusal : OrderError → Refusal
 order_refusal InvalidArguments = Words
 order_refusal order_error.Memory = Memory
 
--- why a file was not read or written
+-- the refusal if a file was not read or written
 abbrev pub file_refusal : FileError → Refusal
 file_refusal Failed = File
 file_refusal file_error.Memory = Memory
 
--- why a session broke off
+-- the refusal if a session broke off
 abbrev pub session_refusal : SessionError → Refusal
 session_refusal ReadFailed = Input
 session_refusal WriteFailed = Output
 session_refusal session_error.Memory = Memory
 
--- why a file holds no image
+-- the refusal if a file holds no image
 abbrev pub load_refusal : LoadError → Refusal
 load_refusal load_error.Memory = Memory
 load_refusal e = Image e
 
--- why a text gives no image
+-- the refusal if a text gives no image
 abbrev pub program_refusal : AsmError → Refusal
 program_refusal asm_error.Memory = Memory
 program_refusal e = Program e
 
--- why a policy gives no image
+-- the refusal if a policy gives no image
 abbrev pub policy_refusal_of : PolicyRefusal → Refusal
 policy_refusal_of policy_refusal.Memory = Memory
 policy_refusal_of e = Policy e
 
--- why a review is not answered
+-- the refusal if a review has no response
 abbrev pub run_refusal : RunError → Refusal
 run_refusal run_error.Memory = Memory
 run_refusal e = Run e
 
--- the code of a refused text, and its line, counted from 1
+-- the code of a text's refusal, and the line number, counted from 1
 abbrev pub text_refusal : AsmError → List ℕ
 text_refusal e = with_number (asm_error_code e) (codes " line ") (asm_error_line e)
 
--- the code of a refused policy, and what an expression's has more
+-- the code of a policy's refusal, and the details of an expression's
 abbrev pub policy_text : PolicyRefusal → List ℕ
 policy_text (Unread e) = policy_error_code e
 policy_text (Uncompiled e) = compile_text e
 policy_text policy_refusal.Memory = codes "memory"
 
--- the code of a review without a response, and for a refused policy that of the policy
+-- the code of a run error, and for a refused policy the policy's refusal
 abbrev pub run_text : RunError → List ℕ
 run_text (PolicyRefused e) = run_error_code (PolicyRefused e) ++ (codes " " ++ policy_text e)
 run_text e = run_error_code e
@@ -88,15 +88,15 @@ refusal_text Input = session_error_code ReadFailed
 refusal_text Output = session_error_code WriteFailed
 refusal_text Memory = codes "memory"
 
--- a refusal is one line of standard error
+-- the line of a refusal on standard error
 abbrev pub refusal_line : Refusal → List ℕ
 refusal_line r = codes "celbpf: " ++ (refusal_text r ++ 10 ∷ [])
 
--- the room that every such line has
+-- the capacity that is enough for each such line
 abbrev pub longest_line : ℕ
 longest_line = 80
 
--- a run without a verdict ends with 4, all else that keeps a review from its answer with 3
+-- 4 if the run gave no verdict, 3 for every other reason why a review has no response
 abbrev pub run_error_status : RunError → ℕ
 run_error_status (PolicyRefused e) = 3
 run_error_status ReviewRefused = 3
@@ -105,7 +105,7 @@ run_error_status OutOfSteps = 4
 run_error_status OverLimit = 4
 run_error_status run_error.Memory = 3
 
--- words that are not taken end with 2, input, files and memory with 3
+-- 2 if the words are refused, 3 for input, files and memory
 abbrev pub refusal_status : Refusal → ℕ
 refusal_status Words = 2
 refusal_status (Run e) = run_error_status e

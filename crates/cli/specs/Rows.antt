@@ -1,4 +1,4 @@
--- Refusals with their lines and statuses, and texts with the numbers that they stand for, written out.
+-- Literal examples: refusals with their lines and statuses, and texts with the numbers they represent.
 use Rattle.std.specs.Prelude.{◌≡◌, ℕ, List, None, Some, Ok, Err, [], ◌∷◌, codes}
 use Prim.Native.String.{String}
 use Rattle.assembler.specs.declared.asm_error.AsmError.TheVariants as asm_error
@@ -27,7 +27,7 @@ use Rattle.cli.specs.Refusals.{file_refusal, load_refusal, order_refusal, policy
 use Rattle.cli.specs.declared.refusal.Refusal.{Refusal}
 use Rattle.cli.specs.declared.refusal.Refusal.TheVariants.{Words, Image, File, Text, Program, Policy, Run, Input, Output, Memory}
 
--- the refusal is told by this line, and the program ends with this status
+-- the refusal prints this line, and the program ends with this status
 abbrev pub Says : Refusal → String → ℕ → Type 0
 Says r line status = ◌≡◌ {A = List ℕ × ℕ} (refusal_line r, refusal_status r) (codes line, status)
 
@@ -84,7 +84,7 @@ pub record ExpressionRowsStand : Type 0 where
   pub stack_words : Says (Policy (Uncompiled (InvalidExpression Validation 0 NeedsTooManyWords))) "celbpf: K6 validation 0 G1\n" 3
   pub deep_variable : Says (Policy (Uncompiled (InvalidExpression Variable 6 VariableTooDeep))) "celbpf: K6 variable 6 G2\n" 3
 
--- what the parts of the program refuse for, as the program's refusal; want of memory is said for itself
+-- the program's refusal for the errors of each part; out of memory stays `Memory`
 pub record CauseRowsStand : Type 0 where
   pub no_order : order_refusal order_error.InvalidArguments ≡ Words
   pub order_memory : order_refusal order_error.Memory ≡ Memory
@@ -106,15 +106,15 @@ pub record CauseRowsStand : Type 0 where
   pub refused : ending_status (Err Words) ≡ 2
   pub refused_line : ending_line (Err Words) ≡ codes "celbpf: U1\n"
 
--- the text stands for this number
+-- the text represents this number
 abbrev pub Stands : String → ℕ → Type 0
 Stands text n = number_of (Some (codes text)) ≡ Some n
 
--- the text stands for no number
+-- the text represents no number
 abbrev pub StandsForNone : String → Type 0
 StandsForNone text = number_of (Some (codes text)) ≡ None
 
--- numbers as Rust reads a `u64`: decimal digits, one plus sign before them, and at most 2^64 - 1
+-- numbers as Rust parses a `u64`: decimal digits, optionally after one plus sign, and at most 2^64 - 1
 pub record NumberRowsStand : Type 0 where
   pub none : Stands "0" 0
   pub one_digit : Stands "9" 9

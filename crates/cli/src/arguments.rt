@@ -1,4 +1,4 @@
-//! The arguments that both programs take, as `clap` is told them.
+//! The arguments that both programs accept, as they are declared to `clap`.
 ghost use Rattle.std.specs.Prelude.{◌≡◌, IfOk, false};
 ghost use Rattle.clap.specs.Words.{app_of, rule_of};
 ghost use Rattle.clap.specs.declared.builder.command.Command.TheViews.{out-Command as fields_of};
@@ -8,7 +8,7 @@ use crate::limits::STEP_LIMIT;
 use clap::{Arg, Command, value_parser};
 use std::alloc::{AllocError, Global};
 
-// an option with the name of a file, which may be left out
+// an optional file name
 #[tactic(auto, unfolding(crate::specs::Arguments::option_rule))]
 pub fn option_argument<'a>(alloc: Global, name: &'a str) -> Arg<'a>
     ensures rule { rule_of result ≡ option_rule name.entry.now }
@@ -17,7 +17,7 @@ pub fn option_argument<'a>(alloc: Global, name: &'a str) -> Arg<'a>
     Arg::new(alloc, name).long(name)
 }
 
-// one that has to be there
+// a required file name
 #[tactic(auto, unfolding(crate::specs::Arguments::required_option_rule))]
 pub fn required_option_argument<'a>(alloc: Global, name: &'a str) -> Arg<'a>
     ensures rule { rule_of result ≡ required_option_rule name.entry.now }
@@ -26,7 +26,7 @@ pub fn required_option_argument<'a>(alloc: Global, name: &'a str) -> Arg<'a>
     Arg::new(alloc, name).long(name).required(true)
 }
 
-// --steps N, the most instructions that may run
+// --steps N, the largest number of instructions that may run
 #[tactic(auto, unfolding(crate::specs::Arguments::steps_rule))]
 pub fn steps_argument<'a>(alloc: Global) -> Arg<'a>
     ensures rule { rule_of result ≡ steps_rule }
@@ -38,7 +38,7 @@ pub fn steps_argument<'a>(alloc: Global) -> Arg<'a>
         .default_value("10000000")
 }
 
-// the command, and the options for a namespace and for parameters
+// the command with the options for a namespace and for params
 #[tactic(auto, unfolding(crate::specs::Arguments::with_documents))]
 pub fn with_documents<'a>(alloc: Global, command: Command<'a>) -> Result<Command<'a>, AllocError>
     ensures shape { IfOk result (λ c. app_of c ≡ with_documents (app_of command.entry)) }

@@ -1,4 +1,4 @@
-//! How a program ends, and the words that it begins with.
+//! The end of a program, and the words that it is given.
 ghost use Rattle.std.specs.Prelude.{◌≡◌, Err, IfOk, map, string_bytes};
 ghost use Rattle.std.specs.Process.{exit_status};
 ghost use Rattle.streams.specs.Streams.{stream};
@@ -10,8 +10,8 @@ use std::alloc::{AllocError, Global};
 use std::process::ExitCode;
 use streams::{Sink, write_all};
 
-/// The code that the program ends with. A refusal is one line of standard error; if that cannot be
-/// written, the code is the same.
+/// The exit code of the program. A refusal is one line on standard error; the exit code is the same
+/// if that line cannot be written.
 pub fn exit_with<E: Sink>(alloc: Global, ending: Result<u8, Refusal>, errors: &mut E) -> ExitCode
     ensures status { exit_status result ≡ ending_status ending }
     ensures says { WritesError (stream (E.taken errors.old) (E.failed errors.old)) (stream (E.taken errors.new) (E.failed errors.new)) ending }
@@ -25,7 +25,7 @@ pub fn exit_with<E: Sink>(alloc: Global, ending: Result<u8, Refusal>, errors: &m
     }
 }
 
-/// Writes the refusal's line. There is nowhere to tell of a write that fails.
+/// Writes the refusal's line. A failed write cannot be reported anywhere.
 #[tactic(auto, using(crate::proofs::Endings::says))]
 fn say<E: Sink>(alloc: Global, refusal: Refusal, errors: &mut E)
     ensures { WritesError (stream (E.taken errors.old) (E.failed errors.old)) (stream (E.taken errors.new) (E.failed errors.new)) (Err refusal) }
@@ -34,7 +34,7 @@ fn say<E: Sink>(alloc: Global, refusal: Refusal, errors: &mut E)
     let _ = write_all(errors, line.as_slice());
 }
 
-/// The texts of the words.
+/// Borrows the words as texts.
 pub fn texts_of<'a>(alloc: Global, words: &'a [String]) -> Result<Vec<&'a str>, AllocError>
     ensures { IfOk result (λ texts. map (λ s. s.now) texts.items ≡ map string_bytes words.entry.now) }
 {

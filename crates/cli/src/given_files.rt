@@ -1,11 +1,11 @@
-//! Files that may be left out.
+//! Optional files.
 ghost use Rattle.std.specs.Prelude.{◌≡◌, option_map, string_bytes};
 ghost use Rattle.cli.specs.GivenFiles.{reading_given_of, IsReadingGiven};
 
 use host::{FileError, Files};
 use std::alloc::Global;
 
-/// What the file of this name holds, where there is a name.
+/// Reads the file with this name, if there is a name.
 pub fn read_given<F: Files>(
     alloc: Global,
     name: &Option<String>,
@@ -17,7 +17,7 @@ pub fn read_given<F: Files>(
     read_named(alloc, name.as_deref(), files)
 }
 
-/// The same of a name that is lent.
+/// `read_given` with a borrowed name.
 pub fn read_named<F: Files>(
     alloc: Global,
     name: Option<&str>,

@@ -1,5 +1,5 @@
-//! What the programs have in common: the arguments that both take, the refusals with their lines on
-//! standard error, and how a program ends.
+//! What both programs share: their common arguments, the refusals with their lines on standard
+//! error, and the end of a program.
 #![tactic(auto)]
 
 mod arguments;

@@ -1,7 +1,7 @@
-//! The steps of a run that both programs make.
+//! Limits of steps for both programs.
 
-/// The most steps that a run may be given.
+/// The largest value of `--steps`.
 pub(crate) const STEP_LIMIT: u64 = 1_000_000_000;
 
-/// The steps of a run if the arguments give no number.
+/// The default of `--steps`.
 pub(crate) const DEFAULT_STEPS: u64 = 10_000_000;

@@ -1,4 +1,4 @@
-//! The line of standard error that tells of a refusal.
+//! The line on standard error for a refusal.
 ghost use Rattle.std.specs.Prelude.{◌≡◌, ◌≤◌, ◌+◌, ◌++◌, [], length, decimal, vec_capacity, vec_len};
 ghost use Rattle.cli.specs.Refusals.{longest_line, policy_text, refusal_line, refusal_text, run_text, text_refusal};
 ghost use Rattle.policy_glue.specs.CompileErrors.{compile_text, part_text, with_number};
@@ -14,11 +14,11 @@ use std::alloc::Global;
 use std::marker::Model;
 use streams::SessionError;
 
-/// The most bytes of a refusal's line.
+/// The length of the longest line of a refusal, in bytes.
 pub const LONGEST_LINE: usize = 80;
 
-/// The line that tells of a refusal. It takes no memory, and is written by hand: a `Display` may
-/// fail whatever it writes to, and this line is told of every refusal.
+/// The line for a refusal. Nothing is allocated. It is formatted by hand, because a `Display` may
+/// fail, and every refusal must have its line.
 pub fn refusal_line(alloc: Global, refusal: Refusal) -> RefusalLine
     ensures text { result ≡ refusal_line refusal }
     ensures length { length result ≤ longest_line }
@@ -30,8 +30,8 @@ pub fn refusal_line(alloc: Global, refusal: Refusal) -> RefusalLine
     line
 }
 
-/// A line in room of its own for 80 bytes, the most being the 73 of a validation that is refused,
-/// with 20 digits each for its place and for that in its text.
+/// A line in a buffer of 80 bytes. The longest is 73 bytes: a refused validation, with 20 digits
+/// each for its index and for the place in its text.
 #[derive(Drop)]
 pub struct RefusalLine {
     bytes: SmallVec<u8, 80>,
@@ -49,7 +49,7 @@ impl Model for RefusalLine {
 }
 
 impl RefusalLine {
-    /// Nothing so far.
+    /// An empty line.
     fn new(alloc: Global) -> RefusalLine
         ensures { result ≡ [] }
     {
@@ -64,7 +64,7 @@ impl RefusalLine {
         self.bytes.as_slice()
     }
 
-    /// The line in the room that is given, which has enough of it.
+    /// The line in the given buffer, which has enough capacity.
     pub fn in_room(&self, room: Vec<u8>) -> Vec<u8>
         requires empty { room.items ≡ [] }
         requires len { vec_len room ≡ 0 }
@@ -78,7 +78,7 @@ impl RefusalLine {
         }
     }
 
-    /// Appends the refusal's code and what it has more.
+    /// Appends the refusal's code and its details.
     fn push_refusal(&mut self, refusal: Refusal)
         requires { length self.old ≤ 8 }
         ensures text { self.new ≡ self.old ++ refusal_text refusal }
@@ -98,7 +98,7 @@ impl RefusalLine {
         }
     }
 
-    /// Appends the code of a refused text and its line.
+    /// Appends the code of a text's refusal, and the line number.
     fn push_program(&mut self, error: AsmError)
         requires { length self.old ≤ 8 }
         ensures text { self.new ≡ self.old ++ text_refusal error }
@@ -107,7 +107,7 @@ impl RefusalLine {
         self.push_code(error.code(), " line ", error.line());
     }
 
-    /// Appends the code of a review without a response.
+    /// Appends the code of a run error.
     fn push_run(&mut self, error: RunError)
         requires { length self.old ≤ 8 }
         ensures text { self.new ≡ self.old ++ run_text error }
@@ -120,7 +120,7 @@ impl RefusalLine {
         }
     }
 
-    /// Appends why a policy gives no image.
+    /// Appends the refusal of a policy.
     fn push_policy(&mut self, refusal: PolicyRefusal)
         requires { length self.old ≤ 11 }
         ensures text { self.new ≡ self.old ++ policy_text refusal }
@@ -133,7 +133,7 @@ impl RefusalLine {
         }
     }
 
-    /// Appends why a policy is not compiled.
+    /// Appends a compile error.
     fn push_compile_error(&mut self, error: CompileError)
         requires { length self.old ≤ 11 }
         ensures text { self.new ≡ self.old ++ compile_text error }
@@ -146,7 +146,7 @@ impl RefusalLine {
         }
     }
 
-    /// Appends which part of a policy is refused, and why.
+    /// Appends the part of a policy that is refused, and the cause.
     fn push_part(&mut self, part: PartKind, place: usize, error: ExpressionError)
         requires { length self.old ≤ 14 }
         ensures text { self.new ≡ self.old ++ part_text part place error }

@@ -1,4 +1,4 @@
-//! The words of a command line, as `clap` takes them.
+//! Parses the words of a command line with `clap`.
 ghost use Rattle.std.specs.Prelude.{◌≡◌, map, true, IfOk};
 ghost use Rattle.clap.specs.Words.{app_of, fault_of, is_simple_and_free, HasMatchesOf, IsParsedFrom};
 ghost use Rattle.cli.specs.Parsing.{TakesWords};
@@ -7,12 +7,12 @@ use clap::error::ErrorKind;
 use clap::{ArgMatches, Command};
 use host::OrderError;
 
-/// What `clap` makes of the words under this command, the program's name first.
+/// The arguments that `clap` finds in the words for this command. The program's name comes first.
 ///
 /// # Errors
 ///
-/// `InvalidArguments` exactly if `clap` refuses the words; `Memory` if memory runs out, which says
-/// nothing of the words.
+/// `InvalidArguments` exactly if `clap` refuses the words. `Memory` if an allocation fails, which
+/// says nothing about the words.
 pub fn parse<'a>(command: Command<'a>, words: &'a [&'a str]) -> Result<ArgMatches<'a>, OrderError>
     ensures parsed { IfOk result (λ m. IsParsedFrom command.entry m) }
     ensures matches { IfOk result (HasMatchesOf (app_of command.entry) (map (λ s. s.now) words.entry.now)) }

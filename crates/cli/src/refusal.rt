@@ -1,4 +1,4 @@
-//! Why the program does not do what it is asked.
+//! Why a program refuses what it is asked to do.
 ghost use Rattle.std.specs.Prelude.{◌≡◌};
 ghost use Rattle.cli.specs.Refusals.{file_refusal, load_refusal, order_refusal, policy_refusal_of, program_refusal, refusal_status, run_error_status, run_refusal, session_refusal};
 ghost use Rattle.cli.specs.declared.refusal.Refusal.TheVariants as refusal;
@@ -10,10 +10,10 @@ use loader::LoadError;
 use std::alloc::AllocError;
 use streams::SessionError;
 
-/// Why the program does not do what it is asked.
+/// Why a program refuses what it is asked to do.
 #[derive(Clone, Copy, Debug, PartialEq, Eq)]
 pub enum Refusal {
-    /// The program does not take the words of the command line.
+    /// The words of the command line are invalid.
     Words,
     /// The file of the image is not an image.
     Image(LoadError),
@@ -36,7 +36,7 @@ pub enum Refusal {
 }
 
 impl Refusal {
-    /// The status that the program ends with.
+    /// The exit status.
     pub fn status(self) -> u8
         ensures { result ≡ refusal_status self }
     {
@@ -134,7 +134,7 @@ impl From<SessionError> for Refusal {
     }
 }
 
-/// The status that the program ends with where a review is not answered.
+/// The exit status for a review without a response.
 fn run_error_status(error: RunError) -> u8
     ensures { result ≡ run_error_status error }
 {

@@ -1,4 +1,4 @@
-//! Single values of a command's matches, each read totally.
+//! Reads single values of a command's matches. Each function is total.
 ghost use Rattle.std.specs.Prelude.{◌≡◌, codes, option_map, string_bytes, unwrap_or, [], IfOk};
 ghost use Rattle.clap.specs.Words.{first_of, found_of, one_of, rows_of};
 ghost use Rattle.cli.specs.Number.{number_of};
@@ -8,21 +8,21 @@ use crate::limits::DEFAULT_STEPS;
 use clap::ArgMatches;
 use std::alloc::{AllocError, Global};
 
-// the text of the argument `id`, where it has one
+// the value of the argument `id`, if there is one
 pub fn text_in<'a>(matches: &ArgMatches<'a>, id: &str) -> Option<&'a str>
     ensures { option_map (λ s. s.now) result ≡ first_of id.now (rows_of (found_of matches.now)) }
 {
     matches.get_str(id)
 }
 
-// the text of the argument `id`, and the empty one where it has none
+// the value of the argument `id`, or the empty text
 pub fn text_or_empty<'a>(matches: &ArgMatches<'a>, id: &str) -> &'a str
     ensures { result.now ≡ unwrap_or (first_of id.now (rows_of (found_of matches.now))) [] }
 {
     text_in(matches, id).unwrap_or("")
 }
 
-// the text of the argument `id` as a name of its own, where it has one
+// a copy of the value of the argument `id`, if there is one
 pub fn name_in(alloc: Global, matches: &ArgMatches, id: &str) -> Result<Option<String>, AllocError>
     ensures { IfOk result (λ name. option_map string_bytes name ≡ first_of id.now (rows_of (found_of matches.now))) }
 {
@@ -32,14 +32,14 @@ pub fn name_in(alloc: Global, matches: &ArgMatches, id: &str) -> Result<Option<S
     }
 }
 
-// the number of the argument `id`, where it has one
+// the number of the argument `id`, if there is one
 pub fn number_in(matches: &ArgMatches, id: &str) -> Option<u64>
     ensures { result ≡ number_of (one_of id.now (rows_of (found_of matches.now))) }
 {
     matches.get_one::<u64>(id)
 }
 
-// the most steps that the words allow
+// the value of --steps
 pub fn steps_in(matches: &ArgMatches) -> u64
     ensures { result ≡ unwrap_or (number_of (one_of (codes "steps") (rows_of (found_of matches.now)))) default_steps }
 {

@@ -1,3 +1,5 @@
+-- Loop invariant of `ending::texts_of`.
+
 use Rattle.cli.proofs.Prelude.{◌≡◌, map, string_bytes, take}
 use Rattle.cli.proofs.ending.texts_of.Given as goal
 

@@ -1,3 +1,5 @@
+-- Proofs of `rows::ending_rows_stand`: the result meets the contract.
+
 use Rattle.std.proofs.Common.{◌≡◌, ℕ, List, [], ◌∷◌, Some, None, Ok, Err, inl, inr, refl, subst, sym, ap, ◌∙◌, arith}
 use Rattle.std.specs.Prelude.{codes}
 use Rattle.streams.specs.Streams.{stream}

@@ -1,3 +1,5 @@
+-- Proofs of `rows::refusal_rows_stand`: the result meets the contract.
+
 use Rattle.std.proofs.Common.{rules}
 use Rattle.std.specs.Fmt.{digits}
 use Rattle.cli.proofs.rows.refusal_rows_stand.Goals as goal

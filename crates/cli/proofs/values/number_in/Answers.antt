@@ -1,3 +1,5 @@
+-- Proofs of `values::number_in`: the result meets the contract.
+
 use Rattle.cli.proofs.Prelude.{◌∙◌, ap, ParsesUnsigned, ExplainsUnsignedError, HasUnsignedDigitsIfOk, found_of, one_text, one_text-rows, number_of}
 use Rattle.cli.proofs.Number.{of_a_value}
 use Rattle.cli.proofs.values.number_in.Goals as goal

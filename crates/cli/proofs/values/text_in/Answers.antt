@@ -1,3 +1,5 @@
+-- Proofs of `values::text_in`: the result meets the contract.
+
 use Rattle.cli.proofs.Prelude.{◌∙◌, found_of, first_value-rows}
 use Rattle.cli.proofs.values.text_in.Goals as goal
 
