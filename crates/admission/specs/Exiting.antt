@@ -37,7 +37,7 @@ Exits p d n (Err e) = HasNoResponse d n e
 
 -- ---- parts
 
--- Q holds for the verdict in the verdict region
+-- `holds` is true of the verdict in the verdict region
 abbrev pub OfVerdict : Policy → State → (Verdict → Type 0) → Type 0
 OfVerdict p s holds = (v : Verdict) → IsMemory s.memory → length v.findings ≤ length p.validations
     → IsLayout p.failure_policy v s.values.values s.memory.verdict → holds v
