@@ -1,4 +1,4 @@
--- The type of a call and of a method, by their arguments.
+-- The types of a call and of a method call, given their arguments.
 use Rattle.cel_types.proofs.Prelude.{◌≡◌, ◌<◌, List, [], ◌∷◌, length, map, refl, sym, ap, ◌∙◌, arith, list_all, CodeCore, Callee, Core, Cores, no_cores, more_cores, call, method, core_view, cores, core_entries, core_pair, CelType, TypeFault, Typing, typed, refused, NoOverload, with_type, with_types, is_text_key, map_literal_row, Scope, core_typing, core_typings, core_entry_typings, core_key_typings, call_typing, method_typing}
 use Rattle.cel_macros.specs.CoreTree as node
 
@@ -27,7 +27,7 @@ pub method_of_many : (n : Callee) (t : CelType) (items : List CodeCore) (s : Sco
 method_of_many n t (a ∷ b ∷ items) s h = refl
 method_of_many n t _ s h = absurd (omega arith)
 
--- ---- the code's answers for a call, a method and a map literal are those of their tree
+-- ---- the code's results for a call, a method call and a map literal are those of their trees
 
 pub call_seen : (core : Core) (n : Callee) (items more : List CodeCore) (s : Scope) (r : Typing) → core ≡ call n (cores (map core_view items))
     → more ≡ items → r ≡ call_typing n (cores (map core_view more)) s → r ≡ core_typing core s
@@ -36,7 +36,7 @@ call_seen core n items more s r e ei h = h ∙ ap (λ l. call_typing n (cores (m
 pub method_refused : (core a : Core) (n : Callee) (parts : Cores) (s : Scope) (y : TypeFault) → core ≡ method a n parts → refused y ≡ core_typing a s → refused y ≡ core_typing core s
 method_refused core a n parts s y e h = ap (λ r. with_type r (λ t. method_typing n t parts s)) h ∙ sym (method_typed a n parts s) ∙ ap (λ c. core_typing c s) (sym e)
 
--- a method by equal arguments
+-- a method call with equal arguments
 pub method_same : (core a : Core) (n : Callee) (items more : List CodeCore) → core ≡ method a n (cores (map core_view items)) → more ≡ items
     → core ≡ method a n (cores (map core_view more))
 method_same core a n items more e ei = e ∙ sym (ap (λ l. method a n (cores (map core_view l))) ei)

@@ -1,3 +1,5 @@
+-- The proofs of `cel_types`.
+
 pub mod TypedRows
 pub mod Sound
 pub mod CoreTypes

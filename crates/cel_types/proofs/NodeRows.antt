@@ -1,4 +1,4 @@
--- A node whose parts have types has a row of the table for them, or else its fault is its cause.
+-- A node whose parts have types has a row of the table for them; otherwise its fault is its cause.
 use Rattle.cel_types.proofs.Prelude.{◌≡◌, ◌⊎◌, ℕ, Bool, true, false, ◌&&◌, List, [], ◌∷◌, Option, Some, refl, Contains, suc, arith, list_any, Tree, no_trees, more_trees, BinaryOperator, Function, TextTest, function_named, test_named, Macro, All, Exists, ExistsOne, Filter, Map, macro_named, is_map, is_has, is_variables, name_of, field_name, CelType, NoOverload, Typing, typed, refused, same_type, allowed, agree, both_allowed, row, Scope, name_type, variable_type, literal_type, index_row, binary_row, ternary_row, function_row, method_row, test_row, is_range, macro_row, call_type, MayBe, known, dynamic, MayBeOne, MayBothBeOne, MayAgree, HasTextKeys, no_keys, next_key, IsRow, a_literal, a_name, a_variable, a_field, a_has, an_item, an_entry, a_not, a_negation, a_sum, an_arithmetic, an_equality, an_order, a_member, a_key, a_logic, a_choice, a_list, a_map, a_size, a_size_method, a_string, a_dyn, a_test, a_quantifier, a_filter, a_transform, a_filtered_transform, cause}
 use Rattle.cel_reader.specs.Tree as tree
 use Rattle.cel_reader.specs.declared.operator.BinaryOperator.TheVariants as binary
@@ -7,7 +7,7 @@ use Rattle.cel_types.specs.declared.cel_type.CelType.TheVariants as type
 use Rattle.cel_types.proofs.TypedRows.{same_is}
 use Rattle.cel_types.proofs.RowTyped.{on_none, select_node, fold_node, fold_map_node, text_keys, node}
 
--- ---- what a test says of a row's types
+-- ---- what a test shows of a row's types
 
 here : {A : Type 0} (x : A) (xs : List A) → Contains (x ∷ xs) x
 here x xs = (0, omega arith, refl)

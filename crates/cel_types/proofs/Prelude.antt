@@ -1,4 +1,4 @@
--- The names that these proofs cite of the library, of the crates below and of the definitions here. Declares nothing.
+-- The names of the library, of the crates below and of the definitions that these proofs use. Declares nothing.
 pub use Rattle.std.proofs.Common.{Bool, Contains, Err, IfErr, IfOk, IfSome, List, None, Ok, Option, Result, Some, ℕ}
 pub use Rattle.std.proofs.Common.{ℤ, [], ap, arith, cond, drop, false, if◌then◌else◌, inl, inr, int_div, int_rem}
 pub use Rattle.std.proofs.Common.{is_some, length, map, refl, rules, subst, suc, sym, true, ◌&&◌, ◌<◌, ◌∙◌, ◌∷◌, ◌≡◌}

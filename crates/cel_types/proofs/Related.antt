@@ -1,16 +1,16 @@
--- The type of an expression, or its fault, is the one that the rows of the table give it.
+-- The type or the fault of an expression is the one that the rows of the table give.
 use Rattle.cel_types.proofs.Prelude.{◌≡◌, ◌⊎◌, inl, inr, ℕ, Bool, ◌&&◌, List, [], ◌∷◌, Option, Some, None, is_some, map, refl, sym, ap, ◌∙◌, subst, if◌then◌else◌, arith, ⊤, list_all, Tree, Trees, TreeEntries, no_trees, more_trees, no_entries, more_entries, tree_list, Macro, Function, function_named, macro_named, is_map, is_has, is_variables, CelType, TypeFault, NoOverload, Typing, typed, refused, allowed, with_type, with_types, Scope, within, is_text_key, map_literal_row, selected_type, call_type, fold_type, fold_map_type, typing, typings, operand_typing, entry_typings, key_typings, IsRow, keys_and_values, in_scope, parts_of, Has, by_row, Have, no_parts, next_part, cause, Fault, in_part, at_node, FirstFault, here, behind, TypesAreRows, FaultsAreFirst, OneTypeOrFault}
 use Rattle.cel_reader.specs.Tree as tree
 use Rattle.cel_types.specs.declared.cel_type.CelType.TheVariants as type
 use Rattle.cel_types.proofs.RowTyped.{on_one, select_node, fold_node, fold_map_node, text_keys, node, row_typed}
 use Rattle.cel_types.proofs.NodeRows.{Answered, node_rows}
 
--- ---- the typing of a tree by those of its parts
+-- ---- the typing of a tree, given those of its parts
 
 abbrev part_typing : Scope × Tree → Typing
 part_typing p = typing p.1 p.0
 
--- the first fault of some parts, and then what stands for their types
+-- the first fault among some parts, else the result for their types
 abbrev over_types : List Typing → (List CelType → Typing) → Typing
 over_types [] f = f []
 over_types (x ∷ xs) f = with_type x (λ t. over_types xs (λ ts. f (t ∷ ts)))
@@ -23,7 +23,7 @@ unfolding typing
 over_trees no_trees s last = refl
 over_trees (more_trees a more) s last = λ j. with_type (typing a s) (λ t. over_trees more s last j)
 
--- a type that is found is a text key where it may be a string
+-- a type is a text key if it may be a string
 keyed : (x : Typing) (g : CelType → Bool → Typing) → with_type x (λ t. g t (is_text_key x)) ≡ with_type x (λ t. g t (allowed (type.String ∷ []) t))
 keyed x g = grind arith
 
@@ -88,7 +88,7 @@ by_parts (tree.method a n (more_trees x (more_trees p (more_trees t no_trees))))
 by_parts (tree.method a n (more_trees x (more_trees p (more_trees t (more_trees u more))))) s = no_method a (more_trees x (more_trees p (more_trees t (more_trees u more)))) s
 by_parts _ s = refl
 
--- ---- what the rows give is the typing
+-- ---- the rows give the typing
 
 abbrev Gives : Scope → Tree → Typing → Type 0
 Gives s e (typed t) = Has s e t
@@ -106,7 +106,7 @@ mutual
 typed_only : {t : CelType} {y : TypeFault} → typed t ≡ refused y → ⊥
 typed_only e = grind arith
 
--- a node that no row takes has its cause
+-- a node without a row has its cause as fault
 no_row : (s : Scope) (e : Tree) (ts : List CelType) → ((t : CelType) → IsRow s e ts t → ⊥) → (r : Typing) → Answered s e ts r → r ≡ refused (cause e)
 no_row s e ts none h0 h = grind arith
 

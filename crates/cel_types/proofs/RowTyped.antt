@@ -1,10 +1,10 @@
--- The type of a node, or its fault, by the types of its parts; and that it is the type of each row that takes them.
+-- The type or the fault of a node, given the types of its parts; it is the type of each row for them.
 use Rattle.cel_types.proofs.Prelude.{◌≡◌, ℕ, Bool, true, false, ◌&&◌, List, [], ◌∷◌, Option, Some, refl, ap, ◌∙◌, if◌then◌else◌, Contains, arith, AllByRecursion, Tree, no_trees, more_trees, BinaryOperator, Function, Size, String, Dyn, function_named, test_named, Macro, macro_named, is_map, is_has, is_variables, name_of, field_name, CelType, TypeFault, UnknownName, NoOverload, MisplacedVariables, Typing, typed, refused, allowed, agree, known_of, both_allowed, row, Scope, name_type, type_or_fault, variable_type, literal_type, field_row, index_row, unary_row, binary_row, order_row, member_row, ternary_row, function_row, method_row, test_row, macro_row, map_row, map_literal_row, call_type, MayBe, known, dynamic, MayBeOne, MayBothBeOne, MayAgree, HasTextKeys, no_keys, next_key, IsRow, a_name, a_variable, a_field, a_has, an_item, an_entry, a_not, a_negation, a_sum, an_arithmetic, an_equality, an_order, a_member, a_key, a_logic, a_choice, a_map, a_size, a_size_method, a_string, a_dyn, a_test, a_quantifier, a_filter, a_transform, a_filtered_transform, All-contains, All-from_recursion, list_any_at, cause}
 use Rattle.cel_reader.specs.Tree as tree
 use Rattle.cel_reader.specs.declared.operator.BinaryOperator.TheVariants as binary
 use Rattle.cel_types.specs.declared.cel_type.CelType.TheVariants as type
 
--- ---- the type of a node, or its fault, by the types of its parts
+-- ---- the type or the fault of a node, given the types of its parts
 
 abbrev pub on_none : Typing → TypeFault → List CelType → Typing
 on_none r y [] = r
@@ -56,7 +56,7 @@ node s (tree.method a n (more_trees x (more_trees p no_trees))) ts = fold_node (
 node s (tree.method a n (more_trees x (more_trees p (more_trees t no_trees)))) ts = fold_map_node (is_map n) (name_of x) ts
 node s _ ts = refused NoOverload
 
--- ---- what a row asks for, as a test
+-- ---- the condition of a row, as a test
 
 allowed_of : (ks : List CelType) {x : CelType} → MayBeOne ks x → allowed ks x ≡ true
 allowed_of ks m = grind (arith, list_any_at)
@@ -83,7 +83,7 @@ keys_of : {ts : List CelType} → HasTextKeys ts → text_keys ts ≡ true
 keys_of no_keys = refl
 keys_of (next_key m more) = λ j. may m j && keys_of more j
 
--- `has` is no function
+-- `has` is not a function
 no_has : (n : List ℕ) (f : Function) (b : Bool) → is_has n ≡ b → function_named n ≡ Some f → b ≡ false
 unfolding is_has function_named
 no_has n f b e h = grind arith
@@ -106,7 +106,7 @@ called : (n : List ℕ) (f : Function) (a : Tree) (x : CelType) → function_nam
     → call_type (is_has n) (field_name a) (function_named n) (typed x) (typed x) ≡ function_row (Some f) x
 called n f a x h = λ j. call_type (no_has n f (is_has n) refl h j) (field_name a) (h j) (typed x) (typed x)
 
--- an operator of a group has the row of the group
+-- an operator of a group has the group's row
 grouped : (os : List BinaryOperator) (x y : CelType) (r : Typing) → AllByRecursion (λ o. binary_row o x y ≡ r) os → {o : BinaryOperator} → Contains os o
     → binary_row o x y ≡ r
 grouped os x y r h {o} c = All-contains (λ p. binary_row p x y ≡ r) os o (All-from_recursion (λ p. binary_row p x y ≡ r) os h) c

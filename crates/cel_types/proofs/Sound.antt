@@ -1,4 +1,4 @@
--- What an accepted expression means has its type, or is the error.
+-- The value of an accepted expression has its type, or is the error.
 use Rattle.cel_types.proofs.Prelude.{arith, Bool, List, [], ◌∷◌, list_all, no_trees, more_trees, ValueOrError, error, Environment, bind, name_value, values_in, entries_in, list_literal, map_literal, function_named, test_named, macro_named, is_map, is_has, is_variables, name_of, field_name, range_of, selected, meaning, meanings, entry_meanings, operand_meaning, Typing, typed, refused, NoOverload, row, Scope, name_type, within, selected_type, typing, typings, entry_typings, key_typings, operand_typing, is_text_key, FitsType, FitsScope, IsSound, ℕ}
 use Rattle.cel_reader.specs.Tree as tree
 use Rattle.cel_types.specs.declared.cel_type.CelType.TheVariants as type

@@ -5,7 +5,7 @@ use Rattle.cel_types.specs.declared.cel_type.CelType.TheVariants as type
 use Rattle.cel_macros.proofs.Callees.{function_again, not_has, test_again}
 use Rattle.cel_types.proofs.CoreTypes.{expansion_typed}
 
--- ---- where a node has a type its parts have
+-- ---- if a node has a type, its parts have types
 
 abbrev pub IsTyped : Typing → Type 0
 IsTyped (typed t) = ⊤
@@ -26,19 +26,19 @@ head_typed x xs last h = first_typed x (λ t. with_types xs last) h
 tail_typed : (x : Typing) (xs : List Typing) (last : Typing) → IsTyped (with_types (x ∷ xs) last) → IsTyped (with_types xs last)
 tail_typed x xs last h = grind arith
 
--- parts that no row takes have no type
+-- operands without a row have no type
 never_typed : (xs : List Typing) (y : TypeFault) → IsTyped (with_types xs (refused y)) → ⊥
 never_typed [] y h = h
 never_typed (x ∷ xs) y h = never_typed xs y (tail_typed x xs (refused y) h)
 
--- ---- what has a type is written as no other form
+-- ---- an expression with a type has no other form
 
 -- it is not the name `variables`
 no_variables : (a : Core) (s : Scope) → IsTyped (core_typing a s) → is_variables (plain_tree a) ≡ false
 unfolding plain_tree core_typing is_variables name_type
 no_variables a s h = grind arith
 
--- what it names is a function or a test
+-- its callee is a function or a test
 is_function : (c : Callee) (x : Typing) → IsTyped (with_type x (function_row (function_in c))) → IsSome (function_in c)
 is_function c x h = grind arith
 

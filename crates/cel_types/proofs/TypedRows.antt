@@ -1,4 +1,4 @@
--- Each operator, function and macro keeps to its row of the table of types.
+-- Each operator, function and macro follows its row of the type table.
 use Rattle.cel_types.proofs.Prelude.{arith, ◌≡◌, ℕ, ℤ, Bool, true, cond, List, [], ◌∷◌, Option, refl, int_div, int_rem, BinaryOperator, UnaryOperator, Value, int, ValueOrError, error, value, CelType, Truth, of_truth, ternary_of, fits, is_zero, int_or_error, on_ints, quotient, remainder, sum_of, on_values, member_of, literal_of, list_or_error, map_or_error, Function, TextTest, method_of, text_test_of, Macro, over_range, map_over_range, unary_of, binary_of, called, Typing, typed, same_type, row, with_type, with_types, literal_type, index_row, unary_row, binary_row, member_row, sum_row, ternary_row, method_row, test_row, call_type, fold_type, fold_map_type, FitsType}
 use Rattle.cel_reader.specs.Tree as tree
 use Rattle.value_store.specs.Value.{Entries}

@@ -1,4 +1,4 @@
--- The type of an expression with its macros expanded, or its first fault: what the plain tree has.
+-- The type or the first fault of an expanded expression: that of its plain tree.
 use Rattle.std.specs.Prelude.{ℕ, List, [], ◌∷◌}
 use Rattle.std.specs.List.{list_all}
 use Rattle.cel_macros.specs.CoreTree.{Core, Cores, CoreEntries, no_cores, more_cores, no_core_entries, more_core_entries, literal}
@@ -12,7 +12,8 @@ use Rattle.cel_types.specs.TypeTable.{literal_type, field_row, has_row, index_ro
 use Rattle.cel_types.specs.TypeTable.{method_row, test_row, macro_row, map_row, is_text_key, map_literal_row}
 
 unfoldable mutual
-  -- the type of an expanded expression in a scope, or its first fault, parts from left to right before their node
+  -- the type of an expanded expression in a scope, or its first fault; parts come from left to right and before their
+  -- node
   pub core_typing : Core → Scope → Typing
   core_typing (literal l) s = typed (literal_type l)
   core_typing (name n) s = name_type n s.items
@@ -37,27 +38,27 @@ unfoldable mutual
       with_type (core_typing r s)
       (λ x. with_type (core_typing p (within n s)) (λ y. with_type (core_typing t (within n s)) (λ z. map_row x y z)))
 
-  -- each of the expressions so
+  -- the typing of each of the expressions
   pub core_typings : Cores → Scope → List Typing
   core_typings no_cores s = []
   core_typings (more_cores a more) s = core_typing a s ∷ core_typings more s
 
-  -- keys and values in their order
+  -- the typings of keys and values in order
   pub core_entry_typings : CoreEntries → Scope → List Typing
   core_entry_typings no_core_entries s = []
   core_entry_typings (more_core_entries k v more) s = core_typing k s ∷ core_typing v s ∷ core_entry_typings more s
 
-  -- each key so
+  -- the typing of each key
   pub core_key_typings : CoreEntries → Scope → List Typing
   core_key_typings no_core_entries s = []
   core_key_typings (more_core_entries k v more) s = core_typing k s ∷ core_key_typings more s
 
--- a call by its arguments
+-- the type of a call, given its arguments
 abbrev pub call_typing : Callee → Cores → Scope → Typing
 call_typing c (more_cores a no_cores) s = with_type (core_typing a s) (function_row (function_in c))
 call_typing c arguments s = with_types (core_typings arguments s) (refused NoOverload)
 
--- a method of what has this type, by its arguments
+-- the type of a method call on a value of this type, given its arguments
 abbrev pub method_typing : Callee → CelType → Cores → Scope → Typing
 method_typing c t no_cores s = method_row (function_in c) t
 method_typing c t (more_cores b no_cores) s = with_type (core_typing b s) (test_row (test_in c) t)

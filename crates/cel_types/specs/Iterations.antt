@@ -1,4 +1,4 @@
--- The iteration names in force, and the scope that they make with the variables.
+-- The iteration names in scope, and the scope of these names and variables.
 use Rattle.std.specs.Prelude.{ℕ, List, [], ◌∷◌, map}
 use Rattle.cel_types.specs.declared.iterations.Iterations.{Iterations}
 use Rattle.cel_types.specs.declared.iterations.Iterations.TheOpen.{Iterations-F}
@@ -8,7 +8,7 @@ use Rattle.cel_types.specs.declared.variable.Variable.{Variable}
 use Rattle.cel_types.specs.Scope.{Scope}
 use Rattle.cel_types.specs.Declarations.{declaration, types_of}
 
--- one layer, with the names of the macros around it
+-- one layer, and the names of the macros around it
 abbrev pub names_step : Iterations-F (List (List ℕ)) → List (List ℕ)
 names_step layer.Outside = []
 names_step (layer.Within n outer) = n.now ∷ outer.now

@@ -1,4 +1,4 @@
--- What is proved of types beside their soundness.
+-- What is proved of types besides their soundness.
 use Rattle.std.specs.Prelude.{◌≡◌}
 use Rattle.cel_reader.specs.Tree.{Tree}
 use Rattle.cel_macros.specs.CoreTree.{Core, expanded, plain_tree}
@@ -8,7 +8,7 @@ use Rattle.cel_types.specs.Scope.{Scope}
 use Rattle.cel_types.specs.Typing.{typing}
 use Rattle.cel_types.specs.CoreTyping.{core_typing}
 
--- an expanded expression has the plain one's type, and its faults
+-- an expanded expression has the same type or fault as the plain one
 abbrev pub TypesStay : Type 0
 TypesStay = (e : Tree) (s : Scope) → core_typing (expanded e) s ≡ typing e s
 

@@ -1,3 +1,5 @@
+-- The type table of expressions, the type checker's results, and what is proved of types.
+
 pub mod Types
 pub mod ErrorCodes
 pub mod Scope

@@ -1,4 +1,4 @@
--- Which type an expression has, or which fault, as relations over the rows of the table of types.
+-- The type or the fault of an expression, as relations over the rows of the type table.
 use Rattle.std.specs.Prelude.{◌≡◌, ◌↔◌, ◌⊎◌, List, [], ◌∷◌, map, is_some, if◌then◌else◌}
 use Rattle.cel_reader.specs.Tree as tree
 use Rattle.cel_reader.specs.Tree.{Tree, TreeEntries, no_trees, more_trees, no_entries, more_entries, tree_list}
@@ -9,7 +9,7 @@ use Rattle.cel_types.specs.Scope.{Scope, within}
 use Rattle.cel_types.specs.Typing.{HasType, HasFault}
 use Rattle.cel_types.specs.TypeRows.{IsRow}
 
--- the keys and the values of a map literal, in the order in which they stand
+-- the keys and values of a map literal, in source order
 abbrev pub keys_and_values : TreeEntries → List Tree
 keys_and_values no_entries = []
 keys_and_values (more_entries k v more) = k ∷ v ∷ keys_and_values more
@@ -18,9 +18,9 @@ keys_and_values (more_entries k v more) = k ∷ v ∷ keys_and_values more
 abbrev pub in_scope : Scope → List Tree → List (Scope × Tree)
 in_scope s es = map (λ e. (s, e)) es
 
--- The parts of an expression from left to right, each with its scope. What stands before the dot of `variables.v` is
--- none; of `has(a.f)` the part is a; and of a macro they are its range and, with its iteration name in scope, what is
--- behind that name.
+-- The parts of an expression from left to right, each with its scope. In `variables.v` the name before the dot is not
+-- a part. In `has(a.f)` the part is a. The parts of a macro are its range and, with its iteration name in scope, the
+-- arguments after that name.
 abbrev pub parts_of : Scope → Tree → List (Scope × Tree)
 parts_of s (tree.literal l) = []
 parts_of s (tree.name n) = []
@@ -40,45 +40,44 @@ parts_of s (tree.method a n (more_trees (tree.name i) (more_trees p (more_trees 
 parts_of s (tree.method a n arguments) = in_scope s (a ∷ tree_list arguments)
 
 mutual
-  -- in the scope the expression has the type: its parts have types, and a row of the table says what it has with those
+  -- the expression has this type in the scope: its parts have types, and a row of the table has this type for them
   pub data Has : Scope → Tree → CelType → Type 0 where
     by_row : {s : Scope} {e : Tree} {ts : List CelType} {t : CelType} → Have (parts_of s e) ts → IsRow s e ts t → Has s e t
 
-  -- the expressions have these types, in their order
+  -- the expressions have these types, in order
   pub data Have : List (Scope × Tree) → List CelType → Type 0 where
     no_parts : Have [] []
     next_part : {s : Scope} {e : Tree} {t : CelType} {more : List (Scope × Tree)} {ts : List CelType} → Has s e t → Have more ts
         → Have ((s, e) ∷ more) (t ∷ ts)
 
--- what is wrong where no row takes the types of the parts: the use of `variables`, a name that is not known, or else
--- the operands
+-- the fault if no row has the types of the parts: a misuse of `variables`, an unknown name, or else the operands
 abbrev pub cause : Tree → TypeFault
 cause (tree.name n) = if is_variables (tree.name n) then MisplacedVariables else UnknownName
 cause (tree.select a f) = if is_variables a then MisplacedVariables else NoOverload
 cause _ = NoOverload
 
 mutual
-  -- in the scope this is wrong with the expression: it is with a part, or the parts have types and no row takes them
+  -- the expression has this fault in the scope: a part has it, or the parts have types without a row
   pub data Fault : Scope → Tree → TypeFault → Type 0 where
     in_part : {s : Scope} {e : Tree} {y : TypeFault} → FirstFault (parts_of s e) y → Fault s e y
     at_node : {s : Scope} {e : Tree} {ts : List CelType} → Have (parts_of s e) ts → ((t : CelType) → IsRow s e ts t → ⊥)
         → Fault s e (cause e)
 
-  -- it is wrong with the first of the expressions that has no type
+  -- the first of these expressions that has no type has this fault
   pub data FirstFault : List (Scope × Tree) → TypeFault → Type 0 where
     here : {s : Scope} {e : Tree} {more : List (Scope × Tree)} {y : TypeFault} → Fault s e y → FirstFault ((s, e) ∷ more) y
     behind : {s : Scope} {e : Tree} {t : CelType} {more : List (Scope × Tree)} {y : TypeFault} → Has s e t → FirstFault more y
         → FirstFault ((s, e) ∷ more) y
 
--- the type that `typing` finds is the one that the rows give, and there is none exactly where they give none
+-- `typing` gives the type that the rows give, and none exactly if they give none
 abbrev pub TypesAreRows : Type 0
 TypesAreRows = (e : Tree) (s : Scope) (t : CelType) → HasType s e t ↔ Has s e t
 
--- the fault that `typing` finds is that of the first part that no row takes
+-- `typing` gives the fault of the first part without a row
 abbrev pub FaultsAreFirst : Type 0
 FaultsAreFirst = (e : Tree) (s : Scope) (y : TypeFault) → HasFault s e y ↔ Fault s e y
 
--- each expression has one type or one fault, never two and never both
+-- each expression has exactly one type or one fault, never both
 pub record OneTypeOrFault : Type 0 where
   pub one : (s : Scope) (e : Tree) → ((t : CelType) × Has s e t) ⊎ ((y : TypeFault) × Fault s e y)
   pub one_type : (s : Scope) (e : Tree) (t u : CelType) → Has s e t → Has s e u → t ≡ u

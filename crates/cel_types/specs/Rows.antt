@@ -9,15 +9,15 @@ use Rattle.cel_types.specs.Typing.{typing}
 use Rattle.cel_reader.specs.Written.{num, str, yes, no, nothing, name, dot, call, method, map_literal}
 use Rattle.cel_macros.specs.Written.{variable}
 
--- one variable `v`, an int
+-- a scope with one variable `v` of type int
 abbrev pub scope : Scope
 scope = record { items = []; variables = (codes "v", type.Int) ∷ [] }
 
--- the expression has this type, or this fault, in that scope
+-- in this scope the expression has this type or fault
 abbrev pub Types : Tree → Typing → Type 0
 Types e t = typing e scope ≡ t
 
--- expressions, each with its type or its first fault
+-- expressions with their types or first faults
 pub record TypingRows : Type 0 where
   -- 1 < 2 < 3
   pub order_of_truth_and_int : Types (binary Less (binary Less (num 1) (num 2)) (num 3)) (refused NoOverload)

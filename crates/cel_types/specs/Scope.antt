@@ -7,28 +7,28 @@ use Rattle.cel_types.specs.declared.cel_type.CelType.{CelType}
 use Rattle.cel_types.specs.declared.cel_type.CelType.TheVariants as type
 use Rattle.cel_types.specs.Types.{Typing, typed, refused, UnknownName, MisplacedVariables}
 
--- the iteration names, and the variables that may be used with their types
+-- the iteration names, and the variables that may be used, with their types
 pub record Scope : Type 0 where
   pub items : List (List ℕ)
   pub variables : List (List ℕ × CelType)
 
--- whether a name stands for anything: a root, or one of the iteration names
+-- whether a name is known: it is a root or one of the iteration names
 abbrev pub is_known : List ℕ → List (List ℕ) → Bool
 is_known n items = is_root n || list_any (bytes_eq n) items
 
--- the type of a name: Dyn where it is known; faults are `variables` by itself, and a name that is not known
+-- the type of a name: Dyn if it is known; a fault for `variables` alone and for an unknown name
 unfoldable pub name_type : List ℕ → List (List ℕ) → Typing
 name_type n items =
     if bytes_eq variables_name n then refused MisplacedVariables
     else (if is_known n items then typed type.Dyn
     else refused UnknownName)
 
--- the type, and a fault of `variables` where there is none
+-- the type, or the fault of `variables` if there is none
 abbrev pub type_or_fault : Option CelType → Typing
 type_or_fault (Some t) = typed t
 type_or_fault None = refused MisplacedVariables
 
--- the type of `variables.n`: that of the variable n, where it may be used
+-- the type of `variables.n`: that of variable n, if it may be used
 unfoldable pub variable_type : List ℕ → List (List ℕ × CelType) → Typing
 variable_type n variables = type_or_fault (lookup n variables)
 

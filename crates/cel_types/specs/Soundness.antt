@@ -1,4 +1,4 @@
--- What an accepted expression means has its type, or is the error.
+-- The value of an accepted expression has the expression's type, or is the error.
 use Rattle.std.specs.Prelude.{◌≡◌, ℕ, List, Bool, true, ◌||◌, ⊤}
 use Rattle.cel_reader.specs.Tree.{Tree}
 use Rattle.value_store.specs.Value.{Value, null, boolean, int, text, list, map, ValueOrError, error, value}
@@ -19,11 +19,11 @@ type_of (text s) = type.String
 type_of (list is) = type.List
 type_of (map es) = type.Map
 
--- every value fits Dyn
+-- whether a value has this type; every value has type Dyn
 abbrev pub fits_type : CelType → Value → Bool
 fits_type t v = same_type t type.Dyn || same_type t (type_of v)
 
--- the error fits every type, and a value one that it has; of what is refused nothing is said
+-- the error has every type, and a value its own; nothing is stated for an expression with a fault
 abbrev pub FitsType : Typing → ValueOrError → Type 0
 FitsType (typed t) error = ⊤
 FitsType (typed t) (value v) = fits_type t v ≡ true
@@ -33,6 +33,6 @@ FitsType (refused y) x = ⊤
 abbrev pub FitsScope : Scope → Environment → Type 0
 FitsScope s env = (v : List ℕ) → FitsType (variable_type v s.variables) (variable_value v env.variables)
 
--- where the variables have their types, what an expression means has its type, or is the error
+-- if the variables have their types, the value of an expression has its type or is the error
 abbrev pub IsSound : Type 0
 IsSound = (e : Tree) (s : Scope) (env : Environment) → FitsScope s env → FitsType (typing e s) (meaning e env)

@@ -1,4 +1,4 @@
--- The rows of the table of types. A row also holds where an operand has type Dyn.
+-- The rows of the type table. A row also holds if an operand has type Dyn.
 use Rattle.std.specs.Prelude.{Bool, true, false, ◌&&◌, [], ◌∷◌, Option, Some, None, if◌then◌else◌}
 use Rattle.cel_reader.specs.Tree as tree
 use Rattle.cel_reader.specs.declared.operator.BinaryOperator.{BinaryOperator}
@@ -27,7 +27,7 @@ field_row t = row (allowed (type.Map ∷ []) t) type.Dyn
 abbrev pub has_row : CelType → Typing
 has_row t = row (allowed (type.Map ∷ []) t) type.Bool
 
--- a[k] is Dyn: a list by an int, a map by a string, and what is Dyn by either
+-- a[k] is Dyn: for a list and an int, a map and a string, and for Dyn and either
 abbrev pub index_row : CelType → CelType → Typing
 index_row type.List k = row (allowed (type.Int ∷ []) k) type.Dyn
 index_row type.Map k = row (allowed (type.String ∷ []) k) type.Dyn
@@ -43,7 +43,7 @@ unary_row unary.Negate t = row (allowed (type.Int ∷ []) t) type.Int
 abbrev pub logic_row : CelType → CelType → Typing
 logic_row a b = row (both_allowed (type.Bool ∷ []) a b) type.Bool
 
--- < <= >= > of two ints, two strings or two bools are a bool
+-- <, <=, >= and > of two ints, two strings or two bools are a bool
 abbrev pub order_row : CelType → CelType → Typing
 order_row a b = row (both_allowed (type.Int ∷ type.String ∷ type.Bool ∷ []) a b && agree a b) type.Bool
 
@@ -51,22 +51,22 @@ order_row a b = row (both_allowed (type.Int ∷ type.String ∷ type.Bool ∷ []
 abbrev pub equality_row : CelType → CelType → Typing
 equality_row a b = row (agree a b) type.Bool
 
--- x in y is a bool: any x in a list, or in what is Dyn, and a string in a map
+-- x in y is a bool: for any x and a list or Dyn, and for a string and a map
 abbrev pub member_row : CelType → CelType → Typing
 member_row x type.List = typed type.Bool
 member_row x type.Dyn = typed type.Bool
 member_row x type.Map = row (allowed (type.String ∷ []) x) type.Bool
 member_row x _ = refused NoOverload
 
--- + of two ints, two strings or two lists is of their type
+-- + of two ints, two strings or two lists has their type
 abbrev pub sum_row : CelType → CelType → Typing
 sum_row a b = row (both_allowed (type.Int ∷ type.String ∷ type.List ∷ []) a b && agree a b) (known_of a b)
 
--- - * / % of two ints are an int
+-- -, *, / and % of two ints are an int
 abbrev pub arithmetic_row : CelType → CelType → Typing
 arithmetic_row a b = row (both_allowed (type.Int ∷ []) a b) type.Int
 
--- the row of an operator between operands of these types
+-- the row of a binary operator, given the types of its operands
 abbrev pub binary_row : BinaryOperator → CelType → CelType → Typing
 binary_row binary.Or a b = logic_row a b
 binary_row binary.And a b = logic_row a b
@@ -83,7 +83,7 @@ binary_row binary.Multiply a b = arithmetic_row a b
 binary_row binary.Divide a b = arithmetic_row a b
 binary_row binary.Remainder a b = arithmetic_row a b
 
--- branches of one type have that type, and else Dyn where one is Dyn
+-- branches of one type have this type; otherwise Dyn if one is Dyn
 abbrev pub ternary_row : CelType → CelType → CelType → Typing
 ternary_row c a b = row (allowed (type.Bool ∷ []) c && agree a b) (if same_type a b then a else type.Dyn)
 
@@ -91,7 +91,7 @@ ternary_row c a b = row (allowed (type.Bool ∷ []) c && agree a b) (if same_typ
 abbrev pub size_row : CelType → Typing
 size_row t = row (allowed (type.String ∷ type.List ∷ type.Map ∷ []) t) type.Int
 
--- the row of a function: size is an int; string of an int or a string is a string; dyn of anything is Dyn
+-- the row of a function: size gives an int; string of an int or a string gives a string; dyn of any value is Dyn
 abbrev pub function_row : Option Function → CelType → Typing
 function_row (Some Size) t = size_row t
 function_row (Some String) t = row (allowed (type.Int ∷ type.String ∷ []) t) type.String
@@ -110,7 +110,7 @@ abbrev pub test_row : Option TextTest → CelType → CelType → Typing
 test_row (Some f) a b = row (both_allowed (type.String ∷ []) a b) type.Bool
 test_row None a b = refused NoOverload
 
--- what a macro asks of its part: a bool, and nothing where it is `map`
+-- the types that a macro accepts for its part: a bool, or any type for `map`
 abbrev pub part_allowed : Macro → CelType → Bool
 part_allowed All t = allowed (type.Bool ∷ []) t
 part_allowed Exists t = allowed (type.Bool ∷ []) t
@@ -118,7 +118,7 @@ part_allowed ExistsOne t = allowed (type.Bool ∷ []) t
 part_allowed Filter t = allowed (type.Bool ∷ []) t
 part_allowed Map t = true
 
--- what a macro gives: a bool, or a list
+-- the type of a macro: a bool, or a list
 abbrev pub macro_type : Macro → CelType
 macro_type All = type.Bool
 macro_type Exists = type.Bool
@@ -126,23 +126,23 @@ macro_type ExistsOne = type.Bool
 macro_type Filter = type.List
 macro_type Map = type.List
 
--- a macro goes over a list or a map
+-- the range of a macro is a list or a map
 abbrev pub is_range : CelType → Bool
 is_range t = allowed (type.List ∷ type.Map ∷ []) t
 
--- the row of a macro, by the types of its range and of its part
+-- the row of a macro, given the types of its range and its part
 abbrev pub macro_row : Macro → CelType → CelType → Typing
 macro_row m r p = row (is_range r && part_allowed m p) (macro_type m)
 
--- the row of `map` with a predicate and a transform, by the types of its range and of both
+-- the row of `map` with a predicate and a transform, given the types of its range and of both
 abbrev pub map_row : CelType → CelType → CelType → Typing
 map_row r p t = row (is_range r && allowed (type.Bool ∷ []) p) type.List
 
--- a key may be a text: it is a string or Dyn, and has no fault
+-- a key may be a text: it has type string or Dyn, and no fault
 abbrev pub is_text_key : Typing → Bool
 is_text_key (typed t) = allowed (type.String ∷ []) t
 is_text_key (refused y) = false
 
--- a map literal, by whether all its keys may be texts
+-- the row of a map literal; the argument says whether all its keys may be texts
 abbrev pub map_literal_row : Bool → Typing
 map_literal_row texts = row texts type.Map

@@ -1,4 +1,4 @@
--- The type of an expression, or the first fault, parts from left to right before their node.
+-- The type of an expression or its first fault. Parts come from left to right and before their node.
 use Rattle.std.specs.Prelude.{◌≡◌, ℕ, Bool, true, false, List, [], ◌∷◌, Option, Some, None}
 use Rattle.std.specs.List.{list_all}
 use Rattle.cel_reader.specs.Tree as tree
@@ -14,31 +14,31 @@ use Rattle.cel_types.specs.Scope.{Scope, name_type, variable_type, within}
 use Rattle.cel_types.specs.TypeTable.{literal_type, field_row, has_row, index_row, unary_row, binary_row, ternary_row, function_row}
 use Rattle.cel_types.specs.TypeTable.{method_row, test_row, macro_row, map_row, is_text_key, map_literal_row}
 
--- the type of a selection: that of the variable f where it is of `variables`, and else that of a field
+-- the type of a selection: that of variable f if it is from `variables`, else that of a field
 abbrev pub selected_type : Bool → List ℕ → Typing → Scope → Typing
 selected_type true f a s = variable_type f s.variables
 selected_type false f a s = with_type a field_row
 
--- `has(e.f)`, where x is e's type, or a function of y
+-- `has(e.f)`, with the type x of e, or a function of y
 abbrev pub call_type : Bool → Option (List ℕ) → Option Function → Typing → Typing → Typing
 call_type true (Some f) g x y = with_type x has_row
 call_type true None g x y = with_type y (function_row g)
 call_type false f g x y = with_type y (function_row g)
 
--- a macro's range and its part at a name; a method that is no macro has no row
+-- a macro with its range, and its part for an iteration name; a method that is not a macro has no row
 abbrev pub fold_type : Option Macro → Option (List ℕ) → Typing → (List ℕ → Typing) → List Typing → Typing
 fold_type (Some m) (Some n) r p parts = with_type r (λ a. with_type (p n) (λ b. macro_row m a b))
 fold_type (Some m) None r p parts = with_types parts (refused NoOverload)
 fold_type None n r p parts = with_types parts (refused NoOverload)
 
--- the same of `map` with a predicate and a transform, each at a name
+-- `map` with a predicate and a transform, each for an iteration name
 abbrev pub fold_map_type : Bool → Option (List ℕ) → Typing → (List ℕ → Typing) → (List ℕ → Typing) → List Typing → Typing
 fold_map_type true (Some n) r p t parts = with_type r (λ a. with_type (p n) (λ b. with_type (t n) (λ c. map_row a b c)))
 fold_map_type true None r p t parts = with_types parts (refused NoOverload)
 fold_map_type false n r p t parts = with_types parts (refused NoOverload)
 
 unfoldable mutual
-  -- the type of an expression in a scope, or its first fault, parts from left to right before their node
+  -- the type of an expression in a scope, or its first fault; parts come from left to right and before their node
   pub typing : Tree → Scope → Typing
   typing (tree.literal l) s = typed (literal_type l)
   typing (tree.name n) s = name_type n s.items
@@ -62,22 +62,22 @@ unfoldable mutual
       (typing a s ∷ typing x s ∷ typing p s ∷ typing t s ∷ [])
   typing (tree.method a n arguments) s = with_types (typing a s ∷ typings arguments s) (refused NoOverload)
 
-  -- of `e.f` the type of e; of all else a fault, which nothing uses
+  -- for `e.f` the type of e; for other expressions a fault that is not used
   pub operand_typing : Tree → Scope → Typing
   operand_typing (tree.select a f) s = typing a s
   operand_typing _ s = refused NoOverload
 
-  -- each of the expressions so
+  -- the typing of each of the expressions
   pub typings : Trees → Scope → List Typing
   typings no_trees s = []
   typings (more_trees a more) s = typing a s ∷ typings more s
 
-  -- keys and values in their order
+  -- the typings of keys and values in order
   pub entry_typings : TreeEntries → Scope → List Typing
   entry_typings no_entries s = []
   entry_typings (more_entries k v more) s = typing k s ∷ typing v s ∷ entry_typings more s
 
-  -- each key so
+  -- the typing of each key
   pub key_typings : TreeEntries → Scope → List Typing
   key_typings no_entries s = []
   key_typings (more_entries k v more) s = typing k s ∷ key_typings more s
@@ -86,6 +86,6 @@ unfoldable mutual
 abbrev pub HasType : Scope → Tree → CelType → Type 0
 HasType s e t = typing e s ≡ typed t
 
--- the first part of the tree without a row is refused so
+-- the first part of the tree without a row has this fault
 abbrev pub HasFault : Scope → Tree → TypeFault → Type 0
 HasFault s e y = typing e s ≡ refused y

@@ -1,6 +1,6 @@
-//! Types.
+//! The types of expressions.
 
-/// A type that the checker tells apart. (cel-spec, Types)
+/// A type that the checker distinguishes. (cel-spec, Types)
 #[derive(Clone, Copy, Debug, PartialEq, Eq)]
 pub enum CelType {
     Bool,
@@ -9,6 +9,6 @@ pub enum CelType {
     Null,
     List,
     Map,
-    /// What is known only when the expression is evaluated.
+    /// A type that is known only at evaluation.
     Dyn,
 }

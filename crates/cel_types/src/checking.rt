@@ -1,4 +1,4 @@
-//! The checking of types.
+//! Checks the types of expressions.
 
 ghost use Rattle.std.specs.Prelude.{◌≡◌, IfErr, IfOk};
 ghost use Rattle.std.specs.Prelude as list;
@@ -27,7 +27,7 @@ use crate::type_error::TypeError;
 use crate::variable::Variable;
 use cel_macros::{Callee, Core};
 
-/// What is wrong with the first of these that has no type, and else the answer that was given.
+/// The error of the first part that has no type, or else the given result.
 #[cycle(typing)]
 #[tactic(auto, unfolding(crate::specs::CoreTyping::core_typing))]
 fn parts_type(
@@ -90,7 +90,7 @@ fn call_type(
     }
 }
 
-/// The type of a method on what has this type.
+/// The type of a method call on a value of this type.
 #[cycle(typing)]
 #[tactic(auto, using(crate::proofs::Arguments::method_of_many))]
 fn method_type(
@@ -117,7 +117,7 @@ fn method_type(
     }
 }
 
-/// The type of the expression in the scope that these names and variables make.
+/// The type of the expression, with these iteration names and variables in scope.
 #[cycle(typing)]
 #[tactic(auto, unfolding(crate::specs::CoreTyping::core_typing))]
 fn core_type(core: &Core, names: &Iterations, variables: &[Variable]) -> Result<CelType, TypeError>
@@ -180,25 +180,24 @@ fn core_type(core: &Core, names: &Iterations, variables: &[Variable]) -> Result<
     }
 }
 
-/// The type of the expression outside of every macro.
+/// The type of the expression outside all macros.
 fn outer_type(core: &Core, variables: &[Variable]) -> Result<CelType, TypeError>
     ensures { typing_of result ≡ core_typing (core_view core.now) (scope_of (list.map declaration variables.now)) }
 {
     core_type(core, &Iterations::Outside, variables)
 }
 
-/// The type of the expression, as the table of types has it. Else the error says what is wrong with
-/// the first part without a row, parts from left to right before their node: `UnknownIdentifier`
-/// for an unknown name, `NoMatchingOverload` for operands that nothing takes, `MisusedVariables`
-/// for `variables` before no variable of the scope. It takes no memory.
+/// The type of the expression by the table of types. Otherwise the error is that of the first part
+/// without a row, where parts come from left to right and before their node: `UnknownIdentifier`
+/// for an unknown name, `NoMatchingOverload` for operands without an overload, `MisusedVariables`
+/// for `variables` without a variable of the scope. Nothing is allocated.
 ///
-/// An expression of any shape that has a type is what its plain tree expands to, and that tree has
-/// this type; what it means in an environment that fits the scope has the type too, or is the
-/// error. The error is said of the plain tree too where the expression is an expansion: written by
-/// hand it can be refused where its plain tree reads as a macro or a variable.
+/// An expression of any shape that has a type is the expansion of its plain tree, and this tree has
+/// the same type. Its value in an environment that fits the scope has this type too, or is the
+/// error. An error also holds for the plain tree if the expression is an expansion. An expression
+/// built by hand may be refused although its plain tree, read as a macro or a variable, is not.
 ///
-/// The host's stack holds one frame for each level of the tree, as for the expansion of macros.
-/// (cel-spec, Gradual Type Checking)
+/// The recursion is as deep as the tree, as in macro expansion. (cel-spec, Gradual Type Checking)
 pub fn check(core: &Core, scope: &Scope) -> Result<CelType, TypeError>
     ensures core { typing_of result ≡ core_typing (core_view core.now) (scope_of scope.now) }
     ensures plain { (e : Tree) → core_view core.now ≡ expanded e → typing_of result ≡ typing e (scope_of scope.now) }

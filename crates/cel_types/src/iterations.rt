@@ -1,10 +1,10 @@
-//! The iteration names in force.
+//! The iteration names in scope.
 
 /// The iteration names of the macros around an expression, the innermost first.
 #[derive(Drop)]
 pub(crate) enum Iterations<'a> {
-    /// Outside of every macro.
+    /// Outside all macros.
     Outside,
-    /// Within a macro of this iteration name, and those around it.
+    /// Inside a macro: its iteration name, and the names of the macros around it.
     Within(&'a str, &'a Iterations<'a>),
 }

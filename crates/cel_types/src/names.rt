@@ -1,4 +1,4 @@
-//! What names stand for.
+//! The types of names.
 
 ghost use Rattle.std.specs.Prelude.{◌≡◌, bytes_eq, map};
 ghost use Rattle.std.specs.List.{list_any};
@@ -14,7 +14,7 @@ use crate::iterations::Iterations;
 use crate::type_error::TypeError;
 use crate::variable::Variable;
 
-/// Whether the name is a root's.
+/// Whether this is the name of a root.
 #[tactic(auto, unfolding(cel_macros::specs::Environment::is_root))]
 fn is_root(name: &str) -> bool
     ensures { result ≡ environment.is_root name.now }
@@ -26,7 +26,7 @@ fn is_root(name: &str) -> bool
         || name == "request"
 }
 
-/// Whether the name is an iteration name in force.
+/// Whether this is an iteration name in scope.
 fn is_iteration(name: &str, names: &Iterations) -> bool
     ensures { result ≡ list_any (bytes_eq name.now) (names_of names.now) }
 {
@@ -36,7 +36,7 @@ fn is_iteration(name: &str, names: &Iterations) -> bool
     }
 }
 
-/// Whether the name stands for a root or an item.
+/// Whether this is the name of a root or an item.
 fn is_known(name: &str, names: &Iterations) -> bool
     ensures { result ≡ specs.is_known name.now (names_of names.now) }
 {
@@ -57,7 +57,7 @@ pub(crate) fn name_type(name: &str, names: &Iterations) -> Result<CelType, TypeE
     Err(TypeError::UnknownIdentifier)
 }
 
-/// The type of the first variable of this name.
+/// The type of the first variable with this name.
 fn type_named(name: &str, variables: &[Variable]) -> Option<CelType>
     ensures { result ≡ lookup name.now (types_of (map declaration variables.now)) }
 {

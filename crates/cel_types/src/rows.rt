@@ -49,7 +49,7 @@ fn agree(a: CelType, b: CelType) -> bool
     same(a, b) || (same(a, CelType::Dyn) || same(b, CelType::Dyn))
 }
 
-/// The type where the row holds.
+/// The type, if the row holds.
 fn row(holds: bool, t: CelType) -> Result<CelType, TypeError>
     ensures { typing_of result ≡ types.row holds t }
 {
@@ -85,7 +85,7 @@ pub(crate) fn has(of: CelType) -> Result<CelType, TypeError>
     row(allows(&[CelType::Map], of), CelType::Bool)
 }
 
-/// The type of an item or entry.
+/// The type of an item or a map's value.
 pub(crate) fn index(of: CelType, at: CelType) -> Result<CelType, TypeError>
     ensures { typing_of result ≡ table.index_row of at }
 {
@@ -97,7 +97,7 @@ pub(crate) fn index(of: CelType, at: CelType) -> Result<CelType, TypeError>
     }
 }
 
-/// The type of an operator before its operand.
+/// The type of a unary operator.
 pub(crate) fn unary(operator: UnaryOperator, t: CelType) -> Result<CelType, TypeError>
     ensures { typing_of result ≡ table.unary_row operator t }
 {
@@ -114,14 +114,14 @@ fn logic(a: CelType, b: CelType) -> Result<CelType, TypeError>
     row(allows_both(&[CelType::Bool], a, b), CelType::Bool)
 }
 
-/// Whether two types have an order.
+/// Whether two types can be ordered.
 fn are_ordered(a: CelType, b: CelType) -> bool
     ensures { result ≡ (types.both_allowed (kind.Int ∷ kind.String ∷ kind.Bool ∷ []) a b && types.agree a b) }
 {
     allows_both(&[CelType::Int, CelType::String, CelType::Bool], a, b) && agree(a, b)
 }
 
-/// The type of an order.
+/// The type of an ordering operator.
 fn order(a: CelType, b: CelType) -> Result<CelType, TypeError>
     ensures { typing_of result ≡ table.order_row a b }
 {
@@ -139,14 +139,14 @@ fn member(x: CelType, of: CelType) -> Result<CelType, TypeError>
     }
 }
 
-/// Whether two types have a sum.
+/// Whether two types can be added.
 fn are_added(a: CelType, b: CelType) -> bool
     ensures { result ≡ (types.both_allowed (kind.Int ∷ kind.String ∷ kind.List ∷ []) a b && types.agree a b) }
 {
     allows_both(&[CelType::Int, CelType::String, CelType::List], a, b) && agree(a, b)
 }
 
-/// Of two types the one that is not Dyn, if there is one.
+/// The one of two types that is not Dyn, if there is one.
 fn known(a: CelType, b: CelType) -> CelType
     ensures { result ≡ types.known_of a b }
 {
@@ -167,7 +167,7 @@ fn arithmetic(a: CelType, b: CelType) -> Result<CelType, TypeError>
     row(allows_both(&[CelType::Int], a, b), CelType::Int)
 }
 
-/// The type of an operator between its operands.
+/// The type of a binary operator.
 pub(crate) fn binary(operator: BinaryOperator, a: CelType, b: CelType) -> Result<CelType, TypeError>
     ensures { typing_of result ≡ table.binary_row operator a b }
 {
@@ -243,7 +243,7 @@ pub(crate) fn method(callee: &Callee, t: CelType) -> Result<CelType, TypeError>
     }
 }
 
-/// The type of a test of a text for a part.
+/// The type of a test of a text by another text.
 pub(crate) fn text_test(callee: &Callee, a: CelType, b: CelType) -> Result<CelType, TypeError>
     ensures { typing_of result ≡ table.test_row (test_in (callee_view callee.now)) a b }
 {
@@ -255,7 +255,7 @@ pub(crate) fn text_test(callee: &Callee, a: CelType, b: CelType) -> Result<CelTy
     }
 }
 
-/// Whether a macro takes a predicate or transform of this type.
+/// Whether a macro accepts a predicate or transform of this type.
 fn takes(found: Macro, part: CelType) -> bool
     ensures { result ≡ table.part_allowed found part }
 {
@@ -277,7 +277,7 @@ fn gives(found: Macro) -> CelType
     }
 }
 
-/// Whether a macro goes over this range with this part.
+/// Whether a macro accepts this range and this part.
 fn is_fold(found: Macro, range: CelType, part: CelType) -> bool
     ensures { result ≡ (table.is_range range && table.part_allowed found part) }
 {
@@ -302,14 +302,15 @@ pub(crate) fn fold_map(
     row(is_fold(Macro::Filter, range, predicate), CelType::List)
 }
 
-/// Whether keys are texts, of which one more has this type.
+/// Whether all keys are texts, given that the earlier ones are or are not, and the type of the next
+/// one.
 pub(crate) fn keep_texts(texts: bool, key: CelType) -> bool
     ensures { result ≡ (texts && types.allowed (kind.String ∷ []) key) }
 {
     texts && allows(&[CelType::String], key)
 }
 
-/// The type of a map literal, whose keys are texts or not.
+/// The type of a map literal; `texts` says whether all its keys are texts.
 pub(crate) fn map_literal(texts: bool) -> Result<CelType, TypeError>
     ensures { typing_of result ≡ table.map_literal_row texts }
 {

@@ -24,7 +24,7 @@ impl Model for Scope {
 }
 
 impl Scope {
-    /// A scope without variables. It takes no memory.
+    /// An empty scope. Nothing is allocated.
     pub fn new(alloc: Global) -> Self
         ensures { result ≡ [] }
     {
@@ -33,8 +33,7 @@ impl Scope {
         }
     }
 
-    /// Adds a variable behind the others, under a name of its own: of two of one name the first is
-    /// meant. The error says that there is no memory for it.
+    /// Adds a variable. If two variables have the same name, the first one is used.
     pub fn add(&mut self, name: &str, cel_type: CelType, depth: u64) -> Result<(), AllocError>
         ensures ok { OnOk result (self.new ≡ self.old ++ declared name.now cel_type depth ∷ []) }
         ensures err { OnErr result (self.new ≡ self.old) }
@@ -49,7 +48,7 @@ impl Scope {
         Ok(())
     }
 
-    /// The variables in the order in which they were added.
+    /// The variables, in the order in which they were added.
     pub fn variables(&self) -> &[Variable]
         ensures { map declaration result.now ≡ self.now }
     {

@@ -2,16 +2,16 @@
 
 use thiserror::Error;
 
-/// Why an expression has no type: what is wrong with its first part without one.
+/// Why an expression has no type: the error of its first part without a type.
 #[derive(Clone, Copy, Debug, PartialEq, Eq, Error)]
 pub enum TypeError {
-    /// A name is neither that of a root nor an iteration name.
+    /// A name is neither a root nor an iteration name.
     #[error("a name is unknown")]
     UnknownIdentifier,
-    /// No operator, function, method or macro takes operands of these types.
+    /// No operator, function, method or macro accepts operands of these types.
     #[error("nothing takes operands of these types")]
     NoMatchingOverload,
-    /// `variables` is used other than as `variables.name`, with the name of a variable in scope.
+    /// `variables` is used in another way than `variables.name` with a variable in scope.
     #[error("`variables` stands before no variable in scope")]
     MisusedVariables,
 }

@@ -7,6 +7,6 @@ use crate::cel_type::CelType;
 pub struct Variable {
     pub name: String,
     pub cel_type: CelType,
-    /// One more than the greatest depth of the variables that its expression names.
+    /// One more than the greatest depth of the variables that its expression uses.
     pub depth: u64,
 }

@@ -1,3 +1,5 @@
+-- Proofs of `checking::typing`: the result meets the contract.
+
 use Rattle.cel_types.proofs.Prelude.{◌≡◌, ap, ◌∙◌, rules, core_view, view_call, view_method, view_map, scope_within, refused, fault_of, core_typing}
 use Rattle.cel_types.proofs.Arguments.{call_seen, method_refused, method_same, method_seen, map_seen}
 use Rattle.cel_types.proofs.checking.+typing.Goals as goal

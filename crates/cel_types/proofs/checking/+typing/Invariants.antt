@@ -1,3 +1,5 @@
+-- Loop invariants of `checking::typing`.
+
 use Rattle.cel_types.proofs.Prelude.{◌≡◌, ◌&&◌, drop, list_all, core_view, cores, core_entries, core_pair, core_typings, core_entry_typings, core_key_typings, scope_within, is_text_key, map_literal_row, typing_of, with_types}
 use Rattle.std.specs.Prelude as list
 use Rattle.cel_types.proofs.checking.+typing.Given as goal

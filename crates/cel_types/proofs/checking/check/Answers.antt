@@ -1,3 +1,5 @@
+-- Proofs of `checking::check`: the result meets the contract.
+
 use Rattle.cel_types.proofs.Prelude.{◌≡◌, ap, ◌∙◌, sym, subst, Result, Ok, Err, IfOk, IfErr, Tree, Core, expanded, plain_tree, core_view, Environment, meaning, core_typing, scope_of, FitsType, FitsScope, CelType, TypeError, Scope, Typing, fault_of, typing_of, typing, HasFault, HasType}
 use Rattle.cel_types.proofs.CoreTypes.{expansion_typed}
 use Rattle.cel_types.proofs.Sound.{is_sound}

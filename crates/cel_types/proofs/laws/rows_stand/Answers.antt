@@ -1,3 +1,5 @@
+-- Proofs of `laws::rows_stand`: the result meets the contract.
+
 use Rattle.cel_types.proofs.Prelude.{refl, is_root, function_named, test_named, macro_named, is_map, is_has, is_variables, name_type, variable_type, typing}
 use Rattle.cel_types.proofs.laws.rows_stand.Goals as goal
 

@@ -1,3 +1,5 @@
+-- Proofs of `laws::typed_is_expanded`: the result meets the contract.
+
 use Rattle.cel_types.proofs.TypedCores.{typed_is_expanded}
 use Rattle.cel_types.proofs.laws.typed_is_expanded.Goals as goal
 

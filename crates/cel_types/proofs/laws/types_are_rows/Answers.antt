@@ -1,3 +1,5 @@
+-- Proofs of `laws::types_are_rows`: the result meets the contract.
+
 use Rattle.cel_types.proofs.Related.{types_are_rows, faults_are_first, one_type_or_fault}
 use Rattle.cel_types.proofs.laws.types_are_rows.Goals as goal
 

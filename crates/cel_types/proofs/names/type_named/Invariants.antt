@@ -1,3 +1,5 @@
+-- Loop invariant of `names::type_named`.
+
 use Rattle.cel_types.proofs.Prelude.{◌≡◌, map, drop, lookup, declaration, types_of}
 use Rattle.cel_types.proofs.names.type_named.Given as goal
 
