@@ -1,4 +1,4 @@
--- The need of a call, by the number of its arguments.
+-- The need of a call, for each number of arguments.
 use Rattle.cel_measures.proofs.Prelude.{◌≡◌, ◌+◌, ◌<◌, List, [], ◌∷◌, length, map, refl, arith, CodeCore, core_view, cores, call_need, needs}
 
 pub need_of_none : (items : List CodeCore) → length items < 1 → call_need (cores (map core_view items)) ≡ 1

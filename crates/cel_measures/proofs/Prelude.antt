@@ -1,4 +1,4 @@
--- The names that these proofs cite of the library, of the crates below and of the definitions here. Declares nothing.
+-- The names of the library, of the crates below and of the definitions that these proofs use. Declares nothing.
 pub use Rattle.std.proofs.Common.{Bool, List, None, Option, Some, ℕ, [], ap, arith, drop, length, map, max, refl, ◌+◌}
 pub use Rattle.std.proofs.Common.{◌<◌, ◌∙◌, ◌∷◌, ◌≡◌}
 pub use Rattle.cel_macros.specs.CoreTree.{CoreEntries, Core, Cores, call_or_has, method_or_fold, method_or_fold_map}

@@ -1,4 +1,4 @@
--- Each measure of the source is that of the expansion: the tables give the measures of each form.
+-- Each measure of a source expression is that of its expansion: the tables compute the measures of all forms.
 use Rattle.cel_measures.proofs.Prelude.{◌≡◌, ℕ, ◌+◌, max, List, refl, ap, arith, map as each, Core, Cores, CoreEntries, no_cores, more_cores, no_core_entries, more_core_entries, nodes, nodes_of, entries_nodes, need, call_need, needs, needs_behind, entries_need, deepest, deepest_of, entries_deepest, total, greatest, nodes_by, need_by, deepest_by, SameNodes, SameNeed, SameDepth}
 use Rattle.cel_measures.specs.SourceMeasures as source
 use Rattle.cel_measures.proofs.SourceParts.{IsBy, each_core, core_pairs, source_same}

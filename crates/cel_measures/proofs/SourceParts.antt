@@ -1,10 +1,10 @@
--- A measure of expanded expressions that a table gives is what the table gives of the source.
+-- If a table computes a measure of expanded expressions, it gives the same for the source.
 use Rattle.cel_measures.proofs.Prelude.{◌≡◌, ℕ, Bool, List, [], ◌∷◌, Option, Some, None, refl, ap, ◌∙◌, arith, Tree, Trees, TreeEntries, no_trees, more_trees, no_entries, more_entries, Macro, macro_named, is_map, is_variables, name_of, field_name, Core, Cores, CoreEntries, no_cores, more_cores, no_core_entries, more_core_entries, selection, call_or_has, method_or_fold, method_or_fold_map, expanded, expanded_operand, expanded_trees, expanded_entries, ExpressionForm, selected, called, by_method, measured, operand_measured, each_measured, entries_measured, callee_named}
 use Rattle.cel_reader.specs.Tree as tree
 use Rattle.cel_macros.specs.CoreTree as core
 use Rattle.cel_measures.specs.Parts as parts
 
--- the measure of each
+-- the measure of each expression
 abbrev pub each_core : {R : Type 0} → (Core → R) → Cores → List R
 each_core m no_cores = []
 each_core m (more_cores a more) = m a ∷ each_core m more
@@ -31,7 +31,7 @@ core_parts m (core.map es) = parts.map (core_pairs m es)
 core_parts m (core.fold w n r p) = parts.macro (m r) (m p)
 core_parts m (core.fold_map n r p t) = parts.map_where (m r) (m p) (m t)
 
--- the table gives the measure of each form from those of its parts
+-- the table computes the measure of each form from those of its parts
 abbrev pub IsBy : {R : Type 0} → (ExpressionForm R → R) → (Core → R) → Type 0
 IsBy by m = (e : Core) → by (core_parts m e) ≡ m e
 
@@ -39,7 +39,7 @@ module _ {R : Type 0} (by : ExpressionForm R → R) (m : Core → R) (table : Is
   a_selection : (b : Bool) (f : List ℕ) (a : Core) → by (selected b f (m a)) ≡ m (selection b f a)
   a_selection b f a = grind (arith, table)
 
-  -- of the operand of a selection
+  -- the measure of the operand of a selection
   abbrev operand : Option (List ℕ) → Core → Option R
   operand (Some f) inner = Some (m inner)
   operand None inner = None

@@ -1,3 +1,5 @@
+-- The measures of expressions: nodes, stack words and depths.
+
 pub mod Measures
 pub mod Saturated
 pub mod Rows

@@ -1,12 +1,12 @@
--- Measures of an expression, on its tree with macros expanded: its nodes, the stack words that its code needs, and the
--- depth of a variable that it defines.
+-- Measures of an expanded expression: its nodes, the stack words that its code needs, and the depth of a variable
+-- that it defines.
 use Rattle.std.specs.Prelude.{ℕ, ◌+◌, max, List, Option, Some, None}
 use Rattle.cel_macros.specs.Environment.{lookup}
 use Rattle.cel_macros.specs.CoreTree.{Core, Cores, CoreEntries, no_cores, more_cores, no_core_entries, more_core_entries, literal}
 use Rattle.cel_macros.specs.CoreTree.{name, variable, select, has, index, call, method, unary, binary, ternary, list, map, fold, fold_map}
 
 unfoldable mutual
-  -- how many nodes an expression has; the name that a macro declares and the selection inside `has` are none
+  -- the number of nodes; the name that a macro declares and the selection inside `has` do not count
   pub nodes : Core → ℕ
   nodes (literal l) = 1
   nodes (name n) = 1
@@ -24,20 +24,20 @@ unfoldable mutual
   nodes (fold m n r p) = 1 + nodes r + nodes p
   nodes (fold_map n r p t) = 1 + nodes r + nodes p + nodes t
 
-  -- the nodes of all of the expressions
+  -- the number of nodes of all these expressions
   pub nodes_of : Cores → ℕ
   nodes_of no_cores = 0
   nodes_of (more_cores a more) = nodes a + nodes_of more
 
-  -- the nodes of all keys and values
+  -- the number of nodes of all keys and values
   pub entries_nodes : CoreEntries → ℕ
   entries_nodes no_core_entries = 0
   entries_nodes (more_core_entries k v more) = nodes k + nodes v + entries_nodes more
 
 unfoldable mutual
-  -- how many words of the stack an expression takes: an operand stands in a word while the operands behind it are
-  -- evaluated; a list and an entry of a map stand in one while their parts are, a key in one more while its value is,
-  -- and a macro's state in five while its other parts are
+  -- The number of stack words. An operand is kept in a word while later operands are evaluated. A list or a map is
+  -- kept in one while its parts are evaluated, and a key in one more while its value is. The state of a macro takes
+  -- five while its other parts are evaluated.
   pub need : Core → ℕ
   need (literal l) = 1
   need (name n) = 1
@@ -55,34 +55,34 @@ unfoldable mutual
   need (fold m n r p) = max (need r) (5 + need p)
   need (fold_map n r p t) = max (need r) (5 + max (need p) (need t))
 
-  -- a call of a function takes what its one operand takes; other operands would be kept like the items of a list
+  -- a call of a function needs what its one operand needs; further operands would be kept like the items of a list
   pub call_need : Cores → ℕ
   call_need no_cores = 1
   call_need (more_cores a no_cores) = need a
   call_need (more_cores a (more_cores b more)) = 1 + max (need a) (max (need b) (needs more))
 
-  -- the most that one of the expressions takes, 0 where there are none
+  -- the greatest need of these expressions, 0 if there are none
   pub needs : Cores → ℕ
   needs no_cores = 0
   needs (more_cores a more) = max (need a) (needs more)
 
-  -- the most that operands behind a first one take, which stands in a word
+  -- the greatest need of the operands after a first one, which is kept in a word
   pub needs_behind : Cores → ℕ
   needs_behind no_cores = 0
   needs_behind (more_cores a more) = max (1 + need a) (needs_behind more)
 
-  -- the most that one of the entries takes
+  -- the greatest need of these entries
   pub entries_need : CoreEntries → ℕ
   entries_need no_core_entries = 0
   entries_need (more_core_entries k v more) = max (max (1 + need k) (2 + need v)) (entries_need more)
 
--- the depth, and 0 where there is none
+-- the depth, 0 if there is none
 abbrev pub depth_or_none : Option ℕ → ℕ
 depth_or_none (Some d) = d
 depth_or_none None = 0
 
 unfoldable mutual
-  -- the greatest depth of the variables that an expression names, 0 where it names none; s: the depth of each variable
+  -- the greatest depth of the variables that an expression uses, 0 if it uses none; s has the depth of each variable
   pub deepest : Core → List (List ℕ × ℕ) → ℕ
   deepest (literal l) s = 0
   deepest (name n) s = 0
@@ -100,16 +100,16 @@ unfoldable mutual
   deepest (fold m n r p) s = max (deepest r s) (deepest p s)
   deepest (fold_map n r p t) s = max (deepest r s) (max (deepest p s) (deepest t s))
 
-  -- the greatest of the expressions
+  -- the greatest depth for all these expressions
   pub deepest_of : Cores → List (List ℕ × ℕ) → ℕ
   deepest_of no_cores s = 0
   deepest_of (more_cores a more) s = max (deepest a s) (deepest_of more s)
 
-  -- the greatest of the keys and values
+  -- the greatest depth for all keys and values
   pub entries_deepest : CoreEntries → List (List ℕ × ℕ) → ℕ
   entries_deepest no_core_entries s = 0
   entries_deepest (more_core_entries k v more) s = max (max (deepest k s) (deepest v s)) (entries_deepest more s)
 
--- the depth of a variable with this expression, where the variables that it may name have these depths
+-- the depth of a variable with this expression; the variables that it may use have these depths
 abbrev pub depth : Core → List (List ℕ × ℕ) → ℕ
 depth e s = 1 + deepest e s

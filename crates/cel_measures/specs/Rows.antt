@@ -9,15 +9,15 @@ use Rattle.cel_macros.specs.Written.{variable}
 use Rattle.cel_measures.specs.Measures.{nodes, need, depth, depth_or_none}
 use Rattle.cel_measures.specs.Saturated.{saturated}
 
--- the expression has so many nodes
+-- the expression has this number of nodes
 abbrev pub Nodes : Tree → ℕ → Type 0
 Nodes e n = nodes (expanded e) ≡ n
 
--- the expression takes so many words of the stack
+-- the expression needs this number of stack words
 abbrev pub Needs : Tree → ℕ → Type 0
 Needs e n = need (expanded e) ≡ n
 
--- the depth with variable v of depth 1 and w of depth 3
+-- the depth, given variables v of depth 1 and w of depth 3
 abbrev pub Depth : Tree → ℕ → Type 0
 Depth e n = depth (expanded e) ((codes "v", 1) ∷ (codes "w", 3) ∷ []) ≡ n
 
@@ -46,23 +46,23 @@ v = variable "v"
 abbrev pub w : Tree
 w = variable "w"
 
--- [1, 1], which takes two words
+-- [1, 1], which needs two words
 abbrev pub two_words : Tree
 two_words = list_literal (num 1 ∷ num 1 ∷ [])
 
--- [[1, 1]], which takes three
+-- [[1, 1]], which needs three
 abbrev pub three_words : Tree
 three_words = list_literal (two_words ∷ [])
 
--- expressions, each with a measure
+-- expressions with their measures
 pub record MeasureRowsHold : Type 0 where
   -- 1 + (1 + (.. + 1)) == 1
   pub need_of_59 : Needs (binary Equal (to_the_right 59) (num 1)) 60
   pub need_of_60 : Needs (binary Equal (to_the_right 60) (num 1)) 61
-  -- true && true && .. of 255 literals; a policy of this one validation has 2 more
+  -- true && true && .. with 255 literals; a policy with only this validation has 2 more nodes
   pub conjunction_nodes : Nodes (conjoined 254) 509
   pub conjunction_need : Needs (conjoined 254) 2
-  -- the name that is declared is no node
+  -- the declared name is not a node
   pub map_where_nodes : Nodes positive 7
   pub map_where_need : Needs positive 7
   pub all_nodes : Nodes all_true 4
@@ -117,7 +117,7 @@ pub record MeasureRowsHold : Type 0 where
   pub has_depth : Depth (call "has" (dot w "x" ∷ [])) 4
   pub unary_depth : Depth (unary Not w) 4
   pub call_depth : Depth (call "size" (w ∷ [])) 4
-  -- the greatest depth stands in each part in turn
+  -- each part in turn has the greatest depth
   pub sum_depth_on_the_left : Depth (binary Add w v) 4
   pub index_depth : Depth (index w v) 4
   pub key_depth : Depth (index v w) 4
@@ -136,7 +136,7 @@ pub record MeasureRowsHold : Type 0 where
   pub map_range_depth : Depth (method w "map" (name "x" ∷ v ∷ v ∷ [])) 4
   pub map_where_depth : Depth (method v "map" (name "x" ∷ w ∷ v ∷ [])) 4
   pub map_body_depth : Depth (method v "map" (name "x" ∷ v ∷ w ∷ [])) 4
-  -- what takes two or three words stands in each part in turn
+  -- each part in turn needs two or three words
   pub left_need : Needs (binary Add three_words (num 1)) 3
   pub right_need : Needs (binary Add (num 1) two_words) 3
   pub indexed_need : Needs (index three_words (num 1)) 3
@@ -157,7 +157,7 @@ pub record MeasureRowsHold : Type 0 where
   pub map_value_need : Needs (map_literal ((num 1, two_words) ∷ [])) 4
   pub last_entry_need : Needs (map_literal ((num 1, num 1) ∷ (num 1, two_words) ∷ [])) 4
   pub first_item_need : Needs (list_literal (two_words ∷ num 1 ∷ [])) 3
-  -- a range that takes more than the macro's state and its other parts
+  -- a range that needs more than the macro's state and its other parts
   pub range_need : Needs (method (to_the_right 6) "all" (name "x" ∷ yes ∷ [])) 7
   pub map_range_need : Needs (method (to_the_right 6) "map" (name "x" ∷ yes ∷ yes ∷ [])) 7
   pub map_body_need : Needs (method (list_literal (num 1 ∷ [])) "map" (name "x" ∷ yes ∷ two_words ∷ [])) 7

@@ -1,6 +1,6 @@
--- Measures in 64 bits.
+-- Measures in 64 bits, capped.
 use Rattle.std.specs.Prelude.{ℕ, ◌-◌, ◌^◌, min}
 
--- the number, or the greatest one of 64 bits where it does not fit
+-- the number, capped at 2^64 - 1
 abbrev pub saturated : ℕ → ℕ
 saturated n = min n (2 ^ 64 - 1)

@@ -1,4 +1,4 @@
-//! How many nodes an expression has.
+//! Counts the nodes of an expression.
 
 ghost use Rattle.std.specs.Prelude.{◌≡◌};
 ghost use Rattle.std.specs.Prelude as list;
@@ -36,9 +36,9 @@ fn entries_nodes(pairs: &[(Core, Core)]) -> u64
     total
 }
 
-/// How many nodes the expression has: one for each literal, name, variable, selection, `has`,
-/// index, call, operator, ternary, list or map literal and macro. It is the greatest number of 64
-/// bits where there are more, and takes no memory.
+/// The number of nodes of the expression: one for each literal, name, variable, selection, `has`,
+/// index, call, operator, ternary, list or map literal and macro. The number is capped at 2^64 - 1.
+/// Nothing is allocated.
 #[cycle(nodes)]
 #[tactic(auto, using(cel_macros::specs::CoreViewLaws::view_map), unfolding(crate::specs::Measures::nodes))]
 pub fn nodes(core: &Core) -> u64

@@ -1,4 +1,4 @@
-//! Arithmetic that stops at the greatest number.
+//! Saturating arithmetic.
 
 ghost use Rattle.std.specs.Prelude.{◌≡◌, ◌+◌, max};
 ghost use Rattle.cel_measures.specs.Saturated.{saturated};

@@ -1,4 +1,4 @@
-//! How many stack words an expression needs.
+//! Counts the stack words that an expression needs.
 
 ghost use Rattle.std.specs.Prelude.{◌≡◌};
 ghost use Rattle.std.specs.Prelude as list;
@@ -23,7 +23,7 @@ fn greatest_need(parts: &[Core]) -> u64
     most
 }
 
-/// The greatest need of these behind a word that is kept.
+/// The greatest need of these, plus one word that is kept before them.
 #[cycle(need)]
 #[tactic(auto, unfolding(crate::specs::Measures::need))]
 fn need_behind(parts: &[Core]) -> u64
@@ -36,7 +36,7 @@ fn need_behind(parts: &[Core]) -> u64
     most
 }
 
-/// The greatest need of these keys, each behind a word, and of these values, each behind two.
+/// The greatest need of these keys, plus one word each, and of these values, plus two words each.
 #[cycle(need)]
 #[tactic(auto, unfolding(crate::specs::Measures::need))]
 fn entries_need(pairs: &[(Core, Core)]) -> u64
@@ -62,10 +62,10 @@ fn call_need(arguments: &[Core]) -> u64
     }
 }
 
-/// The stack words that the expression needs, its value's among them, as the table of needs counts
-/// them for code to be made of it: an operand stands in a word while those behind it are evaluated,
-/// a list or map literal while its parts are, and a macro keeps five words while its other parts
-/// are. It is the greatest number of 64 bits where there are more, and takes no memory.
+/// The number of stack words that the code of the expression needs, including the word of its
+/// value. An operand is kept in a word while later operands are evaluated, and a list or map
+/// literal while its parts are; a macro keeps five words while its other parts are evaluated. The
+/// number is capped at 2^64 - 1. Nothing is allocated.
 #[cycle(need)]
 #[tactic(auto, using(cel_macros::specs::CoreViewLaws::view_map), unfolding(crate::specs::Measures::need))]
 pub fn need(core: &Core) -> u64

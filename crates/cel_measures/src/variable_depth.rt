@@ -13,7 +13,7 @@ use crate::saturating::{greater, plus};
 use cel_macros::Core;
 use cel_types::{Scope, Variable};
 
-/// The depth of the first variable of this name, 0 where there is none.
+/// The depth of the first variable with this name, 0 if there is none.
 fn depth_named(name: &str, variables: &[Variable]) -> u64
     ensures { result ≡ specs.depth_or_none (lookup name.now (depths_of (list.map declaration variables.now))) }
 {
@@ -25,7 +25,7 @@ fn depth_named(name: &str, variables: &[Variable]) -> u64
     0
 }
 
-/// The greatest depth of the variables that these name.
+/// The greatest depth of the variables that these expressions use.
 #[cycle(deepest)]
 #[tactic(auto, unfolding(crate::specs::Measures::deepest))]
 fn parts_deepest(parts: &[Core], variables: &[Variable]) -> u64
@@ -38,7 +38,7 @@ fn parts_deepest(parts: &[Core], variables: &[Variable]) -> u64
     most
 }
 
-/// The greatest depth of the variables that these keys and values name.
+/// The greatest depth of the variables that these keys and values use.
 #[cycle(deepest)]
 #[tactic(auto, unfolding(crate::specs::Measures::deepest))]
 fn entries_deepest(pairs: &[(Core, Core)], variables: &[Variable]) -> u64
@@ -54,7 +54,7 @@ fn entries_deepest(pairs: &[(Core, Core)], variables: &[Variable]) -> u64
     most
 }
 
-/// The greatest depth of the variables that the expression names, 0 where it names none.
+/// The greatest depth of the variables that the expression uses, 0 if it uses none.
 #[cycle(deepest)]
 #[tactic(auto, unfolding(crate::specs::Measures::deepest))]
 fn deepest(core: &Core, variables: &[Variable]) -> u64
@@ -82,8 +82,8 @@ fn deepest(core: &Core, variables: &[Variable]) -> u64
 }
 
 /// The depth of a variable with this expression in this scope: one more than the greatest depth of
-/// the variables that it names, so 1 where it names none. It is the greatest number of 64 bits
-/// where it is more, and takes no memory.
+/// the variables that it uses, so 1 if it uses none. The depth is capped at 2^64 - 1. Nothing is
+/// allocated.
 pub fn depth(core: &Core, scope: &Scope) -> u64
     ensures { result ≡ saturated (specs.depth (core_view core.now) (depths_of scope.now)) }
 {

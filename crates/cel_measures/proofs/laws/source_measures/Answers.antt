@@ -1,3 +1,5 @@
+-- Proofs of `laws::source_measures`: the result meets the contract.
+
 use Rattle.cel_measures.proofs.SourceMeasures.{same_nodes, same_need, same_depth}
 use Rattle.cel_measures.proofs.laws.source_measures.Goals as goal
 

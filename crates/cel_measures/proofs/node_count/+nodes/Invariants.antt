@@ -1,3 +1,5 @@
+-- Loop invariants of `node_count::nodes`.
+
 use Rattle.cel_measures.proofs.Prelude.{◌≡◌, ◌+◌, drop, core_view, cores, core_entries, core_pair, nodes_of, entries_nodes, saturated}
 use Rattle.std.specs.Prelude as list
 use Rattle.cel_measures.proofs.node_count.+nodes.Given as goal

@@ -1,3 +1,5 @@
+-- Loop invariants of `stack_need::need`.
+
 use Rattle.cel_measures.proofs.Prelude.{◌≡◌, max, drop, core_view, cores, core_entries, core_pair, needs, needs_behind, entries_need, saturated}
 use Rattle.std.specs.Prelude as list
 use Rattle.cel_measures.proofs.stack_need.+need.Given as goal

@@ -1,3 +1,5 @@
+-- Loop invariants of `variable_depth::deepest`.
+
 use Rattle.cel_measures.proofs.Prelude.{◌≡◌, max, drop, core_view, cores, core_entries, core_pair, declaration, depths_of, deepest_of, entries_deepest}
 use Rattle.std.specs.Prelude as list
 use Rattle.cel_measures.proofs.variable_depth.+deepest.Given as goal

@@ -1,3 +1,5 @@
+-- Loop invariant of `variable_depth::depth_named`.
+
 use Rattle.cel_measures.proofs.Prelude.{◌≡◌, map, drop, lookup, declaration, depths_of}
 use Rattle.cel_measures.proofs.variable_depth.depth_named.Given as goal
 
