@@ -7,7 +7,7 @@ equal xs ys e = (bytes_eq-Decides xs ys).0 e
 itself : (xs : List ℕ) → bytes_eq xs xs ≡ true
 itself xs = (bytes_eq-Decides xs xs).1 refl
 
--- what passes one test passes another
+-- everything that passes one test passes another
 any_weaker : {A : Type 0} (f g : A → Bool) (xs : List A) → ((x : A) → f x ≡ true → g x ≡ true) → list_any f xs ≡ true → list_any g xs ≡ true
 any_weaker f g [] h e = e
 any_weaker f g (x ∷ xs) h e =
@@ -31,7 +31,7 @@ one = codes "v1"
 abbrev without_namespace : Attributes → Bool
 without_namespace q = length q.namespace == 0
 
--- the scope fits the request at this version
+-- the scope fits the request in this version
 abbrev scope_at : Rule → Attributes → List ℕ → Bool
 scope_at r q v = scope_fits r.scope (is_cluster q (at_version q.resource v))
 
@@ -40,19 +40,19 @@ no_core a true z n e = absurd (true≢false e)
 no_core true false z n e = refl
 no_core false false z n e = refl
 
--- a version other than v1 has no scope of its own
+-- a version other than v1 has no different scope
 no_scope_of_its_own : (r : Rule) (q : Attributes) (v : List ℕ) → bytes_eq v one ≡ false → scope_at r q v ≡ true → scope_fits r.scope (without_namespace q) ≡ true
 no_scope_of_its_own r q v e fit =
     subst (λ b. scope_fits r.scope b ≡ true) (no_core (length q.resource.group == 0) (bytes_eq v one) (bytes_eq q.resource.resource (codes "namespaces")) (without_namespace q) e) fit
 
--- two versions are not the same where the first is v1 and they differ
+-- two versions differ if the first is v1 and they are unequal
 other_than_v1 : (v w : List ℕ) → not (bytes_eq v w) ≡ true → bytes_eq v one ≡ true → not (bytes_eq w one) ≡ true
 other_than_v1 v w other is_one =
     not_from_false (bytes_eq w one)
     (false_from_ne_true (bytes_eq w one)
     (λ same. true≢false (sym (itself v) ∙ subst (λ u. bytes_eq v u ≡ false) (equal w one same ∙ sym (equal v one is_one)) (not-true (bytes_eq v w) other))))
 
--- `*` has a version other than the request's
+-- `*` includes a version other than the request's
 at_star : (r : Rule) (q : Attributes) (v : List ℕ) → not (bytes_eq v q.resource.version) ≡ true → scope_at r q v ≡ true
     → (scope_fits r.scope (without_namespace q) || (not (bytes_eq q.resource.version one) && scope_at r q one)) ≡ true
 at_star r q v other fit =
@@ -66,7 +66,7 @@ at_star r q v other fit =
           (no_scope_of_its_own r q v not_one fit)
     ]
 
--- a pattern that has a version other than the request's
+-- a pattern that includes a version other than the request's
 other_version : (r : Rule) (q : Attributes) (v : List ℕ) → not (bytes_eq v q.resource.version) ≡ true → scope_at r q v ≡ true → (p : List ℕ) → is_or_any p v ≡ true
     → fits_other_version r q p ≡ true
 other_version r q v other fit p e =
@@ -80,7 +80,7 @@ other_version r q v other fit p e =
           (subst (λ w. scope_at r q w ≡ true) (sym (equal p v same)) fit)
     ])
 
--- a rule that has another version of the request's resource
+-- a rule that fits another version of the request's resource
 own_group : (r : Rule) (q : Attributes) (v : List ℕ) → not (bytes_eq v q.resource.version) ≡ true → scope_at r q v ≡ true → has_or_any r.api_groups q.resource.group ≡ true
     → has_or_any r.api_versions v ≡ true → fits_own_group r q ≡ true
 own_group r q v other fit group version =
@@ -107,12 +107,12 @@ listed : (h a b : List ℕ) → (h ≡ a) ⊎ (h ≡ b) → is_one_of a sharing_
 listed h a b (inl l) p q = subst (λ k. is_one_of k sharing_groups ≡ true) (sym l) p
 listed h a b (inr r) p q = subst (λ k. is_one_of k sharing_groups ≡ true) (sym r) q
 
--- no text of the list is this one
+-- no text of the list equals this one
 differs : (x y : List ℕ) (xs : List (List ℕ)) → is_one_of x xs ≡ true → list_any (λ u. bytes_eq u y) xs ≡ false → bytes_eq x y ≡ false
 differs x y xs e none =
     false_from_ne_true (bytes_eq x y) (λ same. true≢false (sym (any_of_one (λ u. bytes_eq u y) x xs e same) ∙ none))
 
--- groups that share a resource are listed, and it is not namespaces
+-- groups that share a resource are listed, and the resource is not namespaces
 shares : (g h x : List ℕ) → is_shared g h x ≡ true → SharesRow h x
 unfolding is_shared
 shares g h x e =
@@ -138,14 +138,14 @@ has_some : (ps : List (List ℕ)) (v : List ℕ) → has_or_any ps v ≡ true �
 has_some [] v e = absurd (true≢false (sym e))
 has_some (p ∷ ps) v e = not_from_false (length (p ∷ ps) == 0) (ne_eqb (length (p ∷ ps)) 0 (λ h. omega arith))
 
--- the namespaces of the core are not another resource
+-- the namespaces of the core group are not another resource
 no_core_namespaces : (a b z n : Bool) → z ≡ false → ((a && b && z) || n) ≡ n
 no_core_namespaces a b true n e = absurd (true≢false e)
 no_core_namespaces true true false n e = refl
 no_core_namespaces true false false n e = refl
 no_core_namespaces false b false n e = refl
 
--- a rule that has a group which shares the resource
+-- a rule that fits a group sharing the resource
 shared_group : (r : Rule) (q : Attributes) (c : GroupVersionResource) → c.resource ≡ q.resource.resource → is_shared q.resource.group c.group q.resource.resource ≡ true
     → scope_fits r.scope (is_cluster q c) ≡ true → has_or_any r.api_groups c.group ≡ true → has_or_any r.api_versions c.version ≡ true → fits_shared_group r q ≡ true
 shared_group r q c same shared fit group version =
@@ -160,7 +160,7 @@ shared_group r q c same shared fit group version =
     (has_some r.api_versions c.version version))
     (any_of_one f c.group sharing_groups facts.0 (and_from (is_shared q.resource.group c.group q.resource.resource) (has_or_any r.api_groups c.group) shared group))
 
--- what a rule that fits has
+-- facts about a rule that fits
 record Fitting (r : Rule) (q : Attributes) (c : GroupVersionResource) : Type 0 where
   request : fits_request r q ≡ true
   scope : scope_fits r.scope (is_cluster q c) ≡ true

@@ -1,3 +1,5 @@
+-- The proofs of `admission_match`.
+
 pub mod Prelude
 pub mod Texts
 pub mod Candidates

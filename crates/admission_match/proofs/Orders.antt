@@ -1,4 +1,4 @@
--- Rules that change places.
+-- Exchanging adjacent rules.
 use Rattle.admission_match.proofs.Prelude.{◌≡◌, ◌∙◌, ap, refl, Bool, true, false, ◌||◌, List, [], ◌∷◌, ◌++◌, list_any, Attributes, Namespaces, MatchResources, MatchPolicy, Exact, Equivalent, Rule, RulesAnswer, SomeFits, NoneFits, NotKnown, Answer, No, NamespaceAnswer, at_excludes, at_namespace, at_rules, fits, may_fit, match_answer, namespace_answer, object_passes, rules_answer, if◌then◌else◌}
 
 or_swap : (x y z : Bool) → (x || (y || z)) ≡ (y || (x || z))

@@ -1,4 +1,4 @@
--- The names that these proofs cite of the library, of the crate below and of the definitions. Declares nothing.
+-- The names of the library, of the crate below and of the definitions that these proofs use. Declares nothing.
 pub use Rattle.std.proofs.Common.{ap, arith, bytes_eq, codes, inl, inr, if◌then◌else◌, length, map, not, refl, string_bytes, subst, sym}
 pub use Rattle.std.proofs.Common.{Bool, Global, false, true, List, [], ℕ}
 pub use Rattle.std.proofs.Common.{◌&&◌, ◌++◌, ◌==◌, ◌||◌, ◌∙◌, ◌∷◌, ◌≡◌, ◌≢◌, ◌⊎◌}

@@ -1,8 +1,8 @@
--- Answers that no server changes.
+-- Answers that are the same on every server.
 use Rattle.admission_match.proofs.Prelude.{◌≡◌, ◌≢◌, ◌∙◌, sym, ap, refl, Bool, true, false, ◌||◌, List, [], ◌∷◌, list_any, All, All-head, All-tail, Attributes, GroupVersionResource, Namespaces, MatchResources, MatchPolicy, Exact, Equivalent, Rule, RulesAnswer, SomeFits, NoneFits, NotKnown, Answer, NamespaceAnswer, Passes, KeptOut, NoLabels, No, Unknown, at_excludes, at_namespace, at_rules, fits, is_candidate, may_fit, match_answer, namespace_answer, object_passes, rules_answer, served_answer, server_answer, some_fits, if◌then◌else◌, false_from_ne_true, or_from, or_parts, true≢false}
 use Rattle.admission_match.proofs.Candidates.{candidates_may_fit}
 
--- no rule fits a candidate where none may fit
+-- if no rule may fit, no rule fits a candidate
 none_fits : (rs : List Rule) (q : Attributes) (c : GroupVersionResource) → is_candidate q.resource c ≡ true → list_any (λ r. may_fit r q) rs ≡ false → some_fits rs q c ≡ false
 none_fits [] q c is_one none = refl
 none_fits (r ∷ rs) q c is_one none =
@@ -11,7 +11,7 @@ none_fits (r ∷ rs) q c is_one none =
     (false_from_ne_true (fits r q c) (λ e. true≢false (sym (candidates_may_fit r q c is_one e) ∙ parts.0)))
     (none_fits rs q c is_one parts.1)
 
--- nor any of them
+-- and no rule fits any of them
 none_served : (served : List GroupVersionResource) (rs : List Rule) (q : Attributes) → All (λ c. is_candidate q.resource c ≡ true) served → list_any (λ r. may_fit r q) rs ≡ false
     → list_any (some_fits rs q) served ≡ false
 none_served [] rs q all none = refl
@@ -20,7 +20,7 @@ none_served (c ∷ cs) rs q all none =
     (none_fits rs q c (All-head (λ d. is_candidate q.resource d ≡ true) c cs all) none)
     (none_served cs rs q (All-tail (λ d. is_candidate q.resource d ≡ true) c cs all) none)
 
--- by what is tested: a rule fits, one may fit, one fits what is served
+-- the answer for three tests: a rule fits, one may fit, one fits a resource that is served
 abbrev told : Bool → Bool → RulesAnswer
 told own may = if own then SomeFits else (if may then NotKnown else NoneFits)
 

@@ -1,4 +1,4 @@
--- Lists of the code's texts and rules, as lists of what they are in clauses.
+-- Lists of texts and rules of the code, as the clauses see them.
 use Rattle.admission_match.proofs.Prelude.{◌≡◌, refl, ap, ℕ, Bool, true, false, ◌||◌, List, [], ◌∷◌, map, string_bytes, bytes_eq, String, Global, list_any, is_one_of, Attributes, GroupVersionResource, Rule, CodeRule, covers, covers_one, fits, fits_other_version, has_or_any, is_or_any, may_fit, rule_view}
 
 any_of_map : {A B : Type 0} (p : B → Bool) (f : A → B) (xs : List A) → list_any (λ x. p (f x)) xs ≡ list_any p (map f xs)

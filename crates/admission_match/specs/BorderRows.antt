@@ -1,5 +1,5 @@
--- Rows at the borders of the tables of matching, worked by hand: other resources, scopes of the namespaces of two groups,
--- old objects, orders of the rows, and answers that are unknown.
+-- Edge cases of matching, worked by hand: other resources, scopes of the namespaces of two groups, old objects, the
+-- order of the tests, and answers that are unknown.
 use Rattle.std.specs.Prelude.{◌≡◌, ℕ, true, false, List, [], ◌∷◌, Some, None, codes}
 use Rattle.admission_match.specs.Laws.{server_answer}
 use Rattle.admission_match.specs.Matching.{MatchResources, match_answer}
@@ -29,15 +29,15 @@ on_nodes = rule_of [] v1 (codes "nodes") ∷ []
 abbrev pub on_core_namespaces : Scope → List Rule
 on_core_namespaces scope = record (rule_of [] v1 (codes "namespaces")) { scope = scope } ∷ []
 
--- the update of a namespace in version v1beta1 of the core group, which no server has
+-- the update of a namespace in version v1beta1 of the core group, which no server serves
 abbrev pub update_beta_namespace : Attributes
 update_beta_namespace = request Update (resource [] (codes "v1beta1") (codes "namespaces")) [] (codes "prod") (codes "prod")
 
--- a pod in a namespace that is not there
+-- a pod in a namespace that does not exist
 abbrev pub gone_pod : Attributes
 gone_pod = request Create core_pods [] (codes "gone") (codes "web")
 
--- patterns on other resources; rules for one operation, and with an empty list
+-- patterns of other resources; rules for one operation, and rules with an empty list
 pub record RuleBordersHold : Type 0 where
   pub slash_other : covers (codes "pods/") (codes "nodes") [] ≡ false
   pub star_other : covers (codes "*") (codes "nodes") [] ≡ true
@@ -59,7 +59,7 @@ pub record EquivalentBordersHold : Type 0 where
   pub core_namespaces_are_not_namespaced : rules_answer Equivalent (on_core_namespaces Namespaced) update_beta_namespace ≡ NoneFits
   pub scope_in_another_group : rules_answer Equivalent (record (rule_of (codes "extensions") v1 (codes "deployments")) { scope = Cluster } ∷ []) (request Create (deployments (codes "apps")) [] (codes "prod") (codes "web")) ≡ NoneFits
 
--- namespaces of another group, old objects, what is asked first, and Exact
+-- namespaces of another group, old objects, the order of the tests, and Exact
 pub record MatchBordersHold : Type 0 where
   pub namespaces_of_a_group_by_their_object : match_answer (matching prod_only everything all_rules []) one_namespace (with_objects (request Create corp_namespaces [] [] (codes "x")) (Some (env (codes "dev"))) None) ≡ No
   pub collection_of_namespaces_of_a_group : match_answer (matching prod_only everything all_rules []) one_namespace (request Delete corp_namespaces [] [] []) ≡ Trouble NoName
@@ -69,8 +69,8 @@ pub record MatchBordersHold : Type 0 where
   pub unknown_exclude_before_trouble : match_answer (matching prod_only everything all_rules of_widgets) one_namespace (request Create (widgets (codes "v1beta1")) [] (codes "gone") (codes "w")) ≡ Unknown
   pub exact : match_answer (exact_matching of_widgets) one_namespace create_widget ≡ No
 
--- unknown where each server answers no: an exclude that may fit is asked before rules that fit on no server, or only
--- where the exclude does
+-- unknown although each server answers no: an exclude that may fit is tested before rules that fit on no server, or
+-- only on those where the exclude fits too
 pub record UnknownBordersHold : Type 0 where
   pub the_same_rules : match_answer (matching everything everything of_widgets of_widgets) one_namespace create_widget ≡ Unknown
   pub the_same_rules_without : server_answer [] (matching everything everything of_widgets of_widgets) one_namespace create_widget ≡ No

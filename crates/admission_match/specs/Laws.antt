@@ -19,33 +19,34 @@ ExemptInEachVersion = (x : GroupVersionResource) (v : List ℕ) → is_exempt (a
 abbrev pub CandidatesMayFit : Type 0
 CandidatesMayFit = (r : Rule) (q : Attributes) (c : GroupVersionResource) → is_candidate q.resource c ≡ true → fits r q c ≡ true → may_fit r q ≡ true
 
--- two rules that stand side by side may change places
+-- two adjacent rules may be exchanged
 abbrev pub RulesHaveNoOrder : Type 0
 RulesHaveNoOrder =
     (m : MatchResources) (namespaces : Namespaces) (q : Attributes) (before : List Rule) (a b : Rule) (after : List Rule)
     → match_answer (record m { resource_rules = before ++ a ∷ b ∷ after }) namespaces q ≡ match_answer (record m { resource_rules = before ++ b ∷ a ∷ after }) namespaces q
 
--- the same of the rules that exclude
+-- two adjacent excluding rules may be exchanged
 abbrev pub ExcludesHaveNoOrder : Type 0
 ExcludesHaveNoOrder =
     (m : MatchResources) (namespaces : Namespaces) (q : Attributes) (before : List Rule) (a b : Rule) (after : List Rule)
     → match_answer (record m { exclude_resource_rules = before ++ a ∷ b ∷ after }) namespaces q ≡ match_answer (record m { exclude_resource_rules = before ++ b ∷ a ∷ after }) namespaces q
 
--- some rule fits the request as one on this resource
+-- a rule fits the request under this resource
 abbrev pub some_fits : List Rule → Attributes → GroupVersionResource → Bool
 some_fits rs q x = list_any (λ r. fits r q x) rs
 
--- how the rules answer on a server that keeps the resources `served` in the place of the request's
+-- the answer of the rules on a server that stores the resources `served` in the same place as the request's resource
 abbrev pub served_answer : List GroupVersionResource → MatchPolicy → List Rule → Attributes → RulesAnswer
 served_answer served Exact rs q = if some_fits rs q q.resource then SomeFits else NoneFits
 served_answer served Equivalent rs q =
     if some_fits rs q q.resource || list_any (some_fits rs q) served then SomeFits else NoneFits
 
--- how match resources answer on that server
+-- the answer of match resources on that server
 abbrev pub server_answer : List GroupVersionResource → MatchResources → Namespaces → Attributes → Answer
 server_answer served m namespaces q = answer_by (λ rs. served_answer served m.match_policy rs q) m namespaces q
 
--- an answer other than unknown is that of every server, whatever it keeps in the place of the request's resource
+-- an answer other than unknown holds for every server, for any resources that it stores in the same place as the
+-- request's
 abbrev pub EveryServerAgrees : Type 0
 EveryServerAgrees =
     (served : List GroupVersionResource) (m : MatchResources) (namespaces : Namespaces) (q : Attributes)

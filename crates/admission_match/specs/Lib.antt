@@ -1,3 +1,5 @@
+-- Which requests match resources match: requests, rules, selectors, and laws.
+
 pub mod BorderRows
 pub mod Laws
 pub mod Matching

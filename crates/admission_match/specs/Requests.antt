@@ -1,5 +1,5 @@
--- Requests (Kubernetes, AdmissionRequest of admission.k8s.io/v1), as far as matching reads them. Texts are
--- their bytes in UTF-8.
+-- Requests (Kubernetes, AdmissionRequest of admission.k8s.io/v1), as far as matching reads them. Texts are bytes in
+-- UTF-8.
 use Rattle.std.specs.Prelude.{ℕ, Bool, ◌&&◌, ◌||◌, ◌==◌, List, Option, option_map, bytes_eq, codes, length}
 use Rattle.label_selectors.specs.Selectors.{Labels}
 use Rattle.admission_match.specs.declared.operation.Operation.{Operation}
@@ -7,13 +7,13 @@ use Rattle.admission_match.specs.declared.operation.Operation.TheVariants.{Creat
 use Rattle.admission_match.specs.declared.group_version_resource.GroupVersionResource.{GroupVersionResource as CodeResource}
 use Rattle.admission_match.specs.declared.attributes.Attributes.{Attributes as CodeAttributes}
 
--- a resource: its group, empty for the core one, its version and its plural
+-- a resource: its group (empty for the core group), its version and its plural
 pub record GroupVersionResource : Type 0 where
   pub group : List ℕ
   pub version : List ℕ
   pub resource : List ℕ
 
--- a request; the labels of its objects, each if it is an object with metadata
+-- a request, with the labels of each of its objects that has metadata
 pub record Attributes : Type 0 where
   pub resource : GroupVersionResource
   pub subresource : List ℕ
@@ -30,23 +30,23 @@ operation_name Update = codes "UPDATE"
 operation_name Delete = codes "DELETE"
 operation_name Connect = codes "CONNECT"
 
--- the plurals of admissionregistration.k8s.io that are exempt
+-- the exempt plurals of admissionregistration.k8s.io
 unfoldable pub is_policy_resource : List ℕ → Bool
 is_policy_resource x =
     bytes_eq x (codes "validatingadmissionpolicies") || bytes_eq x (codes "validatingadmissionpolicybindings")
     || bytes_eq x (codes "mutatingadmissionpolicies") || bytes_eq x (codes "mutatingadmissionpolicybindings")
 
--- those of authentication.k8s.io
+-- the exempt plurals of authentication.k8s.io
 unfoldable pub is_authentication_review : List ℕ → Bool
 is_authentication_review x = bytes_eq x (codes "selfsubjectreviews") || bytes_eq x (codes "tokenreviews")
 
--- those of authorization.k8s.io
+-- the exempt plurals of authorization.k8s.io
 unfoldable pub is_access_review : List ℕ → Bool
 is_access_review x =
     bytes_eq x (codes "localsubjectaccessreviews") || bytes_eq x (codes "selfsubjectaccessreviews")
     || bytes_eq x (codes "selfsubjectrulesreviews") || bytes_eq x (codes "subjectaccessreviews")
 
--- a resource whose requests no policy is asked about
+-- a resource about whose requests no policy is asked
 unfoldable pub is_exempt : GroupVersionResource → Bool
 is_exempt x =
     (bytes_eq x.group (codes "admissionregistration.k8s.io") && is_policy_resource x.resource)
@@ -57,15 +57,15 @@ is_exempt x =
 abbrev pub is_core_namespaces : GroupVersionResource → Bool
 is_core_namespaces x = length x.group == 0 && bytes_eq x.version (codes "v1") && bytes_eq x.resource (codes "namespaces")
 
--- namespaces, of whatever group
+-- namespaces, of any group
 abbrev pub is_namespaces : GroupVersionResource → Bool
 is_namespaces x = bytes_eq x.resource (codes "namespaces")
 
--- the code's resource
+-- a resource of the code
 abbrev pub resource_view : CodeResource → GroupVersionResource
 resource_view x = record { group = x.group.now; version = x.version.now; resource = x.resource.now }
 
--- the code's request
+-- a request of the code
 abbrev pub attributes_view : {L : Type 0} → (L → Labels) → CodeAttributes L → Attributes
 attributes_view labels q = record {
   resource = resource_view q.resource;

@@ -1,4 +1,4 @@
--- Rows worked by hand, of the tables of matching.
+-- Examples of matching, worked by hand.
 use Rattle.std.specs.Prelude.{◌≡◌, ℕ, true, false, List, [], ◌∷◌, Option, Some, None, bytes_eq, codes, if◌then◌else◌}
 use Rattle.label_selectors.specs.Selectors.{Labels, LabelSelector, labels_of}
 use Rattle.label_selectors.specs.declared.operator.Operator.TheVariants.{DoesNotExist}
@@ -20,7 +20,7 @@ pods = codes "pods"
 abbrev pub exec : List ℕ
 exec = codes "exec"
 
--- the table of patterns: pods itself, pods/exec, and other resources
+-- patterns: pods, pods/exec, and other resources
 pub record CoversRowsHold : Type 0 where
   pub name_itself : covers pods pods [] ≡ true
   pub name_sub : covers pods pods exec ≡ false
@@ -67,7 +67,7 @@ with_objects q new old = record q { object = new; old_object = old }
 abbrev pub star : List (List ℕ)
 star = codes "*" ∷ []
 
--- a rule of every operation, group and version, without names
+-- a rule for every operation, group and version, without names
 abbrev pub rule_for : Scope → List (List ℕ) → Rule
 rule_for scope patterns = record {
   scope = scope;
@@ -78,7 +78,7 @@ rule_for scope patterns = record {
   resource_names = [];
 }
 
--- a rule of one group and one version
+-- a rule for one group and one version
 abbrev pub rule_of : List ℕ → List ℕ → List ℕ → Rule
 rule_of g v x = record {
   scope = All;
@@ -110,7 +110,7 @@ create_node = request Create core_nodes [] [] (codes "n1")
 abbrev pub all_namespaces : List (List ℕ)
 all_namespaces = codes "namespaces/*" ∷ []
 
--- one rule
+-- single rules
 pub record FitsRowsHold : Type 0 where
   pub pod : fits (rule_for All (pods ∷ [])) create_pod core_pods ≡ true
   pub scope_cluster_keeps_out_pods : fits (rule_for Cluster (pods ∷ [])) create_pod core_pods ≡ false
@@ -141,7 +141,7 @@ create_widget = request Create (widgets (codes "v1beta1")) [] (codes "prod") (co
 abbrev pub deployments : List ℕ → GroupVersionResource
 deployments g = resource g (codes "v1") (codes "deployments")
 
--- equivalents, and lists of rules
+-- equivalent resources, and lists of rules
 pub record EquivalentRowsHold : Type 0 where
   pub itself : is_candidate (widgets (codes "v1")) (widgets (codes "v1")) ≡ false
   pub other_version : is_candidate (widgets (codes "v1")) (widgets (codes "v2")) ≡ true
@@ -190,7 +190,7 @@ no_env = record { match_labels = []; match_expressions = record { key = codes "e
 abbrev pub env : List ℕ → Labels
 env value = labels_of ((codes "env", value) ∷ [])
 
--- the one namespace `prod`, labelled env=prod
+-- the only namespace is `prod`, with the label env=prod
 abbrev pub one_namespace : Namespaces
 one_namespace name = if bytes_eq name (codes "prod") then Some (env (codes "prod")) else None
 

@@ -7,11 +7,11 @@ use crate::trouble::Trouble;
 pub enum Answer {
     /// They do not.
     No,
-    /// They do, by the resource that the request names.
+    /// They do, for the resource that the request names.
     Yes,
-    /// It may depend on which equivalent resources the server serves: a rule, or one that excludes,
-    /// fits only one of these.
+    /// This may depend on the equivalent resources that the server serves: a rule, or one that
+    /// excludes, fits only one of these.
     Unknown,
-    /// All else matches, but the labels of the namespace are not known.
+    /// Everything else matches, but the labels of the namespace are unknown.
     Trouble(Trouble),
 }

@@ -1,4 +1,4 @@
-//! What a request says that matching reads.
+//! The attributes of a request that matching reads.
 ghost use Rattle.std.specs.Prelude.{◌≡◌};
 ghost use Rattle.admission_match.specs.Matching.{is_outside_namespaces, writes_namespace};
 ghost use Rattle.admission_match.specs.Requests.{attributes_view, is_namespaces, resource_view};
@@ -8,7 +8,7 @@ use crate::group_version_resource::GroupVersionResource;
 use crate::operation::Operation;
 use label_selectors::Labels;
 
-/// The fields of a request that decide whether it matches. Texts that the review leaves out are
+/// The fields of a request that decide whether it matches. Texts that are missing in the review are
 /// empty.
 #[derive(Debug, Drop)]
 pub struct Attributes<'a, L> {
@@ -17,7 +17,8 @@ pub struct Attributes<'a, L> {
     pub subresource: &'a str,
     /// Empty on CREATE with `generateName`, and on DELETE of a collection.
     pub name: &'a str,
-    /// The request's namespace; for requests on namespaces of the core group their own name.
+    /// The request's namespace. For requests on namespaces of the core group this is their own
+    /// name.
     pub namespace: &'a str,
     pub operation: Operation,
     /// The labels of `object`, if it is an object with `metadata`.
@@ -27,14 +28,14 @@ pub struct Attributes<'a, L> {
 }
 
 impl<L: Labels> Attributes<'_, L> {
-    /// Whether the request is cluster-scoped, as one on namespaces of the core group is too.
+    /// Whether the request is cluster-scoped. Requests on namespaces of the core group are.
     pub(crate) fn is_cluster(&self) -> bool
         ensures { result ≡ is_cluster (attributes_view L.map self.now) (resource_view self.now.resource) }
     {
         self.resource.is_core_namespaces() || self.namespace.is_empty()
     }
 
-    /// Whether the request is on namespaces, of whatever group.
+    /// Whether the request is on namespaces, of any group.
     pub(crate) fn is_on_namespaces(&self) -> bool
         ensures { result ≡ is_namespaces (resource_view self.now.resource) }
     {

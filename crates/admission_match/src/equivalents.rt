@@ -1,4 +1,4 @@
-//! Equivalent resources, which a server may store in the same place.
+//! Equivalent resources: a server may store them in the same place.
 ghost use Rattle.std.specs.Prelude.{◌≡◌, ◌&&◌, map, string_bytes};
 ghost use Rattle.std.specs.List.{list_any};
 ghost use Rattle.admission_match.specs.Requests.{attributes_view, resource_view};
@@ -9,8 +9,8 @@ use crate::patterns::{covers_one, has_or_any};
 use crate::rule::Rule;
 use label_selectors::Labels;
 
-/// Whether the rule fits the request as one on another resource, which a server may store in the
-/// place of the one that it names.
+/// Whether the rule may fit the request under another resource: one that a server may store in the
+/// same place as the named one.
 #[tactic(auto, unfolding(crate::specs::Rules::may_fit))]
 pub(crate) fn may_fit<L: Labels>(rule: &Rule, request: &Attributes<'_, L>) -> bool
     ensures { result ≡ may_fit (rule_view rule.now) (attributes_view L.map request.now) }
@@ -24,7 +24,7 @@ pub(crate) fn may_fit<L: Labels>(rule: &Rule, request: &Attributes<'_, L>) -> bo
         && (fits_own_group(rule, request) || fits_shared_group(rule, request))
 }
 
-/// Whether the rule has another version of the request's resource.
+/// Whether the rule fits another version of the request's resource.
 fn fits_own_group<L: Labels>(rule: &Rule, request: &Attributes<'_, L>) -> bool
     ensures { result ≡ fits_own_group (rule_view rule.now) (attributes_view L.map request.now) }
 {
@@ -32,7 +32,7 @@ fn fits_own_group<L: Labels>(rule: &Rule, request: &Attributes<'_, L>) -> bool
         && fits_one_version(rule, request, &rule.api_versions)
 }
 
-/// Whether one of the patterns has another version than the request's, in which the scope fits.
+/// Whether one of the patterns has a version other than the request's in which the scope fits.
 fn fits_one_version<L: Labels>(
     rule: &Rule,
     request: &Attributes<'_, L>,
@@ -53,8 +53,8 @@ fn some_fits_other_version<L: Labels>(
     patterns.iter().any(|pattern| fits_other_version(rule, request, pattern.as_str()))
 }
 
-/// Whether a pattern of `apiVersions` has another version than the request's, in which the scope
-/// fits. Only version v1 of the core namespaces has a scope of its own.
+/// Whether a pattern of `apiVersions` has a version other than the request's in which the scope
+/// fits. Only version v1 of the core namespaces has a different scope.
 fn fits_other_version<L: Labels>(rule: &Rule, request: &Attributes<'_, L>, pattern: &str) -> bool
     ensures { result ≡ fits_other_version (rule_view rule.now) (attributes_view L.map request.now) pattern.now }
 {
@@ -74,7 +74,7 @@ fn is_cluster_at<L: Labels>(request: &Attributes<'_, L>, version: &str) -> bool
         || request.namespace.is_empty()
 }
 
-/// Whether the rule has a version of the request's resource in a group that shares it.
+/// Whether the rule fits a version of the request's resource in a group that shares it.
 fn fits_shared_group<L: Labels>(rule: &Rule, request: &Attributes<'_, L>) -> bool
     ensures { result ≡ fits_shared_group (rule_view rule.now) (attributes_view L.map request.now) }
 {
@@ -87,7 +87,7 @@ fn fits_shared_group<L: Labels>(rule: &Rule, request: &Attributes<'_, L>) -> boo
         )
 }
 
-/// Whether the patterns have a group that shares the resource with this one.
+/// Whether the patterns include a group that shares the resource with this one.
 #[tactic(auto, using(crate::proofs::Texts::or_none))]
 fn has_sharing_group(patterns: &[String], group: &str, resource: &str) -> bool
     ensures { result ≡ list_any (λ h. is_shared group.now h resource.now && has_or_any (map string_bytes patterns.now) h) sharing_groups }
@@ -99,14 +99,14 @@ fn has_sharing_group(patterns: &[String], group: &str, resource: &str) -> bool
         || has_group(patterns, group, "networking.k8s.io", resource)
 }
 
-/// Whether this group shares the resource with another one, which the patterns have.
+/// Whether this group shares the resource with another group that the patterns include.
 fn has_group(patterns: &[String], group: &str, other: &str, resource: &str) -> bool
     ensures { result ≡ (is_shared group.now other.now resource.now && has_or_any (map string_bytes patterns.now) other.now) }
 {
     is_shared(group, other, resource) && has_or_any(patterns, other)
 }
 
-/// Whether the two groups keep this resource in one place.
+/// Whether the two groups store this resource in one place.
 #[tactic(auto, using(crate::proofs::Texts::or_none), unfolding(crate::specs::Rules::is_shared))]
 fn is_shared(group: &str, other: &str, resource: &str) -> bool
     ensures { result ≡ is_shared group.now other.now resource.now }
@@ -118,7 +118,7 @@ fn is_shared(group: &str, other: &str, resource: &str) -> bool
             && (resource == "ingresses" || resource == "networkpolicies"))
 }
 
-/// Whether these are the two groups, in some order.
+/// Whether these are the two groups, in either order.
 fn are(group: &str, other: &str, one: &str, another: &str) -> bool
     ensures { result ≡ are group.now other.now one.now another.now }
 {

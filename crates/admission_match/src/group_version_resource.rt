@@ -2,7 +2,7 @@
 ghost use Rattle.std.specs.Prelude.{◌≡◌};
 ghost use Rattle.admission_match.specs.Requests.{is_access_review, is_authentication_review, is_core_namespaces, is_exempt, is_policy_resource, resource_view};
 
-/// A resource of the API: its group, which is empty for the core one, its version and its plural.
+/// A resource of the API: its group (empty for the core group), its version and its plural.
 #[derive(Clone, Copy, Debug, Drop)]
 pub struct GroupVersionResource<'a> {
     pub group: &'a str,
@@ -11,8 +11,8 @@ pub struct GroupVersionResource<'a> {
 }
 
 impl GroupVersionResource<'_> {
-    /// Whether the API server asks no policy about requests on this resource, whatever their
-    /// version and subresource.
+    /// Whether the API server asks no policy about requests on this resource. Version and
+    /// subresource do not matter.
     #[tactic(auto, unfolding(crate::specs::Requests::is_exempt))]
     pub fn is_exempt(&self) -> bool
         ensures { result ≡ is_exempt (resource_view self.now) }
@@ -30,7 +30,7 @@ impl GroupVersionResource<'_> {
     }
 }
 
-/// Whether these are policies of admission or their bindings.
+/// Whether these are admission policies or their bindings.
 #[tactic(auto, unfolding(crate::specs::Requests::is_policy_resource))]
 fn is_policy_resource(resource: &str) -> bool
     ensures { result ≡ is_policy_resource resource.now }
@@ -41,7 +41,7 @@ fn is_policy_resource(resource: &str) -> bool
         || resource == "mutatingadmissionpolicybindings"
 }
 
-/// Whether these are the reviews of who sends a request.
+/// Whether these are authentication reviews.
 #[tactic(auto, unfolding(crate::specs::Requests::is_authentication_review))]
 fn is_authentication_review(resource: &str) -> bool
     ensures { result ≡ is_authentication_review resource.now }
@@ -49,7 +49,7 @@ fn is_authentication_review(resource: &str) -> bool
     resource == "selfsubjectreviews" || resource == "tokenreviews"
 }
 
-/// Whether these are the reviews of what a user may do.
+/// Whether these are access reviews.
 #[tactic(auto, unfolding(crate::specs::Requests::is_access_review))]
 fn is_access_review(resource: &str) -> bool
     ensures { result ≡ is_access_review resource.now }

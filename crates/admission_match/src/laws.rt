@@ -1,9 +1,9 @@
-//! Laws of the definitions, each the clause of a function that does nothing.
+//! Laws of the definitions. Each is the clause of a function that does nothing.
 ghost use Rattle.admission_match.specs.BorderRows.{BorderRowsHold};
 ghost use Rattle.admission_match.specs.Laws.{CandidatesMayFit, EveryServerAgrees, ExcludesHaveNoOrder, ExemptInEachVersion, RulesHaveNoOrder};
 ghost use Rattle.admission_match.specs.Rows.{CoversRowsHold, EquivalentRowsHold, ExemptRowsHold, FitsRowsHold, MatchRowsHold};
 
-/// Patterns of resources, a row each.
+/// Patterns of resources, one row each.
 #[tactic(auto, unfolding(crate::specs::Rules::covers))]
 pub fn covers_rows_hold()
     ensures { CoversRowsHold }
@@ -21,7 +21,7 @@ pub fn equivalent_rows_hold()
     ensures { EquivalentRowsHold }
 {}
 
-/// Exempt resources, a row each, and others.
+/// Exempt resources, one row each, and others.
 #[tactic(auto, unfolding(crate::specs::Requests::is_exempt, crate::specs::Requests::is_policy_resource, crate::specs::Requests::is_authentication_review, crate::specs::Requests::is_access_review))]
 pub fn exempt_rows_hold()
     ensures { ExemptRowsHold }
@@ -50,17 +50,17 @@ pub fn candidates_may_fit()
     ensures { CandidatesMayFit }
 {}
 
-/// Two rules that stand side by side may change places, and so all of them.
+/// Two adjacent rules may be exchanged, so the order of rules does not matter.
 pub fn rules_have_no_order()
     ensures { RulesHaveNoOrder }
 {}
 
-/// The same of the rules that exclude.
+/// Two adjacent excluding rules may be exchanged, so their order does not matter.
 pub fn excludes_have_no_order()
     ensures { ExcludesHaveNoOrder }
 {}
 
-/// An answer other than unknown is that of every server, whatever versions and groups it serves.
+/// An answer other than unknown holds for every server, for any versions and groups that it serves.
 pub fn every_server_agrees()
     ensures { EveryServerAgrees }
 {}

@@ -19,7 +19,7 @@ use crate::trouble::Trouble;
 use label_selectors::{LabelPairs, LabelSelector, Labels};
 
 impl MatchResources {
-    /// Whether they match the request. The order of rules changes no answer.
+    /// Whether the match resources match the request. The order of the rules does not matter.
     #[tactic(auto, unfolding(crate::specs::Matching::match_answer))]
     pub fn matches<L: Labels, N: Namespaces>(
         &self,
@@ -37,7 +37,7 @@ impl MatchResources {
     }
 }
 
-/// By the objects, the rules that exclude and the rules.
+/// The answer of the objects, the excluding rules and the rules, given that of the namespace.
 fn beside_namespace<L: Labels>(
     resources: &MatchResources,
     request: &Attributes<'_, L>,
@@ -99,7 +99,7 @@ fn passes_if(selected: bool) -> NamespaceAnswer
     }
 }
 
-/// Whether the selector selects the object, which has no labels if it is absent.
+/// Whether the selector selects the object. A missing object has no labels.
 fn selects_written<L: Labels>(selector: &LabelSelector, object: &Option<L>) -> bool
     ensures { result ≡ selects (selector_view selector.now) (labels_in (option_map L.map object.now)) }
 {
@@ -118,7 +118,7 @@ fn object_passes<L: Labels>(selector: &LabelSelector, request: &Attributes<'_, L
         || selects_object(selector, &request.old_object)
 }
 
-/// Whether there is an object with metadata and the selector selects it.
+/// Whether there is an object with metadata that the selector selects.
 fn selects_object<L: Labels>(selector: &LabelSelector, object: &Option<L>) -> bool
     ensures { result ≡ selects_object (selector_view selector.now) (option_map L.map object.now) }
 {
@@ -128,7 +128,7 @@ fn selects_object<L: Labels>(selector: &LabelSelector, object: &Option<L>) -> bo
     }
 }
 
-/// How a list of rules answers.
+/// The answer of a list of rules.
 fn rules_answer<L: Labels>(
     policy: MatchPolicy,
     rules: &[Rule],
@@ -156,7 +156,7 @@ fn rules_answer<L: Labels>(
     }
 }
 
-/// Whether some rule fits the request.
+/// Whether a rule fits the request.
 fn one_fits<L: Labels>(rules: &[Rule], request: &Attributes<'_, L>) -> bool
     ensures { result ≡ list_any (λ r. fits r (attributes_view L.map request.now) (resource_view request.now.resource)) (map rule_view rules.now) }
 {
@@ -169,8 +169,8 @@ fn some_fits<L: Labels>(rules: &[Rule], request: &Attributes<'_, L>) -> bool
     rules.iter().any(|rule| rule.fits(request))
 }
 
-/// Whether some rule fits the request as one on another resource, which a server may store in the
-/// place of the one that it names.
+/// Whether a rule may fit the request under another resource: one that a server may store in the
+/// same place as the named one.
 fn one_may_fit<L: Labels>(rules: &[Rule], request: &Attributes<'_, L>) -> bool
     ensures { result ≡ list_any (λ r. may_fit r (attributes_view L.map request.now)) (map rule_view rules.now) }
 {
@@ -183,7 +183,7 @@ fn some_may_fit<L: Labels>(rules: &[Rule], request: &Attributes<'_, L>) -> bool
     rules.iter().any(|rule| may_fit(rule, request))
 }
 
-/// By the rules, of which an empty list has every request.
+/// The answer given that of the rules. An empty list of rules matches every request.
 fn at_rules(namespace: NamespaceAnswer, rules: &[Rule], answer: RulesAnswer) -> Answer
     ensures { result ≡ at_rules namespace (map rule_view rules.now) answer }
 {
@@ -197,7 +197,7 @@ fn at_rules(namespace: NamespaceAnswer, rules: &[Rule], answer: RulesAnswer) -> 
     }
 }
 
-/// The answer where all but the namespace matches.
+/// The answer if everything except the namespace matches.
 fn after_rules(namespace: NamespaceAnswer) -> Answer
     ensures { result ≡ after_rules namespace }
 {

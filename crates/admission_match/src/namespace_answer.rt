@@ -7,6 +7,6 @@ use crate::trouble::Trouble;
 pub(crate) enum NamespaceAnswer {
     Passes,
     KeptOut,
-    /// The labels of the namespace are not known.
+    /// The labels of the namespace are unknown.
     NoLabels(Trouble),
 }

@@ -7,10 +7,11 @@ use label_selectors::LabelSelector;
 
 /// The namespaces of a cluster, by name.
 pub trait Namespaces {
-    /// The labels of each namespace that there is.
+    /// The labels of each existing namespace.
     ghost labels: { Self → Namespaces };
 
-    /// Whether the selector selects the namespace of this name; none if there is no such namespace.
+    /// Whether the selector selects the namespace with this name; `None` if there is no such
+    /// namespace.
     fn selected(&self, name: &str, selector: &LabelSelector) -> Option<bool>
         ensures { result ≡ option_map (selects (selector_view selector.now)) (labels self.now name.now) };
 }

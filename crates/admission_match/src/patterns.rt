@@ -5,7 +5,7 @@ ghost use Rattle.admission_match.specs.Rules as specs;
 ghost use Rattle.admission_match.specs.Rules.{covers, is_or_any};
 ghost use Rattle.label_selectors.specs.Selectors.{is_one_of};
 
-/// Whether the list has `*` or the text.
+/// Whether the list contains `*` or the text.
 pub(crate) fn has_or_any(patterns: &[String], text: &str) -> bool
     ensures { result ≡ specs.has_or_any (map string_bytes patterns.now) text.now }
 {
@@ -20,7 +20,7 @@ fn some_is_text_or_any(patterns: &[String], text: &str) -> bool
         .any(|pattern| is_text_or_any(pattern.as_str(), text))
 }
 
-/// Whether no names are listed, or this one is.
+/// Whether the list is empty or contains this name.
 pub(crate) fn has_name(names: &[String], name: &str) -> bool
     ensures { result ≡ specs.has_name (map string_bytes names.now) name.now }
 {
@@ -39,7 +39,7 @@ fn some_is(text: &str, texts: &[String]) -> bool
     texts.iter().any(|own| text == own.as_str())
 }
 
-/// Whether some pattern covers the resource with the subresource.
+/// Whether a pattern covers the resource with the subresource.
 pub(crate) fn covers_one(patterns: &[String], resource: &str, subresource: &str) -> bool
     ensures { result ≡ specs.covers_one (map string_bytes patterns.now) resource.now subresource.now }
 {
@@ -55,7 +55,7 @@ fn some_covers(patterns: &[String], resource: &str, subresource: &str) -> bool
 }
 
 /// Whether a pattern of `resources` covers a resource with a subresource, which is empty for the
-/// resource itself. `pods/*` covers pods too, and `*` no subresource.
+/// resource itself. `pods/*` also covers pods, and `*` covers no subresource.
 #[tactic(auto, unfolding(crate::specs::Rules::covers))]
 fn covers(pattern: &str, resource: &str, subresource: &str) -> bool
     ensures { result ≡ covers pattern.now resource.now subresource.now }
@@ -70,7 +70,7 @@ fn covers(pattern: &str, resource: &str, subresource: &str) -> bool
     }
 }
 
-/// Where the first slash is.
+/// The place of the first slash.
 fn slash_in(text: &[u8]) -> Option<usize>
     ensures place { result ≡ position (λ c. c == 47) text.now }
     ensures within { IfSome result (λ at. at < length text.now) }

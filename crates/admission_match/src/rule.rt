@@ -1,4 +1,4 @@
-//! Rules.
+//! Match rules.
 ghost use Rattle.std.specs.Prelude.{◌≡◌};
 ghost use Rattle.admission_match.specs.Requests.{attributes_view, resource_view};
 ghost use Rattle.admission_match.specs.Rules.{fits, fits_request, rule_view};
@@ -8,21 +8,21 @@ use crate::patterns::{covers_one, has_name, has_or_any};
 use crate::scope::Scope;
 use label_selectors::Labels;
 
-/// The requests that a rule is for (NamedRuleWithOperations). An empty list of the first four has no
-/// request; an empty list of names has all.
+/// The requests that a rule fits (NamedRuleWithOperations). If one of the first four lists is
+/// empty, it fits none; an empty list of names fits all.
 #[derive(Debug, Drop)]
 pub struct Rule {
     pub operations: Vec<String>,
     pub api_groups: Vec<String>,
     pub api_versions: Vec<String>,
-    /// Patterns as `pods`, `pods/exec`, `pods/*`, `*`, `*/scale`, `*/*`.
+    /// Patterns such as `pods`, `pods/exec`, `pods/*`, `*`, `*/scale`, `*/*`.
     pub resources: Vec<String>,
     pub resource_names: Vec<String>,
     pub scope: Scope,
 }
 
 impl Rule {
-    /// Whether the rule fits the request, by the resource that it names.
+    /// Whether the rule fits the request, for the resource that the request names.
     #[tactic(auto, unfolding(crate::specs::Rules::fits))]
     pub fn fits<L: Labels>(&self, request: &Attributes<'_, L>) -> bool
         ensures { result ≡ fits (rule_view self.now) (attributes_view L.map request.now) (resource_view request.now.resource) }
@@ -38,7 +38,7 @@ impl Rule {
             )
     }
 
-    /// Whether the rule has the request's operation and name.
+    /// Whether the request's operation and name fit.
     pub(crate) fn fits_request<L: Labels>(&self, request: &Attributes<'_, L>) -> bool
         ensures { result ≡ fits_request (rule_view self.now) (attributes_view L.map request.now) }
     {

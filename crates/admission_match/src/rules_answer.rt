@@ -1,12 +1,12 @@
-//! Whether a list of rules has a request.
+//! Whether a list of rules fits a request.
 
-/// Whether some rule of a list fits a request.
+/// Whether a rule of a list fits a request.
 #[derive(Clone, Copy, Debug, PartialEq, Eq)]
 pub(crate) enum RulesAnswer {
-    /// Some rule fits the resource that the request names.
+    /// A rule fits the resource that the request names.
     SomeFits,
-    /// No rule fits, whatever the server serves.
+    /// No rule fits, on any server.
     NoneFits,
-    /// Some rule fits a resource that the server may store in the same place.
+    /// A rule fits a resource that the server may store in the same place.
     NotKnown,
 }

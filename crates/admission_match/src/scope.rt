@@ -2,19 +2,19 @@
 ghost use Rattle.std.specs.Prelude.{◌≡◌};
 ghost use Rattle.admission_match.specs.Rules.{scope_fits};
 
-/// Which requests a rule is for (ScopeType).
+/// The scope of a rule (ScopeType).
 #[derive(Clone, Copy, Debug, PartialEq, Eq)]
 pub enum Scope {
-    /// `*`: all.
+    /// `*`: all requests.
     All,
-    /// Those on cluster-scoped resources, and on namespaces of the core group.
+    /// Requests on cluster-scoped resources, and on namespaces of the core group.
     Cluster,
-    /// Those on namespaced resources.
+    /// Requests on namespaced resources.
     Namespaced,
 }
 
 impl Scope {
-    /// Whether the scope has a request that is cluster-scoped, or is not.
+    /// Whether the scope includes a request that is, or is not, cluster-scoped.
     pub(crate) fn fits(self, is_cluster: bool) -> bool
         ensures { result ≡ scope_fits self is_cluster }
     {

@@ -1,10 +1,10 @@
-//! Why a namespace is not known.
+//! Why the labels of a namespace are unknown.
 
-/// Why the labels of a request's namespace are not known.
+/// Why the labels of a request's namespace are unknown.
 #[derive(Clone, Copy, Debug, PartialEq, Eq)]
 pub enum Trouble {
-    /// The request is on a collection of namespaces, and names none.
+    /// The request is on a collection of namespaces and has no name.
     NoName,
-    /// There is no namespace of the request's name.
+    /// The namespace of the request does not exist.
     NotFound,
 }

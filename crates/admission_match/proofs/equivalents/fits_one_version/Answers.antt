@@ -1,3 +1,5 @@
+-- Proofs of `equivalents::fits_one_version`: the result meets the contract.
+
 use Rattle.admission_match.proofs.Prelude.{◌∙◌, attributes_view, rule_view}
 use Rattle.admission_match.proofs.Texts.{versions_in_texts}
 use Rattle.admission_match.proofs.equivalents.fits_one_version.Goals as goal

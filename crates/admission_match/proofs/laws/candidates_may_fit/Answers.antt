@@ -1,3 +1,5 @@
+-- Proofs of `laws::candidates_may_fit`: the result meets the contract.
+
 use Rattle.admission_match.proofs.Candidates.{candidates_may_fit}
 use Rattle.admission_match.proofs.laws.candidates_may_fit.Goals as goal
 

@@ -1,3 +1,5 @@
+-- Proofs of `matching::one_fits`: the result meets the contract.
+
 use Rattle.admission_match.proofs.Prelude.{◌∙◌, attributes_view, resource_view}
 use Rattle.admission_match.proofs.Texts.{fit_in_views}
 use Rattle.admission_match.proofs.matching.one_fits.Goals as goal

@@ -1,3 +1,5 @@
+-- Proofs of `matching::one_may_fit`: the result meets the contract.
+
 use Rattle.admission_match.proofs.Prelude.{◌∙◌, attributes_view}
 use Rattle.admission_match.proofs.Texts.{may_fit_in_views}
 use Rattle.admission_match.proofs.matching.one_may_fit.Goals as goal

@@ -1,3 +1,5 @@
+-- Proofs of `patterns::covers_one`: the result meets the contract.
+
 use Rattle.admission_match.proofs.Prelude.{◌∙◌}
 use Rattle.admission_match.proofs.Texts.{covers_one_in_texts}
 use Rattle.admission_match.proofs.patterns.covers_one.Goals as goal
