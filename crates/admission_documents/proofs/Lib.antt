@@ -1,3 +1,5 @@
+-- The proofs of `admission_documents`.
+
 pub mod Prelude
 pub mod Lists
 pub mod Parts

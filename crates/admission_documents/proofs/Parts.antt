@@ -1,4 +1,4 @@
--- Records of whose parts each is there.
+-- Records all of whose parts are there.
 use Rattle.admission_documents.proofs.Prelude.{◌≡◌, List, ℕ, Some, refl, codes, Label, LabelSelector, Requirement, MatchPolicy, Rule, field, texts_of, selector_parts, match_labels_of, match_expressions_of, selector_of, rules_of, match_policy_of, match_parts, ResourcePatterns, patterns_in, rule_parts}
 use Rattle.serde_json.specs.Data as json
 

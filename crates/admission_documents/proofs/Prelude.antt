@@ -1,4 +1,4 @@
--- The names that these proofs cite of the library and of the definitions here. Declares nothing.
+-- The names of the library and of the definitions that these proofs use. Declares nothing.
 pub use Rattle.std.proofs.Common.{◌≡◌, ◌∙◌, ◌++◌, ℕ, List, Option, None, Some, ap, codes, drop, length, map, refl, string_bytes, sym}
 pub use Rattle.serde_json.specs.View.{items_view, members_view}
 pub use Rattle.label_selectors.specs.Selectors.{Label, LabelSelector, Requirement, label_view, requirement_view, selector_view}

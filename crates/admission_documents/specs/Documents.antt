@@ -1,11 +1,11 @@
--- JSON documents of the Kubernetes API, part by part. A field that is null is absent.
+-- Parts of JSON documents of the Kubernetes API. A field with the value null counts as absent.
 use Rattle.std.specs.Prelude.{ℕ, ◌&&◌, Bool, true, false, List, [], ◌∷◌, Option, Some, None}
 use Rattle.std.specs.List.{list_any}
 use Rattle.std.specs.Str.{bytes_eq}
 use Rattle.serde_json.specs.Data as json
 use Rattle.serde_json.specs.Find.{get}
 
--- the value that is there and not null
+-- the value, if it is present and not null
 abbrev pub present : Option json.Data → Option json.Data
 present None = None
 present (Some json.null) = None
@@ -15,57 +15,57 @@ present (Some (json.string s)) = Some (json.string s)
 present (Some (json.array ds)) = Some (json.array ds)
 present (Some (json.object ms)) = Some (json.object ms)
 
--- the field of this name
+-- the field with this name
 unfoldable pub field : List ℕ → json.Data → Option json.Data
 field name d = present (get name d)
 
--- the field of an object that may be absent
+-- the field of an optional object
 abbrev pub field_of : List ℕ → Option json.Data → Option json.Data
 field_of name None = None
 field_of name (Some d) = field name d
 
--- each key is one of those known
+-- all keys are in the list
 abbrev pub keys_within : List (List ℕ) → json.Members → Bool
 keys_within known json.no_members = true
 keys_within known (json.member k d ms) = list_any (bytes_eq k) known && keys_within known ms
 
--- an object without a key that is not known
+-- the value is an object, and all its keys are in the list
 abbrev pub has_only : List (List ℕ) → json.Data → Bool
 has_only known (json.object ms) = keys_within known ms
 has_only known _ = false
 
--- a text that has to be there
+-- a required text
 abbrev pub text_of : Option json.Data → Option (List ℕ)
 text_of (Some (json.string s)) = Some s
 text_of _ = None
 
--- a text that is empty where it is absent
+-- an optional text, empty if it is absent
 abbrev pub text_or_empty_of : Option json.Data → Option (List ℕ)
 text_or_empty_of None = Some []
 text_or_empty_of (Some (json.string s)) = Some s
 text_or_empty_of (Some _) = None
 
--- both, if both are there
+-- the list with this first element, if both are there
 abbrev pub cons_if : {A : Type 0} → Option A → Option (List A) → Option (List A)
 cons_if (Some a) (Some rest) = Some (a ∷ rest)
 cons_if _ _ = None
 
--- the part of each item, if each item has one
+-- the results for all items, if each item has one
 abbrev pub each : {A : Type 0} → (json.Data → Option A) → json.Items → Option (List A)
 each part json.no_items = Some []
 each part (json.item d ds) = cons_if (part d) (each part ds)
 
--- the parts of a list, which is empty where it is absent
+-- the results for the items of an optional list, empty if it is absent
 abbrev pub list_of : {A : Type 0} → (json.Data → Option A) → Option json.Data → Option (List A)
 list_of part None = Some []
 list_of part (Some (json.array ds)) = each part ds
 list_of part (Some _) = None
 
--- an item that is a text
+-- an item, if it is a text
 abbrev pub text_in : json.Data → Option (List ℕ)
 text_in (json.string s) = Some s
 text_in _ = None
 
--- a list of texts
+-- an optional list of texts
 unfoldable pub texts_of : Option json.Data → Option (List (List ℕ))
 texts_of o = list_of text_in o

@@ -1,3 +1,5 @@
+-- What is read in JSON documents of the Kubernetes API: selectors, match resources and requests.
+
 pub mod Documents
 pub mod Fields
 pub mod Matching

@@ -14,20 +14,20 @@ use Rattle.admission_documents.specs.declared.resource_patterns.ResourcePatterns
 use Rattle.admission_documents.specs.Documents.{field, has_only, list_of, texts_of}
 use Rattle.admission_documents.specs.Selectors.{no_requirements, selector_of}
 
--- the scopes
+-- the scope with this name
 abbrev pub scope_named : List ℕ → Option Scope
 scope_named t =
     if bytes_eq t (codes "*") then Some All
     else (if bytes_eq t (codes "Cluster") then Some Cluster
     else (if bytes_eq t (codes "Namespaced") then Some Namespaced else None))
 
--- the scope of a rule: all where it is absent
+-- the scope of a rule, `*` by default
 unfoldable pub scope_of : Option json.Data → Option Scope
 scope_of None = Some All
 scope_of (Some (json.string s)) = scope_named s
 scope_of (Some _) = None
 
--- the resources that a rule is for (Rule)
+-- the resources that a rule applies to (Rule)
 pub record ResourcePatterns : Type 0 where
   pub scope : Scope
   pub api_groups : List (List ℕ)
@@ -39,7 +39,7 @@ unfoldable pub rule_keys : List (List ℕ)
 rule_keys =
     codes "apiGroups" ∷ codes "apiVersions" ∷ codes "operations" ∷ codes "resourceNames" ∷ codes "resources" ∷ codes "scope" ∷ []
 
--- the resources of a rule, if each of their parts has its form
+-- the resources of a rule, if each of their parts has the right form
 abbrev pub patterns_from : Option Scope → Option (List (List ℕ)) → Option (List (List ℕ)) → Option (List (List ℕ)) → Option ResourcePatterns
 patterns_from (Some scope) (Some groups) (Some versions) (Some resources) = Some (record {
   scope = scope;
@@ -57,7 +57,7 @@ patterns_in d = patterns_from
     (texts_of (field (codes "apiVersions") d))
     (texts_of (field (codes "resources") d))
 
--- a rule, if each of its parts has its form
+-- a rule, if each of its parts has the right form
 abbrev pub rule_from : Option ResourcePatterns → Option (List (List ℕ)) → Option (List (List ℕ)) → Option Rule
 rule_from (Some p) (Some operations) (Some names) = Some (record {
   scope = p.scope;
@@ -69,7 +69,7 @@ rule_from (Some p) (Some operations) (Some names) = Some (record {
 })
 rule_from _ _ _ = None
 
--- its resources, `operations` and `resourceNames`
+-- its resources, and its `operations` and `resourceNames`
 unfoldable pub rule_parts : json.Data → Option Rule
 rule_parts d = rule_from (patterns_in d) (texts_of (field (codes "operations") d)) (texts_of (field (codes "resourceNames") d))
 
@@ -77,16 +77,16 @@ rule_parts d = rule_from (patterns_in d) (texts_of (field (codes "operations") d
 abbrev pub rule_in : json.Data → Option Rule
 rule_in d = if has_only rule_keys d then rule_parts d else None
 
--- a list of rules
+-- an optional list of rules
 unfoldable pub rules_of : Option json.Data → Option (List Rule)
 rules_of o = list_of rule_in o
 
--- the match policies
+-- the match policy with this name
 abbrev pub match_policy_named : List ℕ → Option MatchPolicy
 match_policy_named t =
     if bytes_eq t (codes "Exact") then Some Exact else (if bytes_eq t (codes "Equivalent") then Some Equivalent else None)
 
--- the match policy: Equivalent where it is absent
+-- the match policy, Equivalent by default
 unfoldable pub match_policy_of : Option json.Data → Option MatchPolicy
 match_policy_of None = Some Equivalent
 match_policy_of (Some (json.string s)) = match_policy_named s
@@ -97,7 +97,7 @@ unfoldable pub match_keys : List (List ℕ)
 match_keys =
     codes "excludeResourceRules" ∷ codes "matchPolicy" ∷ codes "namespaceSelector" ∷ codes "objectSelector" ∷ codes "resourceRules" ∷ []
 
--- match resources, if each of their parts has its form
+-- match resources, if each of their parts has the right form
 abbrev pub match_from : Option MatchPolicy → Option LabelSelector → Option LabelSelector → Option (List Rule) → Option (List Rule)
     → Option MatchResources
 match_from (Some policy) (Some namespaces) (Some objects) (Some rules) (Some excludes) = Some (record {
@@ -109,7 +109,7 @@ match_from (Some policy) (Some namespaces) (Some objects) (Some rules) (Some exc
 })
 match_from _ _ _ _ _ = None
 
--- their parts, of which each may be absent
+-- their parts, all of which are optional
 unfoldable pub match_parts : json.Data → Option MatchResources
 match_parts d = match_from
     (match_policy_of (field (codes "matchPolicy") d))
@@ -118,7 +118,7 @@ match_parts d = match_from
     (rules_of (field (codes "resourceRules") d))
     (rules_of (field (codes "excludeResourceRules") d))
 
--- match resources that are there
+-- match resources in an object with known keys only
 abbrev pub match_in : json.Data → Option MatchResources
 match_in d = if has_only match_keys d then match_parts d else None
 
@@ -132,26 +132,26 @@ match_all = record {
   exclude_resource_rules = [];
 }
 
--- the match resources of a binding: all requests where they are absent
+-- the match resources of a binding; if they are absent, all requests match
 unfoldable pub match_resources_of : Option json.Data → Option MatchResources
 match_resources_of None = Some match_all
 match_resources_of (Some d) = match_in d
 
--- there is a rule
+-- the match resources have a rule
 abbrev pub has_rules : MatchResources → Bool
 has_rules m = not (length m.resource_rules == 0)
 
--- the same, if they have a rule
+-- the match resources, if they have a rule
 abbrev pub if_has_rules : Option MatchResources → Option MatchResources
 if_has_rules (Some m) = if has_rules m then Some m else None
 if_has_rules None = None
 
--- the match constraints of a policy, which have to be there and to have a rule
+-- the match constraints of a policy, which are required and must have a rule
 unfoldable pub match_constraints_of : Option json.Data → Option MatchResources
 match_constraints_of None = None
 match_constraints_of (Some d) = if_has_rules (match_in d)
 
--- the code's resources of a rule
+-- the resources of a rule of the code
 abbrev pub patterns_view : CodePatterns → ResourcePatterns
 patterns_view p = record {
   scope = p.scope;

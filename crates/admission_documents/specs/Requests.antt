@@ -1,5 +1,5 @@
--- The request of an AdmissionReview (Kubernetes, AdmissionRequest of admission.k8s.io/v1), as far as matching reads it. A
--- request that is not understood is none.
+-- The request of an AdmissionReview (Kubernetes, AdmissionRequest of admission.k8s.io/v1), as far as matching reads
+-- it. A request that cannot be understood is refused.
 use Rattle.std.specs.Prelude.{ℕ, ◌&&◌, ◌==◌, Bool, true, false, List, Option, Some, None, option_map, codes, length, is_some, if◌then◌else◌}
 use Rattle.std.specs.Str.{bytes_eq}
 use Rattle.serde_json.specs.Data as json
@@ -15,90 +15,90 @@ use Rattle.admission_documents.specs.declared.group_version_kind.GroupVersionKin
 use Rattle.admission_documents.specs.declared.request.Request.{Request as CodeRequest}
 use Rattle.admission_documents.specs.declared.target.Target.{Target as CodeTarget}
 
--- a kind: its group, empty for the core one, its version and its name
+-- a kind: its group (empty for the core group), its version and its name
 pub record GroupVersionKind : Type 0 where
   pub group : List ℕ
   pub version : List ℕ
   pub kind : List ℕ
 
--- what a request is on
+-- the target of a request
 pub record Target : Type 0 where
   pub kind : GroupVersionKind
   pub resource : GroupVersionResource
   pub subresource : List ℕ
 
--- a request, and its objects
+-- a request with its objects
 pub record Request : Type 0 where
   pub kind : GroupVersionKind
   pub attributes : Attributes
   pub object : Option json.Data
   pub old_object : Option json.Data
 
--- ---- what it is on
+-- ---- the target
 
--- a kind, if each of its parts has its form
+-- a kind, if each of its parts has the right form
 abbrev pub kind_from : Option (List ℕ) → Option (List ℕ) → Option (List ℕ) → Option GroupVersionKind
 kind_from (Some group) (Some version) (Some kind) = Some (record { group = group; version = version; kind = kind })
 kind_from _ _ _ = None
 
--- its `group`, which may be absent, `version` and `kind`
+-- its optional `group`, and its `version` and `kind`
 unfoldable pub kind_in : json.Data → Option GroupVersionKind
 kind_in d = kind_from
     (text_or_empty_of (field (codes "group") d)) (text_of (field (codes "version") d)) (text_of (field (codes "kind") d))
 
--- a resource, if each of its parts has its form
+-- a resource, if each of its parts has the right form
 abbrev pub resource_from : Option (List ℕ) → Option (List ℕ) → Option (List ℕ) → Option GroupVersionResource
 resource_from (Some group) (Some version) (Some resource) = Some (record { group = group; version = version; resource = resource })
 resource_from _ _ _ = None
 
--- its `group`, which may be absent, `version` and `resource`
+-- its optional `group`, and its `version` and `resource`
 unfoldable pub resource_in : json.Data → Option GroupVersionResource
 resource_in d = resource_from
     (text_or_empty_of (field (codes "group") d)) (text_of (field (codes "version") d)) (text_of (field (codes "resource") d))
 
--- a kind that has to be there
+-- a required kind
 abbrev pub kind_of : Option json.Data → Option GroupVersionKind
 kind_of (Some d) = kind_in d
 kind_of None = None
 
--- a resource that has to be there
+-- a required resource
 abbrev pub resource_of : Option json.Data → Option GroupVersionResource
 resource_of (Some d) = resource_in d
 resource_of None = None
 
--- this kind
+-- the second kind is the first
 abbrev pub is_kind : GroupVersionKind → Option GroupVersionKind → Bool
 is_kind k (Some l) = bytes_eq l.group k.group && bytes_eq l.version k.version && bytes_eq l.kind k.kind
 is_kind k None = false
 
--- this resource
+-- the second resource is the first
 abbrev pub is_resource : GroupVersionResource → Option GroupVersionResource → Bool
 is_resource x (Some y) = bytes_eq y.group x.group && bytes_eq y.version x.version && bytes_eq y.resource x.resource
 is_resource x None = false
 
--- the kind that the API server's client asked for is this one, or not told
+-- the kind that the client asked for is this one, or is not given
 unfoldable pub keeps_kind : GroupVersionKind → Option json.Data → Bool
 keeps_kind k None = true
 keeps_kind k (Some d) = is_kind k (kind_in d)
 
--- so is the resource
+-- the resource that the client asked for is this one, or is not given
 unfoldable pub keeps_resource : GroupVersionResource → Option json.Data → Bool
 keeps_resource x None = true
 keeps_resource x (Some d) = is_resource x (resource_in d)
 
--- so is the subresource
+-- the subresource that the client asked for is this one, or is not given
 unfoldable pub keeps_subresource : List ℕ → Option json.Data → Bool
 keeps_subresource s None = true
 keeps_subresource s (Some (json.string t)) = bytes_eq t s
 keeps_subresource s (Some _) = false
 
--- no webhook got the request converted
+-- the request was not converted for a webhook
 unfoldable pub is_as_sent : json.Data → Target → Bool
 is_as_sent d t =
     keeps_kind t.kind (field (codes "requestKind") d) && keeps_resource t.resource (field (codes "requestResource") d)
     && keeps_subresource t.subresource (field (codes "requestSubResource") d)
 
--- what a request is on, if each part has its form
+-- the target of a request, if each part has the right form
 abbrev pub target_from : Option GroupVersionKind → Option GroupVersionResource → Option (List ℕ) → Option Target
 target_from (Some kind) (Some resource) (Some subresource) = Some (record { kind = kind; resource = resource; subresource = subresource })
 target_from _ _ _ = None
@@ -108,18 +108,18 @@ unfoldable pub target_parts : json.Data → Option Target
 target_parts d = target_from
     (kind_of (field (codes "kind") d)) (resource_of (field (codes "resource") d)) (text_or_empty_of (field (codes "subResource") d))
 
--- the same, if it was not converted
+-- the target, if the request was not converted
 abbrev pub if_as_sent : json.Data → Option Target → Option Target
 if_as_sent d (Some t) = if is_as_sent d t then Some t else None
 if_as_sent d None = None
 
--- what a request is on
+-- the target of a request
 abbrev pub target_in : json.Data → Option Target
 target_in d = if_as_sent d (target_parts d)
 
--- ---- what it does
+-- ---- the operation and the objects
 
--- the operation of a name
+-- the operation with this name
 abbrev pub operation_named : List ℕ → Option Operation
 operation_named t =
     if bytes_eq t (codes "CREATE") then Some Create
@@ -127,18 +127,18 @@ operation_named t =
     else (if bytes_eq t (codes "DELETE") then Some Delete
     else (if bytes_eq t (codes "CONNECT") then Some Connect else None)))
 
--- an operation, which has to be there
+-- a required operation
 unfoldable pub operation_of : Option json.Data → Option Operation
 operation_of (Some (json.string s)) = operation_named s
 operation_of _ = None
 
--- an object, which may be absent
+-- an optional object
 abbrev pub object_of : Option json.Data → Option (Option json.Data)
 object_of None = Some None
 object_of (Some (json.object ms)) = Some (Some (json.object ms))
 object_of (Some _) = None
 
--- the same, which an operation that writes has to have
+-- the object; it is required if the operation writes it
 abbrev pub if_written : Operation → Option (Option json.Data) → Option (Option json.Data)
 if_written operation (Some (Some d)) = Some (Some d)
 if_written operation (Some None) = if writes operation then None else Some None
@@ -154,7 +154,7 @@ abbrev pub labels_if_metadata : Option json.Data → Option Labels
 labels_if_metadata (Some d) = if is_some (field (codes "metadata") d) then Some (labels_in d) else None
 labels_if_metadata None = None
 
--- a request, if each of its parts has its form: what it is on, its name, namespace and operation, and its objects
+-- a request, if each of its parts has the right form: its target, name, namespace and operation, and its objects
 abbrev pub request_from : Option Target → Option (List ℕ) → Option (List ℕ) → Option Operation → Option (Option json.Data)
     → Option (Option json.Data) → Option Request
 request_from (Some t) (Some name) (Some namespace) (Some operation) (Some object) (Some old) = Some (record {
@@ -183,11 +183,11 @@ request_in d = request_from
     (new_object_of (operation_of (field (codes "operation") d)) (field (codes "object") d))
     (object_of (field (codes "oldObject") d))
 
--- a namespace of the core group, version v1
+-- the kind is the Namespace of the core group, version v1
 abbrev pub is_core_namespace : GroupVersionKind → Bool
 is_core_namespace k = length k.group == 0 && bytes_eq k.version (codes "v1") && bytes_eq k.kind (codes "Namespace")
 
--- ---- the code's
+-- ---- values of the code
 
 abbrev pub kind_view : CodeKind → GroupVersionKind
 kind_view k = record { group = k.group.now; version = k.version.now; kind = k.kind.now }

@@ -1,4 +1,4 @@
--- Documents written out, and what the definitions read in them.
+-- Literal documents, and what the definitions read in them.
 use Rattle.std.specs.Prelude.{◌≡◌, ℕ, Bool, true, false, List, [], ◌∷◌, ◌++◌, Option, Some, None, codes, is_some, option_and_then, option_map}
 use Rattle.serde_json.specs.Data as json
 use Rattle.serde_json.specs.Read.{read}
@@ -104,7 +104,7 @@ pub record MatchDocumentRowsHold : Type 0 where
 abbrev pub request : List ℕ → Option Request
 request text = option_and_then request_in (read text)
 
--- the update of a scale of a deployment
+-- an update of the scale of a deployment
 abbrev pub update : Option Request
 update = request (codes "{\"kind\":{\"group\":\"autoscaling\",\"version\":\"v1\",\"kind\":\"Scale\"},\"resource\":{\"group\":\"apps\",\"version\":\"v1\",\"resource\":\"deployments\"},\"subResource\":\"scale\",\"requestSubResource\":\"scale\",\"operation\":\"UPDATE\",\"name\":\"web\",\"namespace\":\"prod\",\"object\":{\"metadata\":{\"labels\":{\"env\":\"prod\"}}},\"oldObject\":null}")
 
@@ -142,7 +142,7 @@ pub record RequestRowsHold : Type 0 where
   pub number_as_name : is_request (codes "{\"kind\":{\"version\":\"v1\",\"kind\":\"Pod\"},\"resource\":{\"version\":\"v1\",\"resource\":\"pods\"},\"operation\":\"DELETE\",\"name\":1}") ≡ false
   pub text_as_old_object : is_request (codes "{\"kind\":{\"version\":\"v1\",\"kind\":\"Pod\"},\"resource\":{\"version\":\"v1\",\"resource\":\"pods\"},\"operation\":\"DELETE\",\"oldObject\":\"x\"}") ≡ false
 
--- ---- at the borders
+-- ---- edge cases
 
 abbrev pub label : List ℕ → List ℕ → Label
 label key value = record { key = key; value = value }
@@ -153,7 +153,7 @@ asks key operator values = record { key = key; operator = operator; values = val
 abbrev pub selector_with : List Label → List Requirement → Option LabelSelector
 selector_with labels requirements = Some (record { match_labels = labels; match_expressions = requirements })
 
--- lists of two, the operators beside In and Exists, and parts of another form
+-- lists of two, all operators, and parts of the wrong form
 pub record SelectorPartRowsHold : Type 0 where
   pub two_labels : selector (codes "{\"matchLabels\":{\"app\":\"web\",\"env\":\"prod\"}}")
       ≡ selector_with (label (codes "app") (codes "web") ∷ label (codes "env") (codes "prod") ∷ []) []
@@ -175,7 +175,7 @@ pub record SelectorPartRowsHold : Type 0 where
   pub second_expression : selector (codes "{\"matchExpressions\":[{\"key\":\"env\",\"operator\":\"Exists\"},{\"key\":\"env\",\"operator\":\"In\"}]}") ≡ None
   pub unknown_key_beside_a_known_one : selector (codes "{\"matchLabels\":{},\"names\":[]}") ≡ None
 
--- the last of two labels, the empty value, and labels that are none
+-- the last of two labels, the empty value, and values that are not labels
 pub record LabelPartRowsHold : Type 0 where
   pub second : label_at (codes "env") (read (codes "{\"metadata\":{\"labels\":{\"app\":\"web\",\"env\":\"prod\"}}}")) ≡ Some (codes "prod")
   pub empty_value : label_at (codes "env") (read (codes "{\"metadata\":{\"labels\":{\"env\":\"\"}}}")) ≡ Some []
@@ -184,7 +184,7 @@ pub record LabelPartRowsHold : Type 0 where
   pub null_metadata : label_at (codes "env") (read (codes "{\"metadata\":null}")) ≡ None
   pub list_as_labels : label_at (codes "env") (read (codes "{\"metadata\":{\"labels\":[\"env\"]}}")) ≡ None
 
--- the defaults of each other field
+-- the defaults of all other fields
 abbrev pub defaults_with : List Rule → Option MatchResources
 defaults_with rules = Some (record {
   match_policy = Equivalent;
@@ -194,7 +194,7 @@ defaults_with rules = Some (record {
   exclude_resource_rules = [];
 })
 
--- each part, each default written out, and parts of another form
+-- each part, each default written explicitly, and parts of the wrong form
 pub record MatchPartRowsHold : Type 0 where
   pub all_parts : constraints (codes "{\"excludeResourceRules\":[{\"scope\":\"Cluster\"}],\"matchPolicy\":\"Exact\",\"namespaceSelector\":{\"matchLabels\":{\"env\":\"prod\"}},\"objectSelector\":{\"matchLabels\":{\"app\":\"web\"}},\"resourceRules\":[{},{\"resources\":[\"nodes\",\"pods\"]}]}")
       ≡ Some (record {
@@ -223,16 +223,16 @@ pub record MatchPartRowsHold : Type 0 where
   pub unknown_key_beside_a_known_one : constraints (codes "{\"resourceRules\":[{}],\"rules\":[]}") ≡ None
   pub unknown_key_of_a_binding : match_resources_of (read (codes "{\"rules\":[]}")) ≡ None
 
--- a request on pods with these fields beside its `kind` and `resource`
+-- a request on pods with these fields besides its `kind` and `resource`
 abbrev pub pod_request : List ℕ → Option Request
 pod_request fields =
     request (codes "{\"kind\":{\"version\":\"v1\",\"kind\":\"Pod\"},\"resource\":{\"version\":\"v1\",\"resource\":\"pods\"}," ++ fields ++ codes "}")
 
--- whether there is one
+-- whether the document is a request
 abbrev pub is_pod_request : List ℕ → Bool
 is_pod_request fields = is_some (pod_request fields)
 
--- parts that have to be there, and parts that have to be equal
+-- required parts, and parts that must be equal
 pub record RequestPartRowsHold : Type 0 where
   pub same_resource : is_pod_request (codes "\"operation\":\"DELETE\",\"requestResource\":{\"version\":\"v1\",\"resource\":\"pods\"}") ≡ true
   pub null_request_kind : is_pod_request (codes "\"operation\":\"DELETE\",\"requestKind\":null,\"requestResource\":null,\"requestSubResource\":null") ≡ true
@@ -284,7 +284,7 @@ pub record RequestReadRowsHold : Type 0 where
 abbrev pub kind : List ℕ → List ℕ → List ℕ → GroupVersionKind
 kind group version name = record { group = group; version = version; kind = name }
 
--- the one kind that is Namespace of the core group
+-- the only kind that is the Namespace of the core group
 pub record CoreNamespaceRowsHold : Type 0 where
   pub namespace : is_core_namespace (kind [] (codes "v1") (codes "Namespace")) ≡ true
   pub other_group : is_core_namespace (kind (codes "corp.example.com") (codes "v1") (codes "Namespace")) ≡ false

@@ -10,12 +10,12 @@ use Rattle.label_selectors.specs.declared.selector_error.SelectorError.{Selector
 use Rattle.admission_documents.specs.declared.object_labels.ObjectLabels.{ObjectLabels as CodeLabels}
 use Rattle.admission_documents.specs.Documents.{cons_if, field, field_of, has_only, list_of, text_of, texts_of}
 
--- an entry of matchLabels, if it is stored
+-- an entry of matchLabels, if the API server stores it
 abbrev pub stored_label : List ℕ → List ℕ → Result (Unit {0}) SelectorError → Option Label
 stored_label key value (Ok u) = Some (record { key = key; value = value })
 stored_label key value (Err e) = None
 
--- an entry of matchLabels, whose value is a text
+-- an entry of matchLabels; its value is a text
 unfoldable pub label_in : List ℕ → json.Data → Option Label
 label_in key (json.string value) = stored_label key value (checked_label key value)
 label_in key _ = None
@@ -25,7 +25,7 @@ abbrev pub each_label : json.Members → Option (List Label)
 each_label json.no_members = Some []
 each_label (json.member key d ms) = cons_if (label_in key d) (each_label ms)
 
--- matchLabels, which has no entries where it is absent
+-- the optional matchLabels, without entries if they are absent
 unfoldable pub match_labels_of : Option json.Data → Option (List Label)
 match_labels_of None = Some []
 match_labels_of (Some (json.object ms)) = each_label ms
@@ -35,17 +35,17 @@ match_labels_of (Some _) = None
 unfoldable pub requirement_keys : List (List ℕ)
 requirement_keys = codes "key" ∷ codes "operator" ∷ codes "values" ∷ []
 
--- a requirement, if it is stored
+-- a requirement, if the API server stores it
 abbrev pub stored_requirement : List ℕ → List (List ℕ) → Result Operator SelectorError → Option Requirement
 stored_requirement key values (Ok operator) = Some (record { key = key; operator = operator; values = values })
 stored_requirement key values (Err e) = None
 
--- a requirement, if each of its parts has its form
+-- a requirement, if each of its parts has the right form
 abbrev pub requirement_from : Option (List ℕ) → Option (List ℕ) → Option (List (List ℕ)) → Option Requirement
 requirement_from (Some key) (Some operator) (Some values) = stored_requirement key values (checked_requirement key operator values)
 requirement_from _ _ _ = None
 
--- its `key`, `operator` and `values`, of which the last may be absent
+-- its `key` and `operator`, and its optional `values`
 unfoldable pub requirement_parts : json.Data → Option Requirement
 requirement_parts d = requirement_from
     (text_of (field (codes "key") d)) (text_of (field (codes "operator") d)) (texts_of (field (codes "values") d))
@@ -54,7 +54,7 @@ requirement_parts d = requirement_from
 abbrev pub requirement_in : json.Data → Option Requirement
 requirement_in d = if has_only requirement_keys d then requirement_parts d else None
 
--- matchExpressions
+-- the optional matchExpressions
 unfoldable pub match_expressions_of : Option json.Data → Option (List Requirement)
 match_expressions_of o = list_of requirement_in o
 
@@ -62,7 +62,7 @@ match_expressions_of o = list_of requirement_in o
 unfoldable pub selector_keys : List (List ℕ)
 selector_keys = codes "matchExpressions" ∷ codes "matchLabels" ∷ []
 
--- a selector, if both of its parts have their form
+-- a selector, if both of its parts have the right form
 abbrev pub selector_from : Option (List Label) → Option (List Requirement) → Option LabelSelector
 selector_from (Some labels) (Some requirements) = Some (record { match_labels = labels; match_expressions = requirements })
 selector_from _ _ = None
@@ -72,7 +72,7 @@ unfoldable pub selector_parts : json.Data → Option LabelSelector
 selector_parts d = selector_from
     (match_labels_of (field (codes "matchLabels") d)) (match_expressions_of (field (codes "matchExpressions") d))
 
--- a selector that is there
+-- a selector in an object with known keys only
 abbrev pub selector_in : json.Data → Option LabelSelector
 selector_in d = if has_only selector_keys d then selector_parts d else None
 
@@ -80,7 +80,7 @@ selector_in d = if has_only selector_keys d then selector_parts d else None
 abbrev pub no_requirements : LabelSelector
 no_requirements = record { match_labels = []; match_expressions = [] }
 
--- a selector, which has no requirements where it is absent
+-- an optional selector, without requirements if it is absent
 unfoldable pub selector_of : Option json.Data → Option LabelSelector
 selector_of None = Some no_requirements
 selector_of (Some d) = selector_in d
@@ -93,7 +93,7 @@ are_texts json.no_members = true
 are_texts (json.member key (json.string s) ms) = are_texts ms
 are_texts (json.member key _ ms) = false
 
--- a map of texts
+-- the value is a map of texts
 abbrev pub is_text_map : Option json.Data → Bool
 is_text_map (Some (json.object ms)) = are_texts ms
 is_text_map _ = false
@@ -107,14 +107,14 @@ abbrev pub text_at : Option json.Data → Labels
 text_at (Some (json.object ms)) key = text_of (get_member key ms)
 text_at _ key = None
 
--- the field, if it is a map of texts
+-- the value, if it is a map of texts
 abbrev pub if_text_map : Option json.Data → Option json.Data
 if_text_map o = if is_text_map o then o else None
 
--- the labels of an object; none where they are absent or not a map of texts
+-- the labels of an object; none if they are absent or not a map of texts
 unfoldable pub labels_in : json.Data → Labels
 labels_in d = text_at (if_text_map (labels_field d))
 
--- the code's labels of an object
+-- labels of an object of the code
 abbrev pub labels_view : CodeLabels → Labels
 labels_view l = text_at (option_map (λ v. view v.now) l.labels)

@@ -1,4 +1,4 @@
-//! Fields of documents. A field that is null is absent.
+//! Fields of documents. A field with the value null counts as absent.
 ghost use Rattle.std.specs.Prelude.{◌≡◌, map, option_map, string_bytes};
 ghost use Rattle.std.specs.List.{list_any};
 ghost use Rattle.std.specs.Str.{bytes_eq};
@@ -10,7 +10,7 @@ use crate::field_error::FieldError;
 use serde_json::{Map, Value};
 use std::alloc::Global;
 
-/// The field of this name, if it is there and not null.
+/// The field with this name, if it is present and not null.
 #[tactic(auto, unfolding(crate::specs::Documents::field))]
 pub fn field<'a>(value: &'a Value, name: &str) -> Option<&'a Value>
     ensures { option_map (λ v. view v.now) result ≡ field name.now (view value.now) }
@@ -41,7 +41,7 @@ fn keys_known(members: &Map<String, Value>, known: &[&str]) -> bool
     true
 }
 
-/// Whether the value is an object without a key that is not known.
+/// Whether the value is an object with known keys only.
 pub fn has_only_keys(value: &Value, known: &[&str]) -> bool
     ensures { result ≡ has_only (map (λ s. s.now) known.now) (view value.now) }
 {
@@ -51,7 +51,7 @@ pub fn has_only_keys(value: &Value, known: &[&str]) -> bool
     }
 }
 
-/// The text that has to be there.
+/// A required text.
 pub fn text<'a>(value: Option<&'a Value>) -> Option<&'a str>
     ensures { option_map (λ s. s.now) result ≡ text_of (option_map (λ v. view v.now) value.entry) }
 {
@@ -61,7 +61,7 @@ pub fn text<'a>(value: Option<&'a Value>) -> Option<&'a str>
     }
 }
 
-/// The text that is there, empty where it is absent.
+/// An optional text, empty if it is absent.
 pub fn text_or_empty<'a>(value: Option<&'a Value>) -> Option<&'a str>
     ensures { option_map (λ s. s.now) result ≡ text_or_empty_of (option_map (λ v. view v.now) value.entry) }
 {
@@ -72,7 +72,7 @@ pub fn text_or_empty<'a>(value: Option<&'a Value>) -> Option<&'a str>
     }
 }
 
-/// A list of texts, empty where it is absent.
+/// An optional list of texts, empty if it is absent.
 #[tactic(auto, unfolding(crate::specs::Documents::texts_of))]
 pub fn texts(alloc: Global, value: Option<&Value>) -> Result<Vec<String>, FieldError>
     ensures { ReadsField (λ v. map string_bytes v.items) (texts_of (option_map (λ v. view v.now) value.entry)) result }

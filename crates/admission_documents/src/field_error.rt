@@ -8,7 +8,7 @@ use thiserror::Error;
 /// Why a field cannot be read.
 #[derive(Clone, Copy, Debug, PartialEq, Eq, Error)]
 pub enum FieldError {
-    /// The API server does not store such a value, or a key is not known.
+    /// The API server does not store such a value, or a key is unknown.
     #[error("the field has not its form")]
     InvalidField,
     /// An allocation failed.

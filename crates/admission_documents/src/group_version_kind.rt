@@ -2,7 +2,7 @@
 ghost use Rattle.std.specs.Prelude.{◌≡◌};
 ghost use Rattle.admission_documents.specs.Requests.{is_core_namespace, kind_view};
 
-/// A kind of the API: its group, which is empty for the core one, its version and its name.
+/// A kind of the API: its group (empty for the core group), its version and its name.
 #[derive(Clone, Copy, Debug, Drop)]
 pub struct GroupVersionKind<'a> {
     pub group: &'a str,
@@ -11,7 +11,7 @@ pub struct GroupVersionKind<'a> {
 }
 
 impl GroupVersionKind<'_> {
-    /// Whether this is the Namespace of the core group, version v1.
+    /// Whether this is the kind Namespace of the core group, version v1.
     pub fn is_core_namespace(&self) -> bool
         ensures { result ≡ is_core_namespace (kind_view self.now) }
     {

@@ -14,11 +14,11 @@ use admission_match::{MatchPolicy, MatchResources};
 use serde_json::Value;
 use std::alloc::Global;
 
-/// The `matchResources` of a binding, which match every request where they are absent.
+/// Reads the `matchResources` of a binding. If they are absent, they match every request.
 ///
 /// # Errors
 ///
-/// A key is not known, a value has another type, or the API server does not store it.
+/// A key is unknown, a value has the wrong type, or the API server does not store it.
 #[tactic(auto, unfolding(crate::specs::Matching::match_resources_of))]
 pub fn match_resources(alloc: Global, value: Option<&Value>) -> Result<MatchResources, FieldError>
     ensures { ReadsField match_view (match_resources_of (option_map (λ v. view v.now) value.entry)) result }
@@ -29,11 +29,11 @@ pub fn match_resources(alloc: Global, value: Option<&Value>) -> Result<MatchReso
     }
 }
 
-/// The `matchConstraints` of a policy, which have to be there and to have a rule.
+/// Reads the `matchConstraints` of a policy. They are required and must have a rule.
 ///
 /// # Errors
 ///
-/// As `match_resources`, or they are absent or have no rule.
+/// The errors of `match_resources`, and that they are absent or have no rule.
 #[tactic(auto, unfolding(crate::specs::Matching::match_constraints_of))]
 pub fn match_constraints(alloc: Global, value: Option<&Value>) -> Result<MatchResources, FieldError>
     ensures { ReadsField match_view (match_constraints_of (option_map (λ v. view v.now) value.entry)) result }
@@ -109,7 +109,7 @@ fn match_parts(alloc: Global, value: &Value) -> Result<MatchResources, FieldErro
     })
 }
 
-/// The match policy: `Equivalent` where it is absent.
+/// The match policy, `Equivalent` by default.
 #[tactic(auto, unfolding(crate::specs::Matching::match_policy_of))]
 fn match_policy(value: Option<&Value>) -> Option<MatchPolicy>
     ensures { result ≡ match_policy_of (option_map (λ v. view v.now) value.entry) }

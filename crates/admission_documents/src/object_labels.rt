@@ -8,7 +8,7 @@ use crate::documents::{field, text};
 use label_selectors::Labels;
 use serde_json::{Map, Value};
 
-/// The labels of an object of a document, which lends them.
+/// The labels of an object in a document, borrowed from it.
 #[derive(Clone, Copy, Debug, Drop)]
 pub struct ObjectLabels<'a> {
     /// A map of texts, if the object has labels.
@@ -16,8 +16,7 @@ pub struct ObjectLabels<'a> {
 }
 
 impl<'a> ObjectLabels<'a> {
-    /// The labels in the object's `metadata`. An object whose labels are not a map of texts has
-    /// none.
+    /// The labels in the object's `metadata`. If they are not a map of texts, the object has none.
     #[tactic(auto, unfolding(crate::specs::Selectors::labels_in))]
     pub fn of(object: &'a Value) -> ObjectLabels<'a>
         ensures { labels_view result ≡ labels_in (view object.now) }
@@ -46,7 +45,7 @@ fn text_at<'a>(value: Option<&'a Value>, key: &str) -> Option<&'a str>
     }
 }
 
-/// The labels in the object's `metadata`, whatever they are.
+/// The value of `labels` in the object's `metadata`, of any type.
 pub fn labels_field(object: &Value) -> Option<&Value>
     ensures { option_map (λ v. view v.now) result ≡ labels_field (view object.now) }
 {

@@ -11,8 +11,7 @@ use crate::target::Target;
 use admission_match::{Attributes, Operation};
 use serde_json::Value;
 
-/// The request of a review: what matching reads, and its objects. It borrows them from the
-/// document.
+/// The request of a review: what matching reads, and its objects. Borrowed from the document.
 #[derive(Debug, Drop)]
 pub struct Request<'a> {
     pub kind: GroupVersionKind<'a>,
@@ -22,9 +21,9 @@ pub struct Request<'a> {
 }
 
 impl<'a> Request<'a> {
-    /// The request in a review's `request`. There is none if a field that has to be there is absent
-    /// or one has another type, if the operation is another one, if an object to be written is
-    /// absent, or if a webhook got the request converted.
+    /// Reads a review's `request`. `None` if a required field is absent or a field has the wrong
+    /// type, if the operation is unknown, if an object to be written is absent, or if the request
+    /// was converted for a webhook.
     #[tactic(auto, unfolding(crate::specs::Requests::request_in))]
     pub fn of(request: &'a Value) -> Option<Request<'a>>
         ensures { option_map request_view result ≡ request_in (view request.now) }
@@ -52,7 +51,7 @@ impl<'a> Request<'a> {
     }
 }
 
-/// The operation, which has to be there.
+/// The operation, which is required.
 #[tactic(auto, unfolding(crate::specs::Requests::operation_of))]
 fn operation_of(value: Option<&Value>) -> Option<Operation>
     ensures { result ≡ operation_of (option_map (λ v. view v.now) value.entry) }
@@ -69,7 +68,7 @@ fn operation_of(value: Option<&Value>) -> Option<Operation>
     }
 }
 
-/// The object, which may be absent.
+/// An optional object.
 fn object_of<'a>(value: Option<&'a Value>) -> Option<Option<&'a Value>>
     ensures { option_map (option_map (λ v. view v.now)) result ≡ object_of (option_map (λ v. view v.now) value.entry) }
 {
@@ -80,7 +79,7 @@ fn object_of<'a>(value: Option<&'a Value>) -> Option<Option<&'a Value>>
     }
 }
 
-/// The object, which may be absent if the operation does not write it.
+/// The object; it is required if the operation writes it.
 fn written_object<'a>(operation: Operation, value: Option<&'a Value>) -> Option<Option<&'a Value>>
     ensures { option_map (option_map (λ v. view v.now)) result ≡ if_written operation (object_of (option_map (λ v. view v.now) value.entry)) }
 {

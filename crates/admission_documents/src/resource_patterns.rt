@@ -2,7 +2,7 @@
 
 use admission_match::Scope;
 
-/// The resources that a rule is for (Rule).
+/// The resources that a rule applies to (Rule).
 #[derive(Debug, Drop)]
 pub(crate) struct ResourcePatterns {
     pub scope: Scope,

@@ -1,7 +1,7 @@
-//! Documents written out, and what the definitions read in them.
+//! Literal documents, and what the definitions read in them.
 ghost use Rattle.admission_documents.specs.Rows.{CoreNamespaceRowsHold, LabelPartRowsHold, LabelRowsHold, MatchDocumentRowsHold, MatchPartRowsHold, RequestPartRowsHold, RequestReadRowsHold, RequestRowsHold, SelectorDocumentRowsHold, SelectorPartRowsHold, UpdateRowHolds};
 
-/// Selectors, and values that are none.
+/// Selectors, and values that are not selectors.
 pub fn selector_rows_hold()
     ensures { SelectorDocumentRowsHold }
 {}
@@ -11,7 +11,7 @@ pub fn label_rows_hold()
     ensures { LabelRowsHold }
 {}
 
-/// Match resources, and values that are none.
+/// Match resources, and values that are not.
 pub fn match_rows_hold()
     ensures { MatchDocumentRowsHold }
 {}
@@ -21,37 +21,37 @@ pub fn update_row_holds()
     ensures { UpdateRowHolds }
 {}
 
-/// Which values are requests.
+/// Values that are requests, and others.
 pub fn request_rows_hold()
     ensures { RequestRowsHold }
 {}
 
-/// Lists of two in selectors, each operator, and parts of another form.
+/// Selectors with lists of two, each operator, and parts of the wrong form.
 pub fn selector_part_rows_hold()
     ensures { SelectorPartRowsHold }
 {}
 
-/// The labels of objects: the last of two, the empty value, and what is none.
+/// The labels of objects: the last of two, the empty value, and values that are not labels.
 pub fn label_part_rows_hold()
     ensures { LabelPartRowsHold }
 {}
 
-/// Match resources with each of their parts, their defaults, and parts of another form.
+/// Match resources with each of their parts, their defaults, and parts of the wrong form.
 pub fn match_part_rows_hold()
     ensures { MatchPartRowsHold }
 {}
 
-/// Which parts of a request have to be there, and which have to be equal.
+/// The required parts of a request, and those that must be equal.
 pub fn request_part_rows_hold()
     ensures { RequestPartRowsHold }
 {}
 
-/// What is read in requests: defaults, operations and objects.
+/// What is read from requests: defaults, operations and objects.
 pub fn request_read_rows_hold()
     ensures { RequestReadRowsHold }
 {}
 
-/// Which kind is the Namespace of the core group.
+/// Kinds that are the Namespace of the core group, and others.
 pub fn core_namespace_rows_hold()
     ensures { CoreNamespaceRowsHold }
 {}

@@ -13,7 +13,7 @@ use admission_match::{Rule, Scope};
 use serde_json::Value;
 use std::alloc::Global;
 
-/// A list of rules, empty where it is absent.
+/// An optional list of rules, empty if it is absent.
 #[tactic(auto, unfolding(crate::specs::Matching::rules_of))]
 pub fn rules(alloc: Global, value: Option<&Value>) -> Result<Vec<Rule>, FieldError>
     ensures { ReadsField (λ v. map rule_view v.items) (rules_of (option_map (λ v. view v.now) value.entry)) result }
@@ -94,7 +94,7 @@ fn patterns(alloc: Global, value: &Value) -> Result<ResourcePatterns, FieldError
     })
 }
 
-/// The scope of a rule: all where it is absent.
+/// The scope of a rule, `*` by default.
 #[tactic(auto, unfolding(crate::specs::Matching::scope_of))]
 fn scope(value: Option<&Value>) -> Option<Scope>
     ensures { result ≡ scope_of (option_map (λ v. view v.now) value.entry) }

@@ -13,11 +13,11 @@ use label_selectors::{Label, LabelSelector, Requirement, check_label, check_requ
 use serde_json::{Map, Value};
 use std::alloc::Global;
 
-/// The selector, which has no requirements where it is absent.
+/// Reads an optional selector. If it is absent, it has no requirements.
 ///
 /// # Errors
 ///
-/// A key is not known, a value has another type, or the API server does not store the selector.
+/// A key is unknown, a value has the wrong type, or the API server does not store the selector.
 #[tactic(auto, unfolding(crate::specs::Selectors::selector_of))]
 pub fn selector(alloc: Global, value: Option<&Value>) -> Result<LabelSelector, FieldError>
     ensures { ReadsField selector_view (selector_of (option_map (λ v. view v.now) value.entry)) result }

@@ -1,4 +1,4 @@
-//! What a request is on.
+//! The target of a request.
 ghost use Rattle.std.specs.Prelude.{◌≡◌, option_map};
 ghost use Rattle.serde_json.specs.View.{view};
 ghost use Rattle.admission_match.specs.Requests.{resource_view};
@@ -18,7 +18,7 @@ pub(crate) struct Target<'a> {
 }
 
 impl<'a> Target<'a> {
-    /// What a request is on, if it is told and no webhook got the request converted.
+    /// The target of a request, if it is given and the request was not converted for a webhook.
     pub(crate) fn of(request: &'a Value) -> Option<Target<'a>>
         ensures { option_map target_view result ≡ target_in (view request.now) }
     {
@@ -43,7 +43,7 @@ impl<'a> Target<'a> {
         })
     }
 
-    /// Whether the API server's client asked for this kind, resource and subresource.
+    /// Whether the client of the API server asked for this kind, resource and subresource.
     #[tactic(auto, unfolding(crate::specs::Requests::is_as_sent))]
     fn is_as_sent(&self, request: &Value) -> bool
         ensures { result ≡ is_as_sent (view request.now) (target_view self.now) }

@@ -1,3 +1,5 @@
+-- Termination measure of `documents::is_known`.
+
 use Rattle.admission_documents.proofs.Prelude.{length}
 use Rattle.admission_documents.proofs.documents.+is_known.Given as goal
 

@@ -1,3 +1,5 @@
+-- Loop invariant of `documents::keys_known`.
+
 use Rattle.admission_documents.proofs.Prelude.{◌≡◌, map, members_view, keys_within}
 use Rattle.admission_documents.proofs.documents.keys_known.Given as goal
 

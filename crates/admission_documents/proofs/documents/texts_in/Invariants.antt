@@ -1,3 +1,5 @@
+-- Loop invariant of `documents::texts_in`.
+
 use Rattle.admission_documents.proofs.Prelude.{drop, map, string_bytes, items_view, text_in}
 use Rattle.admission_documents.proofs.Lists.{EachGo}
 use Rattle.admission_documents.proofs.documents.texts_in.Given as goal

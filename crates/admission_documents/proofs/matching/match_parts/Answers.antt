@@ -1,3 +1,5 @@
+-- Proofs of `matching::match_parts`: the result meets the contract.
+
 use Rattle.admission_documents.proofs.Prelude.{◌∙◌, ap, sym, match_policy_of, rules_of, selector_of}
 use Rattle.admission_documents.proofs.Parts.{match_whole}
 use Rattle.admission_documents.proofs.matching.match_parts.Goals as goal

@@ -1,3 +1,5 @@
+-- Loop invariant of `object_labels::are_texts`.
+
 use Rattle.admission_documents.proofs.Prelude.{◌≡◌, members_view, are_texts}
 use Rattle.admission_documents.proofs.object_labels.are_texts.Given as goal
 

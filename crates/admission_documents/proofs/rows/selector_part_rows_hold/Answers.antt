@@ -1,3 +1,5 @@
+-- Proofs of `rows::selector_part_rows_hold`: the result meets the contract.
+
 use Rattle.admission_documents.proofs.Prelude.{refl}
 use Rattle.admission_documents.proofs.OnLiterals.{documents_on_literals}
 use Rattle.admission_documents.proofs.rows.selector_part_rows_hold.Goals as goal

@@ -1,3 +1,5 @@
+-- Proofs of `rows::update_row_holds`: the result meets the contract.
+
 use Rattle.admission_documents.proofs.Prelude.{refl}
 use Rattle.admission_documents.proofs.OnLiterals.{documents_on_literals}
 use Rattle.admission_documents.proofs.rows.update_row_holds.Goals as goal

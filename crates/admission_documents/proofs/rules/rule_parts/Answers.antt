@@ -1,3 +1,5 @@
+-- Proofs of `rules::rule_parts`: the result meets the contract.
+
 use Rattle.admission_documents.proofs.Prelude.{◌∙◌, ap, sym, texts_of}
 use Rattle.admission_documents.proofs.Parts.{rule_whole}
 use Rattle.admission_documents.proofs.rules.rule_parts.Goals as goal

@@ -1,3 +1,5 @@
+-- Loop invariant of `selectors::labels_in`.
+
 use Rattle.admission_documents.proofs.Prelude.{map, members_view, label_view}
 use Rattle.admission_documents.proofs.Lists.{LabelsGo}
 use Rattle.admission_documents.proofs.selectors.labels_in.Given as goal

@@ -1,3 +1,5 @@
+-- Loop invariant of `selectors::requirements_in`.
+
 use Rattle.admission_documents.proofs.Prelude.{drop, map, items_view, requirement_view, requirement_in}
 use Rattle.admission_documents.proofs.Lists.{EachGo}
 use Rattle.admission_documents.proofs.selectors.requirements_in.Given as goal

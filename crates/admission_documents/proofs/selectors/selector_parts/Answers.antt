@@ -1,3 +1,5 @@
+-- Proofs of `selectors::selector_parts`: the result meets the contract.
+
 use Rattle.admission_documents.proofs.Prelude.{◌∙◌, ap, sym, match_expressions_of, match_labels_of}
 use Rattle.admission_documents.proofs.Parts.{selector_whole}
 use Rattle.admission_documents.proofs.selectors.selector_parts.Goals as goal
