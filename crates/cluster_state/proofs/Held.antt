@@ -1,4 +1,4 @@
--- Bindings and policies that are read one after another.
+-- Bindings and policies are read one after another.
 use Rattle.cluster_state.proofs.Prelude.{◌++◌, append_assoc, sym, true, Some, policy_before, policy_in, CodeItem, Item, LabelSelector, ParamKind, chosen, item_view, scope_by, by_labels, ◌≡◌, ◌∙◌, ◌∷◌, ◌||◌, ℕ, Bool, List, [], Result, Ok, Err, ap, map, refl, Binding, CodeBinding, Named, BoundPolicy, Refusal, binding_view, bindings_in, bytes_eq, is_bound, list_any, policies_in}
 use Rattle.serde_json.specs.Data as json
 use Rattle.cluster_state.proofs.Listed.{after_done}
@@ -22,11 +22,11 @@ bound_in_views bs name = any_of_map (λ b. bytes_eq b.policy_name name) binding_
 pub any_item : (p : Item → Bool) (is : List CodeItem) → list_any (λ i. p (item_view i)) is ≡ list_any p (map item_view is)
 any_item p is = any_of_map p item_view is
 
--- the scope is that by the definitions from `rest` on
+-- the scope is the one that the definitions from `rest` on give
 pub record ScopeGo (k : ParamKind) (is : List Item) (all rest : Named) : Type 0 where
   pub left : scope_by k is all ≡ scope_by k is rest
 
--- the objects before `rest` that are selected are `done`
+-- the selected objects before `rest` are `done`
 pub record SelectedGo (s : LabelSelector) (all rest : Named) (done : List json.Data) : Type 0 where
   pub left : done ++ chosen (by_labels s) rest ≡ chosen (by_labels s) all
 

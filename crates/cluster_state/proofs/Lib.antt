@@ -1,3 +1,5 @@
+-- The proofs of `cluster_state`.
+
 pub mod Prelude
 pub mod Read
 pub mod Listed

@@ -1,4 +1,4 @@
--- What rows on lists that are written out unfold.
+-- The definitions that examples on literal lists unfold.
 use Rattle.std.specs.Char.{encode_utf8}
 use Rattle.std.specs.Prelude.{⊤}
 use Rattle.std.specs.Str.{chars, is_utf8}

@@ -1,4 +1,4 @@
--- The order of items changes no objects.
+-- The objects do not depend on the order of the items.
 use Rattle.cluster_state.proofs.Prelude.{◌≡◌, ◌∙◌, ◌∷◌, ◌++◌, ◌||◌, ◌&&◌, ℕ, Bool, true, false, List, [], Option, Some, None, Result, Ok, Err, ap, cond, refl, sym, Decides, Equal, Greater, Less, Ordering, bytes_eq, insert_entry, is_eq, is_eq-slice_cmp, is_some, lookup, match_ordering, nat_cmp, slice_cmp, if◌then◌else◌, Collection, Item, Named, Objects, Refusal, duplicate_item, is_collection, is_taken, object_named, with_item, with_items, with_name}
 use Rattle.serde_json.specs.Data as json
 use Rattle.std.proofs.Common.{subst, true≢false}
@@ -21,9 +21,9 @@ after_equal a b e l q = flip_less e b (sym (nat_list_cmp_total.congr a e b q) �
 after_greater : (a b e : List ℕ) → slice_cmp nat_cmp a b ≡ Less → slice_cmp nat_cmp a e ≡ Greater → slice_cmp nat_cmp b e ≡ Greater
 after_greater a b e l g = flip_less e b (nat_list_cmp_total.trans e a b (flip_greater a e g) l)
 
--- ---- two names that are inserted
+-- ---- two names are inserted
 
--- at the head of what is written beside it
+-- at the head, compared with the first entry
 at_head : (a b : List ℕ) (x y : json.Data) (e : List ℕ × json.Data) (es : Named) (o : Ordering) → slice_cmp nat_cmp a b ≡ Less
     → slice_cmp nat_cmp a e.0 ≡ Less
     → (a, x) ∷ match_ordering o ((b, y) ∷ e ∷ es) ((e.0, y) ∷ es) (e ∷ insert_entry (slice_cmp nat_cmp) es b y)
@@ -62,7 +62,7 @@ less_swaps : (es : Named) (a b : List ℕ) (x y : json.Data) → slice_cmp nat_c
 less_swaps [] a b x y l = rw (flip_less a b l, l) refl
 less_swaps (e ∷ es) a b x y l = swap_step e es a b x y l (less_swaps es a b x y l) (slice_cmp nat_cmp a e.0) refl
 
--- two other names may change places
+-- two different names may be exchanged
 insert_swaps : (es : Named) (a b : List ℕ) (x y : json.Data) → bytes_eq b a ≡ false
     → insert_entry (slice_cmp nat_cmp) (insert_entry (slice_cmp nat_cmp) es a x) b y
     ≡ insert_entry (slice_cmp nat_cmp) (insert_entry (slice_cmp nat_cmp) es b y) a x
@@ -115,7 +115,7 @@ found_step e es n m d rest Greater h =
     ∙ or_swaps (bytes_eq n e.0) (bytes_eq n m) (is_some (lookup (bytes_eq n) es))
     ∙ ap (λ r. bytes_eq n m || r) (sym (some_or (bytes_eq n e.0) e.1 (lookup (bytes_eq n) es)))
 
--- a name is found after another was inserted if it is that one or was found before
+-- a name is found after an insertion if it is the inserted one or was found before
 found_inserted : (es : Named) (n m : List ℕ) (d : json.Data)
     → is_some (lookup (bytes_eq n) (insert_entry (slice_cmp nat_cmp) es m d)) ≡ (bytes_eq n m || is_some (lookup (bytes_eq n) es))
 found_inserted [] n m d = some_or (bytes_eq n m) d None
@@ -150,7 +150,7 @@ false_by false f = refl
 
 -- ---- two items
 
--- objects and one of this collection and name
+-- the objects, with one of this collection and name added
 abbrev added : Objects → Collection → List ℕ → json.Data → Objects
 added o p a x c = if is_collection p c then insert_entry (slice_cmp nat_cmp) (o p) a x else o c
 
@@ -200,7 +200,7 @@ swaps o p q a b x y other = by (is_collection p q) refl
         subst (λ z. (c : Collection) → added (added o p a x) z b y c ≡ added (added o z b y) p a x c) (same_place p q h) (same_swaps o p a b x y (other h))
     by false h = other_swaps o p q a b x y h (not_back p q h) (not_both p q h)
 
--- ---- names that are free
+-- ---- free names
 
 neither : (a b : Bool) → (a || b) ≡ false → (a ≡ false) × (b ≡ false)
 neither true b e = absurd (true≢false e)
@@ -212,7 +212,7 @@ none_of a b e f = rw (e, f) refl
 names_apart : (a b : List ℕ) → bytes_eq b a ≡ false → bytes_eq a b ≡ false
 names_apart a b h = false_by (bytes_eq a b) (λ e. true≢false (sym ((bytes_eq-Decides b a).1 (sym ((bytes_eq-Decides a b).0 e))) ∙ h))
 
--- what is known of two items of which both are free, the second after the first
+-- facts about two items whose names are free, the second one after the first was added
 record AreFree (o : Objects) (p q : Collection) (a b : List ℕ) (y : json.Data) : Type 0 where
   pub first : taken o q b ≡ false
   pub second : taken (added o q b y) p a ≡ false

@@ -1,4 +1,4 @@
--- The code's maps, seen as objects.
+-- The maps of the code, as objects.
 use Rattle.cluster_state.proofs.Prelude.{◌≡◌, ◌∙◌, ◌∷◌, ◌&&◌, ℕ, Bool, true, false, List, [], Option, Some, None, ap, cond, map, refl, sym, BTreeMap, Bor, Equal, Greater, Less, Ordering, Value, Collection, Named, bytes_eq, collection_cmp, get_by, insert_entry, is_at, is_collection, is_eq, is_eq-slice_cmp, is_some, lookup, match_ordering, named_in, named_view, nat_cmp, not, option_copied, option_map, option_map_or, ordering_then, slice_cmp, view, if◌then◌else◌}
 use Rattle.serde_json.specs.Data as json
 
@@ -11,7 +11,7 @@ map_of_ordering f Less x y z = refl
 map_of_ordering f Equal x y z = refl
 map_of_ordering f Greater x y z = refl
 
--- an entry goes to the same place in the names
+-- an entry gets the same place among the names
 pub inserted : (es : List (Bor (List ℕ) × Bor Value)) (k : Bor (List ℕ)) (v : Bor Value)
     → named_view (insert_entry (λ x y. slice_cmp nat_cmp x.now y.now) es k v) ≡ insert_entry (slice_cmp nat_cmp) (named_view es) k.now (view v.now)
 inserted [] k v = refl
@@ -23,7 +23,7 @@ some_either : {A B : Type 0} (b : Bool) (x : A) (y : B) (o : Option A) (p : Opti
 some_either true x y o p e = refl
 some_either false x y o p e = e
 
--- a name is found in both
+-- a name is found in both or in neither
 pub found_in_both : (name : List ℕ) (es : List (Bor (List ℕ) × Bor Value))
     → is_some (lookup (is_at (λ k. slice_cmp nat_cmp name k.now)) es) ≡ is_some (lookup (bytes_eq name) (named_view es))
 found_in_both name [] = refl
@@ -41,20 +41,20 @@ three_then Less b c = refl
 three_then Equal b c = two_then b c
 three_then Greater b c = refl
 
--- the order of places finds a collection
+-- the order of keys finds a collection
 pub is_place : (c d : Collection)
     → is_eq (ordering_then (ordering_then (slice_cmp nat_cmp c.api_version d.api_version) (slice_cmp nat_cmp c.kind d.kind)) (slice_cmp nat_cmp c.namespace d.namespace)) ≡ is_collection c d
 is_place c d =
     three_then (slice_cmp nat_cmp c.api_version d.api_version) (slice_cmp nat_cmp c.kind d.kind) (slice_cmp nat_cmp c.namespace d.namespace)
     ∙ rw (is_eq-slice_cmp c.api_version d.api_version, is_eq-slice_cmp c.kind d.kind, is_eq-slice_cmp c.namespace d.namespace) refl
 
--- what is found after a place was emptied and filled
+-- what is found after a place was emptied and refilled
 pub refilled : {M : Type 0} (f : M → Named) (b : Bool) (w : M) (o p q : Option M) → q ≡ cond b (Some w) p → p ≡ cond b None o
     → option_map_or f q [] ≡ (if b then f w else option_map_or f o [])
 refilled f true w o p q e h = ap (λ x. option_map_or f x []) e
 refilled f false w o p q e h = ap (λ x. option_map_or f x []) (e ∙ h)
 
--- what is lent
+-- a borrowed map, or the empty one
 pub copied_or : {M : Type 0} (f : M → Named) (r : Option (Bor M)) → option_map_or (λ m. f m.now) r [] ≡ option_map_or f (option_copied r) []
 copied_or f None = refl
 copied_or f (Some m) = refl
@@ -74,7 +74,7 @@ map_either : {A B : Type 0} (f : A → B) (b : Bool) (x : A) (o : Option A) → 
 map_either f true x o = refl
 map_either f false x o = refl
 
--- what is found of a name
+-- the result for a name
 pub found_as : (name : List ℕ) (es : List (Bor (List ℕ) × Bor Value))
     → option_map (λ v. view v.now) (lookup (is_at (λ k. slice_cmp nat_cmp name k.now)) es) ≡ lookup (bytes_eq name) (named_view es)
 found_as name [] = refl

@@ -1,4 +1,4 @@
--- What a text says, by what `serde_json` answers.
+-- The document in a text, given the result of `serde_json`.
 use Rattle.cluster_state.proofs.Prelude.{◌≡◌, ℕ, List, Some, None, sym, arith, IsUtf8, IsUtf8-from_is_utf8, is_utf8-from_IsUtf8, read, document_of}
 use Rattle.serde_json.specs.Data as json
 

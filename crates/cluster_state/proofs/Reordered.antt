@@ -1,4 +1,4 @@
--- States of which the items are in another order.
+-- States whose items are in another order.
 use Rattle.cluster_state.proofs.Prelude.{◌≡◌, ◌∙◌, ◌∷◌, ◌++◌, Bool, true, false, List, Result, Ok, Err, ap, refl, sym, Binding, Item, Objects, BoundPolicy, Refusal, ClusterState, bindings, bindings_in, bindings_then, items_then, no_objects, policies, policies_in, policies_then, state_with, with_items}
 use Rattle.std.proofs.Common.{[], None, Some, codes, if◌then◌else◌, true≢false, ◌||◌}
 use Rattle.std.specs.List.{list_any}
@@ -34,7 +34,7 @@ abbrev is_state : Result ClusterState Refusal → Bool
 is_state (Ok s) = true
 is_state (Err e) = false
 
--- some item passes, in either order
+-- an item passes, in either order
 same_any : (p : Item → Bool) (before : List Item) (i j : Item) (after : List Item)
     → list_any p (before ++ i ∷ j ∷ after) ≡ list_any p (before ++ j ∷ i ∷ after)
 same_any p [] i j after = or_swaps (p i) (p j) (list_any p after)
@@ -55,7 +55,7 @@ same_kinds k before i j after o =
     (ap (λ z. if z then Some Namespaced else (if list_any (is_of_kind k) (before ++ i ∷ j ∷ after) then Some Cluster else None)) (same_any (is_in_namespace k) before i j after)
     ∙ ap (λ z. if list_any (is_in_namespace k) (before ++ j ∷ i ∷ after) then Some Namespaced else (if z then Some Cluster else None)) (same_any (is_of_kind k) before i j after)))
 
--- the items of a state are those that it was read from
+-- the items of a state are those it was read from
 abbrev items_in_state : List Item → Result ClusterState Refusal → List Item
 items_in_state items (Ok s) = s.items
 items_in_state items (Err e) = items

@@ -1,4 +1,4 @@
--- A state of which all parts are read.
+-- A state all of whose parts were read.
 use Rattle.cluster_state.proofs.Prelude.{◌≡◌, ◌∙◌, List, Ok, ap, sym, AreObjects, Binding, Item, Objects, BoundPolicy, bindings, bindings_in, bindings_then, items_of, items_then, objects_of, policies, policies_in, policies_then, state_of, state_with}
 use Rattle.serde_json.specs.Data as json
 

@@ -16,12 +16,12 @@ use Rattle.cluster_state.specs.declared.param_choice.ParamChoice.{ParamChoice as
 use Rattle.cluster_state.specs.declared.param_choice.ParamChoice.TheVariants as code
 use Rattle.cluster_state.specs.declared.param_ref.ParamRef.{ParamRef as CodeRef}
 
--- which objects are params: the one of a name, or those that a selector selects
+-- which objects are params: the one with a name, or those that a selector selects
 pub data ParamChoice : Type 0 where
   by_name : List ℕ → ParamChoice
   by_labels : LabelSelector → ParamChoice
 
--- where a binding's params are (ParamRef)
+-- where to find a binding's params (ParamRef)
 pub record ParamRef : Type 0 where
   pub choice : ParamChoice
   pub namespace : List ℕ
@@ -35,19 +35,19 @@ pub record Binding : Type 0 where
   pub resources : MatchResources
   pub param_ref : Option ParamRef
 
--- ---- where its params are
+-- ---- its reference to params
 
--- `name` or `selector`, of which one has to be there
+-- `name` or `selector`, exactly one of which is required
 abbrev pub choice_from : Option (List ℕ) → Option json.Data → Option ParamChoice
 choice_from None s = None
 choice_from (Some n) None = if length n == 0 then None else Some (by_name n)
 choice_from (Some n) (Some d) = if length n == 0 then option_map by_labels (selector_of (Some d)) else None
 
--- the same in a document
+-- the choice in a document
 unfoldable pub choice_in : json.Data → Option ParamChoice
 choice_in d = choice_from (text_or_empty_of (field (codes "name") d)) (field (codes "selector") d)
 
--- whether the absence of params denies (ParameterNotFoundActionType), which has to be told
+-- whether the absence of params denies (ParameterNotFoundActionType); the field is required
 abbrev pub absence_named : List ℕ → Option Bool
 absence_named t = if bytes_eq t (codes "Deny") then Some true else (if bytes_eq t (codes "Allow") then Some false else None)
 
@@ -59,7 +59,7 @@ absence_of _ = None
 unfoldable pub param_ref_keys : List (List ℕ)
 param_ref_keys = codes "name" ∷ codes "namespace" ∷ codes "parameterNotFoundAction" ∷ codes "selector" ∷ []
 
--- a reference to params, if each of its parts has its form
+-- a reference to params, if each of its parts has the right form
 abbrev pub param_ref_from : Option ParamChoice → Option (List ℕ) → Option Bool → Option ParamRef
 param_ref_from (Some choice) (Some namespace) (Some denies) = Some (record { choice = choice; namespace = namespace; denies_absence = denies })
 param_ref_from _ _ _ = None
@@ -71,7 +71,7 @@ param_ref_parts d = param_ref_from
 abbrev pub param_ref_in : json.Data → Option ParamRef
 param_ref_in d = if has_only param_ref_keys d then param_ref_parts d else None
 
--- a reference to params, which may be absent
+-- an optional reference to params
 unfoldable pub param_ref_of : Option json.Data → Option (Option ParamRef)
 param_ref_of None = Some None
 param_ref_of (Some d) = option_map Some (param_ref_in d)
@@ -103,12 +103,12 @@ is_action Audit Audit = true
 abbrev pub has_action : Action → List Action → Bool
 has_action a actions = list_any (is_action a) actions
 
--- no action is there twice
+-- no action occurs twice
 abbrev pub are_distinct : List Action → Bool
 are_distinct [] = true
 are_distinct (a ∷ actions) = not (has_action a actions) && are_distinct actions
 
--- one to three actions, no two the same, and not Deny with Warn
+-- one to three different actions, without Deny and Warn together
 unfoldable pub are_actions : List Action → Bool
 are_actions actions =
     not (length actions == 0) && nat_le (length actions) 3 && are_distinct actions && not (has_action Deny actions && has_action Warn actions)
@@ -131,7 +131,7 @@ if_text None = None
 unfoldable pub binding_keys : List (List ℕ)
 binding_keys = codes "matchResources" ∷ codes "paramRef" ∷ codes "policyName" ∷ codes "validationActions" ∷ []
 
--- a binding, if each of its parts has its form
+-- a binding, if each of its parts has the right form
 abbrev pub binding_from : List ℕ → Option (List ℕ) → Option (List Action) → Option MatchResources → Option (Option ParamRef) → Option Binding
 binding_from name (Some policy) (Some actions) (Some resources) (Some params) = Some (record {
   name = name;
@@ -154,11 +154,11 @@ abbrev pub binding_spec : List ℕ → Option json.Data → Option Binding
 binding_spec name None = None
 binding_spec name (Some d) = if has_only binding_keys d then binding_parts name d else None
 
--- the binding of this name in a document
+-- the binding with this name in a document
 unfoldable pub binding_in : List ℕ → json.Data → Option Binding
 binding_in name d = binding_spec name (field (codes "spec") d)
 
--- a binding before others, unless it is none
+-- this binding in front of the others, or its refusal
 abbrev pub binding_before : List ℕ → Option Binding → Result (List Binding) Refusal → Result (List Binding) Refusal
 binding_before name None rest = Err (invalid_binding name)
 binding_before name (Some b) (Ok bs) = Ok (b ∷ bs)
@@ -169,7 +169,7 @@ abbrev pub bindings_in : Named → Result (List Binding) Refusal
 bindings_in [] = Ok []
 bindings_in (o ∷ os) = binding_before o.0 (binding_in o.0 o.1) (bindings_in os)
 
--- ---- the code's
+-- ---- values of the code
 
 abbrev pub choice_view : CodeChoice → ParamChoice
 choice_view (code.Named n) = by_name n.now

@@ -1,3 +1,5 @@
+-- The state of a cluster: items, objects, bindings, policies, params and namespaces, and why lists are refused.
+
 pub mod Bindings
 pub mod Items
 pub mod Laws

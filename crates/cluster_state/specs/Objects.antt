@@ -14,7 +14,7 @@ use Rattle.cluster_state.specs.Items.{Collection, Item}
 use Rattle.cluster_state.specs.Refusals.{Refusal, duplicate_item}
 use Rattle.cluster_state.specs.declared.objects.Objects.{Objects as CodeObjects}
 
--- names with their objects, in the order of the names, which is by their bytes in UTF-8
+-- names with their objects, ordered by name (bytes in UTF-8)
 abbrev pub Named : Type 0
 Named = List (List ℕ × json.Data)
 
@@ -25,50 +25,50 @@ Objects = Collection → Named
 abbrev pub no_objects : Objects
 no_objects c = []
 
--- the same kind and namespace
+-- the collections have the same kind and namespace
 abbrev pub is_collection : Collection → Collection → Bool
 is_collection c d = bytes_eq c.api_version d.api_version && bytes_eq c.kind d.kind && bytes_eq c.namespace d.namespace
 
--- the object of this name
+-- the object with this name
 abbrev pub object_named : List ℕ → Named → Option json.Data
 object_named name objects = lookup (bytes_eq name) objects
 
--- the objects of the item's collection, with the item at its place
+-- the objects of the item's collection, with the item added in its place
 abbrev pub with_name : Objects → Item → Named
 with_name objects i = insert_entry (slice_cmp nat_cmp) (objects i.collection) i.name i.document
 
--- objects and an item
+-- the objects, with an item added
 abbrev pub with_item : Objects → Item → Objects
 with_item objects i c = if is_collection i.collection c then with_name objects i else objects c
 
--- there is an object of the item's collection and name
+-- there is an object with the item's collection and name
 abbrev pub is_taken : Objects → Item → Bool
 is_taken objects i = is_some (object_named i.name (objects i.collection))
 
--- objects and all items, no two of which have one collection and name
+-- the objects, with all items added; no two items have the same collection and name
 abbrev pub with_items : Objects → List Item → Result Objects Refusal
 with_items objects [] = Ok objects
 with_items objects (i ∷ is) = if is_taken objects i then Err (duplicate_item i.name) else with_items (with_item objects i) is
 
--- ---- the code's
+-- ---- values of the code
 
 abbrev pub named_view : List (Bor (List ℕ) × Bor Value) → Named
 named_view es = map (λ e. (e.0.now, view e.1.now)) es
 
--- how a collection compares with the code's
+-- how a collection compares with one of the code
 abbrev pub collection_cmp : Collection → Bor (List ℕ) × Bor (List ℕ) × Bor (List ℕ) → Ordering
 collection_cmp c k =
     ordering_then (ordering_then (slice_cmp nat_cmp c.api_version k.0.now) (slice_cmp nat_cmp c.kind k.1.now))
     (slice_cmp nat_cmp c.namespace k.2.now)
 
--- the objects of a collection in the code's map
+-- the objects of a collection in the map of the code
 abbrev pub named_in : BTreeMap (Bor (List ℕ) × Bor (List ℕ) × Bor (List ℕ)) (BTreeMap (Bor (List ℕ)) (Bor Value)) → Objects
 named_in m c = option_map_or (λ o. named_view o.entries) (get_by (collection_cmp c) m) []
 
--- the code's objects
+-- objects of the code
 abbrev pub objects_view : CodeObjects → Objects
 objects_view o = named_in o.collections
 
--- a collection as the code writes it
+-- a collection of the code
 abbrev pub collection_view : Bor (List ℕ) × Bor (List ℕ) × Bor (List ℕ) → Collection
 collection_view k = record { api_version = k.0.now; kind = k.1.now; namespace = k.2.now }

@@ -28,7 +28,7 @@ use Rattle.cluster_state.specs.declared.namespace_object.NamespaceObject.TheVari
 
 -- ---- kinds of params
 
--- the version of an `apiVersion`, which is after its first slash
+-- the version of an `apiVersion`: the part after its first slash
 abbrev pub version_cut : Option ℕ → List ℕ → List ℕ
 version_cut (Some at) t = drop (at + 1) t
 version_cut None t = t
@@ -36,7 +36,7 @@ version_cut None t = t
 unfoldable pub version_in : List ℕ → List ℕ
 version_in t = version_cut (position (λ c. c == 47) t) t
 
--- true
+-- the value is true
 abbrev pub is_true : Option json.Data → Bool
 is_true (Some (json.boolean b)) = b
 is_true _ = false
@@ -64,7 +64,7 @@ serves_in k spec =
 abbrev pub serves : ParamKind → json.Data → Bool
 serves k d = serves_in k (field (codes "spec") d)
 
--- the scopes
+-- the scope with this name
 abbrev pub scope_named : List ℕ → Option ParamScope
 scope_named t =
     if bytes_eq t (codes "Namespaced") then Some Namespaced else (if bytes_eq t (codes "Cluster") then Some Cluster else None)
@@ -81,12 +81,12 @@ is_of_kind k i = bytes_eq i.collection.api_version k.api_version && bytes_eq i.c
 abbrev pub is_in_namespace : ParamKind → Item → Bool
 is_in_namespace k i = is_of_kind k i && not (length i.collection.namespace == 0)
 
--- the scope by the objects of the kind, unless there are none
+-- the scope that the objects of the kind show; none if there are no objects
 abbrev pub scope_by_items : ParamKind → List Item → Option ParamScope
 scope_by_items k is =
     if list_any (is_in_namespace k) is then Some Namespaced else (if list_any (is_of_kind k) is then Some Cluster else None)
 
--- the scope of a kind: by the first of these definitions that serves it, and else by the objects of the kind
+-- the scope of a kind: by the first of these definitions that serves it, or else by the objects of the kind
 abbrev pub scope_by : ParamKind → List Item → Named → Option ParamScope
 scope_by k is [] = scope_by_items k is
 scope_by k is (o ∷ os) =
@@ -98,7 +98,7 @@ is_of_other_version k i =
     bytes_eq (group_in i.collection.api_version) (group_in k.api_version) && bytes_eq i.collection.kind k.kind
     && not (bytes_eq i.collection.api_version k.api_version)
 
--- a kind of which params can be found
+-- a kind whose params can be found
 pub record KnownKind : Type 0 where
   pub kind : ParamKind
   pub scope : ParamScope
@@ -107,13 +107,13 @@ abbrev pub with_scope : ParamKind → Option ParamScope → Option KnownKind
 with_scope k (Some scope) = Some (record { kind = k; scope = scope })
 with_scope k None = None
 
--- the kind with its scope, if that is known and no object is of another version
+-- the kind with its scope, if that is known and no object has another version
 abbrev pub known_kind : ParamKind → List Item → Objects → Option KnownKind
 known_kind k is objects = if list_any (is_of_other_version k) is then None else with_scope k (scope_by k is (objects definitions))
 
 -- ---- params
 
--- the namespace that a binding names, and else the request's
+-- the namespace that the binding names, or else the request's
 abbrev pub namespace_or : List ℕ → List ℕ → List ℕ
 namespace_or named own = if length named == 0 then own else named
 
@@ -122,17 +122,17 @@ abbrev pub params_place : ParamScope → ParamKind → List ℕ → List ℕ →
 params_place Namespaced k named own = record { api_version = k.api_version; kind = k.kind; namespace = namespace_or named own }
 params_place Cluster k named own = record { api_version = k.api_version; kind = k.kind; namespace = [] }
 
--- the objects that a choice takes, in the order of their names
+-- the objects that a choice selects, in the order of their names
 abbrev pub chosen : ParamChoice → Named → List json.Data
 chosen (by_name name) os = option_to_list (object_named name os)
 chosen (by_labels s) os = map (λ o. o.1) (filter (λ o. selects s (labels_in o.1)) os)
 
--- the request and the binding have no namespace, and the kind needs one
+-- neither the request nor the binding has a namespace, and the kind needs one
 abbrev pub lacks_namespace : ParamScope → List ℕ → List ℕ → Bool
 lacks_namespace Namespaced named own = length named == 0 && length own == 0
 lacks_namespace Cluster named own = false
 
--- the binding has a namespace, and the kind has none
+-- the binding has a namespace, and the kind needs none
 abbrev pub has_needless_namespace : ParamScope → List ℕ → Bool
 has_needless_namespace Namespaced named = false
 has_needless_namespace Cluster named = not (length named == 0)
@@ -141,14 +141,14 @@ has_needless_namespace Cluster named = not (length named == 0)
 abbrev pub if_found : Bool → List json.Data → Result (List json.Data) ParamError
 if_found denies ds = if denies && length ds == 0 then Err NotFound else Ok ds
 
--- the params of a kind where a binding says, for a request in this namespace
+-- the params of a kind that a binding refers to, for a request in this namespace
 abbrev pub params_of : Objects → KnownKind → ParamRef → List ℕ → Result (List json.Data) ParamError
 params_of objects k r own =
     if lacks_namespace k.scope r.namespace own then Err ClusterScopedRequest
     else (if has_needless_namespace k.scope r.namespace then Err NeedlessNamespace
     else if_found r.denies_absence (chosen r.choice (objects (params_place k.scope k.kind r.namespace own))))
 
--- the params are returned, or the first error; or an allocation failed
+-- the params or the first error are returned; an allocation failure says nothing
 abbrev pub ParamsRead : Result (List json.Data) ParamError → Result (Vec (Bor Value) Global) ParamError → Type 0
 ParamsRead due (Ok v) = due ≡ Ok (map (λ d. view d.now) v.items)
 ParamsRead due (Err ClusterScopedRequest) = due ≡ Err ClusterScopedRequest
@@ -156,7 +156,7 @@ ParamsRead due (Err NeedlessNamespace) = due ≡ Err NeedlessNamespace
 ParamsRead due (Err NotFound) = due ≡ Err NotFound
 ParamsRead due (Err Memory) = Unit {0}
 
--- what the API server says of an error
+-- the message of the API server for this error
 abbrev pub param_error_text : ParamError → List ℕ
 param_error_text ClusterScopedRequest = codes "cannot use namespaced paramRef in policy binding that matches cluster-scoped resources"
 param_error_text NeedlessNamespace = codes "paramRef.namespace must not be provided for a cluster-scoped `paramKind`"
@@ -165,7 +165,7 @@ param_error_text Memory = codes "out of memory"
 
 -- ---- the namespace of a request
 
--- the namespace of this name
+-- the namespace with this name
 abbrev pub namespace_named : List ℕ → Objects → Option json.Data
 namespace_named name objects = object_named name (objects namespaces)
 
@@ -173,7 +173,7 @@ namespace_named name objects = object_named name (objects namespaces)
 abbrev pub namespace_labels : Objects → List ℕ → Option Labels
 namespace_labels objects name = option_map labels_in (namespace_named name objects)
 
--- the root `namespaceObject`: null, an object, or a namespace that is not there
+-- the root `namespaceObject`: null, an object, or a namespace that does not exist
 pub data NamespaceObject : Type 0 where
   no_object : NamespaceObject
   object : json.Data → NamespaceObject
@@ -183,12 +183,12 @@ abbrev pub object_or_missing : Option json.Data → NamespaceObject
 object_or_missing (Some d) = object d
 object_or_missing None = missing
 
--- null for a Namespace of the core group and for a request without a namespace, and else the request's namespace
+-- null for a Namespace of the core group and for a request without a namespace, otherwise the request's namespace
 abbrev pub namespace_object : Objects → GroupVersionKind → List ℕ → NamespaceObject
 namespace_object objects k name =
     if is_core_namespace k || length name == 0 then no_object else object_or_missing (namespace_named name objects)
 
--- ---- the code's
+-- ---- values of the code
 
 abbrev pub known_kind_view : CodeKnown → KnownKind
 known_kind_view k = record { kind = param_kind_view k.kind; scope = k.scope }

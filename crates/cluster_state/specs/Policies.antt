@@ -1,5 +1,5 @@
--- Policies that are bound (Kubernetes, ValidatingAdmissionPolicy of admissionregistration.k8s.io/v1): the requests that
--- they are for, and their kind of params.
+-- Policies with bindings (Kubernetes, ValidatingAdmissionPolicy of admissionregistration.k8s.io/v1): the requests
+-- that they apply to, and their kind of params.
 use Rattle.std.specs.Prelude.{ℕ, ◌&&◌, ◌||◌, ◌==◌, Bool, true, false, not, List, [], ◌∷◌, map, Option, Some, None, Result, Ok, Err, bytes_eq, codes, length, option_map, if◌then◌else◌}
 use Rattle.std.specs.List.{list_any}
 use Rattle.serde_json.specs.Data as json
@@ -18,7 +18,7 @@ pub record ParamKind : Type 0 where
   pub api_version : List ℕ
   pub kind : List ℕ
 
--- a policy that is bound
+-- a policy with a binding
 pub record BoundPolicy : Type 0 where
   pub name : List ℕ
   pub document : json.Data
@@ -29,7 +29,7 @@ pub record BoundPolicy : Type 0 where
 unfoldable pub param_kind_keys : List (List ℕ)
 param_kind_keys = codes "apiVersion" ∷ codes "kind" ∷ []
 
--- a kind of params, both parts of which have to be there
+-- a kind of params; both of its parts are required
 abbrev pub param_kind_from : Option (List ℕ) → Option (List ℕ) → Option ParamKind
 param_kind_from (Some version) (Some kind) = Some (record { api_version = version; kind = kind })
 param_kind_from _ _ = None
@@ -40,12 +40,12 @@ param_kind_parts d = param_kind_from (if_text (text_of (field (codes "apiVersion
 abbrev pub param_kind_in : json.Data → Option ParamKind
 param_kind_in d = if has_only param_kind_keys d then param_kind_parts d else None
 
--- a kind of params, which may be absent
+-- an optional kind of params
 unfoldable pub param_kind_of : Option json.Data → Option (Option ParamKind)
 param_kind_of None = Some None
 param_kind_of (Some d) = option_map Some (param_kind_in d)
 
--- a policy, if both of its parts have their form
+-- a policy, if both of its parts have the right form
 abbrev pub policy_from : List ℕ → json.Data → Option MatchResources → Option (Option ParamKind) → Option BoundPolicy
 policy_from name d (Some constraints) (Some kind) = Some (record {
   name = name;
@@ -64,15 +64,15 @@ abbrev pub policy_spec : List ℕ → json.Data → Option json.Data → Option 
 policy_spec name d None = None
 policy_spec name d (Some spec) = policy_parts name d spec
 
--- the policy of this name in a document
+-- the policy with this name in a document
 unfoldable pub policy_in : List ℕ → json.Data → Option BoundPolicy
 policy_in name d = policy_spec name d (field (codes "spec") d)
 
--- a binding is of the policy of this name
+-- a binding refers to the policy with this name
 unfoldable pub is_bound : List Binding → List ℕ → Bool
 is_bound bs name = list_any (λ b. bytes_eq b.policy_name name) bs
 
--- a policy before others, unless it is none
+-- this policy in front of the others, or its refusal
 abbrev pub policy_before : List ℕ → Option BoundPolicy → Result (List BoundPolicy) Refusal → Result (List BoundPolicy) Refusal
 policy_before name None rest = Err (invalid_policy name)
 policy_before name (Some p) (Ok ps) = Ok (p ∷ ps)
@@ -83,7 +83,7 @@ abbrev pub policies_in : List Binding → Named → Result (List BoundPolicy) Re
 policies_in bs [] = Ok []
 policies_in bs (o ∷ os) = if is_bound bs o.0 then policy_before o.0 (policy_in o.0 o.1) (policies_in bs os) else policies_in bs os
 
--- ---- the code's
+-- ---- values of the code
 
 abbrev pub param_kind_view : CodeKind → ParamKind
 param_kind_view k = record { api_version = k.api_version.now; kind = k.kind.now }

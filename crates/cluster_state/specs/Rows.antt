@@ -1,4 +1,4 @@
--- Lists written out, and what the definitions read in them.
+-- Literal lists, and what the definitions read in them.
 use Rattle.std.specs.Prelude.{◌≡◌, ℕ, Bool, true, false, List, [], ◌∷◌, ◌++◌, map, Option, Some, None, Result, Ok, Err, codes, is_some, option_and_then, option_map}
 use Rattle.serde_json.specs.Data as json
 use Rattle.serde_json.specs.Read.{read}
@@ -18,7 +18,7 @@ use Rattle.cluster_state.specs.declared.param_scope.ParamScope.TheVariants.{Name
 
 -- ---- states
 
--- a List of these items
+-- a List with these items
 abbrev pub listing : List ℕ → List ℕ
 listing items = codes "{\"apiVersion\":\"v1\",\"kind\":\"List\",\"items\":[" ++ (items ++ codes "]}")
 
@@ -50,7 +50,7 @@ policy_names texts = option_and_then (λ ds. names_of (state_of ds)) (documents 
 abbrev pub prod : List ℕ
 prod = codes "{\"apiVersion\":\"v1\",\"kind\":\"Namespace\",\"metadata\":{\"name\":\"prod\"}}"
 
--- a policy of this name, with a rule and what kubectl prints beside it
+-- a policy with this name, a rule, and the further fields that kubectl prints
 abbrev pub policy : List ℕ → List ℕ
 policy name = codes "{\"apiVersion\":\"admissionregistration.k8s.io/v1\",\"kind\":\"ValidatingAdmissionPolicy\",\"metadata\":{\"name\":\"" ++ (name ++ codes "\",\"uid\":\"u\"},\"spec\":{\"matchConstraints\":{\"resourceRules\":[{}]}},\"status\":{}}")
 
@@ -158,7 +158,7 @@ configs = record { kind = config_kind; scope = Namespaced }
 abbrev pub limits_kind : KnownKind
 limits_kind = record { kind = limit_kind; scope = Cluster }
 
--- a reference to this name in this namespace, whose absence denies
+-- a reference to this name in this namespace; the absence of params denies
 abbrev pub to_name : List ℕ → List ℕ → ParamRef
 to_name name namespace = record { choice = by_name name; namespace = namespace; denies_absence = true }
 
@@ -183,7 +183,7 @@ abbrev pub named_document : Option json.Data → Named
 named_document (Some d) = (codes "limits.x.io", d) ∷ []
 named_document None = []
 
--- the definition of a kind Limit of x.io, in version v1, with this scope
+-- the definition of kind Limit of x.io, in version v1, with this scope
 abbrev pub definition : List ℕ → Named
 definition scope = named_document (read (codes "{\"spec\":{\"group\":\"x.io\",\"names\":{\"kind\":\"Limit\"},\"scope\":\"" ++ (scope ++ codes "\",\"versions\":[{\"name\":\"v1\",\"served\":true},{\"name\":\"v2\",\"served\":false}]}}")))
 

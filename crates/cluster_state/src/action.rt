@@ -1,8 +1,8 @@
-//! What a binding does with a validation that is false.
+//! The actions of bindings for a validation that is false.
 ghost use Rattle.std.specs.Prelude.{◌≡◌};
 ghost use Rattle.cluster_state.specs.Bindings.{action_named, is_action};
 
-/// What is done if a validation is false (ValidationAction).
+/// What happens if a validation is false (ValidationAction).
 #[derive(Clone, Copy, Debug, PartialEq, Eq)]
 pub enum Action {
     Deny,
@@ -11,7 +11,7 @@ pub enum Action {
 }
 
 impl Action {
-    /// The action of this name.
+    /// The action with this name.
     pub fn named(name: &str) -> Option<Action>
         ensures { result ≡ action_named name.now }
     {

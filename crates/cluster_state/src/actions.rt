@@ -11,7 +11,7 @@ use admission_documents::FieldError;
 use serde_json::Value;
 use std::alloc::Global;
 
-/// The actions, of which there has to be one.
+/// The actions, at least one.
 #[tactic(auto, unfolding(crate::specs::Bindings::actions_of))]
 pub(crate) fn actions(alloc: Global, value: Option<&Value>) -> Result<Vec<Action>, FieldError>
     ensures { ReadsField (λ v. v.items) (actions_of (option_map (λ v. view v.now) value.entry)) result }
@@ -55,7 +55,7 @@ fn action_in(value: &Value) -> Option<Action>
     }
 }
 
-/// Whether there are one to three, no two the same, and not Deny with Warn.
+/// Whether there are one to three different actions, without Deny and Warn together.
 #[tactic(auto, unfolding(crate::specs::Bindings::are_actions))]
 fn are_actions(actions: &[Action]) -> bool
     ensures { result ≡ are_actions actions.now }

@@ -17,22 +17,22 @@ use std::alloc::Global;
 #[derive(Debug, Drop)]
 pub struct Binding<'a> {
     pub name: &'a str,
-    /// The policy that it is of, which need not be there.
+    /// The name of its policy, which need not exist.
     pub policy_name: &'a str,
-    /// What is done if a validation is false, in the order of the document.
+    /// What happens if a validation is false, in the order of the document.
     pub actions: Vec<Action>,
-    /// The requests that it is for.
+    /// The requests that it applies to.
     pub resources: MatchResources,
-    /// Where its params are.
+    /// Where to find its params.
     pub param_ref: Option<ParamRef<'a>>,
 }
 
 impl<'a> Binding<'a> {
-    /// The binding of this name in its document.
+    /// Reads the binding with this name in its document.
     ///
     /// # Errors
     ///
-    /// The API server does not store it, or a key of its specification is not known.
+    /// The API server does not store it, or a key of its specification is unknown.
     #[tactic(auto, unfolding(crate::specs::Bindings::binding_in))]
     pub fn read(
         alloc: Global,

@@ -7,7 +7,7 @@ ghost use Rattle.cluster_state.specs.Items.{are_labels, group_in, has_other_vers
 use admission_documents::{field, is_text_map, labels_field, text, text_or_empty};
 use serde_json::Value;
 
-/// An object that a list has. It borrows its texts and its document from the list.
+/// An object in a list. Its texts and its document are borrowed from the list.
 #[derive(Clone, Copy, Debug, Drop)]
 pub struct Item<'a> {
     pub api_version: &'a str,
@@ -19,7 +19,7 @@ pub struct Item<'a> {
 }
 
 impl<'a> Item<'a> {
-    /// The item in a document, if it has the form of an object.
+    /// Reads the item in a document; `None` if that is not an object of the API.
     pub fn of(document: &'a Value) -> Option<Item<'a>>
         ensures { option_map item_view result ≡ item_in (view document.now) }
     {
@@ -58,7 +58,7 @@ impl<'a> Item<'a> {
     }
 }
 
-/// The field of an object that may be absent.
+/// The field of an optional object.
 pub(crate) fn field_of<'a>(value: Option<&'a Value>, name: &str) -> Option<&'a Value>
     ensures { option_map (λ v. view v.now) result ≡ field_of name.now (option_map (λ v. view v.now) value.entry) }
 {
@@ -78,7 +78,7 @@ fn are_labels(value: Option<&Value>) -> bool
     }
 }
 
-/// Whether this is a policy or a binding of another version of their API.
+/// Whether this is a policy or a binding of another API version.
 #[tactic(auto, unfolding(crate::specs::Items::has_other_version))]
 fn has_other_version(api_version: &str, kind: &str) -> bool
     ensures { result ≡ has_other_version api_version.now kind.now }
@@ -95,7 +95,7 @@ fn is_policy_kind(kind: &str) -> bool
     kind == "ValidatingAdmissionPolicy" || kind == "ValidatingAdmissionPolicyBinding"
 }
 
-/// The API group of an `apiVersion`, empty for the core one.
+/// The API group of an `apiVersion`, empty for the core group.
 #[tactic(auto, unfolding(crate::specs::Items::group_in))]
 pub(crate) fn group_in(api_version: &[u8]) -> &[u8]
     ensures { result.now ≡ group_in api_version.now }
@@ -106,7 +106,7 @@ pub(crate) fn group_in(api_version: &[u8]) -> &[u8]
     }
 }
 
-/// Where the first slash is.
+/// The place of the first slash.
 pub(crate) fn slash_in(text: &[u8]) -> Option<usize>
     ensures place { result ≡ position (λ c. c == 47) text.now }
     ensures within { IfSome result (λ at. at < length text.now) }

@@ -1,4 +1,4 @@
-//! Which kinds of params are known.
+//! Known kinds of params.
 ghost use Rattle.std.specs.Prelude.{◌≡◌, bytes_eq, List, [], map, option_map};
 ghost use Rattle.std.specs.Option.{option_map_or};
 ghost use Rattle.value_store.specs.Documents.{equals_string};
@@ -22,8 +22,8 @@ use serde_json::Value;
 use std::collections::BTreeMap;
 
 impl<'a> State<'a> {
-    /// The kind with its scope, if params of it can be found: a CustomResourceDefinition serves it
-    /// or there are objects of it, and no object of it is listed in another version.
+    /// The kind with its scope, if its params can be found: a CustomResourceDefinition serves it or
+    /// there are objects of it, and no object of it is listed in another version.
     pub fn known_kind(&self, kind: &ParamKind<'a>) -> Option<KnownKind<'a>>
         ensures { option_map known_kind_view result ≡ known_kind (param_kind_view kind.now) (state_view self.now).items (state_view self.now).objects }
     {
@@ -35,7 +35,7 @@ impl<'a> State<'a> {
     }
 }
 
-/// The scope of the kind: by the first definition that serves it, and else by its objects.
+/// The scope of the kind: by the first definition that serves it, or else by its objects.
 fn scope_in<'a>(
     kind: &ParamKind<'_>,
     items: &[Item<'_>],
@@ -106,7 +106,7 @@ fn one_is_served(api_version: &str, versions: &Vec<Value>) -> bool
     false
 }
 
-/// Whether this is the version of the `apiVersion`, and is served.
+/// Whether this is the version of the `apiVersion` and is served.
 #[tactic(auto, unfolding(crate::specs::Params::is_served))]
 fn is_served(api_version: &str, value: &Value) -> bool
     ensures { result ≡ is_served (version_in api_version.now) (view value.now) }
@@ -159,7 +159,7 @@ fn scope_of(value: Option<&Value>) -> Option<ParamScope>
     }
 }
 
-/// The scope by the objects of the kind, unless there are none.
+/// The scope that the objects of the kind show; `None` if there are none.
 fn scope_by_items(kind: &ParamKind<'_>, items: &[Item<'_>]) -> Option<ParamScope>
     ensures { result ≡ scope_by_items (param_kind_view kind.now) (map item_view items.now) }
 {

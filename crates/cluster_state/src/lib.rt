@@ -1,4 +1,4 @@
-//! What a cluster holds, read from lists as `kubectl get -o json` prints them.
+//! Reads the contents of a cluster from lists as `kubectl get -o json` prints them.
 #![tactic(auto)]
 
 mod action;

@@ -11,7 +11,7 @@ use admission_documents::field;
 use serde_json::Value;
 use std::alloc::{AllocError, Global};
 
-/// The document of a text, if it is a JSON text.
+/// Parses a JSON text; `None` if it is not JSON.
 #[tactic(auto, using(crate::proofs::Read::document_read, crate::proofs::Read::document_refused))]
 pub fn parse(alloc: Global, text: &[u8]) -> Result<Option<Value>, AllocError>
     ensures { IfOk result (λ v. option_map view v ≡ document_of text.now) }
@@ -77,7 +77,7 @@ fn is_list(value: &Value) -> bool
     version && kind
 }
 
-/// Whether this text is there.
+/// Whether the value is this text.
 pub(crate) fn equals_string(value: Option<&Value>, text: &str) -> bool
     ensures { result ≡ equals_string (option_map (λ v. view v.now) value.entry) text.now }
 {

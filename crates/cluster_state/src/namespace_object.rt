@@ -7,6 +7,6 @@ use serde_json::Value;
 pub enum NamespaceObject<'a> {
     Null,
     Object(&'a Value),
-    /// There is no namespace of the request's name.
+    /// The namespace of the request does not exist.
     NotFound,
 }

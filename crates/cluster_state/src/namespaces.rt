@@ -14,7 +14,7 @@ use label_selectors::LabelSelector;
 use serde_json::Value;
 
 impl<'a> State<'a> {
-    /// The namespace of this name.
+    /// The namespace with this name.
     pub fn namespace(&self, name: &str) -> Option<&'a Value>
         ensures { option_map (λ v. view v.now) result ≡ namespace_named name.now (state_view self.now).objects }
     {

@@ -27,7 +27,7 @@ impl<'a> Objects<'a> {
         }
     }
 
-    /// Adds an item. Returns whether its place was free; else it takes the place of another.
+    /// Adds an item; returns whether its place was free. Otherwise it replaces another one.
     pub(crate) fn add(&mut self, alloc: Global, item: &Item<'a>) -> Result<bool, AllocError>
         ensures free { IfOk result (λ free. free ≡ not (is_taken (objects_view self.old) (item_view item.now))) }
         ensures added { OnOk result ((c : Collection) → objects_view self.new c ≡ with_item (objects_view self.old) (item_view item.now) c) }
@@ -78,7 +78,7 @@ impl<'a> Objects<'a> {
         ))
     }
 
-    /// The objects of an `apiVersion`, a kind and a namespace.
+    /// The objects with this `apiVersion`, kind and namespace.
     pub(crate) fn named(
         &self,
         place: &(&'a str, &'a str, &'a str),
@@ -131,7 +131,7 @@ fn is_some_named(named: &BTreeMap<&str, &Value>) -> bool
     !named.is_empty()
 }
 
-/// The object of this name, if there is one.
+/// The object with this name, if there is one.
 pub(crate) fn object<'a>(
     named: Option<&BTreeMap<&'a str, &'a Value>>,
     name: &str,

@@ -1,21 +1,21 @@
-//! Why there are no params.
+//! Why params cannot be found.
 ghost use Rattle.std.specs.Prelude.{◌≡◌};
 ghost use Rattle.cluster_state.specs.declared.param_error.ParamError.TheVariants.{Memory};
 
 use std::alloc::{AllocError, AllocFailed};
 use thiserror::Error;
 
-/// Why a binding's params are not known. If several causes hold, the first of this list is
+/// Why a binding's params cannot be found. If several causes hold, the first of this list is
 /// reported.
 #[derive(Clone, Copy, Debug, PartialEq, Eq, Error)]
 pub enum ParamError {
-    /// The kind is of namespaces, and neither the binding nor the request has one.
+    /// The kind is namespaced, and neither the binding nor the request has a namespace.
     #[error("namespaced params for a request of the cluster")]
     ClusterScopedRequest,
-    /// The kind is the cluster's, and the binding has a namespace.
+    /// The kind is cluster-scoped, and the binding has a namespace.
     #[error("a namespace for params of the cluster")]
     NeedlessNamespace,
-    /// There are no params, and their absence denies.
+    /// There are no params, and the binding denies their absence.
     #[error("no params")]
     NotFound,
     /// An allocation failed.
@@ -26,7 +26,7 @@ pub enum ParamError {
 impl ParamError {
     ghost use Rattle.cluster_state.specs.Params.{param_error_text};
 
-    /// What the API server says of it.
+    /// The message of the API server for this error.
     pub fn text(&self) -> &'static str
         ensures { result.now ≡ param_error_text self.now }
     {

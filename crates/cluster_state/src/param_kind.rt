@@ -15,7 +15,7 @@ pub struct ParamKind<'a> {
     pub kind: &'a str,
 }
 
-/// The kind of params, which may be absent; none if it is not stored.
+/// Reads an optional kind of params; `None` if the API server does not store it.
 #[tactic(auto, unfolding(crate::specs::Policies::param_kind_of))]
 pub(crate) fn param_kind<'a>(value: Option<&'a Value>) -> Option<Option<ParamKind<'a>>>
     ensures { option_map (option_map param_kind_view) result ≡ param_kind_of (option_map (λ v. view v.now) value.entry) }

@@ -1,4 +1,4 @@
-//! Where a binding's params are.
+//! References to params.
 ghost use Rattle.std.specs.Prelude.{◌≡◌, Some, option_map};
 ghost use Rattle.serde_json.specs.View.{view};
 ghost use Rattle.admission_documents.specs.Documents.{has_only};
@@ -10,17 +10,17 @@ use admission_documents::{FieldError, field, has_only_keys, selector, text_or_em
 use serde_json::Value;
 use std::alloc::Global;
 
-/// Where a binding's params are (ParamRef).
+/// Where to find a binding's params (ParamRef).
 #[derive(Debug, Drop)]
 pub struct ParamRef<'a> {
     pub choice: ParamChoice<'a>,
-    /// Empty if none is given.
+    /// Empty if the reference has none.
     pub namespace: &'a str,
     /// Whether a request is denied if there are no params.
     pub denies_absence: bool,
 }
 
-/// The reference to params, which may be absent.
+/// Reads an optional reference to params.
 #[tactic(auto, unfolding(crate::specs::Bindings::param_ref_of))]
 pub(crate) fn param_ref<'a>(
     alloc: Global,
@@ -102,7 +102,7 @@ fn choice_from<'a>(
     }
 }
 
-/// Whether the absence of params denies, which has to be told.
+/// Whether the absence of params denies. The field is required.
 #[tactic(auto, unfolding(crate::specs::Bindings::absence_of))]
 fn absence(value: Option<&Value>) -> Option<bool>
     ensures { result ≡ absence_of (option_map (λ v. view v.now) value.entry) }

@@ -5,6 +5,6 @@
 pub enum ParamScope {
     /// Its objects are in namespaces.
     Namespaced,
-    /// Its objects are the cluster's.
+    /// Its objects are cluster-scoped.
     Cluster,
 }

@@ -23,8 +23,8 @@ use std::alloc::{AllocError, Global};
 use std::collections::BTreeMap;
 
 impl<'a> State<'a> {
-    /// The params of this kind where a binding says, for a request in this namespace, in the order
-    /// of their names.
+    /// The params of this kind that a binding refers to, for a request in this namespace, in the
+    /// order of their names.
     ///
     /// # Errors
     ///
@@ -71,7 +71,7 @@ fn has_needless_namespace(scope: ParamScope, named: &str) -> bool
     }
 }
 
-/// Where the objects of the kind are.
+/// The collection of the params.
 fn params_place<'a>(
     kind: &KnownKind<'a>,
     named: &'a str,
@@ -95,7 +95,7 @@ fn namespace_or<'a>(named: &'a str, own: &'a str) -> &'a str
     if named.is_empty() { own } else { named }
 }
 
-/// The objects that the choice takes.
+/// The objects that the choice selects.
 fn chosen<'a>(
     alloc: Global,
     choice: &ParamChoice<'a>,

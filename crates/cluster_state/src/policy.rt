@@ -1,4 +1,4 @@
-//! Policies that are bound.
+//! Policies with bindings.
 ghost use Rattle.std.specs.Prelude.{◌≡◌, option_map};
 ghost use Rattle.serde_json.specs.View.{view};
 ghost use Rattle.admission_documents.specs.Fields.{ReadsField};
@@ -10,8 +10,8 @@ use admission_match::MatchResources;
 use serde_json::Value;
 use std::alloc::Global;
 
-/// A policy that has a binding (ValidatingAdmissionPolicy): the requests that it is for, and its
-/// kind of params. Its expressions are in its document.
+/// A policy that has a binding (ValidatingAdmissionPolicy): the requests that it applies to, and
+/// its kind of params. Its expressions are in its document.
 #[derive(Debug, Drop)]
 pub struct Policy<'a> {
     pub name: &'a str,
@@ -21,12 +21,12 @@ pub struct Policy<'a> {
 }
 
 impl<'a> Policy<'a> {
-    /// The policy of this name in its document.
+    /// Reads the policy with this name in its document.
     ///
     /// # Errors
     ///
-    /// The API server does not store its match constraints or its kind of params, or a key of them
-    /// is not known.
+    /// The API server does not store its match constraints or its kind of params, or one of their
+    /// keys is unknown.
     #[tactic(auto, unfolding(crate::specs::Policies::policy_in))]
     pub fn read(alloc: Global, name: &'a str, document: &'a Value) -> Result<Policy<'a>, FieldError>
         ensures { ReadsField policy_view (policy_in name.now (view document.now)) result }

@@ -1,4 +1,4 @@
-//! The parts of a state.
+//! Reads the parts of a state.
 ghost use Rattle.std.specs.Prelude.{◌≡◌, bytes_eq, map};
 ghost use Rattle.std.specs.List.{list_any};
 ghost use Rattle.serde_json.specs.View.{view};
@@ -111,7 +111,7 @@ fn policies_in<'a>(
     Ok(policies)
 }
 
-/// Whether some binding is of the policy of this name.
+/// Whether a binding refers to the policy with this name.
 fn is_bound(bindings: &[Binding<'_>], name: &str) -> bool
     ensures { result ≡ is_bound (map binding_view bindings.now) name.now }
 {

@@ -1,4 +1,4 @@
-//! Lists written out, and what the definitions read in them.
+//! Literal lists, and what the definitions read in them.
 ghost use Rattle.cluster_state.specs.Rows.{BindingRowsHold, KindRowsHold, NamespaceRowsHold, ParamRowsHold, StateRowsHold};
 
 /// Policies of states, and refusals.
@@ -6,7 +6,7 @@ pub fn state_rows_hold()
     ensures { StateRowsHold }
 {}
 
-/// Bindings, and values that are none.
+/// Bindings, and values that are not bindings.
 pub fn binding_rows_hold()
     ensures { BindingRowsHold }
 {}
@@ -16,7 +16,7 @@ pub fn param_rows_hold()
     ensures { ParamRowsHold }
 {}
 
-/// Scopes of kinds, and which are known.
+/// Scopes of kinds, and known kinds.
 pub fn kind_rows_hold()
     ensures { KindRowsHold }
 {}

@@ -15,7 +15,7 @@ use crate::state_error::StateError;
 use serde_json::Value;
 use std::alloc::Global;
 
-/// What a cluster holds. It borrows from the lists.
+/// The contents of a cluster, borrowed from the lists.
 #[derive(Debug, Drop)]
 pub struct State<'a> {
     pub(crate) items: Vec<Item<'a>>,
@@ -25,7 +25,7 @@ pub struct State<'a> {
 }
 
 impl<'a> State<'a> {
-    /// The state in lists as `kubectl get -o json` prints them.
+    /// Reads the state in lists as `kubectl get -o json` prints them.
     ///
     /// # Errors
     ///

@@ -6,28 +6,28 @@ use std::alloc::{AllocError, AllocFailed};
 use thiserror::Error;
 
 /// Why lists are not the state of a cluster. If several causes hold, the first of this list is
-/// reported, of several lists or items the first one, and of several bindings or policies the one
-/// whose name is first.
+/// reported: for lists and items the first one, for bindings and policies the one whose name comes
+/// first.
 #[derive(Debug, Drop, Error)]
 pub enum StateError {
     /// The list at this place is not a List.
     #[error("the document {0} is not a List")]
     NotAList(usize),
-    /// The item at this place has no `apiVersion`, `kind` or name, has a namespace or labels of
-    /// another type, or is a policy or a binding of another version.
+    /// The item at this place has no `apiVersion`, `kind` or name, has a namespace or labels of the
+    /// wrong type, or is a policy or a binding of another API version.
     #[error("the item {0} has not the form of an object")]
     InvalidItem(usize),
-    /// Two items have this name, and the same kind and namespace.
+    /// Two items have this name, the same kind and the same namespace.
     #[error("two items are {0}")]
     DuplicateItem(String),
-    /// There is no Namespace, which each cluster has.
+    /// There is no Namespace, although each cluster has one.
     #[error("no Namespace is listed")]
     NoNamespace,
-    /// The API server does not store the binding of this name, or a key of it is not known.
+    /// The API server does not store the binding with this name, or one of its keys is unknown.
     #[error("the binding {0} has not its form")]
     InvalidBinding(String),
-    /// The API server does not store the match constraints or the kind of params of the policy of
-    /// this name, or a key of them is not known.
+    /// The API server does not store the match constraints or the kind of params of the policy with
+    /// this name, or one of their keys is unknown.
     #[error("the policy {0} has not its form")]
     InvalidPolicy(String),
     /// An allocation failed.

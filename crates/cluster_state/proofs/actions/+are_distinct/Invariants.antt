@@ -1,3 +1,5 @@
+-- Termination measure of `actions::are_distinct`.
+
 use Rattle.cluster_state.proofs.Prelude.{length}
 use Rattle.cluster_state.proofs.actions.+are_distinct.Given as goal
 

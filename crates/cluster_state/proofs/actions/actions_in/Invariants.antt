@@ -1,3 +1,5 @@
+-- Loop invariant of `actions::actions_in`.
+
 use Rattle.cluster_state.proofs.Prelude.{drop, action_in, items_view}
 use Rattle.admission_documents.proofs.Lists.{EachGo}
 use Rattle.cluster_state.proofs.actions.actions_in.Given as goal

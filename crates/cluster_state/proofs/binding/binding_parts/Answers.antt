@@ -1,3 +1,5 @@
+-- Proofs of `binding::binding_parts`: the result meets the contract.
+
 use Rattle.cluster_state.proofs.Prelude.{◌∙◌, actions_of, ap, if_text, match_resources_of, param_ref_of, sym, text_of}
 use Rattle.cluster_state.proofs.Parts.{binding_refused, binding_whole}
 use Rattle.cluster_state.proofs.binding.binding_parts.Goals as goal

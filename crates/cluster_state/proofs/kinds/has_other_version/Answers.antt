@@ -1,3 +1,5 @@
+-- Proofs of `kinds::has_other_version`: the result meets the contract.
+
 use Rattle.cluster_state.proofs.Prelude.{◌∙◌, param_kind_view}
 use Rattle.cluster_state.specs.Params.{is_of_other_version}
 use Rattle.cluster_state.proofs.Held.{any_item}

@@ -1,3 +1,5 @@
+-- Loop invariant of `kinds::one_is_served`.
+
 use Rattle.cluster_state.proofs.Prelude.{◌≡◌, drop, is_served, items_view, some_item, version_in}
 use Rattle.cluster_state.proofs.kinds.one_is_served.Given as goal
 

@@ -1,3 +1,5 @@
+-- Loop invariant of `kinds::scope_by`.
+
 use Rattle.cluster_state.proofs.Prelude.{map, item_view, named_view, param_kind_view}
 use Rattle.cluster_state.proofs.Held.{ScopeGo}
 use Rattle.cluster_state.proofs.kinds.scope_by.Given as goal

@@ -1,3 +1,5 @@
+-- Proofs of `kinds::some_in_namespace`: the result meets the contract.
+
 use Rattle.cluster_state.proofs.Prelude.{◌∙◌, param_kind_view}
 use Rattle.cluster_state.specs.Params.{is_in_namespace}
 use Rattle.cluster_state.proofs.Held.{any_item}

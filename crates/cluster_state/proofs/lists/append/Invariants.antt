@@ -1,3 +1,5 @@
+-- Loop invariant of `lists::append`.
+
 use Rattle.cluster_state.proofs.Prelude.{◌≡◌, ◌++◌, drop, map, view}
 use Rattle.cluster_state.proofs.lists.append.Given as goal
 

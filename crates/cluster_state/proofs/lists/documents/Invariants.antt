@@ -1,3 +1,5 @@
+-- Loop invariant of `lists::documents`.
+
 use Rattle.cluster_state.proofs.Prelude.{◌≡◌, drop, map, view}
 use Rattle.cluster_state.proofs.Listed.{DocumentsGo}
 use Rattle.cluster_state.proofs.lists.documents.Given as goal

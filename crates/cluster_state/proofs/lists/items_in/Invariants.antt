@@ -1,3 +1,5 @@
+-- Loop invariant of `lists::items_in`.
+
 use Rattle.cluster_state.proofs.Prelude.{◌≡◌, drop, map, view, item_view}
 use Rattle.cluster_state.proofs.Listed.{ItemsGo}
 use Rattle.cluster_state.proofs.lists.items_in.Given as goal

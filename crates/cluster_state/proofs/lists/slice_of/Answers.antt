@@ -1,3 +1,5 @@
+-- Proofs of `lists::slice_of`: the result meets the contract.
+
 use Rattle.cluster_state.proofs.Prelude.{◌∙◌, ap, map, sym, view}
 use Rattle.cluster_state.proofs.Listed.{listed}
 use Rattle.cluster_state.proofs.lists.slice_of.Goals as goal

@@ -1,3 +1,5 @@
+-- Proofs of `objects::object_in`: the result meets the contract.
+
 use Rattle.cluster_state.proofs.Prelude.{◌∙◌, ap, option_map, view}
 use Rattle.cluster_state.proofs.Placed.{found_as}
 use Rattle.cluster_state.proofs.objects.object_in.Goals as goal

@@ -1,3 +1,5 @@
+-- Loop invariant of `params::selected_of`.
+
 use Rattle.cluster_state.proofs.Prelude.{map, named_view, selector_view, view}
 use Rattle.cluster_state.proofs.Held.{SelectedGo}
 use Rattle.cluster_state.proofs.params.selected_of.Given as goal

@@ -1,3 +1,5 @@
+-- Proofs of `policy::policy_parts`: the result meets the contract.
+
 use Rattle.cluster_state.proofs.Prelude.{◌∙◌, ap, match_constraints_of, param_kind_of, sym}
 use Rattle.cluster_state.proofs.Parts.{policy_refused, policy_whole}
 use Rattle.cluster_state.proofs.policy.policy_parts.Goals as goal

@@ -1,3 +1,5 @@
+-- Loop invariant of `reading::bindings_in`.
+
 use Rattle.cluster_state.proofs.Prelude.{map, binding_view, named_view}
 use Rattle.cluster_state.proofs.Held.{BindingsGo}
 use Rattle.cluster_state.proofs.reading.bindings_in.Given as goal

@@ -1,3 +1,5 @@
+-- Proofs of `reading::policies_in`: each turn of the loop keeps the invariant.
+
 use Rattle.cluster_state.proofs.Prelude.{[], ◌∙◌, ◌∷◌, ap, binding_view, map, map-append, named_view, policies_in, policy_view, sym, view}
 use Rattle.cluster_state.proofs.Held.{policies_more}
 use Rattle.cluster_state.proofs.Listed.{after_done}

@@ -1,3 +1,5 @@
+-- Loop invariant of `reading::policies_in`.
+
 use Rattle.cluster_state.proofs.Prelude.{map, binding_view, named_view, policy_view}
 use Rattle.cluster_state.proofs.Held.{PoliciesGo}
 use Rattle.cluster_state.proofs.reading.policies_in.Given as goal

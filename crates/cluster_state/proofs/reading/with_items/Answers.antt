@@ -1,3 +1,5 @@
+-- Proofs of `reading::with_items`: the loop invariant holds at first.
+
 use Rattle.cluster_state.proofs.Prelude.{no_objects, refl}
 use Rattle.cluster_state.proofs.reading.with_items.Goals as goal
 

@@ -1,3 +1,5 @@
+-- Loop invariant of `reading::with_items`.
+
 use Rattle.cluster_state.proofs.Prelude.{drop, map, item_view, objects_view}
 use Rattle.cluster_state.proofs.Adding.{AddGo}
 use Rattle.cluster_state.proofs.reading.with_items.Given as goal

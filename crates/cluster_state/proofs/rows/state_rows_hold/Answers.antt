@@ -1,3 +1,5 @@
+-- Proofs of `rows::state_rows_hold`: the result meets the contract.
+
 use Rattle.cluster_state.proofs.Prelude.{refl}
 use Rattle.cluster_state.proofs.OnLiterals.{lists_on_literals}
 use Rattle.cluster_state.proofs.rows.state_rows_hold.Goals as goal

@@ -1,3 +1,5 @@
+-- Proofs of `objects::Objects::named`: the result meets the contract.
+
 use Rattle.cluster_state.proofs.Prelude.{◌∙◌, [], ap, named_view, option_map_or}
 use Rattle.cluster_state.proofs.Placed.{copied_or}
 use Rattle.cluster_state.proofs.objects.Objects.named.Goals as goal

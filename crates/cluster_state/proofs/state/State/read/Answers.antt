@@ -1,3 +1,5 @@
+-- Proofs of `state::State::read`: the result meets the contract.
+
 use Rattle.cluster_state.proofs.Prelude.{◌∙◌, ap, binding_view, item_view, map, objects_of, objects_view, policies, policies_in, policy_view, refl, sym}
 use Rattle.cluster_state.proofs.Whole.{state_whole}
 use Rattle.cluster_state.proofs.state.State.read.Goals as goal
