@@ -1,3 +1,5 @@
+-- The proofs of `label_selectors`.
+
 pub mod Prelude
 pub mod Parts
 pub mod Relation

@@ -1,7 +1,7 @@
--- A selector's requirements in its two lists, and texts in a list.
+-- The requirements in a selector's two lists, and texts in a list.
 use Rattle.label_selectors.proofs.Prelude.{◌≡◌, ◌∙◌, ap, refl, Bool, ◌&&◌, ◌||◌, ◌==◌, ◌+◌, ℕ, List, [], ◌∷◌, length, list_all, list_any, list_all-append, list_all-map, length-append, length-map, arith, nat_tests, map, string_bytes, bytes_eq, String, Global, is_label_value, Labels, CodeLabelSelector, fits, is_empty, is_one_of, label_requirement, label_view, requirement_view, requirements, selector_view, selects}
 
--- each requirement fits where each of both lists does
+-- all requirements fit if those of both lists do
 pub all_of_parts : (s : CodeLabelSelector) (ls : Labels)
     → selects (selector_view s) ls ≡ (list_all (λ l. fits ls (label_requirement (label_view l))) s.match_labels.items && list_all (λ r. fits ls (requirement_view r)) s.match_expressions.items)
 all_of_parts s ls = simp (list_all-append, list_all-map)
@@ -12,7 +12,7 @@ length_of_parts s = simp (length-append, length-map)
 none_of_both : (a b : ℕ) → (a + b == 0) ≡ (a == 0 && b == 0)
 none_of_both a b = grind (arith, nat_tests)
 
--- there is no requirement where both lists have none
+-- there is no requirement if both lists are empty
 pub none_of_parts : (s : CodeLabelSelector) → is_empty (selector_view s) ≡ (length s.match_labels.items == 0 && length s.match_expressions.items == 0)
 none_of_parts s =
     ap (λ n. n == 0) (length_of_parts s) ∙ none_of_both (length s.match_labels.items) (length s.match_expressions.items)

@@ -1,4 +1,4 @@
--- The names that these proofs cite of the library and of the definitions here. Declares nothing.
+-- The names of the library and of the definitions that these proofs use. Declares nothing.
 pub use Rattle.std.proofs.Common.{ap, arith, bytes_eq, drop, length, length-append, map, refl, string_bytes, suc, sym}
 pub use Rattle.std.proofs.Common.{Bool, true, Global, List, [], Option, None, Some, ℕ}
 pub use Rattle.std.proofs.Common.{◌&&◌, ◌+◌, ◌==◌, ◌||◌, ◌∙◌, ◌∷◌, ◌≡◌}

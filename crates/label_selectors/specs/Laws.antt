@@ -5,7 +5,7 @@ use Rattle.label_selectors.specs.Selectors.{Labels, LabelSelector, Requirement, 
 use Rattle.label_selectors.specs.declared.operator.Operator.{Operator}
 use Rattle.label_selectors.specs.declared.operator.Operator.TheVariants.{In, NotIn, Exists, DoesNotExist}
 
--- the table of operators as a relation: what the value at the key has to be
+-- the table of operators as a relation: the condition on the value at the key
 abbrev pub FitsValue : Operator → List (List ℕ) → Option (List ℕ) → Type 0
 FitsValue In values (Some v) = Contains values v
 FitsValue In values None = ⊥

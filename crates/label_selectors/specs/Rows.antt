@@ -1,4 +1,4 @@
--- Rows worked by hand: the table of operators, selectors, and what the API server stores of them.
+-- Examples worked by hand: the table of operators, selectors, and what the API server stores.
 use Rattle.std.specs.Prelude.{◌≡◌, ℕ, true, false, List, [], ◌∷◌, ◌++◌, Some, None, Ok, Err, codes, replicate}
 use Rattle.label_selectors.specs.Selectors.{Labels, Label, LabelSelector, Requirement, fits_value, is_empty, labels_of, selects}
 use Rattle.label_selectors.specs.Storing.{checked_label, checked_requirement, is_label_key, is_label_value}
@@ -12,7 +12,7 @@ one_text = codes "prod" ∷ []
 abbrev pub two_texts : List (List ℕ)
 two_texts = codes "dev" ∷ codes "prod" ∷ []
 
--- the table of operators, a row each
+-- the table of operators, one row each
 pub record OperatorRowsHold : Type 0 where
   pub in_the_value : fits_value In two_texts (Some (codes "prod")) ≡ true
   pub in_another_value : fits_value In two_texts (Some (codes "test")) ≡ false
@@ -81,7 +81,7 @@ pub record GrammarRowsHold : Type 0 where
   pub value_with_a_slash : is_label_value (codes "a/b") ≡ false
   pub value_of_64 : is_label_value (replicate 64 97) ≡ false
 
--- what is stored, and else the first reason against it
+-- requirements that are stored, and the first reason why others are not
 pub record StoringRowsHold : Type 0 where
   pub stored : checked_requirement (codes "env") (codes "In") two_texts ≡ Ok In
   pub stored_without_values : checked_requirement (codes "env") (codes "Exists") [] ≡ Ok Exists

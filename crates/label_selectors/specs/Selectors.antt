@@ -1,4 +1,4 @@
--- Label selectors (Kubernetes, LabelSelector of meta/v1). Texts are their bytes in UTF-8.
+-- Label selectors (Kubernetes, LabelSelector of meta/v1). Texts are bytes in UTF-8.
 use Rattle.std.specs.Prelude.{ℕ, Bool, true, false, not, List, [], ◌∷◌, ◌++◌, map, Option, Some, None, bytes_eq, string_bytes, length, ◌==◌, if◌then◌else◌}
 use Rattle.std.specs.Borrow.{Bor}
 use Rattle.std.specs.List.{list_any, list_all}
@@ -12,7 +12,7 @@ use Rattle.label_selectors.specs.declared.label_selector.LabelSelector.{LabelSel
 abbrev pub Labels : Type 0
 Labels = List ℕ → Option (List ℕ)
 
--- what is asked of one label (LabelSelectorRequirement)
+-- a requirement on one label (LabelSelectorRequirement)
 pub record Requirement : Type 0 where
   pub key : List ℕ
   pub operator : Operator
@@ -32,7 +32,7 @@ pub record LabelSelector : Type 0 where
 abbrev pub is_one_of : List ℕ → List (List ℕ) → Bool
 is_one_of text texts = list_any (bytes_eq text) texts
 
--- the table of operators: what the value at the key, if there is one, has to be
+-- the table of operators: the condition on the value at the key, which may be missing
 abbrev pub fits_value : Operator → List (List ℕ) → Option (List ℕ) → Bool
 fits_value In values (Some v) = is_one_of v values
 fits_value In values None = false
@@ -47,7 +47,7 @@ fits_value DoesNotExist values None = true
 abbrev pub fits : Labels → Requirement → Bool
 fits labels r = fits_value r.operator r.values (labels r.key)
 
--- what an entry of matchLabels requires: that the label has this very value
+-- the requirement of an entry of matchLabels: the label has exactly this value
 abbrev pub label_requirement : Label → Requirement
 label_requirement l = record { key = l.key; operator = In; values = l.value ∷ [] }
 
@@ -55,31 +55,31 @@ label_requirement l = record { key = l.key; operator = In; values = l.value ∷ 
 abbrev pub requirements : LabelSelector → List Requirement
 requirements s = map label_requirement s.match_labels ++ s.match_expressions
 
--- all requirements fit
+-- the labels fit all requirements
 abbrev pub selects : LabelSelector → Labels → Bool
 selects s labels = list_all (fits labels) (requirements s)
 
--- there is no requirement
+-- the selector has no requirement
 abbrev pub is_empty : LabelSelector → Bool
 is_empty s = length (requirements s) == 0
 
--- labels that are listed; of two with one key the first counts
+-- the labels in a list; if a key is repeated, the first one counts
 abbrev pub labels_of : List (List ℕ × List ℕ) → Labels
 labels_of [] key = None
 labels_of (p ∷ ps) key = if bytes_eq p.0 key then Some p.1 else labels_of ps key
 
--- the code's requirement
+-- a requirement of the code
 abbrev pub requirement_view : CodeRequirement → Requirement
 requirement_view r = record { key = string_bytes r.key; operator = r.operator; values = map string_bytes r.values.items }
 
--- the code's label
+-- a label of the code
 abbrev pub label_view : CodeLabel → Label
 label_view l = record { key = string_bytes l.key; value = string_bytes l.value }
 
--- the code's selector
+-- a selector of the code
 abbrev pub selector_view : CodeLabelSelector → LabelSelector
 selector_view s = record { match_labels = map label_view s.match_labels.items; match_expressions = map requirement_view s.match_expressions.items }
 
--- the code's list of labels
+-- a list of labels of the code
 abbrev pub pairs_view : List (Bor (List ℕ) × Bor (List ℕ)) → List (List ℕ × List ℕ)
 pairs_view ps = map (λ p. (p.0.now, p.1.now)) ps

@@ -4,14 +4,14 @@ ghost use Rattle.std.specs.List.{list_all, slice_split};
 ghost use Rattle.label_selectors.specs.Storing as specs;
 ghost use Rattle.label_selectors.specs.Storing.{has_ends, is_alphanumeric, is_dns_character, is_lower_alphanumeric, is_name_character};
 
-/// Whether the text is a label's key: a name, or a prefix (a DNS subdomain), `/` and a name.
+/// Whether the text is a label key: a name, or a prefix (a DNS subdomain), `/` and a name.
 pub fn is_label_key(key: &str) -> bool
     ensures { result ≡ specs.is_label_key key.now }
 {
     is_key(key.as_bytes())
 }
 
-/// Whether the text is a label's value: empty or a name.
+/// Whether the text is a label value: empty or a name.
 #[tactic(auto, unfolding(crate::specs::Storing::is_label_value))]
 pub fn is_label_value(value: &str) -> bool
     ensures { result ≡ specs.is_label_value value.now }
@@ -30,7 +30,7 @@ fn is_key(key: &[u8]) -> bool
     }
 }
 
-/// Where the first slash is.
+/// The place of the first slash.
 fn slash_in(text: &[u8]) -> Option<usize>
     ensures place { result ≡ position (λ c. c == 47) text.now }
     ensures within { IfSome result (λ at. at < length text.now) }

@@ -4,7 +4,7 @@ ghost use Rattle.label_selectors.specs.Selectors.{fits, label_requirement, label
 
 use crate::labels::Labels;
 
-/// A label that `matchLabels` asks for.
+/// A label that `matchLabels` requires.
 #[derive(Debug, Drop)]
 pub struct Label {
     pub key: String,
@@ -12,7 +12,7 @@ pub struct Label {
 }
 
 impl Label {
-    /// Whether the labels have this label with this value.
+    /// Whether the labels include this label with this value.
     pub fn fits<L: Labels>(&self, labels: &L) -> bool
         ensures { result ≡ fits (L.map labels.now) (label_requirement (label_view self.now)) }
     {

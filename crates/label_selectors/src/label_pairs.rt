@@ -4,7 +4,7 @@ ghost use Rattle.label_selectors.specs.Selectors.{labels_of, pairs_view};
 
 use crate::labels::Labels;
 
-/// Labels as pairs of a key and its value. Of pairs with the same key, the first counts.
+/// Labels as pairs of a key and its value. If a key is repeated, the first pair counts.
 #[derive(Clone, Copy, Debug, Drop)]
 pub struct LabelPairs<'a> {
     pub pairs: &'a [(&'a str, &'a str)],

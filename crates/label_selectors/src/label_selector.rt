@@ -7,7 +7,7 @@ use crate::label::Label;
 use crate::labels::Labels;
 use crate::requirement::Requirement;
 
-/// A query on labels (LabelSelector, `meta/v1`): all of its requirements have to fit.
+/// A query on labels (LabelSelector, `meta/v1`). All its requirements must fit.
 #[derive(Debug, Drop)]
 pub struct LabelSelector {
     pub match_labels: Vec<Label>,
@@ -15,7 +15,7 @@ pub struct LabelSelector {
 }
 
 impl LabelSelector {
-    /// Whether it has no requirement, and so selects everything.
+    /// Whether it has no requirement and so selects everything.
     #[tactic(auto, using(crate::proofs::Parts::none_of_parts))]
     pub fn is_empty(&self) -> bool
         ensures { result ≡ is_empty (selector_view self.now) }
@@ -23,7 +23,7 @@ impl LabelSelector {
         self.match_labels.is_empty() && self.match_expressions.is_empty()
     }
 
-    /// Whether it selects what has these labels.
+    /// Whether it selects an object with these labels.
     #[tactic(auto, using(crate::proofs::Parts::all_of_parts))]
     pub fn selects<L: Labels>(&self, labels: &L) -> bool
         ensures { result ≡ selects (selector_view self.now) (L.map labels.now) }
@@ -32,7 +32,7 @@ impl LabelSelector {
     }
 }
 
-/// Whether the labels have each of those that `matchLabels` asks for.
+/// Whether the labels include all that `matchLabels` requires.
 fn labels_fit<L: Labels>(wanted: &[Label], labels: &L) -> bool
     ensures { result ≡ list_all (λ l. fits (L.map labels.now) (label_requirement (label_view l))) wanted.now }
 {

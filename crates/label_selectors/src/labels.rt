@@ -1,4 +1,4 @@
-//! What has labels.
+//! The labels of objects.
 ghost use Rattle.std.specs.Prelude.{◌≡◌, option_map};
 ghost use Rattle.label_selectors.specs.Selectors.{Labels};
 

@@ -1,8 +1,8 @@
-//! Laws of the definitions, each the clause of a function that does nothing.
+//! Laws of the definitions. Each is the clause of a function that does nothing.
 ghost use Rattle.label_selectors.specs.Laws.{EmptySelectsAll, SelectsByAll};
 ghost use Rattle.label_selectors.specs.Rows.{GrammarRowsHold, OperatorRowsHold, SelectorRowsHold, StoringRowsHold};
 
-/// The table of operators, a row each.
+/// The table of operators, one row each.
 pub fn operator_rows_hold()
     ensures { OperatorRowsHold }
 {}
@@ -18,14 +18,14 @@ pub fn grammar_rows_hold()
     ensures { GrammarRowsHold }
 {}
 
-/// Requirements that the API server stores, and reasons against others, worked by hand.
+/// Requirements that the API server stores, and why it refuses others, worked by hand.
 #[tactic(auto, unfolding(crate::specs::Storing::checked_requirement, crate::specs::Storing::checked_label, crate::specs::Storing::is_label_key, crate::specs::Storing::is_label_value, crate::specs::Storing::is_name, crate::specs::Storing::is_prefix, crate::specs::Storing::is_dns_label))]
 pub fn storing_rows_hold()
     ensures { StoringRowsHold }
 {}
 
-/// A selector selects labels exactly if they fit each of its requirements, as the table of operators
-/// says as a relation.
+/// A selector selects labels exactly if they fit each of its requirements, as the relation of the
+/// operator table states.
 pub fn selects_by_all()
     ensures { SelectsByAll }
 {}

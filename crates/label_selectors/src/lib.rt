@@ -1,4 +1,5 @@
-//! Label selectors of Kubernetes: which labels a selector selects, and which selectors the API server stores.
+//! Label selectors of Kubernetes: the labels that they select, and the selectors that the API
+//! server stores.
 #![tactic(auto)]
 
 mod grammar;

@@ -6,7 +6,7 @@ ghost use Rattle.label_selectors.specs.Selectors.{fits, is_one_of, requirement_v
 use crate::labels::Labels;
 use crate::operator::Operator;
 
-/// What `matchExpressions` asks of one label (LabelSelectorRequirement).
+/// A requirement of `matchExpressions` on one label (LabelSelectorRequirement).
 #[derive(Debug, Drop)]
 pub struct Requirement {
     pub key: String,
@@ -15,7 +15,7 @@ pub struct Requirement {
 }
 
 impl Requirement {
-    /// Whether the labels fit.
+    /// Whether the labels fit the requirement.
     pub fn fits<L: Labels>(&self, labels: &L) -> bool
         ensures { result ≡ fits (L.map labels.now) (requirement_view self.now) }
     {

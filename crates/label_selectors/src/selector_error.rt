@@ -8,7 +8,7 @@ pub enum SelectorError {
     /// The key is neither a name nor a prefix, `/` and a name.
     #[error("not a label key")]
     InvalidKey,
-    /// The operator is none of the four, `In` or `NotIn` has no values, or another operator has
+    /// The operator is not one of the four, `In` or `NotIn` has no values, or another operator has
     /// some.
     #[error("not an operator with its values")]
     InvalidOperator,

@@ -1,4 +1,4 @@
-//! Which requirements the API server stores.
+//! The requirements that the API server stores.
 ghost use Rattle.std.specs.Prelude.{◌≡◌, map, string_bytes};
 ghost use Rattle.std.specs.List.{list_all};
 ghost use Rattle.label_selectors.specs.Storing as specs;
@@ -8,12 +8,12 @@ use crate::grammar::{is_label_key, is_label_value};
 use crate::operator::Operator;
 use crate::selector_error::SelectorError;
 
-/// The operator of a requirement, as `matchExpressions` writes it.
+/// Checks a requirement of `matchExpressions`; returns its operator.
 ///
 /// # Errors
 ///
-/// The first reason why the API server would not store it: its key, its operator or how many values
-/// it has, a value.
+/// The first reason why the API server would not store it: its key, its operator or the number of
+/// its values, or a value.
 #[tactic(auto, unfolding(crate::specs::Storing::checked_requirement))]
 pub fn check_requirement(
     key: &str,
@@ -55,7 +55,7 @@ pub fn check_label(key: &str, value: &str) -> Result<(), SelectorError>
     Ok(())
 }
 
-/// Whether the operator may have this number of values.
+/// Whether the operator allows this number of values.
 fn takes(operator: Operator, values: &[String]) -> bool
     ensures { result ≡ takes operator (map string_bytes values.now) }
 {

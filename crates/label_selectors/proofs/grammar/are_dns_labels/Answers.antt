@@ -1,3 +1,5 @@
+-- Proofs of `grammar::are_dns_labels`: the result meets the contract.
+
 use Rattle.std.proofs.Common.{rules, ◌==◌}
 use Rattle.std.proofs.lemmas.Iterator.Search.{all_from_yields_List}
 use Rattle.std.proofs.lemmas.Iterator.Splits.{YieldsList-from_slice_split}

@@ -1,3 +1,5 @@
+-- Loop invariant of `label_pairs::value_in`.
+
 use Rattle.label_selectors.proofs.Prelude.{◌≡◌, drop, labels_of, pairs_view}
 use Rattle.label_selectors.proofs.label_pairs.value_in.Given as goal
 

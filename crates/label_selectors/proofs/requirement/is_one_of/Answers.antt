@@ -1,3 +1,5 @@
+-- Proofs of `requirement::is_one_of`: the result meets the contract.
+
 use Rattle.label_selectors.proofs.Prelude.{◌∙◌}
 use Rattle.label_selectors.proofs.Parts.{any_of_texts}
 use Rattle.label_selectors.proofs.requirement.is_one_of.Goals as goal

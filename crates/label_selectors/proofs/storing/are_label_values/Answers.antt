@@ -1,3 +1,5 @@
+-- Proofs of `storing::are_label_values`: the result meets the contract.
+
 use Rattle.label_selectors.proofs.Prelude.{◌∙◌}
 use Rattle.label_selectors.proofs.Parts.{values_of_texts}
 use Rattle.label_selectors.proofs.storing.are_label_values.Goals as goal
