@@ -1,4 +1,4 @@
--- What the calls do.
+-- The effects of the calls.
 use Rattle.std.specs.Prelude.{◌≡◌, ℕ, List, [], Option, Some, None, Result, Ok, Err, Vec, Box, length, if◌then◌else◌, ◌==◌}
 use Rattle.std.specs.declared.alloc.Global.{Global}
 use Rattle.loader.specs.Format.{file_of}
@@ -18,7 +18,7 @@ interface_version = 1
 
 -- ---- documents
 
--- a document that may be left out: no bytes mean none
+-- an optional document: no bytes mean that there is none
 abbrev pub given : List ℕ → Option (List ℕ)
 given document = if length document == 0 then None else Some document
 
@@ -29,7 +29,7 @@ documents_of policy review namespace params =
 
 -- ---- gates
 
--- a place holds a gate of the policy in a document
+-- the place holds a gate of the policy in this document
 abbrev pub Holds : List ℕ → Option PolicyAndImage → Type 0
 Holds document None = ⊥
 Holds document (Some gate) = IsPolicyOf document gate
@@ -39,26 +39,26 @@ abbrev pub gate_view : Result (Box PolicyAndImage Global) PolicyRefusal → Resu
 gate_view (Ok b) = Ok b.value
 gate_view (Err e) = Err e
 
--- the place, the status and the text after a gate was made, or the policy was refused
+-- the place, the status and the text after a gate was made or the policy was refused
 abbrev pub LeavesGate : Result PolicyAndImage PolicyRefusal → Option PolicyAndImage → Option PolicyAndImage → ℕ → List ℕ → List ℕ → ℕ → Type 0
 LeavesGate (Ok gate) old new status before after n =
     OneImage gate.policy gate.image × (new ≡ Some gate) × (status ≡ 0) × Writes [] before after n
 LeavesGate (Err e) old new status before after n =
     (new ≡ old) × (status ≡ policy_status e) × Writes (refusal_line (policy_refusal_of e)) before after n
 
--- a place gets the gate of the policy in a document, or the document is refused and the place is unchanged
+-- the place gets the gate of the policy in a document; or the document is refused, and the place is unchanged
 abbrev pub MakesGate : List ℕ → Option PolicyAndImage → Option PolicyAndImage → ℕ → List ℕ → List ℕ → ℕ → Type 0
 MakesGate document old new status before after n =
     (made : Result PolicyAndImage PolicyRefusal) × CompilesDocument document made × LeavesGate made old new status before after n
 
--- ---- answers
+-- ---- results
 
 -- the image of the gate in a place
 abbrev pub image_held : Option PolicyAndImage → Images
 image_held (Some gate) = exactly gate.image
 image_held None = λ p image. ⊥
 
--- an answer to the review is written, and after these steps the run of such an image is as the answer says
+-- the result of the review is written, and after these steps the run of such an image matches it
 abbrev pub Answers : Images → Documents → ℕ → ℕ → List ℕ → List ℕ → ℕ → Type 0
 Answers chosen d steps status before after n =
     (answer : Result Reply RunError) × Reviews d steps answer × RunAgrees chosen d steps answer

@@ -1,17 +1,18 @@
--- The statuses of refusals. 0 and 1 are no refusal, 8 is a room that is too small, and 10 an empty place.
+-- The statuses of refusals. 0 and 1 are decisions, 8 means that the buffer is too small, and 10 that the place is
+-- empty.
 use Rattle.std.specs.Prelude.{ℕ}
 use Rattle.admission.specs.declared.policy_refusal.PolicyRefusal.{PolicyRefusal, TheVariants.Unread, TheVariants.Uncompiled}
 use Rattle.admission.specs.declared.policy_refusal.PolicyRefusal.TheVariants as policy_refusal
 use Rattle.admission.specs.declared.run_error.RunError.{RunError}
 use Rattle.admission.specs.declared.run_error.RunError.TheVariants.{PolicyRefused, ReviewRefused, NamespaceOrParamsRefused, OutOfSteps, OverLimit, Memory}
 
--- a policy gives no image
+-- the status if a policy gives no image
 abbrev pub policy_status : PolicyRefusal → ℕ
 policy_status (Unread e) = 2
 policy_status (Uncompiled e) = 3
 policy_status policy_refusal.Memory = 9
 
--- a review has no response
+-- the status if a review has no response
 abbrev pub run_status : RunError → ℕ
 run_status (PolicyRefused e) = policy_status e
 run_status ReviewRefused = 4

@@ -1,4 +1,4 @@
-//! The place for a gate, in memory of the caller's.
+//! The place for a gate, in the caller's memory.
 ghost use Rattle.std.specs.Prelude.{◌≡◌, option_map, Option, Some, None};
 ghost use Rattle.admission.specs.declared.policy_and_image.PolicyAndImage.{PolicyAndImage};
 ghost use Rattle.celbpf_c.specs.Places.{owned_by_place};
@@ -9,8 +9,8 @@ use std::alloc::Global;
 use std::marker::Model;
 use std::ptr::null_mut;
 
-/// A place for a gate: in C a struct of one pointer, which is null while the place is empty. The
-/// allocator takes no bytes.
+/// A place for a gate. In C it is a struct with one pointer, which is null while the place is
+/// empty. The allocator has no size.
 #[repr(C)]
 pub struct GatePlace {
     at: *mut u8,
@@ -23,7 +23,7 @@ impl Model for GatePlace {
 }
 
 impl GatePlace {
-    /// The empty place.
+    /// An empty place.
     pub fn empty(alloc: Global) -> GatePlace
         ensures { result.gate ≡ None }
     {
@@ -33,7 +33,7 @@ impl GatePlace {
         }
     }
 
-    /// Takes the gate out of the place, which is empty then.
+    /// Takes the gate out of the place, which is then empty.
     pub fn take(&mut self, alloc: Global) -> Option<Box<Gate>>
         ensures taken { option_map (λ b. b.value) result ≡ self.old.gate }
         ensures empty { self.new.gate ≡ None }
@@ -41,14 +41,14 @@ impl GatePlace {
         std::mem::replace(self, GatePlace::empty(alloc)).into_gate()
     }
 
-    /// Puts a gate into the place. A gate that was there is dropped.
+    /// Puts a gate into the place. An earlier gate is dropped.
     pub fn put(&mut self, gate: Box<Gate>)
         ensures { self.new.gate ≡ Some gate.value }
     {
         drop(std::mem::replace(self, GatePlace::of(gate)).into_gate());
     }
 
-    /// The place of this gate.
+    /// The place with this gate.
     fn of(gate: Box<Gate>) -> GatePlace
         ensures { result.gate ≡ Some gate.value }
     {

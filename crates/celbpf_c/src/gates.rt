@@ -1,4 +1,4 @@
-//! The calls on a gate that the caller holds in a place of its own.
+//! The calls on a gate that the caller holds in its own memory.
 ghost use Rattle.std.specs.Prelude.{◌≡◌, ℕ, List, [], None, IfOk};
 ghost use Rattle.policy_glue.specs.OneImage.{OneImage};
 ghost use Rattle.admission.specs.Deciding.{answer_view, CompilesDocument, IsPolicyOf, Reviews};
@@ -14,8 +14,8 @@ use admission::{Gate, PolicyRefusal, Reply, RunError};
 use cli::Refusal;
 use std::alloc::{AllocError, Global};
 
-/// Compiles a policy and puts its gate into the place. A gate that was there is freed. If the
-/// policy is refused, the place is unchanged, and the text is the refusal's line.
+/// Compiles a policy and puts its gate into the place. An earlier gate is freed. If the policy is
+/// refused, the place is unchanged and the text is the refusal's line.
 #[unsafe(no_mangle)]
 pub extern "C" fn celbpf_gate_new(
     alloc: Global,
@@ -39,9 +39,8 @@ pub extern "C" fn celbpf_gate_new(
     }
 }
 
-/// Decides a review by the gate in the place. The text is the response, or the refusal's line. No
-/// bytes for the namespace or the params mean that there is no such document. The place keeps its
-/// gate.
+/// Decides a review with the gate in the place. The text is the response, or the refusal's line. If
+/// the namespace or the params have no bytes, there is no such document. The place keeps its gate.
 #[unsafe(no_mangle)]
 pub extern "C" fn celbpf_gate_decide(
     alloc: Global,
@@ -75,7 +74,7 @@ pub extern "C" fn celbpf_gate_free(alloc: Global, place: &mut GatePlace)
     drop(place.take(alloc));
 }
 
-/// The gate of a policy, on the heap.
+/// Compiles a policy to a gate on the heap.
 fn boxed_gate(alloc: Global, policy: &[u8]) -> Result<Box<Gate>, PolicyRefusal>
     ensures compiles { CompilesDocument policy.now (gate_view result) }
     ensures one { IfOk (gate_view result) (λ g. OneImage g.policy g.image) }
@@ -84,7 +83,8 @@ fn boxed_gate(alloc: Global, policy: &[u8]) -> Result<Box<Gate>, PolicyRefusal>
     Ok(boxed(alloc, gate)?)
 }
 
-/// A value on the heap. It is `Send`, since the caller may use or free it on another thread.
+/// Moves a value to the heap. It is `Send`, because the caller may use or free it on another
+/// thread.
 fn boxed<T: Send + Drop>(alloc: Global, value: T) -> Result<Box<T>, AllocError>
     ensures { IfOk result (λ b. b.value ≡ value) }
 {
@@ -94,7 +94,7 @@ fn boxed<T: Send + Drop>(alloc: Global, value: T) -> Result<Box<T>, AllocError>
     }
 }
 
-/// What the gate decides.
+/// The decision of the gate.
 fn decided(
     gate: &Gate,
     review: &[u8],

@@ -1,4 +1,4 @@
-//! What a call returns: a status, and a text in the caller's room.
+//! The output of a call: a status, and a text in the caller's buffer.
 ghost use Rattle.std.specs.Prelude.{◌≡◌, length, nat_le};
 ghost use Rattle.cli.specs.Refusals.{refusal_line};
 ghost use Rattle.admission.specs.Deciding.{answer_view};
@@ -9,7 +9,7 @@ use admission::{Reply, RunError};
 use cli::{Refusal, refusal_line};
 use std::alloc::Global;
 
-/// Writes the answer to a review, its response or the line of its refusal, and returns the status.
+/// Writes the result of a review, its response or the line of its refusal, and returns the status.
 pub fn write_answer(
     alloc: Global,
     answer: Result<Reply, RunError>,
@@ -48,8 +48,8 @@ pub fn write_refusal(alloc: Global, refusal: Refusal, room: &mut [u8], len: &mut
     write_text(line.as_slice(), room, len);
 }
 
-/// Writes the text to the front of the room and returns whether the room suffices. If it does not,
-/// the room is unchanged. The length is the text's either way.
+/// Writes the text to the beginning of the buffer and returns whether it fits. If it does not, the
+/// buffer is unchanged. The length is set to the text's length in both cases.
 pub fn write_text(text: &[u8], room: &mut [u8], len: &mut usize) -> bool
     ensures writes { Writes text.now room.old room.new len.new }
     ensures fits { result ≡ nat_le (length text.now) (length room.old) }

@@ -13,7 +13,7 @@ const REVIEW: &[u8] =
 const RESPONSE: &[u8] =
     br#"{"apiVersion":"admission.k8s.io/v1","kind":"AdmissionReview","response":{"allowed":false,"status":{"code":422,"message":"failed expression: object.n < 3","reason":"Invalid"},"uid":"u1"}}"#;
 
-/// More steps than the policy takes.
+/// More steps than the policy needs.
 const STEPS: u64 = 10_000;
 
 #[test]

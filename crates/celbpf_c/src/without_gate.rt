@@ -1,4 +1,4 @@
-//! The calls that hold nothing between them. Each compiles its policy anew.
+//! The calls without a gate. Each compiles its policy again.
 ghost use Rattle.std.specs.Prelude.{◌≡◌, option_map};
 ghost use Rattle.policy_glue.specs.OneImage.{OneImage};
 ghost use Rattle.admission.specs.Deciding.{answer_view, Reviews};
@@ -11,8 +11,8 @@ use admission::{PolicyRefusal, Reply, RunError, compile_document, review};
 use cli::Refusal;
 use std::alloc::Global;
 
-/// Decides a review under a policy. The text is the response, or the refusal's line. No bytes for
-/// the namespace or the params mean that there is no such document.
+/// Decides a review under a policy. The text is the response, or the refusal's line. If the
+/// namespace or the params have no bytes, there is no such document.
 #[unsafe(no_mangle)]
 pub extern "C" fn celbpf_review(
     alloc: Global,
@@ -49,7 +49,7 @@ pub extern "C" fn celbpf_compile(
     }
 }
 
-/// The version of this interface, which is that of the header.
+/// The version of this interface, as in the header.
 #[unsafe(no_mangle)]
 pub extern "C" fn celbpf_version() -> u32
     ensures { result ≡ interface_version }
@@ -68,7 +68,7 @@ pub fn given(document: &[u8]) -> Option<&[u8]>
     }
 }
 
-/// The answer to a review.
+/// The result of a review.
 fn reviewed(
     alloc: Global,
     policy: &[u8],
