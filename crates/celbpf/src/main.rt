@@ -1,4 +1,4 @@
-//! The program `celbpf`: `review_runner` on the words, the files and the streams of the system.
+//! The program `celbpf`: runs `review_runner` with the words, files and streams of the system.
 #![tactic(auto)]
 
 use host::on_this_system;
