@@ -1,5 +1,4 @@
-//! The program `gatekeeper`: `gatekeeper_runner` on the words, the files and the streams of the
-//! system.
+//! The program `gatekeeper`: runs `gatekeeper_runner` with the words, files and streams of the system.
 #![tactic(auto)]
 
 use gatekeeper_runner::exit_code;
