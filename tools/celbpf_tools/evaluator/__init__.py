@@ -10,6 +10,7 @@ each can be held against the other:
     policies                 a policy's document, and what refuses it
     reviews                  a review's documents, and the five roots
     verdicts, responses      what a policy decides, and the text of the answer
+    cluster                  what all policies and bindings of a cluster decide
 
 Documents are read by Python's `json`; where it takes more than `serde_json` does (a number that overflows a
 double, more than 127 levels), this package says nothing of the program.

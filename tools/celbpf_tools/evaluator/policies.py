@@ -99,7 +99,11 @@ def spec_allowed(spec: dict) -> bool:
 
 def read(document: bytes) -> Policy:
     """The policy of a document, or the first of K1 to K5 and K8."""
-    whole = documents.read(document, "K1")
+    return of_value(documents.read(document, "K1"))
+
+
+def of_value(whole: Any) -> Policy:
+    """The policy that a value is, or the first of K2 to K5 and K8."""
     demand(isinstance(whole, dict), "K2")
     demand(whole.get("apiVersion") == API_VERSION and whole.get("kind") == KIND, "K2")
     demand(has_form(whole, WHOLE) and spec_allowed(whole["spec"]), "K3")

@@ -1,0 +1,79 @@
+"""Bindings and kinds of params that a cluster can store."""
+
+from dataclasses import dataclass
+from typing import Any, Optional
+
+from . import labels, matching
+from .fields import demand, field, only, text, texts
+from .lists import name_of
+
+BINDING_KEYS = ("policyName", "paramRef", "matchResources", "validationActions")
+PARAM_KEYS = ("name", "namespace", "selector", "parameterNotFoundAction")
+ACTIONS = {"Deny", "Warn", "Audit"}
+
+
+@dataclass
+class ParamRef:
+    """Which objects are params: those of `name`, or if there is a selector those that it selects."""
+
+    name: str
+    namespace: str
+    selector: Optional[labels.Selector]
+    denies_absence: bool
+
+
+@dataclass
+class Binding:
+    """A binding, whose actions are in its own order."""
+
+    name: str
+    policy: str
+    actions: list
+    resources: matching.MatchResources
+    params: Optional[ParamRef] = None
+
+
+def read_params(value: Any, refusal: str) -> Optional[ParamRef]:
+    """Where a binding's params are, which may be absent."""
+    if value is None:
+        return None
+    only(value, PARAM_KEYS, refusal)
+    name, selector = text(value, "name", refusal, ""), field(value, "selector")
+    action = text(value, "parameterNotFoundAction", refusal)
+    demand((name != "") != (selector is not None) and action in ("Allow", "Deny"), refusal)
+    wanted = None if selector is None else labels.read(selector, refusal)
+    return ParamRef(name, text(value, "namespace", refusal, ""), wanted, action == "Deny")
+
+
+def read_actions(spec: Any, refusal: str) -> list:
+    """One to three actions, no two the same, and not Deny with Warn."""
+    actions = texts(spec, "validationActions", refusal)
+    demand(actions and len(set(actions)) == len(actions) and set(actions) <= ACTIONS, refusal)
+    demand(not {"Deny", "Warn"} <= set(actions), refusal)
+    return actions
+
+
+def read(item: dict) -> Binding:
+    """A binding, or C5."""
+    refusal, spec = f"C5 {name_of(item)}", field(item, "spec")
+    only(spec, BINDING_KEYS, refusal)
+    policy = text(spec, "policyName", refusal)
+    demand(policy != "", refusal)
+    return Binding(
+        name_of(item),
+        policy,
+        read_actions(spec, refusal),
+        matching.read(field(spec, "matchResources"), refusal, False),
+        read_params(field(spec, "paramRef"), refusal),
+    )
+
+
+def read_kind(spec: Any, refusal: str) -> Optional[tuple]:
+    """The kind of params that a policy names, which may be absent."""
+    found = field(spec, "paramKind")
+    if found is None:
+        return None
+    only(found, ("apiVersion", "kind"), refusal)
+    kind = text(found, "apiVersion", refusal), text(found, "kind", refusal)
+    demand(all(kind), refusal)
+    return kind

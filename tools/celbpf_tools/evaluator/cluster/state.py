@@ -1,0 +1,132 @@
+"""What a cluster holds, from lists as `kubectl get -o json` prints them."""
+
+from dataclasses import dataclass, field as member
+from typing import Any, Optional
+
+from .. import policies
+from ..refused import Refused
+from ..trees import Name, parts
+from . import bindings, lists, matching
+from .fields import demand, field, in_name_order
+from .lists import BINDINGS, DEFINITIONS, NAMESPACES, POLICIES, group_version, kind_of, name_of, namespace_of
+
+NAMESPACED, CLUSTER = "Namespaced", "Cluster"
+
+
+@dataclass
+class Policy:
+    """A bound policy; `blocked` is the refusal that `--partial` passes over, or None."""
+
+    name: str
+    ignores: bool
+    constraints: matching.MatchResources
+    kind: Optional[tuple]
+    document: dict
+    bindings: list
+    compiled: Any = None
+    blocked: Optional[str] = None
+
+
+@dataclass
+class State:
+    """All items, the namespaces by name, and the bound policies by name."""
+
+    items: list
+    namespaces: dict
+    definitions: list
+    policies: list = member(default_factory=list)
+
+    def of_kind(self, kind: Optional[tuple]) -> list:
+        """The objects of a kind, in all namespaces."""
+        return [item for item in self.items if kind_of(item) == kind]
+
+    def scope(self, kind: tuple) -> Optional[str]:
+        """Whether objects of a kind have namespaces, or None if that is not known."""
+        for definition in self.definitions:
+            if serves(definition, kind):
+                found = field(definition, "spec", "scope")
+                return found if found in (NAMESPACED, CLUSTER) else None
+        found = self.of_kind(kind)
+        if not found:
+            return None
+        return NAMESPACED if any(map(namespace_of, found)) else CLUSTER
+
+    def knows(self, kind: tuple) -> bool:
+        """Whether params of a kind can be found."""
+        group, _ = group_version(kind[0])
+        others = [
+            item
+            for item in self.items
+            if item["kind"] == kind[1] and item["apiVersion"] != kind[0] and group_version(item["apiVersion"])[0] == group
+        ]
+        return self.scope(kind) is not None and not others
+
+
+def serves(definition: dict, kind: tuple) -> bool:
+    """Whether a CustomResourceDefinition serves a kind."""
+    spec = field(definition, "spec")
+    group, version = group_version(kind[0])
+    versions = field(spec, "versions")
+    return (
+        field(spec, "group") == group
+        and field(spec, "names", "kind") == kind[1]
+        and isinstance(versions, list)
+        and any(field(one, "name") == version and field(one, "served") is True for one in versions)
+    )
+
+
+def cluster_scoped(items: list, kind: tuple) -> list:
+    """The objects of a kind that have no namespace, in the order of their names."""
+    found = [item for item in items if kind_of(item) == kind and namespace_of(item) == ""]
+    return sorted(found, key=lambda item: in_name_order(name_of(item)))
+
+
+def read_policy(item: dict, own: list) -> Policy:
+    """A policy with these bindings, or C6."""
+    name, spec = name_of(item), field(item, "spec")
+    constraints = matching.read(field(spec, "matchConstraints"), f"C6 {name}", True)
+    kind = bindings.read_kind(spec, f"C6 {name}")
+    document = {key: value for key, value in item.items() if key != "status"}
+    return Policy(name, field(spec, "failurePolicy") == "Ignore", constraints, kind, document, own)
+
+
+def read(documents: list) -> State:
+    """The state of these lists, with no policy compiled; or the first of C1 to C6."""
+    items = lists.read(documents)
+    namespaces = {name_of(item): item for item in cluster_scoped(items, NAMESPACES)}
+    demand(namespaces, "C4")
+    state = State(items, namespaces, cluster_scoped(items, DEFINITIONS))
+    bound = [bindings.read(item) for item in cluster_scoped(items, BINDINGS)]
+    for item in cluster_scoped(items, POLICIES):
+        own = [one for one in bound if one.policy == name_of(item)]
+        if own:
+            state.policies.append(read_policy(item, own))
+    return state
+
+
+def names_namespace(tree: Any) -> bool:
+    """Whether an expression names the root `namespaceObject`."""
+    return tree == Name("namespaceObject") or any(map(names_namespace, parts(tree)))
+
+
+def compile_policy(policy: Policy, state: State) -> None:
+    """Compiles a bound policy; C7 or C8 if it is refused."""
+    try:
+        policy.compiled = policies.compile_policy(policies.of_value(policy.document))
+    except Refused as why:
+        raise Refused(f"C7 {policy.name} {why.text}") from why
+    demand(not any(map(names_namespace, policy.compiled.conditions)), f"C7 {policy.name} namespaceObject")
+    demand(policy.kind is None or state.knows(policy.kind), f"C8 {policy.name}")
+
+
+def opened(documents: list, partial: bool = False) -> State:
+    """The state with its policies compiled; with `partial` those that are refused are blocked."""
+    state = read(documents)
+    for policy in state.policies:
+        try:
+            compile_policy(policy, state)
+        except Refused as why:
+            if not partial:
+                raise
+            policy.blocked = why.text.split(" ")[0]
+    return state
