@@ -3,10 +3,10 @@
 usage: tools/package [--programs FOLDER] [--version V] [--to FOLDER] [--tar]
 
 They are `celbpf_VERSION_ARCH.deb` and `.tar.xz` in the folder `dist`. Installed are celbpf, gatekeeper, the scripts as
-celbpf-why, celbpf-place, celbpf-reviews, celbpf-test and celbpf-adapt, a man page of each, bash completion, the pages,
-the examples and the licence. FOLDER of `--programs` has the programs to pack; without it the repository's are built
-first if they are not up to date. `--tar` makes the tar archive alone. Status 0 says that both are made, 3 that a file
-cannot be read or written, 10 that there is no dpkg-deb.
+celbpf-why, celbpf-place, celbpf-reviews, celbpf-test, celbpf-adapt, celbpf-as-reviews and celbpf-dap, a man page of each,
+bash completion, the pages, the examples and the licence. FOLDER of `--programs` has the programs to pack; without it
+the repository's are built first if they are not up to date. `--tar` makes the tar archive alone. Status 0 says that
+both are made, 3 that a file cannot be read or written, 10 that there is no dpkg-deb.
 """
 
 import argparse

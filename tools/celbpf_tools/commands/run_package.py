@@ -81,6 +81,7 @@ def check_programs(checks: Checks, prefix: Path) -> None:
     checks.run([f"{program}-reviews", policy, review], 1, f"{review}: denied")
     checks.run([f"{program}-test", replicas], 0, "TAP version 13\n1..3\nok 1")
     checks.run([f"{program}-adapt", policy], 0, '{\n  "apiVersion"')
+    checks.run([f"{program}-as-reviews", policy], 0, '{"apiVersion":"admission.k8s.io/v1"')
     checks.run([f"{program}-dap"], 0, "Content-Length: ", dap_launch(policy))
     # its name and its usage are those that it is installed by
     checks.run([f"{program}-test", "--help"], 0, "usage: celbpf-test [--junit F]")

@@ -12,6 +12,7 @@ OPTIONS = {
     "celbpf-reviews": "--namespace --params --program",
     "celbpf-test": "--junit --coverage --tap --program --gatekeeper",
     "celbpf-adapt": "",
+    "celbpf-as-reviews": "--cluster --old --namespace --user --skip-unknown",
     "celbpf-dap": "--program",
 }
 TEXT = """# bash completion of celbpf, gatekeeper and the scripts beside them

@@ -11,9 +11,9 @@ from . import manual
 from .completion import OPTIONS, completion
 
 # the scripts for policies, which need nothing of the repository
-SCRIPTS = ("why", "place", "reviews", "test", "adapt", "dap")
+SCRIPTS = ("why", "place", "reviews", "test", "adapt", "as-reviews", "dap")
 # the packages of Python that these need
-MODULES = ("asking", "adapting", "testing", "evaluator", "slots", "viewing", "dap", "commands")
+MODULES = ("asking", "adapting", "testing", "evaluator", "manifests", "slots", "viewing", "dap", "commands")
 ENTRY = '''#!/usr/bin/env python3
 """{what}"""
 
@@ -23,7 +23,7 @@ from pathlib import Path
 sys.dont_write_bytecode = True
 sys.path.insert(0, str(Path(__file__).resolve().parent.parent / "lib" / "celbpf"))
 
-from celbpf_tools.commands.{name} import main
+from celbpf_tools.commands.{module} import main
 from celbpf_tools.entry import run
 
 run("celbpf-{name}", main)
@@ -55,9 +55,14 @@ def put_programs(prefix: Path, programs: dict) -> None:
         (prefix / "bin" / name).chmod(0o755)
 
 
+def module_of(name: str) -> str:
+    """The module of a script's command."""
+    return name.replace("-", "_")
+
+
 def doc_of(name: str) -> str:
     """What a script says of itself, by its installed name."""
-    doc = importlib.import_module(f"celbpf_tools.commands.{name}").__doc__ or ""
+    doc = importlib.import_module(f"celbpf_tools.commands.{module_of(name)}").__doc__ or ""
     return re.sub(r"\btools/(" + "|".join(SCRIPTS) + r")\b", r"celbpf-\1", doc)
 
 
@@ -68,9 +73,10 @@ def put_scripts(prefix: Path) -> None:
     for file in ("__init__.py", "home.py", "entry.py", "documents.py", "commands/__init__.py"):
         copied(PACKAGE / file, package / file)
     for name in SCRIPTS:
-        copied(PACKAGE / "commands" / f"{name}.py", package / "commands" / f"{name}.py")
+        module = module_of(name)
+        copied(PACKAGE / "commands" / f"{module}.py", package / "commands" / f"{module}.py")
         what = doc_of(name).split("\n\n")[0]
-        written(prefix / "bin" / f"celbpf-{name}", ENTRY.format(name=name, what=what), 0o755)
+        written(prefix / "bin" / f"celbpf-{name}", ENTRY.format(name=name, module=module, what=what), 0o755)
 
 
 def as_installed(text: str) -> str:

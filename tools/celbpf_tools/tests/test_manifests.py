@@ -1,0 +1,170 @@
+"""Reviews of objects in manifests."""
+
+import contextlib
+import io
+import json
+import sys
+import unittest
+from unittest import mock
+
+from .. import documents
+from ..commands import as_reviews
+from ..entry import ended
+from ..manifests.kinds import Resources, built_in
+from ..manifests.objects import NoObject, flattened
+from .test_documents import Files
+
+NODE = '{"apiVersion": "v1", "kind": "Node", "metadata": {"name": "one", "namespace": "x"}}'
+WEB = '{"apiVersion": "apps/v1", "kind": "Deployment", "metadata": {"name": "web"%s}, "spec": {"replicas": %d}}'
+DEFINITION = """{"apiVersion": "apiextensions.k8s.io/v1", "kind": "CustomResourceDefinition", "metadata": {"name": "teams.x.io"},
+"spec": {"group": "x.io", "names": {"kind": "Team", "plural": "teams"}, "scope": "Cluster",
+"versions": [{"name": "v1", "served": true}, {"name": "v1alpha1", "served": false}]}}"""
+TEAM = '{"apiVersion": "x.io/%s", "kind": "Team", "metadata": {"name": "shop"}}'
+# a creation of the deployment, byte for byte
+CREATED = (
+    '{"apiVersion":"admission.k8s.io/v1","kind":"AdmissionReview","request":{"uid":"1",'
+    '"kind":{"group":"apps","version":"v1","kind":"Deployment"},'
+    '"resource":{"group":"apps","version":"v1","resource":"deployments"},'
+    '"requestKind":{"group":"apps","version":"v1","kind":"Deployment"},'
+    '"requestResource":{"group":"apps","version":"v1","resource":"deployments"},'
+    '"name":"web","namespace":"default","operation":"CREATE",'
+    '"object":{"apiVersion":"apps/v1","kind":"Deployment","metadata":{"name":"web","namespace":"default"},"spec":{"replicas":3}},'
+    '"oldObject":null,"dryRun":false,"options":{"apiVersion":"meta.k8s.io/v1","kind":"CreateOptions"}}}\n'
+)
+MANIFEST = """# Source: shop/templates/namespace.yaml
+apiVersion: v1
+kind: Namespace
+metadata:
+  name: shop
+---
+---
+apiVersion: v1
+kind: List
+items:
+- apiVersion: batch/v1
+  kind: Job
+  metadata: {generateName: job-}
+"""
+
+
+class Ran(Files):
+    """Tests that run the script."""
+
+    def ran(self, *words: object) -> tuple:
+        """Its status and both outputs."""
+        said, errors = io.StringIO(), io.StringIO()
+        with mock.patch.object(sys, "argv", ["as-reviews", *map(str, words)]):
+            with contextlib.redirect_stdout(said), contextlib.redirect_stderr(errors):
+                return ended("as-reviews", as_reviews.main), said.getvalue(), errors.getvalue().replace(f"{self.folder}/", "")
+
+    def requests(self, *words: object) -> list:
+        status, said, errors = self.ran(*words)
+        self.assertEqual((status, errors), (0, ""))
+        return [json.loads(line)["request"] for line in said.splitlines()]
+
+
+class Making(Ran):
+    def test_a_creation(self) -> None:
+        self.assertEqual(self.ran(self.file("web.json", WEB % ("", 3))), (0, CREATED, ""))
+
+    def test_where_an_object_is(self) -> None:
+        web, node = self.file("web.json", WEB % (', "namespace": "shop"', 3)), self.file("node.json", NODE)
+        self.assertEqual(self.requests(web, "--namespace", "prod")[0]["namespace"], "shop")
+        there = self.requests(self.file("web.json", WEB % ("", 3)), "--namespace", "prod")[0]
+        self.assertEqual((there["namespace"], there["object"]["metadata"]["namespace"]), ("prod", "prod"))
+        request = self.requests(node)[0]
+        self.assertNotIn("namespace", request)
+        self.assertEqual(request["object"]["metadata"], {"name": "one"})
+
+    def test_an_update(self) -> None:
+        web, other = self.file("web.json", WEB % ("", 3)), self.file("other.json", WEB % (', "namespace": "shop"', 3))
+        old = self.file("old.json", WEB % (', "namespace": "default"', 1))
+        updated, created = self.requests("--old", old, web, other)
+        self.assertEqual((updated["operation"], updated["options"]["kind"]), ("UPDATE", "UpdateOptions"))
+        self.assertEqual(updated["oldObject"], json.loads(WEB % (', "namespace": "default"', 1)))
+        self.assertEqual((created["uid"], created["operation"], created["oldObject"]), ("2", "CREATE", None))
+
+    def test_a_user(self) -> None:
+        request = self.requests("--user", "ann", self.file("node.json", NODE))[0]
+        self.assertEqual(request["userInfo"], {"username": "ann", "groups": ["system:authenticated"]})
+
+    def test_custom_resources(self) -> None:
+        team = self.file("team.json", TEAM % "v1")
+        state = self.file("state.json", '{"apiVersion": "v1", "kind": "List", "items": [%s]}' % DEFINITION)
+        request = self.requests("--cluster", state, team)[0]
+        self.assertEqual(request["resource"], {"group": "x.io", "version": "v1", "resource": "teams"})
+        self.assertNotIn("namespace", request)
+        with_definition = self.requests(team, self.file("definition.json", DEFINITION))
+        self.assertEqual([one["kind"]["kind"] for one in with_definition], ["Team", "CustomResourceDefinition"])
+
+    @unittest.skipIf(documents.yaml is None, "PyYAML is not installed")
+    def test_yaml_of_several_documents(self) -> None:
+        space, job = self.requests(self.file("all.yaml", MANIFEST))
+        self.assertEqual((space["resource"]["resource"], space["name"], space["namespace"]), ("namespaces", "shop", "shop"))
+        self.assertEqual(space["object"]["metadata"], {"name": "shop"})
+        self.assertEqual((job["resource"]["resource"], job["namespace"], job.get("name")), ("jobs", "default", None))
+
+
+class Refusing(Ran):
+    def test_unknown_kinds(self) -> None:
+        team, node = self.file("team.json", TEAM % "v1alpha1"), self.file("node.json", NODE)
+        state = self.file("state.json", DEFINITION)
+        said = "as-reviews: unknown kind x.io/v1alpha1 Team"
+        self.assertEqual(self.ran("--cluster", state, node, team), (
+            1, "", f"{said}; --cluster takes CustomResourceDefinitions, --skip-unknown leaves it out\n"))
+        status, lines, errors = self.ran("--cluster", state, "--skip-unknown", team, node)
+        self.assertEqual((status, errors, json.loads(lines)["request"]["uid"]), (0, f"{said}\n", "1"))
+
+    def test_documents_that_are_no_objects(self) -> None:
+        for text, why in [
+            ("[]", "a.json: document 0 is not an object"),
+            ('{"apiVersion": "v1"}', "a.json: document 0 has no kind"),
+            ('{"apiVersion": "v1", "kind": "Pod"}', "a.json: document 0 (Pod) has no metadata"),
+            ('{"apiVersion": "v1", "kind": "List", "items": [1]}', "a.json: document 0, item 0 is not an object"),
+        ]:
+            with self.subTest(text):
+                self.assertEqual(self.ran(self.file("a.json", text)), (1, "", f"as-reviews: {why}\n"))
+
+    def test_what_cannot_be_written_or_read(self) -> None:
+        web = self.file("web.json", WEB % ("", 3))
+        old = self.file("old.json", (WEB % ("", 1)).replace("apps/v1", "apps/v1beta1"))
+        # apps/v1beta1 is not known, so it is unknown before anything is compared
+        self.assertEqual(self.ran("--old", old, web)[0], 1)
+        nan = self.file("nan.json", '{"apiVersion": "v1", "kind": "Node", "metadata": {"name": "one"}, "a": NaN}')
+        self.assertEqual(self.ran(nan)[:2], (1, ""))
+        self.assertEqual(self.ran(self.folder / "none.json"), (3, "", "as-reviews: none.json: No such file or directory\n"))
+
+    def test_an_old_object_of_another_version(self) -> None:
+        scaler = '{"apiVersion": "autoscaling/%s", "kind": "HorizontalPodAutoscaler", "metadata": {"name": "web"}}'
+        old, new = self.file("old.json", scaler % "v1"), self.file("new.json", scaler % "v2")
+        self.assertEqual(self.ran("--old", old, new), (1, "", (
+            "as-reviews: HorizontalPodAutoscaler web was autoscaling/v1 and is autoscaling/v2: "
+            "an API server converts it, this script cannot\n")))
+
+
+class Tables(unittest.TestCase):
+    def test_sixty_kinds_are_built_in(self) -> None:
+        found = {(one.group, one.kind) for one in built_in()}
+        self.assertEqual(len(found), 60)
+
+    def test_resources_that_are_not_guessed(self) -> None:
+        resources = Resources()
+        for version, kind, plural, namespaced in [
+            ("v1", "Endpoints", "endpoints", True), ("networking.k8s.io/v1", "NetworkPolicy", "networkpolicies", True),
+            ("v1", "Event", "events", True), ("events.k8s.io/v1", "Event", "events", True),
+            ("rbac.authorization.k8s.io/v1", "ClusterRole", "clusterroles", False),
+            ("storage.k8s.io/v1", "StorageClass", "storageclasses", False),
+        ]:
+            with self.subTest(kind):
+                found = resources.of({"apiVersion": version, "kind": kind})
+                self.assertEqual((found.plural, found.namespaced), (plural, namespaced))
+        self.assertIsNone(resources.of({"apiVersion": "extensions/v1beta1", "kind": "Deployment"}))
+
+    def test_lists_of_one_kind(self) -> None:
+        item = {"metadata": {"name": "one"}}
+        typed = {"apiVersion": "v1", "kind": "PodList", "items": [item]}
+        self.assertEqual(list(flattened(typed, "a")), [{"apiVersion": "v1", "kind": "Pod", **item}])
+        # a kind that ends so, without items, is an object
+        self.assertEqual(len(list(flattened({"apiVersion": "x.io/v1", "kind": "AllowList", "metadata": {}}, "a"))), 1)
+        with self.assertRaises(NoObject):
+            list(flattened({"apiVersion": "v1", "kind": "List", "items": [item]}, "a"))
