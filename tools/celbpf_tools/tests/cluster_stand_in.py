@@ -1,0 +1,31 @@
+"""Stands in for `gatekeeper --cluster`: it answers as the evaluator does. A state with a ConfigMap is answered wrongly
+if the first argument is --wrong.
+"""
+
+import sys
+from pathlib import Path
+
+sys.path.insert(0, str(Path(__file__).resolve().parents[2]))
+
+from celbpf_tools.evaluator.cluster import response, state  # noqa: E402
+from celbpf_tools.evaluator.refused import Refused  # noqa: E402
+
+
+def main(words: list) -> int:
+    is_wrong = words[:1] == ["--wrong"]
+    lists = [Path(name).read_bytes() for option, name in zip(words, words[1:]) if option == "--cluster"]
+    try:
+        opened = state.opened(lists, "--partial" in words)
+    except Refused as why:
+        print(f"gatekeeper: {why.text}", file=sys.stderr)
+        return 3
+    is_wrong = is_wrong and any(item["kind"] == "ConfigMap" for item in opened.items)
+    for line in sys.stdin.buffer:
+        answer = response.answer(opened, line.rstrip(b"\n"))
+        sys.stdout.buffer.write((answer.replace("allowed", "denied") if is_wrong else answer).encode() + b"\n")
+    return 0
+
+
+if __name__ == "__main__":
+    sys.dont_write_bytecode = True
+    sys.exit(main(sys.argv[1:]))
