@@ -65,7 +65,7 @@ IsPolicyRefused document policy_refusal.Memory = ⊥
 abbrev pub IsPolicyOf : List ℕ → PolicyAndImage → Type 0
 IsPolicyOf document c = (policy_in document ≡ Ok c.policy) × IsCompiled c.policy c.image
 
--- the policy and its image, or why there is none; an allocation failure says nothing
+-- the policy and its image, or why there is none; or an allocation failed
 abbrev pub CompilesDocument : List ℕ → Result PolicyAndImage PolicyRefusal → Type 0
 CompilesDocument document (Ok c) = IsPolicyOf document c
 CompilesDocument document (Err (Unread e)) = IsPolicyRefused document (Unread e)
@@ -136,7 +136,7 @@ pub record IsStopped (d : Documents) : Type 0 where
   pub beyond : IsBeyond case
 
 -- why a review has no response: the first refusal of the policy, of the documents, or of the program's run, which may
--- take n steps; an allocation failure says nothing
+-- take n steps; or an allocation failed
 abbrev pub HasNoResponse : Documents → ℕ → RunError → Type 0
 HasNoResponse d n (PolicyRefused e) = IsPolicyRefused d.policy e
 HasNoResponse d n ReviewRefused = IsPolicy d.policy × (values_given d ≡ Err ReviewRefused)

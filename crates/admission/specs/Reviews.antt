@@ -63,7 +63,7 @@ contents_given review namespace params = contents_from (documents_given review n
 
 -- ---- results of the code
 
--- the result is the one that is due; an allocation failure says nothing
+-- the result is the one that is due; or an allocation failed
 abbrev pub ReturnsDue : {A B : Type 0} → (B → A) → Result A RunError → Result B RunError → Type 0
 ReturnsDue see due (Ok b) = due ≡ Ok (see b)
 ReturnsDue see due (Err (PolicyRefused e)) = due ≡ Err (PolicyRefused e)
