@@ -33,7 +33,7 @@ pub fn match_rows_hold()
     ensures { MatchRowsHold }
 {}
 
-/// Rows at the borders of the tables, worked by hand.
+/// Edge cases of the tables, worked by hand.
 #[tactic(auto, unfolding(crate::specs::Matching::match_answer, crate::specs::Rules::covers, crate::specs::Rules::fits, crate::specs::Rules::is_shared, crate::specs::Rules::is_candidate, crate::specs::Rules::may_fit))]
 pub fn border_rows_hold()
     ensures { BorderRowsHold }
