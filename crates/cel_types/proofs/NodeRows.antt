@@ -7,7 +7,7 @@ use Rattle.cel_types.specs.declared.cel_type.CelType.TheVariants as type
 use Rattle.cel_types.proofs.TypedRows.{same_is}
 use Rattle.cel_types.proofs.RowTyped.{on_none, select_node, fold_node, fold_map_node, text_keys, node}
 
--- ---- what a test shows of a row's types
+-- ---- what a test shows about a row's types
 
 here : {A : Type 0} (x : A) (xs : List A) → Contains (x ∷ xs) x
 here x xs = (0, omega arith, refl)

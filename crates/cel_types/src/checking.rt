@@ -188,9 +188,9 @@ fn outer_type(core: &Core, variables: &[Variable]) -> Result<CelType, TypeError>
 }
 
 /// The type of the expression by the table of types. Otherwise the error is that of the first part
-/// without a row, where parts come from left to right and before their node: `UnknownIdentifier`
-/// for an unknown name, `NoMatchingOverload` for operands without an overload, `MisusedVariables`
-/// for `variables` without a variable of the scope. Nothing is allocated.
+/// without a row (from left to right, parts before their node): `UnknownIdentifier` for an unknown
+/// name, `NoMatchingOverload` for operands without an overload, `MisusedVariables` for `variables`
+/// without a variable of the scope. Nothing is allocated.
 ///
 /// An expression of any shape that has a type is the expansion of its plain tree, and this tree has
 /// the same type. Its value in an environment that fits the scope has this type too, or is the
