@@ -1,4 +1,4 @@
--- `into_parts` tests the pointer, and what it owns goes on.
+-- `into_parts` tests the pointer and passes on what it owns.
 use Rattle.std.proofs.Common.{◌≡◌, List, [], ◌∷◌, ◌++◌, refl, sym, subst, lit<}
 use mir.Val.{Val, vptr, vcons, vnil, has_ty}
 use base.Logic.{SProp, ent, emp, id⊢}
