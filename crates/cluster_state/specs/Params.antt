@@ -148,7 +148,7 @@ params_of objects k r own =
     else (if has_needless_namespace k.scope r.namespace then Err NeedlessNamespace
     else if_found r.denies_absence (chosen r.choice (objects (params_place k.scope k.kind r.namespace own))))
 
--- the params or the first error are returned; an allocation failure says nothing
+-- the params or the first error are returned; or an allocation failed
 abbrev pub ParamsRead : Result (List json.Data) ParamError → Result (Vec (Bor Value) Global) ParamError → Type 0
 ParamsRead due (Ok v) = due ≡ Ok (map (λ d. view d.now) v.items)
 ParamsRead due (Err ClusterScopedRequest) = due ≡ Err ClusterScopedRequest

@@ -133,7 +133,7 @@ thing version kind namespace name = record {
 abbrev pub config : List ℕ → List ℕ → Item
 config namespace name = thing (codes "v1") (codes "ConfigMap") namespace name
 
--- two objects in prod, one in dev, and one of the cluster
+-- two objects in prod, one in dev, and one that is cluster-scoped
 abbrev pub things : List Item
 things =
     config (codes "prod") (codes "b") ∷ config (codes "prod") (codes "a") ∷ config (codes "dev") (codes "c")
