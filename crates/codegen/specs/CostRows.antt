@@ -45,7 +45,7 @@ IsShallowAt e n = (cost e (with_nested n)).is_deep ≡ false
 pub record CostRows : Type 0 where
   -- an operator, two selections, a name and a literal
   pub policy_work : work_of at_most_three five ≡ 5
-  -- 8 * 5, results of 1, 1, 11, 17 and 1, and field names of 9 and 5
+  -- 8 * 5, results of sizes 1, 1, 11, 17 and 1, and field names of 9 and 5 bytes
   pub policy_spent : spent_of at_most_three five ≡ 85
   -- false && 1 / 0 == 1
   pub both_sides_of_and : work_of (binary And no wrong) review ≡ 7

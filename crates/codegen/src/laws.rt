@@ -17,7 +17,7 @@ pub fn code_is_short()
     ensures whole { WholeIsShort }
 {}
 
-/// What the type checker takes has code.
+/// Each expression that the type checker accepts has code.
 #[tactic(auto, using(crate::proofs::Accepted::typed_accepted))]
 pub fn typed_has_code()
     ensures { TypedIsAccepted }

@@ -1,5 +1,5 @@
 -- Proofs of `expressions::code`: the result meets the contract; each turn of the loop keeps the invariant; its calls
--- meet what they require.
+-- meet their requirements.
 
 use Rattle.codegen.proofs.Prelude.{◌++◌, map, ap, ◌∙◌, arith, core_view, cores, core_entries, core_pair, need, needs, entries_need, nodes, nodes_of, entries_nodes, view_map, item_code, entry_code}
 use Rattle.codegen.proofs.Walks.{same_code, words_within, call_of_one, call_of_others, method_of_none, method_of_one, method_of_others, fold_map_of, item_more, entry_more, here}
