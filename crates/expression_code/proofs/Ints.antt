@@ -1,5 +1,5 @@
--- Ints of 64 bits as words: when results fit, and what tests of words show of ints.
--- For the laws in `specs/Gives/Arithmetic`.
+-- Ints of 64 bits as words: when results fit, and what tests of words show about ints. For the laws in
+-- `specs/Gives/Arithmetic`.
 use Rattle.expression_code.proofs.Prelude.{◌≡◌, ℕ, ◌+◌, ◌-◌, ◌%◌, ◌^◌, ◌<◌, ◌≤◌, true, false, refl, ◌∙◌, rules, arith, sym, ap, mod-lt, FitsSigned, ℤ, pos, ◌+ℤ◌, ◌-ℤ◌, neg_ℤ, w64, cast_signed, cast_unsigned, ints, to_z-of_z, nat_tests, alu64_of, operated, holds_of, IsSigned, signed_of, word_of, falls, falls_over, rises, rises_over, alu_result, compares, negated, Comparison, Sge, Sgt, Sle, Slt, Eq, Ne, W64, error, value, int, fits, int_or_error, difference_is}
 use Rattle.expression_code.proofs.Effects.{differs_no, differs_yes, equal_is, equal_yes}
 use Rattle.expression_code.proofs.Runs.{either}
@@ -64,7 +64,7 @@ module _ (a b : ℕ) (ha : a < 2 ^ 64) (hb : b < 2 ^ 64) where
         falls_over = λ negative below fits. let high = fits.1 in grind (arith, ints);
       })
 
--- ---- words, what tests of them show of ints, and negation
+-- ---- words, what tests of them show about ints, and negation
 
 abbrev pub word : ℤ → ℕ
 word z = cast_unsigned w64 z
@@ -99,7 +99,7 @@ not_different a b h = either (compares W64 Eq a b) (λ t. equal_is a b t) (λ f.
 pub different : (a b : ℕ) → compares W64 Ne a b ≡ true → a ≡ b → ⊥
 different a b h e = let no = differs_no a b e in absurd (cc)
 
--- what tests of their words show of two ints
+-- what tests of their words show about two ints
 module _ (z : ℤ) (hz : fits z ≡ true) where
   pub from_word : (w : ℕ) → word z ≡ w → z ≡ number w
   from_word w e = sym (number_word z hz) ∙ ap number e

@@ -32,7 +32,7 @@ abbrev is_fine_by : Side → Bool → Bool
 is_fine_by Neither e = e
 is_fine_by _ e = true
 
--- what tests of a reference show of a side
+-- what tests of a reference show about a side
 pub record Tested (decides other : ℤ) (side : Side) (r : ℕ) : Type 0 where
   pub decided : compares W64 Eq r (cast_unsigned w64 decides) ≡ is_decides side
   pub leaves : compares W64 Eq r (cast_unsigned w64 other) ≡ is_leaves side

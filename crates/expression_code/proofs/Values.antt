@@ -1,4 +1,4 @@
--- References, and what tests of them show of their values.
+-- References, and what tests of them show about their values.
 use Rattle.expression_code.proofs.Prelude.{◌≡◌, ℕ, zero, suc, ◌^◌, ◌<◌, List, Bool, true, false, not, refl, ap, arith, Some, length, ◌++◌, ◌∷◌, [], subst, nat_eq, slice_get, All, ne_eqb, slice_get_within, holds_of, Names, IsTable, IsResultBounded, Eq, Ne, W64, AreCanonical, IsStore, Value, ValueOrError, error, value, null, boolean, is_error, Truth, Yes, No, Other, truth, is_no, is_yes, compares, All-head, All-tail}
 use Rattle.value_store.specs.Placing.{Contents}
 
@@ -56,7 +56,7 @@ told_by : (t : Truth) (fails : Bool) (r : ℕ) → nat_eq r 2 ≡ is_no t → na
 unfolding holds_of
 told_by t fails r at_2 at_3 at_0 = record { no = at_2; not_no = ap not at_2; yes = at_3; not_yes = ap not at_3; error = at_0; not_error = ap not at_0 }
 
--- a reference of another value is none of theirs
+-- the reference of another value differs from theirs
 told_other : (values : Contents) (r : ℕ) (v : Value) → IsStore values → Names values.values r (value v) → truth (value v) ≡ Other → Told Other false r
 told_other values r v store named other =
     let at_0 = names_error values store in
