@@ -18,7 +18,7 @@ gates_more [] [] policy gate are of = (of, tt)
 gates_more (p ∷ ps) (g ∷ gs) policy gate are of = (are.0, gates_more ps gs policy gate are.1 of)
 gates_more policies gates policy gate are of = absurd are
 
--- the policies in the files of these names are opened
+-- the policies in the files with these names are opened
 abbrev pub Opened : Option FileSystem → List Text → List NamedGate → Type 0
 Opened known names gates = (policies : List PolicyFile) × AreGates policies gates × Opens known names policies
 

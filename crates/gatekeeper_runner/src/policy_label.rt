@@ -4,7 +4,7 @@ ghost use Rattle.gatekeeper_runner.specs.Together.{label_view};
 
 use std::alloc::{AllocError, Global};
 
-/// What a refusal shows of the policy that caused it.
+/// What a refusal shows about the policy that caused it.
 #[derive(Drop)]
 pub struct PolicyLabel {
     /// Its `metadata.name`, or else the name of its file.

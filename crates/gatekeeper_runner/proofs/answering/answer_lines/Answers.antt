@@ -1,4 +1,4 @@
--- Proofs of `answering::answer_lines`: the result meets the contract; its calls meet what they require.
+-- Proofs of `answering::answer_lines`: the result meets the contract; its calls meet their requirements.
 
 use Rattle.gatekeeper_runner.proofs.Prelude.{refl, cut-none}
 use Rattle.gatekeeper_runner.proofs.Going.{going_start, heard_told}
