@@ -25,7 +25,7 @@ module _ (f : FailurePolicy) (v : Verdict) (values : List ValueOrError) (m : Mem
   message_is : (i : ℕ) → i < part_limit → message_at m values count i ≡ message_in (slice_get v.findings i)
   message_is i below = read_by message_in _ (slice_get v.findings i) (nat_lt i count) (λ e. named_is i below) (beyond i)
 
-  -- the words that are read represent the verdict of which the region is the layout
+  -- the words that are read from the layout of a verdict represent this verdict
   pub layout_told : (words : VerdictWords) → AreRead m values count words → Encodes f v words
   layout_told words read = grind (arith, word_is, result_is, message_is)
 

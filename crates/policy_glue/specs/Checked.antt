@@ -31,13 +31,13 @@ IsExpanded core a = (core_view core ≡ expanded a) × IsWellFormed a
 abbrev pub IsFormedValidation : ValidationTree → Type 0
 IsFormedValidation r = IsWellFormed r.expression × IfSome r.message IsWellFormed
 
--- the text is read and its macros are expanded, or it is refused in every scope; an allocation failure says nothing
+-- the text is read and its macros are expanded, or it is refused in every scope; or an allocation failed
 abbrev pub ReadsAndExpands : List ℕ → Result CodeCore ExpressionError → Type 0
 ReadsAndExpands text (Ok core) = (a : Tree) × IsExpanded core a × ReadsTree text a × (macro_fault a ≡ None)
 ReadsAndExpands text (Err e) = e ≢ expression_error.Memory → (scope : List Declaration)
     → IsExpressionRefused (expression_judged scope) text e
 
--- the result of judging a text; an allocation failure says nothing
+-- the result of judging a text; or an allocation failed
 abbrev pub Judges : (Tree → Result CelType ExpressionError) → List ℕ → Result (CodeCore × CelType) ExpressionError → Type 0
 Judges judge text (Ok x) = (a : Tree) × IsExpanded x.0 a × IsTaken judge text a x.1
 Judges judge text (Err e) = e ≢ expression_error.Memory → IsExpressionRefused judge text e
@@ -143,7 +143,7 @@ pub record IsChecked (checked : Checked) (t : PolicyTree) : Type 0 where
   pub validations : map validation_trees checked.validations.items ≡ map validation_expanded t.validations
   pub formed : IsFormed t
 
--- the parts of the policy are checked, or its first refusal is returned; an allocation failure says nothing
+-- the parts of the policy are checked, or its first refusal is returned; or an allocation failed
 abbrev pub Checks : Policy → Result Checked CompileError → Type 0
 Checks p (Ok checked) = (t : PolicyTree) × IsChecked checked t × PartsEnd p (Ok t)
 Checks p (Err e) = e ≢ compile_error.Memory → PartsEnd p (Err e)

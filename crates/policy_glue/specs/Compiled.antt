@@ -36,7 +36,7 @@ pub record IsCompiled (p : Policy) (image : loader.Image) : Type 0 where
   pub compiles : Compiles p (Ok trees)
   pub program : IsProgram p.failure_policy trees image
 
--- the image or the reason for the refusal; an allocation failure says nothing
+-- the image or the reason for the refusal; or an allocation failed
 abbrev pub CompilesTo : Policy → Result loader.Image CompileError → Type 0
 CompilesTo p (Ok image) = IsCompiled p image
 CompilesTo p (Err Memory) = Unit {0}

@@ -102,7 +102,7 @@ pub record HasTrees (checked : Checked) : Type 0 where
   pub validations : AreValidations (scope_after trees.variables) trees.validations
   pub few : length trees.validations ≤ part_limit
 
--- the bytes of the program and of its texts, or the limit that the policy exceeds; an allocation failure says nothing
+-- the bytes of the program and of its texts, or the limit that the policy exceeds; or an allocation failed
 abbrev pub EmitsProgram : FailurePolicy → PolicyTree → Result (Vec ℕ Global × Vec ℕ Global) CompileError → Type 0
 EmitsProgram f t (Ok r) = (excess t ≡ None) × (r.0.items ≡ spellings (program_of f t)) × (r.1.items ≡ joined (policy_texts t))
 EmitsProgram f t (Err e) = e ≢ Memory → excess t ≡ Some e

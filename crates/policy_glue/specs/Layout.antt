@@ -31,7 +31,7 @@ outcome_word Rejected = 2
 outcome_word Denied = 3
 outcome_word Admitted = 4
 
--- the outcome for a word; a word that is no outcome rejects the request
+-- the outcome for a word; a word that is not an outcome rejects the request
 abbrev pub outcome_of : ℕ → Outcome
 outcome_of word =
     if nat_eq word (outcome_word Skipped) then Skipped

@@ -218,14 +218,14 @@ policy_in bytes = policy_read (document_of bytes)
 
 -- ---- results of the code
 
--- a part with the right form is returned, else `InvalidField`; an allocation failure says nothing
+-- a part with the right form is returned, else `InvalidField`; or an allocation failed
 abbrev pub Forms : {A B : Type 0} → (B → A) → Option A → Result B PolicyError → Type 0
 Forms see part (Ok b) = part ≡ Some (see b)
 Forms see part (Err InvalidField) = part ≡ None
 Forms see part (Err Memory) = Unit {0}
 Forms see part (Err _) = ⊥
 
--- the policy or the first refusal is returned; an allocation failure says nothing
+-- the policy or the first refusal is returned; or an allocation failed
 abbrev pub PolicyReadReturns : Result Policy PolicyError → Result Policy PolicyError → Type 0
 PolicyReadReturns due (Ok p) = due ≡ Ok p
 PolicyReadReturns due (Err Memory) = Unit {0}

@@ -4,7 +4,7 @@ use crate::checked_validation::CheckedValidation;
 use cel_macros::Core;
 use cel_types::Scope;
 
-/// The expressions of a policy, with their macros expanded, each in its order.
+/// The expressions of a policy, with their macros expanded. Each list is in order.
 #[derive(Debug, Drop)]
 pub struct Checked {
     /// The variables, with their types and depths.

@@ -6,6 +6,6 @@ use cel_macros::Core;
 #[derive(Debug, Drop)]
 pub struct CheckedValidation {
     pub expression: Core,
-    /// That of its message, if it has one.
+    /// The expression of its message, if it has one.
     pub message: Option<Core>,
 }

@@ -19,7 +19,7 @@ pub enum Outcome {
 }
 
 impl Outcome {
-    /// The outcome for this word of a verdict. A word that is no outcome rejects the request.
+    /// The outcome for this word of a verdict. A word that is not an outcome rejects the request.
     pub fn of_word(word: u64) -> Outcome
         ensures { result ≡ outcome_of word }
     {

@@ -68,7 +68,7 @@ tail_size f = refl
 pub condition_size : (f : FailurePolicy) (condition rest : List Insn) → size (condition ++ (condition_tail f ++ rest)) ≡ size condition + (9 + size rest)
 condition_size f condition rest = grind (arith, size-append, tail_size)
 
--- the stored outcome after conditions of which none is false
+-- the stored outcome after the conditions, if none is false
 abbrev pub stands_after : FailurePolicy → ℕ → List CheckResult → ℕ
 stands_after f w [] = w
 stands_after f w (t ∷ more) = stands_after f (if is_held t then w else outcome_word (undecided f)) more
@@ -191,7 +191,7 @@ module _ (s : RunContext) (c : Context) (f : FailurePolicy) (o : ℕ) (has : IsC
       (no has 3 refl (equal_no _ 0 (λ e. grind arith))
       (done s (o + 4) _ (Ends c f outcome []) (record { marked = marks_registers marked _ refl; answers = marked.words.outcome_is })))))
 
--- ---- where there are conditions
+-- ---- if there are conditions
 
 pub decided_size : (parts : List Part) → size (decided_code (codes_of parts)) ≡ decided_slots parts
 decided_size parts = grind arith

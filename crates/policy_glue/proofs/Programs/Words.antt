@@ -163,7 +163,7 @@ module _ {c : Context} {outcome denials : ℕ} {result : ℕ → ℕ} {message :
 
 -- ---- tests of the reference in R0
 
--- what the tests for the references of true and false show of the value
+-- what the tests for the references of true and false show about the value
 pub record Tests (t : CheckResult) (r : ℕ) : Type 0 where
   pub held : compares W64 Eq r 3 ≡ is_held t
   pub failed : compares W64 Eq r 2 ≡ is_failed t

@@ -1,4 +1,4 @@
--- Proofs of `compiling::compile`: the result meets the contract; its calls meet what they require.
+-- Proofs of `compiling::compile`: the result meets the contract; its calls meet their requirements.
 
 use Rattle.policy_glue.proofs.Prelude.{Err, Ok, subst, IsChecked, CompilesTo, EmitsProgram, IsAcceptedPolicy, PolicyTree}
 use Rattle.policy_glue.proofs.Compiles.{has_trees, image_compiled, image_due, image_is_one, refused_part, refused_whole}

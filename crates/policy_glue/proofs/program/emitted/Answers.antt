@@ -1,4 +1,4 @@
--- Proofs of `program::emitted`: its calls meet what they require.
+-- Proofs of `program::emitted`: its calls meet their requirements.
 
 use Rattle.policy_glue.proofs.Prelude.{◌∙◌, ap, map, arith, core_view, declaration}
 use Rattle.policy_glue.proofs.Emission.{as_many, conditions_fit, fit_in_order, messages_fit, rules_fit}

@@ -1,4 +1,4 @@
--- Proofs of `program::validations::put_result`: its calls meet what they require.
+-- Proofs of `program::validations::put_result`: its calls meet their requirements.
 
 use Rattle.policy_glue.proofs.Prelude.{◌≡◌, ◌+◌, ap, sym, ◌∙◌, arith, slice_get, slot_count, core_view, with_insn_at, leave_error}
 use Rattle.policy_glue.proofs.Emission.{few_between, jump_stands, leave_stands}

@@ -1,5 +1,5 @@
--- Proofs of `program::variables::variables`: each turn of the loop keeps the invariant; its calls meet what they
--- require.
+-- Proofs of `program::variables::variables`: each turn of the loop keeps the invariant; its calls meet their
+-- requirements.
 
 use Rattle.policy_glue.proofs.Prelude.{◌∷◌, [], ◌++◌, ap, sym, ◌∙◌, arith, core_view, declaration}
 use Rattle.policy_glue.proofs.Emission.{at_index, take_more}
