@@ -16,7 +16,7 @@ use cli::Refusal;
 use host::Files;
 use std::alloc::{AllocError, Global};
 
-/// Reviews the documents in the files of these names.
+/// Reviews the documents in the files with these names.
 pub fn review_files<F: Files>(
     alloc: Global,
     names: &ReviewNames,

@@ -13,7 +13,7 @@ use host::Files;
 use loader::Image;
 use std::alloc::{AllocError, Global};
 
-/// Lists the code of the image in the file of this name.
+/// Lists the code of the image in the file with this name.
 pub fn list_file<F: Files>(alloc: Global, image: &str, files: &mut F) -> Result<Report, Refusal>
     ensures lists { PerformsBy OneImage (F.known files.old) (list image.now) (F.known files.new) (outcome_of result) }
     ensures known { F.known files.new ≡ F.known files.old }

@@ -7,7 +7,7 @@ use host::Files;
 use loader::Image;
 use std::alloc::Global;
 
-/// The image in the file of this name.
+/// The image in the file with this name.
 pub fn open<F: Files>(alloc: Global, name: &str, files: &mut F) -> Result<Image, Refusal>
     ensures opens { OpensFile (F.known files.old) name.now result }
     ensures known { F.known files.new ≡ F.known files.old }

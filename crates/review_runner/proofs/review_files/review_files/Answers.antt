@@ -1,4 +1,4 @@
--- Proofs of `review_files::review_files`: the result meets the contract; its calls meet what they require.
+-- Proofs of `review_files::review_files`: the result meets the contract; its calls meet their requirements.
 
 use Rattle.review_runner.proofs.Prelude.{Err, performs, unread}
 use Rattle.review_runner.proofs.PolicyFiles.{has_review, was_held}
