@@ -1,5 +1,5 @@
 -- Proofs of `collecting::collect`: the result meets the contract; each turn of the loop keeps the invariant; its
--- calls meet what they require.
+-- calls meet their requirements.
 
 use Rattle.value_table.proofs.Prelude.{◌≡◌, ◌++◌, ◌∷◌, [], ◌∙◌, Some, option_map, sym, ap, subst, arith, rules, heap_values}
 use Rattle.std.specs.List.Sorted.{IsStrictlySortedBy}

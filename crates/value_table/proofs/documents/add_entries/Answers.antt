@@ -1,5 +1,5 @@
 -- Proofs of `documents::add_entries`: the result meets the contract; each turn of the loop keeps the invariant; its
--- calls meet what they require.
+-- calls meet their requirements.
 
 use Rattle.value_table.proofs.Prelude.{◌≡◌, ◌+◌, ◌++◌, ◌∷◌, [], ◌∙◌, map, string_bytes, take, sym, ap, append-nil, arith, rules, map-append, take_all, take_more}
 use Rattle.value_table.proofs.Growing.{enters, enters_on, keys_step, entries_stand}

@@ -1,4 +1,4 @@
--- Proofs of `places::place`: the result meets the contract; its calls meet what they require.
+-- Proofs of `places::place`: the result meets the contract; its calls meet their requirements.
 
 use Rattle.value_table.proofs.Prelude.{◌∙◌, sym, subst, Option, ℕ, IsSome}
 use Rattle.value_table.proofs.Named.{at_place, value_has_place}

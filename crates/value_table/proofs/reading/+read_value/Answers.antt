@@ -1,5 +1,5 @@
 -- Proofs of `reading::read_value`: the result meets the contract; the loop invariant holds at first and is kept; its
--- calls meet what they require.
+-- calls meet their requirements.
 
 use Rattle.std.proofs.Common.{◌≡◌, ◌-◌, ◌<◌, [], ◌∷◌, length, Some, None, option_map, subst, sym, ap, ap₂, ◌∙◌, refl, arith, rules, append-nil}
 use Rattle.std.proofs.lemmas.Result.{IfOk-weaker}

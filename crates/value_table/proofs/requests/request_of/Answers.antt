@@ -1,4 +1,4 @@
--- Proofs of `requests::request_of`: the result meets the contract; its calls meet what they require.
+-- Proofs of `requests::request_of`: the result meets the contract; its calls meet their requirements.
 
 use Rattle.value_table.proofs.Prelude.{subst, heap_values}
 use Rattle.std.specs.Prelude.{codes}

@@ -1,4 +1,4 @@
--- Proofs of `review_table::opened`: the result meets the contract; its calls meet what they require.
+-- Proofs of `review_table::opened`: the result meets the contract; its calls meet their requirements.
 
 use Rattle.value_table.proofs.Prelude.{◌∙◌, arith, heap_values}
 use Rattle.value_store.specs.Documents.{document_of}

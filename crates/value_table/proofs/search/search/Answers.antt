@@ -1,5 +1,5 @@
 -- Proofs of `search::search`: the result meets the contract; each turn of the loop keeps the invariant; its calls
--- meet what they require.
+-- meet their requirements.
 
 use Rattle.value_table.proofs.Prelude.{◌≡◌, ◌+◌, ◌-◌, ◌/◌, ◌<◌, [], length, get_or, sym, ap, ◌∙◌, Some, arith, length-map, get_or-map, exact_bytes, slice_get-get_or, part_of, texts_of}
 use Rattle.value_table.proofs.Walks.{text_here}

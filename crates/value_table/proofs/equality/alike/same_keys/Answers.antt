@@ -1,4 +1,4 @@
--- Proofs of `equality::alike::same_keys`: its calls meet what they require.
+-- Proofs of `equality::alike::same_keys`: its calls meet their requirements.
 
 use Rattle.value_table.proofs.Prelude.{arith}
 use Rattle.value_table.proofs.Walks.{text_here}

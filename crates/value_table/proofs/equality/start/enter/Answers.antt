@@ -1,4 +1,4 @@
--- Proofs of `equality::start::enter`: each turn of the loop keeps the invariant; its calls meet what they require.
+-- Proofs of `equality::start::enter`: each turn of the loop keeps the invariant; its calls meet their requirements.
 
 use Rattle.value_table.proofs.Prelude.{length, get_or, ap, ◌∙◌, arith, value_in, looked_up_by}
 use Rattle.value_table.proofs.Indexed.{entered, ref_below}

@@ -1,5 +1,5 @@
 -- Proofs of `equality::walk::equal`: the result meets the contract; the loop invariant holds at first and is kept;
--- its calls meet what they require.
+-- its calls meet their requirements.
 
 use Rattle.value_table.proofs.Prelude.{◌≡◌, ◌<◌, ℕ, List, length, get_or, true≢false, refl, subst, sym, ap, ◌∙◌, arith, take_all, value_in, values_at}
 use Rattle.value_table.proofs.Maps.{map_more, map_part}

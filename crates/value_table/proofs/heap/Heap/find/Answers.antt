@@ -1,4 +1,4 @@
--- Proofs of `heap::Heap::find`: the result meets the contract; its calls meet what they require.
+-- Proofs of `heap::Heap::find`: the result meets the contract; its calls meet their requirements.
 
 use Rattle.value_table.proofs.Prelude.{◌≡◌, ap, sym, ◌∙◌, Some, keys_at, texts_of, place_among}
 use Rattle.value_table.proofs.Lookups.{map_here, find_here}

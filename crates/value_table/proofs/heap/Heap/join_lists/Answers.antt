@@ -1,4 +1,4 @@
--- Proofs of `heap::Heap::join_lists`: the result meets the contract; its calls meet what they require.
+-- Proofs of `heap::Heap::join_lists`: the result meets the contract; its calls meet their requirements.
 
 use Rattle.value_table.proofs.Prelude.{refl}
 use Rattle.value_table.proofs.Adding.{gained}

@@ -1,4 +1,4 @@
--- Proofs of `heap::Heap::member`: its calls meet what they require.
+-- Proofs of `heap::Heap::member`: its calls meet their requirements.
 
 use Rattle.value_table.proofs.Prelude.{subst, arith, IsContent}
 use Rattle.value_table.proofs.Looked.{widen}

@@ -1,4 +1,4 @@
--- Proofs of `heap::Heap::put`: the result meets the contract; its calls meet what they require.
+-- Proofs of `heap::Heap::put`: the result meets the contract; its calls meet their requirements.
 
 use Rattle.value_table.proofs.Prelude.{rules, refl, ◌≡◌, ◌+◌, ◌∙◌, sym, ap, ap₂, subst, arith, max, IsSome, keys_of, Ascend, part_of, value_in, keys_at, meaning, IsContent, heap_values, texts_of, IsKeyAt, IsInsertionPlace, put_values}
 use Rattle.value_store.specs.Value as kind

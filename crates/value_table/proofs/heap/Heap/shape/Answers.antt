@@ -1,4 +1,4 @@
--- Proofs of `heap::Heap::shape`: the result meets the contract; its calls meet what they require.
+-- Proofs of `heap::Heap::shape`: the result meets the contract; its calls meet their requirements.
 
 use Rattle.value_table.proofs.Prelude.{heap_values}
 use Rattle.value_table.proofs.Looked.{range_here, map_here, seen_list, seen_map}

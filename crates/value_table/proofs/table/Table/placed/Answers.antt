@@ -1,4 +1,4 @@
--- Proofs of `table::Table::placed`: the result meets the contract; its calls meet what they require; it terminates;
+-- Proofs of `table::Table::placed`: the result meets the contract; its calls meet their requirements; it terminates;
 -- its values keep their invariants.
 
 use Rattle.value_table.proofs.Prelude.{arith, heap_values}

@@ -1,4 +1,4 @@
--- Proofs of `table::Table::without_review`: the result meets the contract; its calls meet what they require.
+-- Proofs of `table::Table::without_review`: the result meets the contract; its calls meet their requirements.
 
 use Rattle.value_table.proofs.Prelude.{Some, refl, heap_values}
 use Rattle.value_store.specs.Reviews.{null_parts}

@@ -1,4 +1,4 @@
--- Proofs of `table::TableValueStore::at`: the result meets the contract; its calls meet what they require.
+-- Proofs of `table::TableValueStore::at`: the result meets the contract; its calls meet their requirements.
 
 use Rattle.value_table.proofs.Prelude.{◌∙◌, sym, ap, refl, Some, option_map, outcome_view}
 use Rattle.value_table.proofs.Named.{at_place, none_at}

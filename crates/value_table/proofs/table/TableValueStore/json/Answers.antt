@@ -1,4 +1,4 @@
--- Proofs of `table::TableValueStore::json`: the result meets the contract; its calls meet what they require.
+-- Proofs of `table::TableValueStore::json`: the result meets the contract; its calls meet their requirements.
 
 use Rattle.value_table.proofs.Prelude.{◌∙◌, ◌<◌, length, sym, ap, subst, Some, option_map, IfOk-weaker, shown_text}
 use Rattle.value_table.proofs.Named.{at_place, no_place}

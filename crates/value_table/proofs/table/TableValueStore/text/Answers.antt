@@ -1,4 +1,4 @@
--- Proofs of `table::TableValueStore::text`: the result meets the contract; its calls meet what they require.
+-- Proofs of `table::TableValueStore::text`: the result meets the contract; its calls meet their requirements.
 
 use Rattle.value_table.proofs.Prelude.{◌∙◌, sym, ap, text_at}
 use Rattle.value_table.proofs.Named.{at_place, no_text}
