@@ -16,7 +16,8 @@ use Rattle.value_table.specs.declared.index.Index.{Index}
 abbrev pub index_text_limit : ℕ
 index_text_limit = 512
 
--- the text by which a value is looked up: its JSON text, if that has at most `index_text_limit` bytes
+-- the text by which a value is looked up: its JSON text if that has at most `index_text_limit` bytes, else the empty
+-- text
 unfoldable pub looked_up_by : Value → List ℕ
 looked_up_by v = if nat_le (json_length v) index_text_limit then json_text v else []
 

@@ -19,7 +19,7 @@ use std::alloc::AllocError;
 /// The longest JSON text, in bytes, that is used to look up a value.
 const INDEX_TEXT_LIMIT: u64 = 512;
 
-// The text by which a value is looked up: its JSON text, or nothing if that is too long.
+// The text by which a value is looked up: its JSON text, or the empty text if that is too long.
 #[tactic(auto, using(crate::proofs::Indexed::by_none, crate::proofs::Indexed::by_text))]
 fn text_of(cells: &Sequence<Cell>, backings: &Backings, place: u64) -> Result<String, AllocError>
     requires contents { AreContents backings.now cells.now }
