@@ -21,14 +21,14 @@ pub(crate) const LEFT_SLOTS: usize = 2;
 /// The number of slots after a condition.
 pub(crate) const TERNARY_JUMP_SLOTS: usize = 2;
 
-/// The slot of the jump between the branches.
+/// The number of slots between the branches, for a jump.
 pub(crate) const BRANCH_SLOTS: usize = 1;
 
 /// The number of slots, without those of the right side, that are skipped if the left side decides.
 const ABSORBED_SLOTS: usize = 6;
 
-/// The result of an operator that `decides` decides, given its right side in R0 and its left side,
-/// which does not decide, in word k.
+/// The result of an operator for which the truth `decides` decides, given its right side in R0 and
+/// its left side, which does not decide, in word k.
 fn absorbing_tail(decides: i32, other: i32, k: usize) -> [Insn; 5]
     requires { k < frame_words }
     ensures { result ≡ specs.absorbing_tail decides other k }
@@ -42,8 +42,9 @@ fn absorbing_tail(decides: i32, other: i32, k: usize) -> [Insn; 5]
     ]
 }
 
-/// A logical operator that `decides` decides. If the left side decides, the right side is skipped.
-/// If neither side decides, both must be the other truth, else the result is the error.
+/// A logical operator for which the truth `decides` decides. If the left side decides, the right
+/// side is skipped. If neither side decides, both must be the other truth, else the result is the
+/// error.
 #[tactic(auto, using(crate::proofs::Lengths::put_together))]
 pub(crate) fn absorbing(
     alloc: Global,
