@@ -30,7 +30,7 @@ abbrev pub charge_to : RunContext → ℕ → CpuState → List ℕ → List Fra
 charge_to s x b scratch calls =
     b.values.charge + x + first_uses s.image s.variables (λ v. v.charge) b.memory.scratch scratch calls
 
--- a run that is not the first to use a variable, or in which no first use is paid for, has only its own budgets
+-- a run in which no variable is first used, or no first use is paid for, has only its own budgets
 pub record OwnBudgets : Type 0 where
   pub unused_steps : (s : RunContext) (n : ℕ) (b : CpuState) → steps_to s n b b.memory.scratch [] ≡ n
   pub unused_charge : (s : RunContext) (x : ℕ) (b : CpuState) → charge_to s x b b.memory.scratch [] ≡ b.values.charge + x

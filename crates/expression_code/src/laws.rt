@@ -145,8 +145,8 @@ pub fn scopes_give()
     ensures returns { RoutineReturns }
 {}
 
-/// The budgets of a run are its own if it is not the first to use a variable, or if no variable's
-/// first use is paid for.
+/// The budgets of a run are its own if no variable is first used in it, or if no first use is paid
+/// for.
 #[tactic(auto, using(crate::proofs::FirstUses::own_budgets))]
 pub fn budgets_are_own()
     ensures { OwnBudgets }

@@ -34,7 +34,7 @@ left_slots = 2
 abbrev pub ternary_jump_slots : ℕ
 ternary_jump_slots = 2
 
--- the slot of the jump between the branches
+-- the number of slots between the branches: a jump
 abbrev pub branch_slots : ℕ
 branch_slots = 1
 
