@@ -27,8 +27,9 @@ use std::alloc::{AllocError, Global};
 pub fn perform<F: Files>(alloc: Global, order: &Order, files: &mut F) -> Result<Done, AllocError>
     requires { is_session (order_view order.now) ≡ false }
     ensures done { IfOk result (λ d. IsDone OneImage (F.known files.old) (order_view order.now) (F.known files.new) (output_of d)) }
-    // An allocation may fail only for orders that allocate. No clause says that a refusal after a
-    // read is reported as itself, because no contract states which reads failed for memory.
+    // An allocation fails only if the order may run out of memory (`LacksMemory`). No clause says
+    // that a refusal after a read is reported as itself, because no contract states which reads
+    // failed for memory.
     ensures lacks { OnErr result (PerformsBy OneImage (F.known files.old) (order_view order.now) (F.known files.new) (Err Memory)) }
     ensures memory { OnErr result (KeepsFiles (F.known files.old) (F.known files.new)) }
     ensures stays { only_reads (order_view order.now) ≡ true → F.known files.new ≡ F.known files.old }
