@@ -30,6 +30,7 @@ back =
     label (codes "a") ∷ statement (Insn (LoadWide R0 5)) ∷ jump Long (codes "a") ∷ jump CallLocal (codes "a")
     ∷ jump (Branch Eq W64 R0 (Imm (pos 0))) (codes "a") ∷ []
 
+-- sources with their items, code, numbers and labels
 pub record SourceRowsHold : Type 0 where
   pub forward_lines : EachSays (lines_of (codes "ja end\nexit\nend:\nexit\n")) forward
   pub forward_code : code_bytes (label_slot forward) 1 0 forward
