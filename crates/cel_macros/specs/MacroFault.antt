@@ -19,7 +19,7 @@ abbrev pub before : Option MacroFault → Option MacroFault → Option MacroFaul
 before (Some y) later = Some y
 before None later = later
 
--- whether a name may not be an iteration name: it is a root, or `variables`
+-- whether a name must not be an iteration name: it is a root, or `variables`
 abbrev pub is_taken : List ℕ → Bool
 is_taken n = is_root n || bytes_eq variables_name n
 

@@ -52,7 +52,7 @@ pub record NamesValues (P : ℤ → Type 0) (env : Environment) : Type 0 where
   pub variables : AllByRecursion (λ b. IsValueOrError P b.1) env.variables
 
 abbrev mutual
-  -- this holds if a function or a method of the expression is `size`
+  -- P holds if a function or a method of the expression is `size`
   pub AtSize : Type 0 → Tree → Type 0
   AtSize P (tree.literal l) = ⊤
   AtSize P (tree.name n) = ⊤
@@ -66,12 +66,12 @@ abbrev mutual
   AtSize P (tree.list items) = AtSizes P items
   AtSize P (tree.map es) = AtEntrySizes P es
 
-  -- this holds if one of the expressions uses `size`
+  -- P holds if one of the expressions uses `size`
   pub AtSizes : Type 0 → Trees → Type 0
   AtSizes P no_trees = ⊤
   AtSizes P (more_trees a more) = AtSize P a × AtSizes P more
 
-  -- this holds if a key or a value uses `size`
+  -- P holds if a key or a value uses `size`
   pub AtEntrySizes : Type 0 → TreeEntries → Type 0
   AtEntrySizes P no_tree_entries = ⊤
   AtEntrySizes P (more_entries k v more) = AtSize P k × AtSize P v × AtEntrySizes P more
@@ -84,8 +84,8 @@ HasNoSize e = AtSize ⊥ e
 abbrev pub TextsAndKeysStay : Type 0
 TextsAndKeysStay = (e : Tree) (env : Environment) → IsWellFormed e → NamesValues (λ z. ⊤) env → IsValueOrError (λ z. ⊤) (meaning e env)
 
--- without `size`, ints also stay signed 64-bit integers: nothing here bounds the parts of a text, a list or
--- a map, and 2^63 of them would have a greater size
+-- without `size`, ints also stay signed 64-bit integers. `size` is excluded, since nothing here bounds the number of
+-- parts of a text, a list or a map, and a size of 2^63 or more does not fit
 abbrev pub IntsStay : Type 0
 IntsStay = (e : Tree) (env : Environment) → IsWellFormed e → HasNoSize e → NamesValues (FitsSigned w64) env
     → IsValueOrError (FitsSigned w64) (meaning e env)

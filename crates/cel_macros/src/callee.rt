@@ -12,7 +12,7 @@ use std::alloc::{AllocError, Global};
 pub enum Callee {
     Function(Function),
     Test(TextTest),
-    /// A name that is neither, for which no types are valid.
+    /// A name that is neither; it never type-checks.
     Unknown(String),
 }
 

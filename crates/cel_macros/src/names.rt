@@ -66,7 +66,7 @@ fn is_root(name: &str) -> bool
         || name == "request"
 }
 
-/// Whether the name may not be an iteration name.
+/// Whether the name must not be an iteration name.
 pub(crate) fn is_taken(name: &str) -> bool
     ensures { result ≡ is_taken name.now }
 {
