@@ -45,8 +45,8 @@ DeepAt count ws =
 abbrev pub HasTokens : List ℕ → (List Word → Type 0) → Type 0
 HasTokens source Holds = (lexemes : List Token) × Lexes source (Ok lexemes) × Holds (words_only lexemes)
 
--- The result for a text: the expression that its tokens are, or the error, exactly if its cause holds. An allocation
--- may fail for any text that is not refused before anything is allocated.
+-- What each result means for the text: its tokens are this expression, or the cause of the error holds. An allocation
+-- can fail only for a text that is not refused before anything is allocated.
 abbrev pub ReadReturns : List ℕ → Result Expr ReadError → Type 0
 ReadReturns source (Ok e) = HasTokens source (λ ws. IsExpression open_limit ws (view e))
 ReadReturns source (Err (UnknownCharacter place)) = Lexes source (Err (UnknownCharacter place))
@@ -57,7 +57,7 @@ ReadReturns source (Err (TooManyOpen place)) = HasTokens source IsTooDeep
 ReadReturns source (Err (TextTooLong place)) = Lexes source (Err (TextTooLong place))
 ReadReturns source (Err Memory) = (length source ≤ text_limit) × TakesMemory true source
 
--- the result for words without their text
+-- what each result means for the words, without their text
 abbrev pub ParseReturns : List Word → Result Expr ReadError → Type 0
 ParseReturns ws (Ok e) = IsExpression open_limit ws (view e)
 ParseReturns ws (Err (UnexpectedToken place)) = IsNoExpression ws

@@ -34,11 +34,13 @@ pub data Kind : Type 0 where
   many : Kind
   keyed : Kind
 
+-- the value of a step of each kind
 abbrev pub Of : Kind → Type 0
 Of whole = Tree
 Of many = List Tree
 Of keyed = List (Tree × Tree)
 
+-- the value of a step as a phrase
 abbrev pub phrase : (k : Kind) → Of k → Phrase
 phrase whole a = One a
 phrase many items = Many items
@@ -89,10 +91,10 @@ listed c none first =
 -- a list after an item: it ends or continues with the next
 abbrev pub behind : {k : Kind} → Closing → Of k → Step false k → Plan false k
 behind c all next =
-    -- what the reader does in each state
     look (at (closing_mark c)) (λ x. done all)
     (look (at Comma) (λ x. look (in_literal c (closing_mark c)) (λ y. done all) (go next)) misfit)
 
+-- what the reader does in each state
 abbrev pub plan : {b : Bool} {k : Kind} → Step b k → Plan b k
 plan (Row Expression) =
     call (Row (Infix Or)) (λ a. enter Question refl (inside (call (Row (Infix Or)) (λ b. look (at Colon) (λ x. call (Row Expression) (λ c.
