@@ -39,7 +39,7 @@ IsLine Verdict line = line ≡ codes "w"
 IsLine Quit line = line ≡ codes "q"
 IsLine Unknown line = ⊥
 
--- the line with at most `line_limit` bytes is one of the command's
+-- the line is one of the command's, with at most `line_limit` bytes
 pub record AsksFor (line : List ℕ) (c : Command) : Type 0 where
   pub is_line : IsLine c line
   pub short : length line ≤ line_limit
