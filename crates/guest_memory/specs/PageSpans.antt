@@ -3,8 +3,8 @@ use Rattle.std.specs.Prelude.{◌≡◌, ℕ, ◌+◌, ◌*◌, ◌≤◌, Some,
 use Rattle.guest_memory.specs.Access.{place_of}
 use Rattle.guest_memory.specs.declared.page_span.PageSpan.{PageSpan, TheVariants.Within, TheVariants.Across, TheVariants.Beyond}
 
--- n bytes at an address are in one page of a region with this base and length, or
--- cross pages, or begin outside the region
+-- the position of n bytes at an address in a region with this base and length: at this offset of one page,
+-- not completely in the region, or, for `Across`, not stated
 abbrev pub IsPageSpan : ℕ → ℕ → ℕ → ℕ → PageSpan → Type 0
 IsPageSpan base len address n (Within page from) =
     (place_of base len address n ≡ Some (256 * page + from)) × (256 * page + 256 ≤ len) × (from + n ≤ 256)

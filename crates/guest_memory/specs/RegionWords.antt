@@ -18,6 +18,7 @@ put_word bytes i word = overlay bytes (8 * i) (low_bytes 8 word)
 abbrev pub HasWord : List ℕ → ℕ → Type 0
 HasWord bytes i = 8 * i + 8 ≤ length bytes
 
+-- words that are written to bytes and read back
 pub record WordsArePut : Type 0 where
   pub bound : (bytes : List ℕ) (i : ℕ) → HasWord bytes i → All (λ b. b < 256) bytes → word_in bytes i < 2 ^ 64
   -- the replaced word has its new value, every other word and the number of bytes are unchanged

@@ -19,6 +19,7 @@ read_after (Err f) address size = Err f
 abbrev pub stored : Result Memory fault.Fault
 stored = write_of empty 0x2_0000_0000 Dw 0x8877_6655_4433_2211
 
+-- loads and stores with their results
 pub record MemoryRowsHold : Type 0 where
   pub last_of_verdict : IsOk (write_of empty 0x3_0000_07f8 Dw 1)
   pub past_the_verdict : write_of empty 0x3_0000_07f9 Dw 1 ≡ Err F3

@@ -5,7 +5,7 @@ ghost use Rattle.guest_memory.specs.Answers.{answer_of};
 use crate::fault::Fault;
 use crate::write_error::WriteError;
 
-/// The result of a store, in one byte, so that it is returned in a register.
+/// The result of a store, in one byte, so that returning it needs no memory.
 #[derive(Clone, Copy)]
 pub enum Answer {
     /// The store was made.

@@ -38,7 +38,7 @@ impl Page {
         Ok(Page { bytes })
     }
 
-    /// The number with its bytes from `at` on, the least significant first.
+    /// The little-endian number in the bytes from `at` on.
     #[inline(always)]
     pub fn word_at(&self, at: usize, size: Size) -> u64
         requires { at + size_bytes size ≤ 256 }

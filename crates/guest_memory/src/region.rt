@@ -82,7 +82,7 @@ impl<const N: usize> Region<N> {
         PageSpan::Within { page, from }
     }
 
-    /// The number with its bytes in a page from `from` on, the least significant first.
+    /// The little-endian number in the bytes of a page from `from` on.
     #[tactic(auto, using(crate::proofs::PagedBytes::joined_length))]
     #[inline(always)]
     pub fn word_in(&self, page: usize, from: usize, size: Size) -> u64
@@ -93,7 +93,7 @@ impl<const N: usize> Region<N> {
         word_in(&self.pages, page, from, size)
     }
 
-    /// The number with its bytes from `at` on, the least significant first.
+    /// The little-endian number in the bytes from `at` on.
     pub fn word_at(&self, at: usize, size: Size) -> u64
         requires { at + size_bytes size ≤ length self.now }
         ensures { result ≡ word_of (part self.now at (size_bytes size)) }

@@ -22,8 +22,8 @@ pub trait Regions: Drop {
     fn copy(&self) -> Result<Self, AllocError>
         ensures { IfOk result (λ copy. bytes copy ≡ bytes self.now) };
 
-    /// The number with its bytes from `addr` on, the least significant first, zero-extended; or `F3` if they
-    /// are not all in one region (RFC 9669, section 5).
+    /// The little-endian number in the bytes from `addr` on, zero-extended; or `F3` if they are not all in one region
+    /// (RFC 9669, section 5).
     fn read(&self, addr: u64, size: Size) -> Result<u64, Fault>
         ensures { result ≡ read_of (bytes self.now) addr size };
 

@@ -5,7 +5,7 @@ ghost use Rattle.guest_memory.specs.Word.{low_bytes, overlay, part, word_of};
 
 use crate::size::Size;
 
-/// The number with its bytes from `at` on.
+/// The little-endian number in the bytes from `at` on.
 #[inline(always)]
 pub fn word_at(bytes: &[u8], at: usize, size: Size) -> u64
     requires { at + size_bytes size ≤ length bytes.now }
