@@ -150,7 +150,7 @@ pub(crate) fn push<V: ValueStore>(table: &V, l: u64, x: u64) -> Result<HelperEff
     )
 }
 
-/// Whether the text is not yet a key of the map.
+/// Whether this is a text that is not yet a key of the map.
 fn is_new_key<V: ValueStore>(table: &V, m: u64, key: Shape<'_>) -> bool
     ensures { result ≡ is_new_key (entries_at (slice_get (V.values table.now) m)) (text_part (shape_view key.entry)) }
 {

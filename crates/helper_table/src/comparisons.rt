@@ -98,7 +98,7 @@ fn may_be_in(x: Shape<'_>, c: Shape<'_>) -> bool
     }
 }
 
-/// Membership, if the second operand is defined for the first.
+/// Membership, if the second operand can contain the first.
 fn membership<V: ValueStore>(table: &mut V, x: u64, c: u64, may_be: bool) -> Option<bool>
     requires { may_be ≡ is_some (member_at (slice_get (V.values table.old) x) (slice_get (V.values table.old) c)) }
     ensures answer { result ≡ member_at (slice_get (V.values table.old) x) (slice_get (V.values table.old) c) }
