@@ -64,7 +64,7 @@ pub record HasPlace (old new : Checkpoints) (k : ℕ) : Type 0 where
   pub keeps : KeepsPlaces new.dropped_checkpoint old.places [] between
   pub added : new.places ≡ with_place between k
 
--- the run at place k is in the state of place n, or k is not past n
+-- k is at most n, or the run has stopped at place n, so that place k has the same state
 abbrev pub Reaches : State → ℕ → ℕ → Type 0
 Reaches s n k = n < k → is_running (state_after n s).status ≡ false
 

@@ -14,6 +14,7 @@ looping = start_of
 abbrev pub exiting : State
 exiting = start_of (5 ∷ 0 ∷ 0 ∷ 0 ∷ 0 ∷ 0 ∷ 0 ∷ 0 ∷ 0x95 ∷ 0 ∷ 0 ∷ 0 ∷ 0 ∷ 0 ∷ 0 ∷ 0 ∷ [])
 
+-- searches with their results
 pub record SearchRowsStand : Type 0 where
   pub at_its_slot : is_at (2 ∷ []) (pos 2) ≡ true
   pub at_another_slot : is_at (2 ∷ []) (pos 1) ≡ false

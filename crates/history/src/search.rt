@@ -74,7 +74,7 @@ pub(crate) fn last_before<E: Emulator>(
     Ok(0)
 }
 
-/// The greatest such place before place `n`, in the run from this machine on, if there is one.
+/// The last place before place `n` whose `pc` is one of the slots, in the run that starts with this machine, else 0.
 #[tactic(auto, using(crate::proofs::Places::spared_all))]
 fn last_of_stretch<E: Emulator>(
     checkpoints: &mut Checkpoints<E>,
