@@ -6,13 +6,15 @@ use Rattle.host.specs.FileSystem.{FileSystem, IsReading, IsSame, IsWriting, Keep
 use Rattle.host.specs.declared.file_error.FileError.TheVariants.{Failed, Memory}
 use Rattle.host.specs.declared.order_error.OrderError.TheVariants as order_error
 
--- the names of two files, and one without a file
+-- the name of a file
 abbrev pub first : List ℕ
 first = 1 ∷ []
 
+-- the name of another file
 abbrev pub second : List ℕ
 second = 2 ∷ []
 
+-- a name without a file
 abbrev pub third : List ℕ
 third = 3 ∷ []
 
@@ -24,6 +26,7 @@ held name = if bytes_eq name first then Some (7 ∷ 8 ∷ []) else (if bytes_eq 
 abbrev pub taken : List ℕ → Bool
 taken name = bytes_eq name second
 
+-- the two files
 abbrev pub files : FileSystem
 files = record { holds = held; takes = taken }
 
@@ -31,6 +34,7 @@ files = record { holds = held; takes = taken }
 abbrev pub written : FileSystem
 written = record { holds = with_file files second (9 ∷ []); takes = taken }
 
+-- possible and impossible results of reads, and the codes of the errors
 pub record FileRowsStand : Type 0 where
   -- reads
   pub read : ReadsFile (files.holds first) (Ok (7 ∷ 8 ∷ []))
@@ -53,6 +57,7 @@ pub record FileRowsStand : Type 0 where
   pub words : order_error_code order_error.InvalidArguments ≡ codes "U1"
   pub words_memory : order_error_code order_error.Memory ≡ codes "memory"
 
+-- possible and impossible results of writes
 pub record FileWriteRowsStand : Type 0 where
   pub write : AnswersWrite files written second (9 ∷ []) (Ok tt)
   pub write_is_lost : AnswersWrite files files second (9 ∷ []) (Ok tt) → ⊥
