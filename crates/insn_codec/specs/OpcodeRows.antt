@@ -14,7 +14,8 @@ use Rattle.insn_codec.specs.declared.size.Size.TheVariants as size
 use Rattle.insn_codec.specs.declared.swap_width.SwapWidth.TheVariants as swap
 use Rattle.insn_codec.specs.declared.width.Width.TheVariants.{W32, W64}
 
--- arithmetic: the digit of each operation, class 4 (32 bits) or 7 (64 bits), and the source's bit 8 (sections 3.3 and 4.1)
+-- arithmetic: the digit of each operation, class 4 (32 bits) or 7 (64 bits), and the source's bit 8
+-- (sections 3.3 and 4.1)
 pub record ArithmeticCodesHold : Type 0 where
   pub add_of_registers : spelled (0x0f ∷ 0x21 ∷ 0x00 ∷ 0x00 ∷ 0x00 ∷ 0x00 ∷ 0x00 ∷ 0x00 ∷ []) ≡ Some (Alu Add W64 R1 (Reg R2))
   pub add_of_32_bits : spelled (0x04 ∷ 0x01 ∷ 0x00 ∷ 0x00 ∷ 0x03 ∷ 0x00 ∷ 0x00 ∷ 0x00 ∷ []) ≡ Some (Alu Add W32 R1 (Imm (pos 3)))
@@ -60,8 +61,8 @@ pub record ArithmeticCodesHold : Type 0 where
   pub swap_32 : spelled (0xd7 ∷ 0x01 ∷ 0x00 ∷ 0x00 ∷ 0x20 ∷ 0x00 ∷ 0x00 ∷ 0x00 ∷ []) ≡ Some (ByteSwap order.Swap swap.Bits32 R1)
   pub swap_64 : spelled (0xd7 ∷ 0x01 ∷ 0x00 ∷ 0x00 ∷ 0x40 ∷ 0x00 ∷ 0x00 ∷ 0x00 ∷ []) ≡ Some (ByteSwap order.Swap swap.Bits64 R1)
 
--- conditional jumps: the digit of each comparison, class 5 (64 bits) or 6 (32 bits), and the source's bit 8 (sections 3.3
--- and 4.3)
+-- conditional jumps: the digit of each comparison, class 5 (64 bits) or 6 (32 bits), and the source's bit 8
+-- (sections 3.3 and 4.3)
 pub record JumpCodesHold : Type 0 where
   pub eq_of_registers : spelled (0x1d ∷ 0x21 ∷ 0x04 ∷ 0x00 ∷ 0x00 ∷ 0x00 ∷ 0x00 ∷ 0x00 ∷ []) ≡ Some (Branch comparison.Eq W64 R1 (Reg R2) (pos 4))
   pub eq_of_32_bits : spelled (0x16 ∷ 0x01 ∷ 0x04 ∷ 0x00 ∷ 0x03 ∷ 0x00 ∷ 0x00 ∷ 0x00 ∷ []) ≡ Some (Branch comparison.Eq W32 R1 (Imm (pos 3)) (pos 4))
@@ -86,8 +87,8 @@ pub record JumpCodesHold : Type 0 where
   pub sle_of_registers : spelled (0xdd ∷ 0x21 ∷ 0x04 ∷ 0x00 ∷ 0x00 ∷ 0x00 ∷ 0x00 ∷ 0x00 ∷ []) ≡ Some (Branch comparison.Sle W64 R1 (Reg R2) (pos 4))
   pub sle_of_32_bits : spelled (0xd6 ∷ 0x01 ∷ 0x04 ∷ 0x00 ∷ 0x03 ∷ 0x00 ∷ 0x00 ∷ 0x00 ∷ []) ≡ Some (Branch comparison.Sle W32 R1 (Imm (pos 3)) (pos 4))
 
--- loads, stores and atomic instructions: class 1, 2 or 3, the size in bits 3 and 4, the mode above them, and for an atomic
--- one the operation in the immediate (sections 5.1 to 5.3)
+-- loads, stores and atomic instructions: class 1, 2 or 3, the size in bits 3 and 4, the mode above them, and
+-- for an atomic instruction the operation in the immediate (sections 5.1 to 5.3)
 pub record MemoryCodesHold : Type 0 where
   pub load_b : spelled (0x71 ∷ 0x21 ∷ 0x04 ∷ 0x00 ∷ 0x00 ∷ 0x00 ∷ 0x00 ∷ 0x00 ∷ []) ≡ Some (Load size.B R1 R2 (pos 4))
   pub load_h : spelled (0x69 ∷ 0x21 ∷ 0x04 ∷ 0x00 ∷ 0x00 ∷ 0x00 ∷ 0x00 ∷ 0x00 ∷ []) ≡ Some (Load size.H R1 R2 (pos 4))

@@ -31,7 +31,7 @@ impl Operand {
         }
     }
 
-    /// The opcode's flag for a register operand: 8, or 0 for an immediate.
+    /// The opcode's flag, whose bit is worth 8: 1 for a register operand, 0 for an immediate.
     pub(crate) fn flag(self) -> u8
         ensures { result ≡ operand_flag self }
     {
@@ -41,7 +41,7 @@ impl Operand {
         }
     }
 
-    /// The operand in the slot's src field.
+    /// The value of the slot's src field.
     pub(crate) fn src(self) -> u8
         ensures { result ≡ operand_src self }
     {
@@ -51,7 +51,7 @@ impl Operand {
         }
     }
 
-    /// The operand in the slot's imm field.
+    /// The value of the slot's imm field.
     pub(crate) fn imm(self) -> i32
         ensures { result ≡ operand_imm self }
     {
