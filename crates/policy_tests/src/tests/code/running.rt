@@ -1,5 +1,5 @@
-//! From texts to the results of their programs, if nothing is refused on the way. Each step whose contract is large
-//! has a function of its own, to keep the proofs small.
+//! From texts to the results of their programs, if nothing is refused on the way. Each step with a large contract has a
+//! function of its own.
 
 use bpf_machine::{Machine, Status};
 use cel_macros::{Core, expand};
