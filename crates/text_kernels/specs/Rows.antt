@@ -6,6 +6,7 @@ use Rattle.text_kernels.specs.Scans.{is_continuation, is_leading, code_points_of
 abbrev pub four_characters : List ℕ
 four_characters = 0x61 ∷ 0xc3 ∷ 0xa9 ∷ 0xe2 ∷ 0x82 ∷ 0xac ∷ 0xf0 ∷ 0x9f ∷ 0x98 ∷ 0x80 ∷ []
 
+-- bytes and texts with the results of the scans
 pub record ScanRowsStand : Type 0 where
   -- 10xxxxxx continues a character; 0xxxxxxx, 110xxxxx, 1110xxxx and 11110xxx begin one
   pub last_of_one_byte : is_continuation 0x7f ≡ false

@@ -13,7 +13,7 @@ equal v y long = zip2_splat hit v 32 y long
 either : (v : List ℕ) (f g : ℕ → ℕ) {xs ys : List ℕ} → xs ≡ map f v → ys ≡ map g v → zip2 bit_or xs ys ≡ map (λ x. bit_or (f x) (g x)) v
 either v f g p q = zip2_of_maps bit_or f g v p q
 
--- the bytes are those that the code names: only `masked` holds them to the test
+-- the special bytes are those in the code; only `masked` compares them with the definition
 pub returns : goal.returns
 returns c =
     let v = c.args.lanes in
