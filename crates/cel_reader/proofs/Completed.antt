@@ -1,5 +1,5 @@
--- If the reader refuses, some words in place of those left complete its step; if a bracket or conditional is too
--- many, they do with room for one more, and not without if they begin with that bracket.
+-- If the reader refuses, some words in place of those left complete its step. If a bracket or conditional is too
+-- many, they do so with room for one more, and some words in place of that bracket and those after it do so without.
 use Rattle.cel_reader.proofs.Prelude.{◌≡◌, ℕ, suc, ◌≤◌, List, [], ◌∷◌, ◌++◌, pos, Bool, true, false, ◌⊎◌, inl, inr, refl, codes, arith, Word, int, mark, Mark, Colon, CloseBrace, Tree, trees, is_selector, is_identifier, is_reserved, role_of, Look, opens, opens_mark, closing_mark, FoundBy, Is, this_mark, this_name, this_literal, Class, Expression, Infix, Unary, Prefixed, Member, Primary, Items, OptionalItems, Pairs, OptionalPairs, below, Cause, Misfit, Deep, Refused, Kind, whole, Of, Step, Row, Tail, Suffix, Selection, Enclosed, Listed, Item, Behind, Mapped, Entry, BehindEntry, Plan, done, misfit, go, call, look, enter, inside, operand, maybe_call, listed, behind, plan, PlanRuns, StepReads, Level, Or, Sum, Product, Closing, Map, UnaryOperator}
 use Rattle.cel_reader.specs.Tree as tree
 use Rattle.cel_reader.specs.Reading as runs
@@ -78,7 +78,7 @@ ends (Entry pairs) h room = (
 )
 ends (BehindEntry pairs) h room = (_, pairs, goes (found this_mark stands))
 
--- each plan that this one continues with has a phrase
+-- the plan, and each that it continues with, has a phrase
 data Whole : (b : Bool) (k : Kind) → Plan b k → Type 0 where
   at_done : {k : Kind} {x : Of k} → Whole false k (done x)
   at_step : {b : Bool} {k : Kind} {s : Step b k} → Stood s → Whole b k (go s)
@@ -156,7 +156,8 @@ extra_inner true room = refl
 abbrev pub Finishes : {b : Bool} {k : Kind} → Plan b k → ℕ → List Word → List Word → Type 0
 Finishes {k = k} p room ws rest = (us more : List Word) × (x : Of k) × Alike rest more ws us × Loose p room us x []
 
--- the plan is completed from the bracket or question mark before the words left, or that one is before the plan
+-- the words left follow the bracket before the plan, or a bracket or question mark in place of which some words
+-- complete the plan
 abbrev pub Opening : (b : Bool) {k : Kind} → Plan b k → ℕ → List Word → List Word → Type 0
 Opening b p room ws rest = ((b ≡ true) × (ws ≡ rest)) ⊎ ((w : Word) × (opens w ≡ true) × Finishes p room ws (w ∷ rest))
 
@@ -184,7 +185,7 @@ afresh room ws t = (t.0, t.0, t.1, same, t.2)
 no_bracket : {P : Type 0} → false ≡ true → P
 no_bracket e = absurd cc
 
--- no bracket precedes
+-- some words are the plan's phrase, unless a bracket precedes it
 abbrev EndsHere : (b : Bool) {k : Kind} → Plan b k → Type 0
 EndsHere true p = Unit {0}
 EndsHere false p = (room : ℕ) → Ends p room
@@ -193,7 +194,7 @@ step_ends : {b : Bool} {k : Kind} (s : Step b k) → Stood s → EndsHere b (go 
 step_ends {b = true} s h = tt
 step_ends {b = false} s h = ends s h
 
--- a refusal of the first plan is one of the second, if the second can continue as the first
+-- after a refusal by q the words before it can be extended to the end of p, if each phrase of q is one of p
 ended_by : {b : Bool} {k : Kind} {p q : Plan b k} {room : ℕ} {ws : List Word} {e : Cause}
     → ((n : ℕ) (us : List Word) (x : Of k) → Loose q n us x [] → Loose p n us x []) → EndsHere b p → Whole b k q → PlanRuns q room ws (Refused e)
     → Ended b p room ws e

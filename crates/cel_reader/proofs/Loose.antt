@@ -1,4 +1,4 @@
--- Plans in which a lookahead may be skipped: read so, a phrase is one before any words.
+-- Runs of plans that may skip a lookahead: a phrase that is read so does not depend on the words after it.
 use Rattle.cel_reader.proofs.Prelude.{◌≡◌, ℕ, zero, suc, ◌≤◌, List, ◌∷◌, Bool, true, false, refl, subst, arith, Word, mark, Mark, Phrase, Look, FoundBy, Is, opens_mark, Kind, Of, phrase, Got, Step, Plan, done, go, call, look, enter, inside, plan, PlanRuns}
 use Rattle.cel_reader.specs.Reading as runs
 use Rattle.cel_reader.proofs.Plans.{one_phrase}
@@ -23,7 +23,7 @@ pub data May : (b : Bool) (k : Kind) → Plan b k → ℕ → List Word → Of k
 abbrev pub Loose : {b : Bool} {k : Kind} → Plan b k → ℕ → List Word → Of k → List Word → Type 0
 Loose {b} {k} p room ws x rest = May b k p room ws x rest
 
--- an outcome of a plan is one of these too
+-- a phrase that the plan reads is one of these too
 some_phrase : {b : Bool} {k : Kind} {p : Plan b k} {room : ℕ} {ws rest : List Word} {q : Phrase} → PlanRuns p room ws (Got q rest)
     → (x : Of k) × (phrase k x ≡ q) × Loose p room ws x rest
 some_phrase runs.stands = (_, refl, stands)

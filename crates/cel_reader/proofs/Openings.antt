@@ -1,7 +1,7 @@
 -- Words that are refused as too deep have more opening brackets and question marks than there is room.
 use Rattle.cel_reader.proofs.Prelude.{◌≡◌, ℕ, suc, ◌+◌, ◌<◌, ◌≤◌, List, Bool, true, false, arith, if◌then◌else◌, Word, openings, opens, Misfit, Deep, ReadOutcome, Got, Refused, Kind, Plan, PlanRuns, stands, unfit, goes, fails, calls, found, missing, enters, passes, opened, full}
 
--- bounds of the openings: the words left have at most `most`, and a refusal as too deep has used more than the room
+-- with at most `most` openings: the words left have no more, and a refusal as too deep means more than the room
 abbrev Within : ℕ → ℕ → ReadOutcome → Type 0
 Within room most (Got p rest) = openings rest ≤ most
 Within room most (Refused (Deep us)) = room < most

@@ -1,4 +1,4 @@
--- The number of grammar rows below an operator's.
+-- The number of grammar rows that bind tighter than an operator's.
 use Rattle.cel_reader.proofs.Prelude.{ℕ, Level, Or, And, Relation, Sum, Product}
 
 -- twice the number of rows, above the four from a unary operator's on
