@@ -45,7 +45,7 @@ token_goes source rest signed at n kind old r begins l d =
     let f : front signed (drop at source) ≡ front.word n (word_of (take n (drop at source)) kind) = there source rest signed at _ begins.rest_is begins.front_is ∙ ap (front.word n) w in
     token_step source signed at n (map (token_view source) old) _ r f (omega (arith, length-map old (token_view source))) (moved _ _ _ _ (at + n) source r (ap sign_may_follow w) (seen_new source at n kind old _ refl) d)
 
--- reading on allocates after blanks and comments if it does without them
+-- reading on allocates before blanks and comments if it does after them
 pub taken_behind : (source : List ℕ) (signed : Bool) (at n : ℕ) → front signed (drop at source) ≡ front.space n
     → TakesMemory signed (drop (at + n) source) → TakesMemory signed (drop at source)
 taken_behind source signed at n f t = behind_space n f (subst (TakesMemory signed) (sym (drop-drop n at source)) t)
