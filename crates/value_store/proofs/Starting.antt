@@ -91,7 +91,7 @@ no_memory_roots : (place : ℕ) (ds : List json.Data) → roots_of place ds ≡ 
 no_memory_roots place [] e = cc
 no_memory_roots place (d ∷ ds) e = grind (arith, no_memory_roots (suc place) ds)
 
--- an error is returned exactly if it is due
+-- the error of the charge is the result that is due
 pub refused : {S : Type 0} (contents : S → Contents) (ds : List json.Data) (x : TableError) → Err x ≡ charge_in (start_contents ds) → StoreStarts contents (start_contents ds) (Err x)
 refused contents ds x e = grind (arith, no_memory_roots)
 
