@@ -50,7 +50,7 @@ class Requests:
         if numbers.one_in(25):
             return numbers.pick(["", "gone"])
         if kind.namespaced:
-            return "gone" if numbers.one_in(12) else numbers.pick(NAMESPACES)
+            return numbers.pick(["gone", "gone", 'a"\\b']) if numbers.one_in(12) else numbers.pick(NAMESPACES)
         return ""
 
     def name(self, kind: Kind) -> str:

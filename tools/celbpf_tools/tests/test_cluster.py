@@ -95,6 +95,8 @@ class Matching(Cases):
         self.check([policy(constraints=IN_PROD, failurePolicy="Ignore"), binding()], gone, ALLOWED)
         self.check([policy(), binding(matchResources=IN_PROD)], gone, not_configured("binding", missing))
         self.check([policy(failurePolicy="Ignore"), binding(actions=["Audit"])], gone, denial(missing, "NotFound", 404))
+        odd = 'namespaces "a\\"\\\\" not found'
+        self.check([policy(), binding()], pod(namespace='a"\\'), denial(odd, "NotFound", 404))
 
     def test_object_selectors(self) -> None:
         absent = {"objectSelector": {"matchExpressions": [{"key": "env", "operator": "DoesNotExist"}]}}

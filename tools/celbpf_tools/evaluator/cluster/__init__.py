@@ -3,6 +3,7 @@
 It follows docs/CLUSTER.md and shares no line with the program:
 
     fields      texts, lists and objects of JSON documents, with null as absent
+    quotes      texts as Go writes them
     labels      label selectors
     attributes  the request as matching sees it
     rules       rules, and what may be equivalent

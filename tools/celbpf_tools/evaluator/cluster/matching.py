@@ -6,6 +6,7 @@ from typing import Any, Union
 from . import labels, rules
 from .attributes import WRITES, Attributes
 from .fields import demand, field, only, text
+from .quotes import go_quoted
 from .rules import NO, UNKNOWN, YES
 
 KEYS = ("namespaceSelector", "objectSelector", "resourceRules", "excludeResourceRules", "matchPolicy")
@@ -70,7 +71,7 @@ class MatchResources:
 
 
 def not_found(name: str) -> str:
-    return f'namespaces "{name}" not found'
+    return f"namespaces {go_quoted(name)} not found"
 
 
 def read(value: Any, refusal: str, needs_rules: bool) -> MatchResources:

@@ -12,15 +12,10 @@ from .attributes import Attributes
 from .dispatch import Dispatch
 from .events import Denial, Events, Failure
 from .fields import field
+from .quotes import go_json, go_quoted
 from .state import State
 
 ANNOTATION = "validation.policy.admission.k8s.io/validation_failure"
-ESCAPED = {"<": "\\u003c", ">": "\\u003e", "&": "\\u0026", "\u2028": "\\u2028", "\u2029": "\\u2029"}
-
-
-def go_quoted(text: str) -> str:
-    """A printable text in Go's quotes."""
-    return '"' + text.replace("\\", "\\\\").replace('"', '\\"') + '"'
 
 
 def name_shown(given: Attributes) -> str:
@@ -44,10 +39,6 @@ def denied_message(given: Attributes, denial: Denial) -> str:
         f"{shown} {go_quoted(name_shown(given))} is forbidden: "
         f"ValidatingAdmissionPolicy '{denial.policy}'{binding} denied request: {denial.message}"
     )
-
-
-def go_json(text: str) -> str:
-    return "".join(ESCAPED.get(one, one) for one in quoted(text))
 
 
 def annotation(failure: Failure) -> str:
