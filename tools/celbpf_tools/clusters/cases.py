@@ -70,28 +70,28 @@ def found(program: Any, case: Case) -> subprocess.CompletedProcess:
 
 def difference(case: Case, wanted: Answers, ended: subprocess.CompletedProcess) -> Optional[str]:
     """The first difference between what is due and how a gatekeeper ended, or None."""
-    told = ended.stderr.decode(errors="replace")
+    errors = ended.stderr.decode(errors="replace")
     if wanted.refusal:
-        fits = ended.returncode == REFUSED_START and not ended.stdout and tells(told, wanted.refusal)
-        return None if fits else f"due is a start that is refused by {wanted.refusal}\n{shown(ended, told)}"
+        fits = ended.returncode == REFUSED_START and not ended.stdout and is_named(errors, wanted.refusal)
+        return None if fits else f"due is a start that is refused by {wanted.refusal}\n{shown(ended, errors)}"
     lines = ended.stdout.decode(errors="replace").split("\n")
     for review, line, answer in zip(case.reviews, wanted.lines, lines):
         if line != answer:
             return f"review {review.decode(errors='replace')}\nis  {answer}\ndue {line}"
     if ended.returncode or lines[len(wanted.lines) :] != [""]:
-        return f"due are {len(wanted.lines)} lines and status 0\n{shown(ended, told)}"
+        return f"due are {len(wanted.lines)} lines and status 0\n{shown(ended, errors)}"
     return None
 
 
-def tells(told: str, refusal: str) -> bool:
+def is_named(errors: str, refusal: str) -> bool:
     """Whether the last line of standard error has the code of a refusal, and the name if it has one as a word."""
     code, *names = refusal.split()[:2]
-    last = (told.splitlines() or [""])[-1]
+    last = (errors.splitlines() or [""])[-1]
     return CODE.findall(last) == [code] and all(re.search(rf"(?<![\w.-]){re.escape(name)}(?![\w.-])", last) for name in names)
 
 
-def shown(ended: subprocess.CompletedProcess, told: str) -> str:
-    return f"is {len(ended.stdout)} bytes of output, status {ended.returncode} and {told!r}"
+def shown(ended: subprocess.CompletedProcess, errors: str) -> str:
+    return f"is {len(ended.stdout)} bytes of output, status {ended.returncode} and {errors!r}"
 
 
 def smallest(case: Case, differs: Callable[[Case], bool]) -> Case:

@@ -67,5 +67,5 @@ class Counts:
         yield f"{self.opened} states with {self.answers} reviews"
         for name in LINES:
             yield f"    {name}: {self.lines[name]}"
-        told = ", ".join(f"{name} {self.starts[name]}" for name in STARTS)
-        yield f"{self.starts.total()} states refused: {told}"
+        listed = ", ".join(f"{name} {self.starts[name]}" for name in STARTS)
+        yield f"{self.starts.total()} states refused: {listed}"

@@ -16,7 +16,7 @@ EXPRESSIONS = [
     "namespaceObject.metadata.name == 'prod'", "request.operation != 'CREATE'", "variables.wanted", "has(object.metadata.labels)",
 ]
 CONDITIONS = ["true", "true", "request.name != 'db'", "1 / 0 == 1", "params == null", "object.metadata.name == 'web'", "false"]
-# those of 5,120 and 5,121 bytes are at the border of what is told
+# those of 5,120 and 5,121 bytes are at the border of what a denial shows
 MESSAGE_EXPRESSIONS = [
     "'text'", "' text\\u2003'", "params.metadata.name", "params.metadata.name", "object.metadata.name", "'a\\nb'", "'  '",
     "'a\\n'", "1 / 0 == 1 ? 'a' : 'b'",

@@ -32,7 +32,7 @@ class Selecting:
         return self.spoils and self.numbers.one_in(rarely)
 
     def some(self, values: list, most: int) -> list:
-        """One to so many of a list."""
+        """At least one of a list, and at most this number."""
         return self.numbers.some(values, most - 1) or [self.numbers.pick(values)]
 
     def labels(self) -> dict:

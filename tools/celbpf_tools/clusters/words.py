@@ -27,7 +27,7 @@ KINDS = [
     Kind("", "v1", "Node", "nodes", False),
     CORE_NAMESPACE,
     CORE_NAMESPACE,
-    # only version v1 of namespaces is of the cluster whatever the request says
+    # only version v1 of namespaces is of the cluster even if the request has a namespace
     Kind("", "v2", "Namespace", "namespaces"),
     Kind("corp.example.com", "v1", "Namespace", "namespaces"),
     Kind("corp.example.com", "v1", "Namespace", "namespaces", False),

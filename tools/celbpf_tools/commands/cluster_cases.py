@@ -4,7 +4,7 @@ usage: tools/cluster-cases [--seed N] [--count N] [--reviews N] [GATEKEEPER]
        tools/cluster-cases --evaluator [--seed N] [--count N] [--reviews N]
 
 It makes N states (by default 1,000) of policies, bindings, namespaces, ConfigMaps and a custom resource, some of which
-are refused, and for each so many reviews (20) near the borders of what the state says. `gatekeeper --cluster` has to
+are refused, and for each of them reviews (20) near the borders of what the state says. `gatekeeper --cluster` has to
 answer each line as tools/celbpf_tools/evaluator/cluster does, byte for byte, or to refuse the state with the same code
 and name. The first difference is printed whole, with a smaller state if that differs too, and ends it with status 1.
 
@@ -40,7 +40,7 @@ def difference_of(gatekeeper: Any, case: Case) -> Any:
     return difference(case, due(case), found(gatekeeper, case))
 
 
-def tell(gatekeeper: Any, case: Case) -> None:
+def show(gatekeeper: Any, case: Case) -> None:
     """Prints a case that differs, as small as is easily found."""
     case = smallest(case, lambda other: difference_of(gatekeeper, other) is not None)
     print(*(f"list {text.decode(errors='replace')}" for text in case.lists), sep="\n")
@@ -57,7 +57,7 @@ def main() -> int:
         counts.add(wanted)
         if not given.evaluator and difference(case, wanted, found(given.gatekeeper, case)) is not None:
             print(f"state {place} of seed {given.seed} differs")
-            tell(given.gatekeeper, case)
+            show(given.gatekeeper, case)
             return 1
     print(*counts.shown(), sep="\n")
     if not given.evaluator:

@@ -87,10 +87,10 @@ class Dispatch:
         return dict(zip(ROOTS, given))
 
     def evaluate(self, policy: Policy, binding: Binding, params: Any, namespace: Optional[dict]) -> None:
-        """Tells the findings of one evaluation, by the binding's actions; or N2 or N3."""
+        """Adds the findings of one evaluation, by the binding's actions; or N2 or N3."""
         verdict = verdicts.verdict_of(policy.compiled, self.roots(params, namespace))
         for finding in findings(policy.compiled.policy, verdict):
-            self.events.tell(policy.name, binding, finding)
+            self.events.add(policy.name, binding, finding)
 
     def bind(self, policy: Policy, binding: Binding) -> None:
         """One binding of a policy whose constraints match; or the refusal that ends the policy."""

@@ -24,7 +24,7 @@ class Denial:
 
 @dataclass
 class Failure:
-    """What an audit annotation tells."""
+    """A failed validation as the audit annotation shows it."""
 
     policy: str
     binding: str
@@ -47,8 +47,8 @@ class Events:
         """Keeps the first refusal."""
         self.refusal = self.refusal or (policy, text)
 
-    def tell(self, policy: str, binding: Any, finding: tuple) -> None:
-        """What a finding means, by the actions of the binding."""
+    def add(self, policy: str, binding: Any, finding: tuple) -> None:
+        """Adds a finding, for each action of the binding."""
         place, message, reason = finding
         for action in binding.actions:
             if action == "Deny":
@@ -74,7 +74,7 @@ def message_of(validation: dict, value: Any) -> str:
 
 
 def findings(policy: Any, verdict: verdicts.Verdict) -> list:
-    """Place, message and reason of each validation that is told, for a policy as its document has it."""
+    """Place, message and reason of each validation that fails, for a policy as its document has it."""
     if verdict.outcome == verdicts.REJECTED:
         return [(0, NOT_DECIDED, INVALID)]
     found = []

@@ -19,7 +19,7 @@ ANNOTATION = "validation.policy.admission.k8s.io/validation_failure"
 
 
 def name_shown(given: Attributes) -> str:
-    """The name that a denial tells."""
+    """The name that a denial shows."""
     if given.name:
         return given.name
     if given.new is None:

@@ -62,7 +62,7 @@ def covers(pattern: str, plural: str, subresource: str) -> bool:
 
 
 def candidates(rule: Rule, resource: tuple) -> Iterator[tuple]:
-    """The equivalent resources among which a rule can tell any apart."""
+    """The equivalent resources that a rule may take or not; all others are like one of them."""
     group, version, plural = resource
     versions = {*rule.versions, "v1", FRESH}
     for other in versions - {version}:
