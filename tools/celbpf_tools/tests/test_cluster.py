@@ -7,6 +7,7 @@ from typing import Any
 from ..clusters.making import binding, definition, list_text, policy, request, review_text, rule, thing
 from ..evaluator.cluster import response, state
 from ..evaluator.refused import Refused
+from ..home import ROOT, is_checkout
 
 POD, NODE, SPACE = ("", "v1", "pods"), ("", "v1", "nodes"), ("", "v1", "namespaces")
 FOREIGN_SPACE = ("corp.example.com", "v1", "namespaces")
@@ -232,7 +233,7 @@ class Refusals(Cases):
         widgets = [rule(["widgets"], ["x.io"], ["v1"])]
         later = [policy("q", rules=[rule(["pods"])], validations=FALSE), binding("c", "q", actions=["Warn"])]
         self.check([*denies(rules=widgets), *later], BETA, self.refused("N6"))
-        # the first refusal is told
+        # the answer has the first refusal
         self.check([*denies(), *later], half, self.refused("N2"))
         # and a denial wins over it
         not_there = binding("c", "q", paramRef={"name": "y", "parameterNotFoundAction": "Deny"})
@@ -317,3 +318,13 @@ class States(unittest.TestCase):
         both = state.read([list_text([PROD, thing("ConfigMap", "a"), LIMITS_X])])
         self.assertEqual([one.scope(kind) for one in (cluster, both)], ["Cluster", "Namespaced"])
         self.assertIsNone(both.scope(("v1", "Secret")))
+
+
+@unittest.skipUnless(is_checkout(), "the example is in the repository")
+class Example(unittest.TestCase):
+    def test_responses_are_those_worked_by_hand(self) -> None:
+        folder = ROOT / "examples" / "cluster"
+        opened = state.opened([(folder / "state.json").read_bytes()])
+        reviews = (folder / "reviews.jsonl").read_bytes().splitlines()
+        wanted = (folder / "responses.jsonl").read_text().splitlines()
+        self.assertEqual([response.answer(opened, review) for review in reviews], wanted)
