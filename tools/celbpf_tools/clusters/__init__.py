@@ -8,4 +8,5 @@
     requests     requests near the borders of what states say
     cases        a state with reviews, what is due, and what a program answers
     counts       what came of many cases
+    large        large states, to measure, and hostile ones
 """

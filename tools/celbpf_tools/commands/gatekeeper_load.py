@@ -1,11 +1,18 @@
 """Feeds a gatekeeper many reviews, compares its answers with `celbpf review`, and prints how fast it is.
 
 usage: tools/gatekeeper-load [--count N] [--compare N] [--seed N] [--gatekeeper PROGRAM] [--program PROGRAM]
+       tools/gatekeeper-load --cluster [--count N] [--compare N] [--seed N] [--gatekeeper PROGRAM]
+       tools/gatekeeper-load --hostile NAME [--to FILE] [--gatekeeper PROGRAM]
 
 N reviews (100,000) of the first example, their replicas from a seed (1), go through one gatekeeper: each after the
 answer to the one before, for the greatest time and for the memory that grows, and all at once, for decisions a second;
 then in as many parts as there are processors, each through a gatekeeper of its own. The first N answers (200) are
 compared with those of `celbpf review`. Last a review of 1 MB is decided by both.
+
+With --cluster they go through `gatekeeper --cluster`, under a state of 40 policies of which 8 match, 200 namespaces and
+1,000 ConfigMaps, and through one with these 8 policies; the first N answers are compared with the evaluator's. With
+--hostile a review is answered under a state that is large in one way, for its time and memory; --to writes the state
+into a file and runs nothing. The names are nested, policies, bindings, requirements, rules, values, names and params.
 """
 
 import argparse
@@ -13,6 +20,7 @@ import itertools
 import json
 import os
 import random
+import resource
 import subprocess
 import sys
 import tempfile
@@ -20,6 +28,9 @@ import time
 from pathlib import Path
 from typing import Any, Iterator
 
+from ..clusters import large as states
+from ..clusters.making import list_text, review_text
+from ..evaluator.cluster import response, state
 from ..home import EXAMPLES, built
 
 EXAMPLE = EXAMPLES / "replicas"
@@ -34,6 +45,9 @@ def given_words() -> Any:
     parser.add_argument("--seed", type=int, default=1)
     parser.add_argument("--gatekeeper", default=str(built("gatekeeper")))
     parser.add_argument("--program", default=str(built("celbpf")))
+    parser.add_argument("--cluster", action="store_true")
+    parser.add_argument("--hostile", choices=list(states.HOSTILE), metavar="NAME")
+    parser.add_argument("--to", type=Path)
     return parser.parse_args()
 
 
@@ -64,10 +78,11 @@ def resident(process: Any) -> Any:
     return int(next(line for line in status.splitlines() if line.startswith("VmRSS")).split()[1])
 
 
-def one_by_one(gatekeeper: Any, lines: Any) -> Any:
+def one_by_one(gatekeeper: Any, lines: Any, words: Any = POLICY) -> Any:
     """The answers, the seconds of each, and the memory at the end and what of it grew since the first thousand."""
     answers, seconds, first = [], [], 0
-    with subprocess.Popen([gatekeeper, *POLICY], stdin=subprocess.PIPE, stdout=subprocess.PIPE) as process:
+    started = [gatekeeper, *words]
+    with subprocess.Popen(started, stdin=subprocess.PIPE, stdout=subprocess.PIPE, stderr=subprocess.DEVNULL) as process:
         for number, line in enumerate(lines):
             began = time.perf_counter()
             process.stdin.write(line)
@@ -81,7 +96,7 @@ def one_by_one(gatekeeper: Any, lines: Any) -> Any:
     return answers, seconds, last, last - first
 
 
-def at_once(gatekeeper: Any, lines: Any, parts: Any) -> Any:
+def at_once(gatekeeper: Any, lines: Any, parts: Any, words: Any = POLICY) -> Any:
     """Decisions a second, where so many gatekeepers have a part of the lines each."""
     with tempfile.TemporaryDirectory() as folder:
         names = [Path(folder, str(part)) for part in range(parts)]
@@ -91,7 +106,8 @@ def at_once(gatekeeper: Any, lines: Any, parts: Any) -> Any:
         running = []
         for name in names:
             with name.open() as file:
-                running.append(subprocess.Popen([gatekeeper, *POLICY], stdin=file, stdout=subprocess.DEVNULL))
+                outputs = {"stdout": subprocess.DEVNULL, "stderr": subprocess.DEVNULL}
+                running.append(subprocess.Popen([gatekeeper, *words], stdin=file, **outputs))
         if any(process.wait() for process in running):
             sys.exit("gatekeeper-load: a gatekeeper did not end with status 0")
         return len(lines) / (time.perf_counter() - began)
@@ -107,9 +123,64 @@ def alone(program: Any, line: Any) -> Any:
         return done.stdout, time.perf_counter() - began
 
 
+def planted(folder: Path) -> tuple:
+    """Writes the state of a cluster, and those of its policies that match; the words that name each."""
+    items, (*policies, params) = states.state(), states.matching()
+    whole, beside = folder / "state.json", folder / "params.json"
+    whole.write_bytes(list_text(items))
+    beside.write_text(json.dumps(params))
+    words = ["--params", str(beside)]
+    for place, policy in enumerate(policies):
+        path = folder / f"policy-{place}.json"
+        path.write_text(json.dumps({key: value for key, value in policy.items() if key != "status"}))
+        words += ["--policy", str(path)]
+    return ["--cluster", str(whole)], words
+
+
+def of_cluster(given: Any, lines: Any) -> None:
+    """How fast a cluster's gatekeeper is, beside one with the policies that match."""
+    with tempfile.TemporaryDirectory() as folder:
+        cluster, policies = planted(Path(folder))
+        opened = state.opened([Path(cluster[1]).read_bytes()])
+        for name, words in (("a cluster", cluster), ("its policies that match", policies)):
+            answers, seconds, memory, grown = one_by_one(given.gatekeeper, lines, words)
+            if words is cluster:
+                for line, answer in zip(lines[: given.compare], answers):
+                    if response.answer(opened, line).encode() + b"\n" != answer:
+                        sys.exit(f"gatekeeper-load: another answer to {line.decode()}")
+            half, rate = sorted(seconds)[len(seconds) // 2], at_once(given.gatekeeper, lines, 1, words)
+            print(f"{name}: {rate:.0f} decisions a second at once; one by one half within {half * 1e6:.0f} us, the first "
+                  f"{seconds[0] * 1000:.1f} ms; memory {memory} KiB, of which {grown} KiB came after the first thousand")
+
+
+def hostile(given: Any) -> None:
+    """What a hostile state costs."""
+    text = list_text(states.HOSTILE[given.hostile]())
+    if given.to:
+        given.to.write_bytes(text)
+        return
+    with tempfile.NamedTemporaryFile() as file, tempfile.TemporaryFile() as line:
+        file.write(text)
+        file.flush()
+        line.write(review_text(states.hostile_request()) + b"\n")
+        line.seek(0)
+        began = time.perf_counter()
+        process = subprocess.Popen([given.gatekeeper, "--cluster", file.name], stdin=line, stdout=subprocess.PIPE, stderr=subprocess.PIPE)
+        with process:
+            said, errors = process.communicate()
+        took = time.perf_counter() - began
+        memory = resource.getrusage(resource.RUSAGE_CHILDREN).ru_maxrss
+    print(f"{given.hostile}: a state of {len(text):,} bytes: {took:.2f} s, {memory:,} KiB, status {process.returncode}")
+    print(f"{len(said):,} bytes of output: {said[:200]!r}; {len(errors):,} of standard error, which end with {errors[-100:]!r}")
+
+
 def main() -> None:
     given = given_words()
+    if given.hostile:
+        return hostile(given)
     lines = list(reviews(given.count, given.seed))
+    if given.cluster:
+        return of_cluster(given, lines)
     answers, seconds, memory, grown = one_by_one(given.gatekeeper, lines)
     starts = []
     for line, answer in zip(lines[: given.compare], answers):

@@ -8,11 +8,13 @@ import sys
 import unittest
 from unittest import mock
 
+from ..clusters import large
 from ..clusters.cases import Answers, Case, cases, difference, due
 from ..clusters.counts import Counts
 from ..clusters.making import binding, list_text, policy, request, review_text, thing
 from ..commands import cluster_cases
 from ..entry import ended
+from ..evaluator.cluster import attributes, state
 from ..seeded.numbers import Numbers
 from . import cluster_stand_in
 from .test_documents import Files
@@ -63,6 +65,21 @@ class Compared(unittest.TestCase):
         ]:
             with self.subTest((status, said, told)):
                 self.assertEqual(difference(self.CASE, wanted, ran(status, said, told)) is None, fits)
+
+
+class Large(unittest.TestCase):
+    def test_the_state_that_is_measured(self) -> None:
+        opened = state.opened([list_text(large.state())])
+        review = {"kind": {"version": "v1", "kind": "Deployment"}, "resource": {"group": "apps", "version": "v1", "resource": "deployments"}}
+        asked = attributes.of({**review, "operation": "CREATE", "object": {}, "name": "web", "namespace": "default"})
+        matched = [one.name for one in opened.policies if one.constraints.answer(asked, opened.namespaces) == "yes"]
+        self.assertEqual((len(opened.policies), len(opened.namespaces), len(matched)), (40, 200, 8))
+        self.assertEqual(matched, [one["metadata"]["name"] for one in large.matching()[:-1]])
+
+    def test_hostile_states_are_read(self) -> None:
+        for name in ("nested", "requirements", "rules", "params"):
+            with self.subTest(name):
+                self.assertEqual(len(state.opened([list_text(large.HOSTILE[name]())]).policies), 1)
 
 
 class Script(Files):
