@@ -3,8 +3,11 @@
 mod Compiles
 mod Distinct
 mod Emission
+mod Found
+mod FoundOnLiterals
 mod Judged
 mod Lists
+mod Named
 mod OnLiterals
 mod OneAnswer
 mod Programs

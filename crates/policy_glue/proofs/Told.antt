@@ -52,10 +52,10 @@ pub record TellFrom (xs : List Finding) (words : VerdictWords) (i n : ℕ) : Typ
   pub results : (k : ℕ) → k < n → slice_index words.results (i + k) ≡ finding_word (slice_get xs k)
   pub messages : (k : ℕ) → k < n → slice_get words.messages (i + k) ≡ Some (message_in (slice_get xs k))
 
-past : (words : VerdictWords) (i n k : ℕ) → i ≤ k → k < i + n → TellFrom [] words i n → slice_index words.results k ≡ 0
+pub past : (words : VerdictWords) (i n k : ℕ) → i ≤ k → k < i + n → TellFrom [] words i n → slice_index words.results k ≡ 0
 past words i n k low high told = ap (slice_index words.results) (omega arith) ∙ told.results (k - i) (omega arith)
 
-rest_told : (x : Finding) (xs : List Finding) (words : VerdictWords) (i n : ℕ) → TellFrom (x ∷ xs) words i (suc n) → TellFrom xs words (i + 1) n
+pub rest_told : (x : Finding) (xs : List Finding) (words : VerdictWords) (i n : ℕ) → TellFrom (x ∷ xs) words i (suc n) → TellFrom xs words (i + 1) n
 rest_told x xs words i n told = record {
   results = λ k below. ap (slice_index words.results) (omega arith) ∙ told.results (suc k) (omega arith);
   messages = λ k below. ap (slice_get words.messages) (omega arith) ∙ told.messages (suc k) (omega arith);
@@ -75,7 +75,7 @@ denials_from f (r ∷ rs) (x ∷ xs) words i (suc n) short told =
 pub outcome_told : (o : Outcome) → outcome_of (outcome_word o) ≡ o
 outcome_told o = grind arith
 
-from_zero : (f : FailurePolicy) (v : Verdict) (words : VerdictWords) → Encodes f v words → TellFrom v.findings words 0 part_limit
+pub from_zero : (f : FailurePolicy) (v : Verdict) (words : VerdictWords) → Encodes f v words → TellFrom v.findings words 0 part_limit
 from_zero f v words told = grind arith
 
 rejection_is : (f : FailurePolicy) (rs : List Validation) (v : Verdict) (words : VerdictWords) → length rs ≤ part_limit → Encodes f v words

@@ -12,9 +12,14 @@ pub mod Documents
 pub mod Emission
 pub mod ErrorCodes
 pub mod Evaluation
+pub mod FindingRows
+pub mod FindingWords
+pub mod Findings
 pub mod Layout
 pub mod Limits
 pub mod Rejections
+pub mod Naming
+pub mod NamingRows
 pub mod OneAnswer
 pub mod OneImage
 pub mod Policy

@@ -1,5 +1,5 @@
 -- Rejections, the responses to them, and words of verdict regions, worked by hand.
-use Rattle.std.specs.Prelude.{◌≡◌, ℕ, [], ◌∷◌, List, Option, Some, None, Ok, Err, codes}
+use Rattle.std.specs.Prelude.{◌≡◌, ℕ, [], ◌∷◌, List, Some, None, Ok, codes}
 use Rattle.value_store.specs.Value.{value, text}
 use Rattle.policy_glue.specs.Layout.{IsMessageWord, finding_word, first_message, first_result, message_in, ok_or_zero, outcome_of, outcome_word, text_named}
 use Rattle.policy_glue.specs.Policy.{Policy}

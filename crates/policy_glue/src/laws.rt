@@ -2,7 +2,9 @@
 //! clause of a function that does nothing.
 ghost use Rattle.policy_glue.specs.BudgetRows.{BudgetRowsStand};
 ghost use Rattle.policy_glue.specs.DecisionRows.{CheckingRowsStand, DecisionRowsStand};
+ghost use Rattle.policy_glue.specs.FindingRows.{FindingRowsStand};
 ghost use Rattle.policy_glue.specs.LimitRows.{LimitRowsStand};
+ghost use Rattle.policy_glue.specs.NamingRows.{NamingRowsStand};
 ghost use Rattle.policy_glue.specs.OneAnswer.{CompileHasOneResult, HasNoOtherType, HasOneImage};
 ghost use Rattle.policy_glue.specs.ProgramLaws.{PolicyDecides};
 ghost use Rattle.policy_glue.specs.ProgramTrees.{ProgramDecides, ProgramIsCode, ProgramIsShort, ProgramStops};
@@ -41,6 +43,18 @@ pub fn response_rows_stand()
 pub fn rejection_rows_stand()
     ensures rejections { RejectionRowsStand }
     ensures layout { LayoutRowsStand }
+{}
+
+/// What is found against requests.
+#[tactic(auto, unfolding(crate::proofs::FoundOnLiterals::findings_on_literals))]
+pub fn finding_rows_stand()
+    ensures { FindingRowsStand }
+{}
+
+/// Conditions that name the namespace of a request, and some that do not.
+#[tactic(auto, unfolding(crate::specs::Naming::names))]
+pub fn naming_rows_stand()
+    ensures { NamingRowsStand }
 {}
 
 /// Decisions of policies on the documents of a request.

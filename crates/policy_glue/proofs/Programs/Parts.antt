@@ -1,5 +1,5 @@
 -- The parts of a policy's program, with their values and their bounds.
-use Rattle.policy_glue.proofs.Prelude.{◌≡◌, ◌-◌, ◌*◌, ◌≤◌, List, [], ◌∷◌, length, true, refl, ap, arith, Option, Some, None, suc, map, value, Roots, Environment, Declaration, cost, spent_by, conditions_cost, validations_cost, environment_with, condition_values, validation_value, Laid, after_condition, before_message, condition_codes, tree_code, validation_codes, with_message, Tree, ValidationTree, Insn, meaning, Part, ValidationPart, codes_of, conditions_charge, conditions_steps, codes_of_validations, values_of_validations, validations_charge, validations_steps, values_given, FailurePolicy, steps_per_visit, charge_per_unit}
+use Rattle.policy_glue.proofs.Prelude.{◌≡◌, ◌-◌, ◌*◌, ◌≤◌, List, [], ◌∷◌, length, true, refl, ap, arith, Option, Some, None, suc, map, Roots, Environment, Declaration, cost, spent_by, conditions_cost, validations_cost, environment_with, condition_values, validation_value, Laid, after_condition, before_message, condition_codes, tree_code, validation_codes, with_message, Tree, ValidationTree, Insn, meaning, Part, ValidationPart, codes_of, conditions_charge, conditions_steps, codes_of_validations, values_of_validations, validations_charge, validations_steps, values_given, FailurePolicy, steps_per_visit, charge_per_unit}
 
 -- ---- the parts of the trees
 

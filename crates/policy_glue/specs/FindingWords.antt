@@ -1,0 +1,28 @@
+-- What the words of a verdict find against a request.
+use Rattle.std.specs.Prelude.{ℕ, ◌+◌, List, [], ◌∷◌, map, nat_eq, slice_get, slice_index, if◌then◌else◌}
+use Rattle.policy_glue.specs.Denials.{lent}
+use Rattle.policy_glue.specs.Findings.{PolicyFinding, before_others, finding_at}
+use Rattle.policy_glue.specs.Layout.{VerdictWords, truth_word, words_view}
+use Rattle.policy_glue.specs.Policy.{Validation, validation_view}
+use Rattle.policy_glue.specs.Verdict.{CheckResult, Holds, Fails, Errs}
+use Rattle.policy_glue.specs.declared.failure_policy.FailurePolicy.{FailurePolicy}
+use Rattle.policy_glue.specs.declared.parts.Parts.{Parts}
+use Rattle.policy_glue.specs.declared.verdict.Verdict.{Verdict}
+
+-- the result of a validation by its word
+abbrev pub truth_in : ℕ → CheckResult
+truth_in word =
+    if nat_eq word (truth_word Fails) then Fails
+    else (if nat_eq word (truth_word Errs) then Errs
+    else Holds)
+
+-- what the words find by the validations from place i on
+abbrev pub findings_in_words : FailurePolicy → List Validation → VerdictWords → ℕ → List PolicyFinding
+findings_in_words f [] words i = []
+findings_in_words f (r ∷ rs) words i =
+    before_others (finding_at f i r (truth_in (slice_index words.results i)) (lent (slice_get words.messages i)))
+    (findings_in_words f rs words (i + 1))
+
+-- what they find by all validations
+abbrev pub findings_in : Parts → Verdict → List PolicyFinding
+findings_in p v = findings_in_words p.failure_policy (map validation_view p.validations.items) (words_view v) 0
