@@ -1,11 +1,12 @@
 -- The results of reviews, from the states of the policies' programs.
 use Rattle.admission.proofs.Prelude.{◌≡◌, ℕ, ◌+◌, ◌*◌, ◌≤◌, ◌⊎◌, Bool, false, List, [], ◌∷◌, ◌++◌, length, Option, Some, Result, Ok, Err, refl, sym, ap, ◌∙◌, subst, arith, inl, inr, if◌then◌else◌, cases_lt, length-map, length_push, Fault as GuestFault, F8, StartIsCanonical, Contents, Roots, StartsAreTables, State, start_state, StatesAreKept, is_running, state_after, Status, Exited, Running, HasValues, TakenOrRefused, PartsEnd, policy_work, decision_of, outcome_of, outcome_word, Compiles, Verdict, Policy, Decides, OutOfBudget, LeavesByExit, PolicyTree, Finding, decided, judged_by, verdict_of, CompileError, FailurePolicy, PolicyAndImage, Reply, Documents, IsAnswered, IsPolicy, decision, started, values_given, IsPolicyOf, Exit, Exits, HasExited, IsExit, OfVerdict, IsDecisionOf, Decision, decision_from_verdict, Images, PolicyRun, RunHasStatus, RunAgrees, exactly, document_given, parts_given, uid_in, RunError, ReviewRefused, NamespaceOrParamsRefused, OutOfSteps, OverLimit}
-use Rattle.serde_json.specs.Data as json
 use Rattle.bpf_machine.specs.declared.status.Status.TheVariants.{Fault}
 use Rattle.policy_glue.specs.Checking as checking
+use Rattle.policy_glue.specs.Findings.{PolicyFinding, findings_of}
 use Rattle.policy_glue.specs.Response.{response_of}
 use Rattle.policy_glue.specs.declared.outcome.Outcome.{Outcome}
 use Rattle.admission.specs.Deciding.{answer_of, is_allowed}
+use Rattle.admission.specs.Findings.{AreFindingsOf}
 use Rattle.value_table.specs.ReviewTable.{ReviewTableReturns}
 use Rattle.value_table.specs.declared.review_error.ReviewError.{ReviewError}
 use Rattle.value_table.specs.declared.review_error.ReviewError.TheVariants as review_error
@@ -168,18 +169,21 @@ pub replied : (p : Policy) (v : Verdict) (uid response : List ℕ) (allowed : Bo
     → word ≡ outcome_word v.outcome → allowed ≡ is_allowed (outcome_of word) → record { response = response; allowed = allowed } ≡ answer_of p v uid
 replied p v uid response allowed word text told allows = grind (arith, outcome_told)
 
+-- what is made of the verdict that was left is made of the policy's decision
+made_so : {A : Type 0} (make : Policy → Verdict → List ℕ → A) (p : Policy) (d : Documents) (exit : Exit) (x : A) (is : IsExit p d exit)
+    → OfVerdict p exit.state (λ v. x ≡ make p v exit.uid) → x ≡ make is.case.policy.parsed (decision is.case) (uid_in d.review)
+made_so make p d exit x is of =
+    of (decision is.case) is.is_memory is.few is.layout ∙ ap (make p (decision is.case)) is.uid_is
+    ∙ ap (λ (q : Policy). make q (decision is.case) (uid_in d.review)) (sym is.of_policy)
+
 -- the reply to the verdict that the program left
 pub answered : (p : Policy) (d : Documents) (exit : Exit) (answer : Reply) → IsExit p d exit → OfVerdict p exit.state (λ v. answer ≡ answer_of p v exit.uid) → IsAnswered d answer
-answered p d exit answer is of = record {
-  case = is.case;
-  answer_is = of (decision is.case) is.is_memory is.few is.layout ∙ ap (answer_of p (decision is.case)) is.uid_is
-      ∙ ap (λ (q : Policy). answer_of q (decision is.case) (uid_in d.review)) (sym is.of_policy);
-}
+answered p d exit answer is of = record { case = is.case; answer_is = made_so answer_of p d exit answer is of }
 
 -- the decision for the verdict that the program left
 pub said_so : (p : Policy) (d : Documents) (exit : Exit) (said : Decision) → IsExit p d exit → OfVerdict p exit.state (λ v. said ≡ decision_from_verdict p v exit.uid) → IsDecisionOf d said
-said_so p d exit said is of = record {
-  case = is.case;
-  decision_is = of (decision is.case) is.is_memory is.few is.layout ∙ ap (decision_from_verdict p (decision is.case)) is.uid_is
-      ∙ ap (λ (q : Policy). decision_from_verdict q (decision is.case) (uid_in d.review)) (sym is.of_policy);
-}
+said_so p d exit said is of = record { case = is.case; decision_is = made_so decision_from_verdict p d exit said is of }
+
+-- what the verdict that was left finds
+pub found_so : (p : Policy) (d : Documents) (exit : Exit) (found : List PolicyFinding) → IsExit p d exit → OfVerdict p exit.state (λ v. found ≡ findings_of p v) → AreFindingsOf d found
+found_so p d exit found is of = record { case = is.case; findings_are = made_so (λ q v uid. findings_of q v) p d exit found is of }

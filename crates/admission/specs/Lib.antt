@@ -7,6 +7,7 @@ pub mod Deciding
 pub mod Lent
 pub mod OneAnswer
 pub mod Decisions
+pub mod Findings
 pub mod Exiting
 pub mod Standing
 pub mod RootRows

@@ -1,16 +1,21 @@
 //! Policies that are compiled once to decide many reviews.
-ghost use Rattle.std.specs.Prelude.{◌≡◌, ℕ, List, IfOk};
+ghost use Rattle.std.specs.Prelude.{◌≡◌, ℕ, List, map, IfOk, Ok};
 ghost use Rattle.bpf_machine.specs.State.{start_state};
 ghost use Rattle.bpf_machine.specs.Starts.{StartsAreTables};
 ghost use Rattle.bpf_machine.specs.States.{StatesAreKept};
 ghost use Rattle.bpf_machine.specs.Trace.{state_after};
 ghost use Rattle.value_store.specs.Laws.{StartIsCanonical};
 ghost use Rattle.value_table.specs.Held.{held_contents};
+ghost use Rattle.policy_glue.specs.Findings.{finding_view, findings_of};
+ghost use Rattle.policy_glue.specs.Limits.{Compiles};
+ghost use Rattle.policy_glue.specs.Naming.{conditions_name_namespace};
 ghost use Rattle.policy_glue.specs.OneImage.{OneImage};
-ghost use Rattle.admission.specs.Deciding.{answer_of, answer_view, is_allowed, AreGiven, CompilesDocument, Documents, IsPolicyOf, Reviews};
+ghost use Rattle.policy_glue.specs.Trees.{PolicyTree};
+ghost use Rattle.admission.specs.Deciding.{answer_of, answer_view, is_allowed, AreGiven, CompilesDocument, Documents, IsPolicyOf, Reviews, values_given};
 ghost use Rattle.admission.specs.Exiting.{exit_view, Exits, HasExited, OfVerdict};
 ghost use Rattle.admission.specs.Lent.{documents_lent};
 ghost use Rattle.admission.specs.Decisions.{decision_from_verdict, decision_value, decision_view, DecidesReview};
+ghost use Rattle.admission.specs.Findings.{findings_view, FindsReview};
 ghost use Rattle.admission.specs.Standing.{exactly, RunAgrees};
 
 use crate::decision::Decision;
@@ -21,7 +26,10 @@ use crate::run_error::RunError;
 use bpf_machine::laws::{starts_are_tables, states_are_kept};
 use bpf_machine::{Machine, Program, Status};
 use guest_memory::Guest;
-use policy_glue::{Outcome, Policy, Verdict, rejection_of, respond};
+use policy_glue::{
+    Finding, Outcome, Policy, Verdict, conditions_name_namespace, findings_of, rejection_of,
+    respond,
+};
 use std::alloc::{AllocError, Global};
 use std::marker::Model;
 use value_store::ValueStore;
@@ -119,6 +127,27 @@ impl Gate {
         Ok(decision_of_verdict(self.alloc, &self.policy, &machine, uid)?)
     }
 
+    /// What the policy finds against a review whose roots are in the table.
+    ///
+    /// # Errors
+    ///
+    /// The first refusal, as `decide_on` has them.
+    pub fn findings_on(&self, table: Table, n: u64) -> Result<Vec<Finding>, RunError>
+        ensures finds { (d : Documents) → IsPolicyOf d.policy self.now → values_given d ≡ Ok (held_contents table) → FindsReview d n (findings_view result) }
+        ensures runs { (d : Documents) → IsPolicyOf d.policy self.now → values_given d ≡ Ok (held_contents table) → RunAgrees (exactly self.now.image) d n (findings_view result) }
+    {
+        let machine = self.run(table, n)?;
+        Ok(findings_of_verdict(self.alloc, &self.policy, &machine)?)
+    }
+
+    /// Whether some match condition of the policy names the root `namespaceObject`, if only as the
+    /// name that a macro binds. The error says that an allocation failed.
+    pub fn names_namespace_in_conditions(&self) -> Result<bool, AllocError>
+        ensures { (t : PolicyTree) → Compiles self.now.policy (Ok t) → IfOk result (λ named. named ≡ conditions_name_namespace t) }
+    {
+        conditions_name_namespace(self.alloc, &self.policy)
+    }
+
     /// Runs the policy's program on the roots in the table; returns the machine after the exit.
     fn run(&self, table: Table, n: u64) -> Result<Machine<Table, Guest>, RunError>
         ensures exits { (d : Documents) (uid : List ℕ) → IsPolicyOf d.policy self.now → AreGiven d (held_contents table) uid → Exits self.now.policy d n (exit_view uid result) }
@@ -207,4 +236,16 @@ fn decision_of_verdict(
     let rejection = rejection_of(alloc, policy, &verdict)?;
     let uid = String::from_str(alloc, uid)?;
     Ok(Decision { rejection, uid })
+}
+
+/// What is found by the verdict that the policy's program has left.
+fn findings_of_verdict(
+    alloc: Global,
+    policy: &Policy,
+    machine: &Machine<Table, Guest>,
+) -> Result<Vec<Finding>, AllocError>
+    ensures { IfOk result (λ found. OfVerdict policy.now machine.now (λ v. map finding_view found.items ≡ findings_of policy.now v)) }
+{
+    let verdict = Verdict::of(machine.memory(), machine.values(), policy);
+    findings_of(alloc, policy, &verdict)
 }

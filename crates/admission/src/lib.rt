@@ -16,6 +16,7 @@ mod run_error;
 pub use decision::Decision;
 pub use gate::Gate;
 pub use policy_and_image::{PolicyAndImage, compile_document};
+pub use policy_glue::{Finding, Reason};
 pub use policy_refusal::PolicyRefusal;
 pub use reply::Reply;
 pub use reviewing::review;

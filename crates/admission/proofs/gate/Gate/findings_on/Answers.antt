@@ -1,0 +1,23 @@
+use Rattle.policy_glue.specs.Findings.{PolicyFinding}
+use Rattle.admission.proofs.Prelude.{List, refl, Exit, exactly, uid_in}
+use Rattle.admission.proofs.Decided.{found_so, refused_so}
+use Rattle.admission.proofs.Results.{is_err}
+use Rattle.admission.proofs.gate.Gate.findings_on.Goals as goal
+
+pub returns-in_err-machine : goal.returns-in_err-machine
+returns-in_err-machine c =
+    rw (is_err c.from_residual.ensures.1)
+    (record {
+      finds = λ d of given. c.in_err-machine.ensures.exits d (uid_in d.review) of (record { contents = given; uid_is = refl });
+      runs = λ d of given. refused_so Exit (List PolicyFinding) (exactly c.args.self.now.image) d c.args.n c.in_err-machine.field-0.0 (c.in_err-machine.ensures.runs d (uid_in d.review) of (record { contents = given; uid_is = refl }));
+    })
+
+pub returns : goal.returns
+returns c =
+    let exits = rw (← c.self.view_is) at c.in_ok-machine.ensures.exits in
+    let runs = rw (← c.self.view_is) at c.in_ok-machine.ensures.runs in
+    rw (← c.self.view_is)
+    (record {
+      finds = λ d of given. found_so _ _ _ _ (exits d (uid_in d.review) of (record { contents = given; uid_is = refl })) c.in_ok-findings_of_verdict.ensures;
+      runs = λ d of given. runs d (uid_in d.review) of (record { contents = given; uid_is = refl });
+    })

@@ -1,0 +1,22 @@
+-- What a policy finds against a review.
+use Rattle.std.specs.Prelude.{◌≡◌, ℕ, List, map, Result, Ok, Err, Vec}
+use Rattle.std.specs.Global.{Global}
+use Rattle.policy_glue.specs.Findings.{PolicyFinding, finding_view, findings_of}
+use Rattle.policy_glue.specs.declared.finding.Finding.{Finding as CodeFinding}
+use Rattle.admission.specs.Deciding.{Case, Documents, HasNoResponse, decision}
+use Rattle.admission.specs.declared.run_error.RunError.{RunError}
+
+-- the findings that the code answers
+abbrev pub findings_view : Result (Vec CodeFinding Global) RunError → Result (List PolicyFinding) RunError
+findings_view (Ok found) = Ok (map finding_view found.items)
+findings_view (Err e) = Err e
+
+-- this is what the policy's verdict finds
+pub record AreFindingsOf (d : Documents) (found : List PolicyFinding) : Type 0 where
+  pub case : Case d
+  pub findings_are : found ≡ findings_of case.policy.parsed (decision case)
+
+-- what the policy finds against a review, or why the review has no response
+abbrev pub FindsReview : Documents → ℕ → Result (List PolicyFinding) RunError → Type 0
+FindsReview d n (Ok found) = AreFindingsOf d found
+FindsReview d n (Err e) = HasNoResponse d n e
