@@ -9,6 +9,16 @@ from ..slots.layout import program_of
 from ..slots.mapping import NotMapped, SlotMap, map_of
 
 TRUE = [{"expression": "true"}]
+# the code of `object.spec.a <= object.spec.b`, which keeps `object.spec` in word 0
+KEPT = [
+    "mov64 r1, 4", "lddw r2, 0x0000000400000000", "mov64 r3, 4",
+    "call 5", "stxdw [r10-8], r0", "ldxdw r1, [r10-8]",
+    "lddw r2, 0x0000000400000004", "mov64 r3, 1", "call 5",
+    "stxdw [r10-16], r0", "ldxdw r1, [r10-8]", "lddw r2, 0x0000000400000005",
+    "mov64 r3, 1", "call 5", "mov64 r1, r0",
+    "ldxdw r2, [r10-16]", "call 10", "mov64 r1, r0",
+    "call 23",
+]
 
 
 def mapped(**spec: object) -> SlotMap:
@@ -21,21 +31,27 @@ def shown(spans: list) -> list:
     return [(span.first, span.last, span.text, span.register) for span in spans]
 
 
-def listings() -> list:
-    """The two listings of the page on code."""
+def listing_of_the_page() -> list:
+    """The listing of the page on code."""
     page = (ROOT / "docs" / "CODE.md").read_text()
-    blocks = re.findall(r"(?:^    .+\n)+", page, re.MULTILINE)
-    return [[line.strip() for line in block.splitlines()] for block in blocks]
+    block = re.search(r"(?:^    .+\n)+", page, re.MULTILINE)
+    return [line.strip() for line in block.group().splitlines()] if block else []
 
 
 class Expressions(unittest.TestCase):
     """Sub-expressions in the code of one validation."""
 
-    def test_listings_of_the_page(self) -> None:
-        texts = ["object.spec.replicas <= 3", "object.spec.a <= object.spec.b"]
-        for text, listing in zip(texts, listings()):
-            lines = list(mapped(validations=[{"expression": text}]).lines.values())
-            self.assertEqual(lines[: len(listing)], listing)
+    def begins_with(self, text: str, listing: list) -> None:
+        """The code of the policy with this one validation begins with the listing."""
+        lines = list(mapped(validations=[{"expression": text}]).lines.values())
+        self.assertTrue(listing)
+        self.assertEqual(lines[: len(listing)], listing)
+
+    def test_listing_of_the_page(self) -> None:
+        self.begins_with("object.spec.replicas <= 3", listing_of_the_page())
+
+    def test_listing_of_a_kept_field(self) -> None:
+        self.begins_with("object.spec.a <= object.spec.b", KEPT)
 
     def test_comparison(self) -> None:
         spans = mapped(validations=[{"expression": "object.spec.replicas <= 3"}])
