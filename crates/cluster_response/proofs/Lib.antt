@@ -1,0 +1,6 @@
+pub mod Prelude
+pub mod Allowed
+pub mod Floats
+pub mod Kept
+pub mod OnLiterals
+pub mod Texts

@@ -1,0 +1,22 @@
+use Rattle.cluster_response.proofs.Prelude.{refl}
+use Rattle.cluster_response.proofs.OnLiterals.{answers_on_literals}
+use Rattle.cluster_response.proofs.rows.answer_rows_hold.Goals as goal
+
+pub returns : goal.returns
+unfolding answers_on_literals
+returns c = record {
+  no_events = refl;
+  warned_and_audited = refl;
+  denied = refl;
+  two_denials = refl;
+  two_warned_and_audited = refl;
+  same_message_twice = refl;
+  no_namespace = refl;
+  no_namespace_after_denial = refl;
+  no_namespace_after_warning = refl;
+  policy_not_configured = refl;
+  binding_not_configured = refl;
+  undecided = refl;
+  denied_after_refusal = refl;
+  no_namespace_after_refusal = refl;
+}

@@ -1,0 +1,9 @@
+pub mod Annotations
+pub mod Events
+pub mod Keeping
+pub mod Laws
+pub mod Members
+pub mod Messages
+pub mod Refusals
+pub mod Response
+pub mod Rows

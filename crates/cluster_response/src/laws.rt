@@ -1,0 +1,14 @@
+//! Laws of the definitions, each the clause of a function that does nothing.
+ghost use Rattle.cluster_response.specs.Laws.{AllowedExactly, WarningsAreThoseOfEvents};
+
+/// A request is allowed exactly if no event denies it, the dispatch does not end and each policy
+/// decides; it is not allowed exactly if an event denies it or the dispatch ends.
+pub fn allowed_exactly()
+    ensures { AllowedExactly }
+{}
+
+/// The warnings are the texts by which an event warns, so their set does not depend on the order of
+/// the events.
+pub fn warnings_are_those_of_events()
+    ensures { WarningsAreThoseOfEvents }
+{}

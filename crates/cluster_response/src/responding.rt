@@ -1,0 +1,211 @@
+//! The response by the events of a dispatch.
+ghost use Rattle.std.specs.Prelude.{◌≡◌, IfOk, List, OnOk, map, option_map, string_bytes};
+ghost use Rattle.serde_json.specs.Data as json;
+ghost use Rattle.serde_json.specs.View.{members_view, view};
+ghost use Rattle.admission_documents.specs.Requests.{request_view};
+ghost use Rattle.policy_glue.specs.Response.{review_tree, status_tree};
+ghost use Rattle.cluster_response.specs.Events.{Event, KeepsEvents, audit_view, denial_view, events_view, undecided_view};
+ghost use Rattle.cluster_response.specs.Members.{put_if};
+ghost use Rattle.cluster_response.specs.Response.{annotations_tree, answer_tree, cluster_response, decision_from, decision_tree, denial_status, if_texts, not_found_status, status_of, texts_tree, undecided_tree};
+
+use crate::annotation::annotation_text;
+use crate::audit::Audit;
+use crate::denial::Denial;
+use crate::events::Events;
+use crate::messages::{denied_message, not_found_message};
+use crate::undecided::Undecided;
+use admission_documents::Request;
+use policy_glue::Reason;
+use serde_json::{Map, Value, json, put};
+use std::alloc::{AllocError, Global};
+
+/// The text of the answer to a request with this uid, by the events of its dispatch: the response
+/// (AdmissionReview, `admission.k8s.io/v1`), or which policy does not decide and why. The end
+/// decides first, then the first denial, then the first policy that does not decide.
+#[tactic(auto, unfolding(crate::specs::Response::cluster_response))]
+pub fn response(
+    alloc: Global,
+    request: &Request<'_>,
+    uid: &str,
+    events: &Events,
+) -> Result<Vec<u8>, AllocError>
+    ensures { (es : List Event) → KeepsEvents events.now es → IfOk result
+        (λ bytes. bytes.items ≡ cluster_response (request_view request.now) uid.now es) }
+{
+    let answer = answer(alloc, request, uid, events)?;
+    answer.to_vec(alloc)
+}
+
+fn answer(
+    alloc: Global,
+    request: &Request<'_>,
+    uid: &str,
+    events: &Events,
+) -> Result<Value, AllocError>
+    ensures { IfOk result (λ v. view v ≡ answer_tree (request_view request.now) uid.now (events_view events.now)) }
+{
+    let status = status_of(alloc, request, events)?;
+    match status {
+        Some(status) => decided(alloc, Some(status), uid, events),
+        None => match &events.undecided {
+            Some(undecided) => undecided_value(alloc, undecided, uid),
+            None => decided(alloc, None, uid, events),
+        },
+    }
+}
+
+/// Why the request is not allowed.
+fn status_of(
+    alloc: Global,
+    request: &Request<'_>,
+    events: &Events,
+) -> Result<Option<Value>, AllocError>
+    ensures { IfOk result (λ o. option_map view o ≡ status_of (request_view request.now) (events_view events.now)) }
+{
+    if events.ended {
+        return Ok(Some(not_found_status(alloc, request.attributes.namespace)?));
+    }
+    match &events.denial {
+        Some(denial) => Ok(Some(denial_status(alloc, request, denial)?)),
+        None => Ok(None),
+    }
+}
+
+fn not_found_status(alloc: Global, namespace: &str) -> Result<Value, AllocError>
+    ensures { IfOk result (λ v. view v ≡ not_found_status namespace.now) }
+{
+    let message = not_found_message(alloc, namespace)?;
+    let text = message.as_str();
+    json!(in alloc; {"code": 404u64, "message": text, "reason": "NotFound"})
+}
+
+fn denial_status(alloc: Global, request: &Request<'_>, denial: &Denial) -> Result<Value, AllocError>
+    ensures { IfOk result (λ v. view v ≡ denial_status (request_view request.now) (denial_view denial.now)) }
+{
+    let message = denied_message(alloc, request, denial)?;
+    status(alloc, message.as_str(), denial.reason)
+}
+
+fn status(alloc: Global, text: &str, reason: Reason) -> Result<Value, AllocError>
+    ensures { IfOk result (λ v. view v ≡ status_tree text.now reason) }
+{
+    let name = reason.name();
+    let code = reason.code();
+    json!(in alloc; {"code": code, "message": text, "reason": name})
+}
+
+fn undecided_value(alloc: Global, undecided: &Undecided, uid: &str) -> Result<Value, AllocError>
+    ensures { IfOk result (λ v. view v ≡ undecided_tree (undecided_view undecided.now) uid.now) }
+{
+    let policy = undecided.policy.as_str();
+    let code = undecided.refusal.code();
+    json!(in alloc; {"policy": policy, "refused": code, "uid": uid})
+}
+
+/// The review with the decision.
+fn decided(
+    alloc: Global,
+    status: Option<Value>,
+    uid: &str,
+    events: &Events,
+) -> Result<Value, AllocError>
+    ensures { IfOk result (λ v. view v
+        ≡ review_tree (decision_tree (option_map view status) uid.now (events_view events.now))) }
+{
+    let annotations = annotations(alloc, &events.audit)?;
+    let warnings = if_texts(alloc, events.warnings.as_slice())?;
+    let decision = decision(alloc, annotations, status, uid, warnings)?;
+    review(alloc, decision)
+}
+
+fn annotations(alloc: Global, audit: &Option<Audit>) -> Result<Option<Value>, AllocError>
+    ensures { IfOk result (λ o. option_map view o ≡ option_map annotations_tree (option_map audit_view audit.now)) }
+{
+    match audit {
+        Some(audit) => Ok(Some(annotation(alloc, audit)?)),
+        None => Ok(None),
+    }
+}
+
+fn annotation(alloc: Global, audit: &Audit) -> Result<Value, AllocError>
+    ensures { IfOk result (λ v. view v ≡ annotations_tree (audit_view audit.now)) }
+{
+    let value = annotation_text(alloc, audit)?;
+    let text = value.as_str();
+    json!(in alloc; {"validation.policy.admission.k8s.io/validation_failure": text})
+}
+
+fn if_texts(alloc: Global, texts: &[String]) -> Result<Option<Value>, AllocError>
+    ensures { IfOk result (λ o. option_map view o ≡ if_texts (map string_bytes texts.now)) }
+{
+    match texts {
+        [] => Ok(None),
+        _ => Ok(Some(texts_value(alloc, texts)?)),
+    }
+}
+
+fn texts_value(alloc: Global, texts: &[String]) -> Result<Value, AllocError>
+    ensures { IfOk result (λ v. view v ≡ texts_tree (map string_bytes texts.now)) }
+{
+    Ok(Value::Array(text_values(alloc, texts)?))
+}
+
+fn text_values(alloc: Global, texts: &[String]) -> Result<Vec<Value>, AllocError>
+    ensures { IfOk result (λ v. map view v.items ≡ map json.string (map string_bytes texts.now)) }
+{
+    let mut values = Vec::new(alloc);
+    for text in texts {
+        values.push(text_value(alloc, text)?)?;
+    }
+    Ok(values)
+}
+
+fn text_value(alloc: Global, text: &String) -> Result<Value, AllocError>
+    ensures { IfOk result (λ v. view v ≡ json.string (string_bytes text.now)) }
+{
+    let text = text.as_str();
+    json!(in alloc; text)
+}
+
+fn decision(
+    alloc: Global,
+    annotations: Option<Value>,
+    status: Option<Value>,
+    uid: &str,
+    warnings: Option<Value>,
+) -> Result<Value, AllocError>
+    ensures { IfOk result (λ v. view v
+        ≡ decision_from (option_map view annotations) (option_map view status) uid.now (option_map view warnings)) }
+{
+    let allowed = status.is_none();
+    let uid = json!(in alloc; uid)?;
+    let mut members = Map::new(alloc);
+    put(&mut members, alloc, "allowed", Value::Bool(allowed))?;
+    put_if(&mut members, alloc, "auditAnnotations", annotations)?;
+    put_if(&mut members, alloc, "status", status)?;
+    put(&mut members, alloc, "uid", uid)?;
+    put_if(&mut members, alloc, "warnings", warnings)?;
+    Ok(Value::Object(members))
+}
+
+fn put_if(
+    members: &mut Map<String, Value>,
+    alloc: Global,
+    name: &str,
+    value: Option<Value>,
+) -> Result<(), AllocError>
+    ensures { OnOk result (members_view members.new.entries
+        ≡ put_if name.now (option_map view value) (members_view members.old.entries)) }
+{
+    match value {
+        Some(value) => put(members, alloc, name, value),
+        None => Ok(()),
+    }
+}
+
+#[tactic(auto, unfolding(policy_glue::specs::Response::review_tree))]
+fn review(alloc: Global, response: Value) -> Result<Value, AllocError>
+    ensures { IfOk result (λ v. view v ≡ review_tree (view response)) }
+{
+    json!(in alloc; {"apiVersion": "admission.k8s.io/v1", "kind": "AdmissionReview", "response": response})
+}
