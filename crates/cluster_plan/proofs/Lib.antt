@@ -1,0 +1,3 @@
+pub mod Prelude
+pub mod Bound
+pub mod OnLiterals

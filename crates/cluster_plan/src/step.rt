@@ -1,0 +1,25 @@
+//! Steps of policies.
+
+use cluster_state::Binding;
+use serde_json::Value;
+
+/// A step of a policy with a request.
+#[derive(Debug, Drop)]
+pub enum Step<'a> {
+    /// A configuration error denies the request: of the binding of this name.
+    Denial {
+        binding: Option<&'a str>,
+        message: String,
+    },
+    /// Whether the policy or the binding matches is not known.
+    UnknownMatch,
+    /// The policy is evaluated with these params and this namespace, each null if it is none, and
+    /// the binding tells its findings.
+    Evaluation {
+        binding: &'a Binding<'a>,
+        params: Option<&'a Value>,
+        namespace: Option<&'a Value>,
+    },
+    /// The namespace of the request is not found, which ends the dispatch.
+    NamespaceNotFound,
+}

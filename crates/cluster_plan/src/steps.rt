@@ -1,0 +1,259 @@
+//! The steps of a policy with a request.
+ghost use Rattle.std.specs.Prelude.{◌≡◌, [], ◌∷◌, codes, None, Some, IfOk, map, option_map, string_bytes};
+ghost use Rattle.serde_json.specs.View.{view};
+ghost use Rattle.admission_documents.specs.Requests.{request_view};
+ghost use Rattle.cluster_state.specs.Bindings.{binding_view};
+ghost use Rattle.cluster_state.specs.Params.{namespace_object_view, param_error_text};
+ghost use Rattle.value_store.specs.Documents.{equals_string};
+ghost use Rattle.cluster_state.specs.State.{state_view};
+ghost use Rattle.cluster_plan.specs.Steps.{binding_steps, bindings_steps, absent_text, error_steps, evaluates, evaluations, fails_closed, params_for, FindsParams, asked_view, matched_steps, step_view, trouble_text};
+
+use crate::asked_policy::AskedPolicy;
+use crate::step::Step;
+use admission_documents::{Request, field};
+use admission_match::{Answer, Trouble};
+use cluster_state::{Binding, NamespaceObject, ParamError, State};
+use serde_json::Value;
+use std::alloc::{AllocError, Global};
+
+impl<'a> AskedPolicy<'a> {
+    /// The steps of each binding of the policy with this request, which the policy's constraints
+    /// match, in the order of the bindings' names. The error is that an allocation failed.
+    pub fn bindings_steps(
+        &self,
+        alloc: Global,
+        state: &'a State<'a>,
+        request: &'a Request<'a>,
+    ) -> Result<Vec<Step<'a>>, AllocError>
+        ensures { IfOk result (λ v. map step_view v.items ≡ bindings_steps (state_view state.now) (asked_view self.now) (request_view request.now) (state_view state.now).bindings) }
+    {
+        let bindings = state.bindings();
+        let mut steps = Vec::new(alloc);
+        for binding in bindings {
+            if binding.policy_name == self.policy.name {
+                let mut more = self.binding_steps(alloc, state, request, binding)?;
+                steps.append(&mut more)?;
+            }
+        }
+        Ok(steps)
+    }
+
+    fn binding_steps(
+        &self,
+        alloc: Global,
+        state: &'a State<'a>,
+        request: &'a Request<'a>,
+        binding: &'a Binding<'a>,
+    ) -> Result<Vec<Step<'a>>, AllocError>
+        ensures { IfOk result (λ v. map step_view v.items ≡ binding_steps (state_view state.now) (asked_view self.now) (request_view request.now) (binding_view binding.now)) }
+    {
+        match binding.resources.matches(&request.attributes, state) {
+            Answer::No => Ok(Vec::new(alloc)),
+            Answer::Unknown => one_step(alloc, Step::UnknownMatch),
+            Answer::Trouble(trouble) => self.trouble_steps(
+                alloc,
+                Some(binding.name),
+                trouble,
+                request.attributes.namespace,
+            ),
+            Answer::Yes => self.matched_steps(alloc, state, request, binding),
+        }
+    }
+
+    /// The steps of a binding that matches.
+    fn matched_steps(
+        &self,
+        alloc: Global,
+        state: &'a State<'a>,
+        request: &'a Request<'a>,
+        binding: &'a Binding<'a>,
+    ) -> Result<Vec<Step<'a>>, AllocError>
+        ensures { IfOk result (λ v. map step_view v.items ≡ matched_steps (state_view state.now) (asked_view self.now) (request_view request.now) (binding_view binding.now)) }
+    {
+        let name = request.attributes.namespace;
+        match self.params(alloc, state, binding, name) {
+            Ok(params) => {
+                let namespace = state.namespace_object(&request.kind, name);
+                evaluations(alloc, binding, namespace, params.as_slice())
+            }
+            Err(ParamError::Memory) => Err(AllocError),
+            Err(ParamError::ClusterScopedRequest) => {
+                self.param_error_steps(alloc, binding, ParamError::ClusterScopedRequest)
+            }
+            Err(ParamError::NeedlessNamespace) => {
+                self.param_error_steps(alloc, binding, ParamError::NeedlessNamespace)
+            }
+            Err(ParamError::NotFound) => {
+                self.param_error_steps(alloc, binding, ParamError::NotFound)
+            }
+        }
+    }
+
+    /// The params of each evaluation under the binding, for a request in this namespace.
+    fn params(
+        &self,
+        alloc: Global,
+        state: &'a State<'a>,
+        binding: &'a Binding<'a>,
+        namespace: &'a str,
+    ) -> Result<Vec<Option<&'a Value>>, ParamError>
+        ensures { FindsParams (params_for (state_view state.now).objects (asked_view self.now).kind (binding_view binding.now).param_ref namespace.now) result }
+    {
+        match &self.kind {
+            None => Ok(null_alone(alloc)?),
+            Some(kind) => match &binding.param_ref {
+                None => Ok(null_alone(alloc)?),
+                Some(reference) => {
+                    let params = state.params(alloc, kind, reference, namespace)?;
+                    Ok(each_given(alloc, params.as_slice())?)
+                }
+            },
+        }
+    }
+
+    /// An error of params denies if the policy fails closed.
+    fn param_error_steps(
+        &self,
+        alloc: Global,
+        binding: &Binding<'a>,
+        error: ParamError,
+    ) -> Result<Vec<Step<'a>>, AllocError>
+        ensures { IfOk result (λ v. map step_view v.items ≡ error_steps (fails_closed (asked_view self.now).policy.document) (Some (binding_view binding.now).name) (param_error_text error)) }
+    {
+        self.error_steps(alloc, Some(binding.name), error.text())
+    }
+
+    /// A namespace whose labels are not known denies if the policy fails closed.
+    fn trouble_steps(
+        &self,
+        alloc: Global,
+        binding: Option<&'a str>,
+        trouble: Trouble,
+        namespace: &str,
+    ) -> Result<Vec<Step<'a>>, AllocError>
+        ensures { IfOk result (λ v. map step_view v.items ≡ error_steps (fails_closed (asked_view self.now).policy.document) (option_map (λ s. s.now) binding.entry) (trouble_text trouble namespace.now)) }
+    {
+        let message = trouble_text(alloc, trouble, namespace)?;
+        self.error_steps(alloc, binding, message.as_str())
+    }
+
+    /// An error denies if the policy fails closed.
+    fn error_steps(
+        &self,
+        alloc: Global,
+        binding: Option<&'a str>,
+        message: &str,
+    ) -> Result<Vec<Step<'a>>, AllocError>
+        ensures { IfOk result (λ v. map step_view v.items ≡ error_steps (fails_closed (asked_view self.now).policy.document) (option_map (λ s. s.now) binding.entry) message.now) }
+    {
+        if fails_closed(self.policy.document) {
+            let message = String::from_str(alloc, message)?;
+            return one_step(alloc, Step::Denial { binding, message });
+        }
+        Ok(Vec::new(alloc))
+    }
+}
+
+/// Whether the policy's `failurePolicy` is not `Ignore`.
+#[tactic(auto, unfolding(crate::specs::Steps::fails_closed))]
+pub fn fails_closed(document: &Value) -> bool
+    ensures { result ≡ fails_closed (view document.now) }
+{
+    match field(document, "spec") {
+        Some(spec) => !is_ignore(field(spec, "failurePolicy")),
+        None => true,
+    }
+}
+
+fn is_ignore(value: Option<&Value>) -> bool
+    ensures { result ≡ equals_string (option_map (λ v. view v.now) value.entry) (codes "Ignore") }
+{
+    match value {
+        Some(Value::String(found)) => found.as_str() == "Ignore",
+        _ => false,
+    }
+}
+
+/// What the API server says if the labels of the namespace of this name are not known.
+pub fn trouble_text(alloc: Global, trouble: Trouble, namespace: &str) -> Result<String, AllocError>
+    ensures { IfOk result (λ s. string_bytes s ≡ trouble_text trouble namespace.now) }
+{
+    match trouble {
+        Trouble::NoName => String::from_str(
+            alloc,
+            "Internal error occurred: resource name may not be empty",
+        ),
+        Trouble::NotFound => absent_text(alloc, namespace),
+    }
+}
+
+#[tactic(auto, unfolding(crate::specs::Steps::absent_text))]
+fn absent_text(alloc: Global, namespace: &str) -> Result<String, AllocError>
+    ensures { IfOk result (λ s. string_bytes s ≡ absent_text namespace.now) }
+{
+    format!(in alloc; "namespaces \"{namespace}\" not found")
+}
+
+fn null_alone<'a>(alloc: Global) -> Result<Vec<Option<&'a Value>>, AllocError>
+    ensures { IfOk result (λ v. v.items ≡ None ∷ []) }
+{
+    let mut params = Vec::new(alloc);
+    params.push(None)?;
+    Ok(params)
+}
+
+fn each_given<'a>(
+    alloc: Global,
+    objects: &[&'a Value],
+) -> Result<Vec<Option<&'a Value>>, AllocError>
+    ensures { IfOk result (λ v. v.items ≡ map Some objects.now) }
+{
+    let mut params = Vec::new(alloc);
+    for object in objects {
+        params.push(Some(*object))?;
+    }
+    Ok(params)
+}
+
+/// An evaluation with each of these params, unless the namespace is not found.
+fn evaluations<'a>(
+    alloc: Global,
+    binding: &'a Binding<'a>,
+    namespace: NamespaceObject<'a>,
+    params: &[Option<&'a Value>],
+) -> Result<Vec<Step<'a>>, AllocError>
+    ensures { IfOk result (λ v. map step_view v.items ≡ evaluations (binding_view binding.now) (namespace_object_view namespace.entry) (map (option_map (λ d. view d.now)) params.now)) }
+{
+    match namespace {
+        NamespaceObject::Null => evaluations_in(alloc, binding, None, params),
+        NamespaceObject::Object(object) => evaluations_in(alloc, binding, Some(object), params),
+        NamespaceObject::NotFound => one_step(alloc, Step::NamespaceNotFound),
+    }
+}
+
+fn evaluations_in<'a>(
+    alloc: Global,
+    binding: &'a Binding<'a>,
+    namespace: Option<&'a Value>,
+    params: &[Option<&'a Value>],
+) -> Result<Vec<Step<'a>>, AllocError>
+    ensures { IfOk result (λ v. map step_view v.items ≡ map (λ p. evaluates (binding_view binding.now) p (option_map (λ d. view d.now) namespace.entry)) (map (option_map (λ d. view d.now)) params.now)) }
+{
+    let mut steps = Vec::new(alloc);
+    for given in params {
+        steps.push(Step::Evaluation {
+            binding,
+            params: *given,
+            namespace,
+        })?;
+    }
+    Ok(steps)
+}
+
+fn one_step<'a>(alloc: Global, step: Step<'a>) -> Result<Vec<Step<'a>>, AllocError>
+    ensures { IfOk result (λ v. map step_view v.items ≡ step_view step.entry ∷ []) }
+{
+    let mut steps = Vec::new(alloc);
+    steps.push(step)?;
+    Ok(steps)
+}
