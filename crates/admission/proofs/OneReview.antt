@@ -1,6 +1,7 @@
 -- A review has one result.
 use Rattle.admission.proofs.Prelude.{◌≡◌, arith, Roots, HasOneImage, Case, Documents, started, ReviewHasOneResult}
 use Rattle.policy_glue.specs.OneAnswer as policy
+use Rattle.admission.specs.OneAnswer.{FindingsHaveOneResult}
 
 -- equal contents at the start have equal roots
 pub roots_once : (r s : Roots) → started r ≡ started s → r ≡ s
@@ -12,3 +13,6 @@ cases_once compiles d c e = grind arith
 
 pub one_review : policy.CompileHasOneResult → HasOneImage → ReviewHasOneResult
 one_review compiles images d n a b some other is also = grind arith
+
+pub one_list : policy.CompileHasOneResult → HasOneImage → FindingsHaveOneResult
+one_list compiles images d n a b some other is also = grind arith

@@ -1,7 +1,9 @@
 -- A review has one result: a response, or a refusal with one cause.
-use Rattle.std.specs.Prelude.{◌≡◌, ◌≢◌, ℕ, Result, Err}
+use Rattle.std.specs.Prelude.{◌≡◌, ◌≢◌, ℕ, List, Result, Err}
+use Rattle.policy_glue.specs.Findings.{PolicyFinding}
 use Rattle.policy_glue.specs.OneImage.{OneImage}
 use Rattle.admission.specs.Deciding.{Reply, Documents, Reviews}
+use Rattle.admission.specs.Findings.{FindsReview}
 use Rattle.admission.specs.Standing.{RunAgrees}
 use Rattle.admission.specs.declared.run_error.RunError.{RunError, TheVariants.Memory}
 
@@ -15,3 +17,14 @@ abbrev pub ReviewHasOneResult : Type 0
 ReviewHasOneResult =
     (d : Documents) (n : ℕ) (a b : Result Reply RunError) → a ≢ Err Memory → b ≢ Err Memory
     → IsAnswerTo d n a → IsAnswerTo d n b → a ≡ b
+
+-- the policy finds this against the review, and the run of its one image agrees
+pub record AreFindingsTo (d : Documents) (n : ℕ) (result : Result (List PolicyFinding) RunError) : Type 0 where
+  pub finds : FindsReview d n result
+  pub runs : RunAgrees OneImage d n result
+
+-- and so are two lists of findings
+abbrev pub FindingsHaveOneResult : Type 0
+FindingsHaveOneResult =
+    (d : Documents) (n : ℕ) (a b : Result (List PolicyFinding) RunError) → a ≢ Err Memory → b ≢ Err Memory
+    → AreFindingsTo d n a → AreFindingsTo d n b → a ≡ b

@@ -1,6 +1,6 @@
 //! Laws: what is proved of reviews in general. Each is the clause of a function that does nothing.
 ghost use Rattle.std.specs.Prelude.{◌≡◌};
-ghost use Rattle.admission.specs.OneAnswer.{ReviewHasOneResult};
+ghost use Rattle.admission.specs.OneAnswer.{FindingsHaveOneResult, ReviewHasOneResult};
 ghost use Rattle.admission.specs.RootValues.{DocumentsHaveValues, GivenHaveValues};
 
 use crate::gate::Gate;
@@ -13,6 +13,15 @@ use value_store::laws::values_are_as_said;
 #[tactic(auto, using(crate::proofs::OneReview::one_review))]
 pub fn reviews_once()
     ensures { ReviewHasOneResult }
+{
+    compiles_once();
+}
+
+/// Within the same steps a review has one list of findings at most, or one refusal, apart from
+/// allocations that fail.
+#[tactic(auto, using(crate::proofs::OneReview::one_list))]
+pub fn findings_once()
+    ensures { FindingsHaveOneResult }
 {
     compiles_once();
 }

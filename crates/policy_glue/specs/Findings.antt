@@ -35,7 +35,7 @@ message_limit = 5120
 abbrev pub is_line_feed : ℕ → Bool
 is_line_feed b = nat_eq b 10
 
--- whether the text has at most so many bytes and no line feed
+-- whether the text has at most 5,120 bytes and no line feed
 abbrev pub is_short_line : List ℕ → Bool
 is_short_line text = nat_le (length text) message_limit && not (list_any is_line_feed text)
 

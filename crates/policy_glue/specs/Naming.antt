@@ -32,7 +32,7 @@ unfoldable mutual
   one_entry_names n no_entries = false
   one_entry_names n (more_entries k v more) = names n k || (names n v || one_entry_names n more)
 
--- the root that stands for the namespace of a request
+-- the name of the root for the namespace of a request
 abbrev pub namespace_name : List ℕ
 namespace_name = codes "namespaceObject"
 
