@@ -3,19 +3,24 @@
 import re
 import subprocess
 import tempfile
-from dataclasses import dataclass, replace
+from dataclasses import dataclass, field as member, replace
 from pathlib import Path
 from typing import Any, Callable, Iterator, Optional
 
-from ..evaluator.cluster import response, state
+from ..evaluator.cluster import response, starting, state
 from ..evaluator.refused import Refused
 from ..seeded.numbers import Numbers
 from .requests import Requests
 from .states import States
 
 SECONDS = 60
-CODE = re.compile(r"\bC[1-8]\b")
 REFUSED_START = 3
+NOT_A_LIST = re.compile(r"C1 (\d+)")
+
+
+def file_of(place: Any) -> str:
+    """The name of the file of a list."""
+    return f"state-{place}.json"
 
 
 @dataclass
@@ -27,21 +32,21 @@ class Case:
     reviews: list
 
     def words(self, folder: Path) -> list:
-        """Writes the lists into a folder; the arguments that name them."""
+        """Writes the lists into a folder; the arguments that name them there."""
         made: list = []
         for place, text in enumerate(self.lists):
-            path = folder / f"state-{place}.json"
-            path.write_bytes(text)
-            made += ["--cluster", str(path)]
+            (folder / file_of(place)).write_bytes(text)
+            made += ["--cluster", file_of(place)]
         return [*made, "--partial"] if self.partial else made
 
 
 @dataclass
 class Answers:
-    """The lines that answer the reviews, or why the state is refused: its code, and a name if it has one."""
+    """The lines that answer the reviews, and those of standard error; or why the state is refused."""
 
     lines: list
     refusal: str = ""
+    errors: list = member(default_factory=list)
 
 
 def cases(numbers: Numbers, reviews: int) -> Iterator[Case]:
@@ -56,42 +61,38 @@ def due(case: Case) -> Answers:
     try:
         opened = state.opened(case.lists, case.partial)
     except Refused as why:
-        return Answers([], why.text)
-    return Answers([response.answer(opened, review) for review in case.reviews])
+        line = NOT_A_LIST.sub(lambda found: f"C1 {file_of(found[1])}", why.text)
+        return Answers([], why.text, [f"celbpf: {line}"])
+    return Answers([response.answer(opened, review) for review in case.reviews], errors=starting.policy_lines(opened))
 
 
 def found(program: Any, case: Case) -> subprocess.CompletedProcess:
     """How a gatekeeper ends."""
     with tempfile.TemporaryDirectory() as folder:
-        words = [program, *case.words(Path(folder))]
+        words = [Path(program).resolve(), *case.words(Path(folder))]
         lines = b"".join(review + b"\n" for review in case.reviews)
-        return subprocess.run(words, input=lines, capture_output=True, timeout=SECONDS, check=False)
+        return subprocess.run(words, input=lines, cwd=folder, capture_output=True, timeout=SECONDS, check=False)
 
 
 def difference(case: Case, wanted: Answers, ended: subprocess.CompletedProcess) -> Optional[str]:
     """The first difference between what is due and how a gatekeeper ended, or None."""
-    errors = ended.stderr.decode(errors="replace")
+    errors, due_errors = ended.stderr.decode(errors="replace"), "".join(f"{line}\n" for line in wanted.errors)
+    if errors != due_errors:
+        return f"standard error is {errors!r}\ndue {due_errors!r}"
     if wanted.refusal:
-        fits = ended.returncode == REFUSED_START and not ended.stdout and is_named(errors, wanted.refusal)
-        return None if fits else f"due is a start that is refused by {wanted.refusal}\n{shown(ended, errors)}"
+        fits = ended.returncode == REFUSED_START and not ended.stdout
+        return None if fits else f"due is a start that is refused\n{shown(ended)}"
     lines = ended.stdout.decode(errors="replace").split("\n")
     for review, line, answer in zip(case.reviews, wanted.lines, lines):
         if line != answer:
             return f"review {review.decode(errors='replace')}\nis  {answer}\ndue {line}"
     if ended.returncode or lines[len(wanted.lines) :] != [""]:
-        return f"due are {len(wanted.lines)} lines and status 0\n{shown(ended, errors)}"
+        return f"due are {len(wanted.lines)} lines and status 0\n{shown(ended)}"
     return None
 
 
-def is_named(errors: str, refusal: str) -> bool:
-    """Whether the last line of standard error has the code of a refusal, and the name if it has one as a word."""
-    code, *names = refusal.split()[:2]
-    last = (errors.splitlines() or [""])[-1]
-    return CODE.findall(last) == [code] and all(re.search(rf"(?<![\w.-]){re.escape(name)}(?![\w.-])", last) for name in names)
-
-
-def shown(ended: subprocess.CompletedProcess, errors: str) -> str:
-    return f"is {len(ended.stdout)} bytes of output, status {ended.returncode} and {errors!r}"
+def shown(ended: subprocess.CompletedProcess) -> str:
+    return f"is {len(ended.stdout)} bytes of output, and status {ended.returncode}"
 
 
 def smallest(case: Case, differs: Callable[[Case], bool]) -> Case:

@@ -7,18 +7,22 @@ from pathlib import Path
 
 sys.path.insert(0, str(Path(__file__).resolve().parents[2]))
 
-from celbpf_tools.evaluator.cluster import response, state  # noqa: E402
+from celbpf_tools.evaluator.cluster import response, starting, state  # noqa: E402
 from celbpf_tools.evaluator.refused import Refused  # noqa: E402
 
 
 def main(words: list) -> int:
     is_wrong = words[:1] == ["--wrong"]
-    lists = [Path(name).read_bytes() for option, name in zip(words, words[1:]) if option == "--cluster"]
+    names = [name for option, name in zip(words, words[1:]) if option == "--cluster"]
     try:
-        opened = state.opened(lists, "--partial" in words)
+        opened = state.opened([Path(name).read_bytes() for name in names], "--partial" in words)
     except Refused as why:
-        print(f"gatekeeper: {why.text}", file=sys.stderr)
+        # a list is named by its file and not by its place
+        code, *rest = why.text.split(" ", 1)
+        told = [names[int(rest[0])]] if code == "C1" else rest
+        print("celbpf:", code, *told, file=sys.stderr)
         return 3
+    print(*starting.policy_lines(opened), sep="\n", end="\n" if opened.policies else "", file=sys.stderr)
     is_wrong = is_wrong and any(item["kind"] == "ConfigMap" for item in opened.items)
     for line in sys.stdin.buffer:
         answer = response.answer(opened, line.rstrip(b"\n"))

@@ -5,7 +5,7 @@ import unittest
 from typing import Any
 
 from ..clusters.making import binding, definition, list_text, policy, request, review_text, rule, thing
-from ..evaluator.cluster import response, state
+from ..evaluator.cluster import response, starting, state
 from ..evaluator.refused import Refused
 from ..home import ROOT, is_checkout
 
@@ -275,15 +275,17 @@ class States(unittest.TestCase):
     def test_lists(self) -> None:
         for text in (b"{", b"[]", b'{"apiVersion":"v1","kind":"List"}', b'{"apiVersion":"v1","kind":"Items","items":[]}'):
             with self.subTest(text):
-                self.assertEqual(self.refusal(list_text([1]), text), "C1")
+                self.assertEqual(self.refusal(list_text([1]), text), "C1 1")
+        # first each text has to be JSON, then each document a list
+        self.assertEqual(self.refusal(b"[]", b"{"), "C1 1")
         self.assertEqual(self.refusal(list_text([])), "C4")
-        self.assertEqual(self.refusal(list_text([PROD]), list_text([PROD])), "C3")
+        self.assertEqual(self.refusal(list_text([PROD]), list_text([PROD])), "C3 prod")
 
     def test_items(self) -> None:
         beta = thing("ValidatingAdmissionPolicy", "p", "admissionregistration.k8s.io/v1beta1")
         for item in (1, thing("Pod", ""), thing("Pod", "p", namespace=1), thing("Pod", "p", labels={"a": 1}), beta):
             with self.subTest(item):
-                self.assertEqual(self.of_items(item), "C2")
+                self.assertEqual(self.of_items(PROD, item), "C2 1")
 
     def test_bindings(self) -> None:
         for more in (
@@ -311,6 +313,12 @@ class States(unittest.TestCase):
         served = definition("x.io", "Limit", "limits")
         self.assertEqual(self.of_items(policy(paramKind=kind), binding(), served, other_version), "C8 p")
         self.assertEqual(len(state.opened([list_text([policy(paramKind=kind), binding(), served, PROD])]).policies), 1)
+
+    def test_lines_of_a_start(self) -> None:
+        matches = policy("q", validations=[{"expression": "'a'.matches('a')"}], paramKind=LIMITS)
+        items = [PROD, LIMITS_X, matches, binding("c", "q"), binding("b", "q"), policy(), binding("a"), policy("unbound")]
+        self.assertEqual(starting.policy_lines(state.opened([list_text(items)], True)), [
+            "celbpf: policy p, bindings a", "celbpf: policy q, bindings b c, params v1 ConfigMap 1, blocked C7 K6 validation 0 Y2"])
 
     def test_scope_of_a_kind(self) -> None:
         kind = ("v1", "ConfigMap")

@@ -51,17 +51,19 @@ class Compared(unittest.TestCase):
     def test_lines(self) -> None:
         wanted = due(self.CASE)
         self.assertEqual(wanted, Answers([ALLOWED]))
-        self.assertIsNone(difference(self.CASE, wanted, ran(0, f"{ALLOWED}\n", "p: no bindings\n")))
+        self.assertIsNone(difference(self.CASE, wanted, ran(0, f"{ALLOWED}\n")))
+        self.assertIsNotNone(difference(self.CASE, wanted, ran(0, f"{ALLOWED}\n", "celbpf: policy p, bindings b\n")))
         for status, said in [(0, "{}\n"), (0, ""), (0, ALLOWED), (0, f"{ALLOWED}\n\n"), (1, f"{ALLOWED}\n")]:
             with self.subTest(said):
                 self.assertIsNotNone(difference(self.CASE, wanted, ran(status, said)))
 
     def test_refused_starts(self) -> None:
         wanted = due(Case([list_text([SPACE, policy(validations=[]), binding()])], False, [REVIEW]))
-        self.assertEqual(wanted, Answers([], "C7 p K4"))
+        self.assertEqual(wanted, Answers([], "C7 p K4", ["celbpf: C7 p K4"]))
+        self.assertEqual(due(Case([list_text([SPACE]), b"["], False, [])).errors, ["celbpf: C1 state-1.json"])
         for status, said, told, fits in [
-            (3, "", "gatekeeper: C7 p K4\n", True), (3, "", "gatekeeper: C7 q K4\n", False), (3, "", "gatekeeper: C8 p\n", False),
-            (1, "", "gatekeeper: C7 p K4\n", False), (3, "{}\n", "gatekeeper: C7 p K4\n", False), (3, "", "", False),
+            (3, "", "celbpf: C7 p K4\n", True), (3, "", "celbpf: C7 q K4\n", False), (3, "", "celbpf: C8 p\n", False),
+            (1, "", "celbpf: C7 p K4\n", False), (3, "{}\n", "celbpf: C7 p K4\n", False), (3, "", "", False),
         ]:
             with self.subTest((status, said, told)):
                 self.assertEqual(difference(self.CASE, wanted, ran(status, said, told)) is None, fits)

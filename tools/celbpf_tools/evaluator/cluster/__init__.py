@@ -11,6 +11,7 @@ It follows docs/CLUSTER.md and shares no line with the program:
     lists       the items of lists as `kubectl get -o json` prints them
     bindings    bindings and kinds of params as they are stored
     state       what a cluster holds, with its policies compiled
+    starting    what standard error gets before the first review
     events      what a dispatch meets, and the findings of one evaluation
     dispatch    policies, bindings and params in their order
     response    the answer by the events

@@ -17,11 +17,10 @@ def group_version(api_version: str) -> tuple:
     return (group, version) if slash else ("", api_version)
 
 
-def items_of(document: bytes) -> list:
+def items_of(whole: Any, refusal: str) -> list:
     """The items of one list."""
-    whole = documents.read(document, "C1")
     items = field(whole, "items")
-    demand(field(whole, "apiVersion") == "v1" and field(whole, "kind") == "List" and isinstance(items, list), "C1")
+    demand(field(whole, "apiVersion") == "v1" and field(whole, "kind") == "List" and isinstance(items, list), refusal)
     return items
 
 
@@ -37,24 +36,28 @@ def namespace_of(item: dict) -> str:
     return item["metadata"].get("namespace") or ""
 
 
-def check(item: Any) -> None:
+def check(item: Any, refusal: str) -> None:
     """The form that every item has."""
     name = field(item, "metadata", "name")
-    demand(isinstance(name, str) and name != "", "C2")
+    demand(isinstance(name, str) and name != "", refusal)
     for key in ("apiVersion", "kind"):
-        demand(isinstance(field(item, key), str), "C2")
+        demand(isinstance(field(item, key), str), refusal)
     namespace = field(item, "metadata", "namespace")
-    demand(namespace is None or isinstance(namespace, str), "C2")
-    text_map(field(item, "metadata", "labels"), "C2")
+    demand(namespace is None or isinstance(namespace, str), refusal)
+    text_map(field(item, "metadata", "labels"), refusal)
     if item["kind"] in (POLICY, BINDING) and group_version(item["apiVersion"])[0] == GROUP:
-        demand(item["apiVersion"] == f"{GROUP}/v1", "C2")
+        demand(item["apiVersion"] == f"{GROUP}/v1", refusal)
 
 
 def read(lists: list) -> list:
-    """The items of all lists, or the first of C1 to C3."""
-    items = [item for document in lists for item in items_of(document)]
+    """The items of all lists, or the first of C1 to C3: with the place of a list or an item, or the name of an item."""
+    wholes = [documents.read(text, f"C1 {place}") for place, text in enumerate(lists)]
+    items = [item for place, whole in enumerate(wholes) for item in items_of(whole, f"C1 {place}")]
+    for place, item in enumerate(items):
+        check(item, f"C2 {place}")
+    keys = set()
     for item in items:
-        check(item)
-    keys = {(kind_of(item), namespace_of(item), name_of(item)) for item in items}
-    demand(len(keys) == len(items), "C3")
+        key = kind_of(item), namespace_of(item), name_of(item)
+        demand(key not in keys, f"C3 {name_of(item)}")
+        keys.add(key)
     return items

@@ -15,7 +15,7 @@ NAMESPACED, CLUSTER = "Namespaced", "Cluster"
 
 @dataclass
 class Policy:
-    """A bound policy; `blocked` is the refusal that `--partial` passes over, or None."""
+    """A bound policy; `cause` is why it is blocked, as `C7 K3`, or None."""
 
     name: str
     ignores: bool
@@ -24,7 +24,12 @@ class Policy:
     document: dict
     bindings: list
     compiled: Any = None
-    blocked: Optional[str] = None
+    cause: Optional[str] = None
+
+    @property
+    def blocked(self) -> Optional[str]:
+        """The code by which requests are refused that it matches."""
+        return self.cause and self.cause.split()[0]
 
 
 @dataclass
@@ -109,24 +114,23 @@ def names_namespace(tree: Any) -> bool:
     return tree == Name("namespaceObject") or any(map(names_namespace, parts(tree)))
 
 
-def compile_policy(policy: Policy, state: State) -> None:
-    """Compiles a bound policy; C7 or C8 if it is refused."""
+def compile_policy(policy: Policy, state: State) -> Optional[str]:
+    """Compiles a bound policy; why it is blocked, if it is."""
     try:
         policy.compiled = policies.compile_policy(policies.of_value(policy.document))
     except Refused as why:
-        raise Refused(f"C7 {policy.name} {why.text}") from why
-    demand(not any(map(names_namespace, policy.compiled.conditions)), f"C7 {policy.name} namespaceObject")
-    demand(policy.kind is None or state.knows(policy.kind), f"C8 {policy.name}")
+        return f"C7 {why.text}"
+    if any(map(names_namespace, policy.compiled.conditions)):
+        return "C7 namespaceObject"
+    return None if policy.kind is None or state.knows(policy.kind) else "C8"
 
 
 def opened(documents: list, partial: bool = False) -> State:
-    """The state with its policies compiled; with `partial` those that are refused are blocked."""
+    """The state with its policies compiled; with `partial` those that are refused stay, and are blocked."""
     state = read(documents)
     for policy in state.policies:
-        try:
-            compile_policy(policy, state)
-        except Refused as why:
-            if not partial:
-                raise
-            policy.blocked = why.text.split(" ")[0]
+        policy.cause = compile_policy(policy, state)
+        if policy.cause and not partial:
+            code, *rest = policy.cause.split(" ", 1)
+            raise Refused(" ".join([code, policy.name, *rest]))
     return state
