@@ -7,6 +7,7 @@ mod code;
 mod compiling;
 mod documents;
 mod errors;
+mod naming;
 mod verdicts;
 
 /// The concatenation of these texts.

@@ -2,7 +2,7 @@
 
 use super::{joined, nulls, policy_text};
 use guest_memory::{Guest, Regions, Size};
-use policy_glue::{Policy, Verdict, respond};
+use policy_glue::{Finding, Policy, Verdict, findings_of, respond};
 use std::alloc::{AllocError, Global};
 use std::test::Fail;
 use value_store::{PlainTable, TableError, ValueStore};
@@ -148,6 +148,98 @@ fn responses(rt: HostRuntime) -> Result<(), Fail> {
         let text = response(rt.alloc(), spec, words)?;
         assert!(rt; is_review(rt.alloc(), text.as_slice(), wanted)?, "{wanted}");
     }
+    Ok(())
+}
+
+/// The findings, a line for each: its place, its reason and its message.
+fn lines_of(alloc: Global, findings: &[Finding]) -> Result<String, AllocError> {
+    let mut lines = String::new(alloc);
+    for finding in findings {
+        let reason = finding.reason.name();
+        let line = format!(in alloc; "{} {} {}\n", finding.index, reason, finding.message)?;
+        lines.push_str(line.as_str())?;
+    }
+    Ok(lines)
+}
+
+/// What the verdict with these words finds.
+fn findings(alloc: Global, spec: &str, words: Words<'_>) -> Result<String, Fail> {
+    let mut values = null_values(alloc)?;
+    let place = place(&mut values, words.message)?;
+    let memory = memory(alloc, words.outcome, words.denials, words.results, place)?;
+    let policy = policy(alloc, spec)?;
+    let verdict = verdict_of(&memory, &values, &policy);
+    let found = findings_of(alloc, &policy, &verdict)?;
+    Ok(lines_of(alloc, found.as_slice())?)
+}
+
+const FOUND_TWO: &str =
+    "0 Forbidden 5 above 3\n1 Invalid expression '1/0 == 1' resulted in error\n";
+
+const FINDINGS: [Row; 6] = [
+    (REPLICAS, 1, 0, &[0], None, ""),
+    (
+        REPLICAS,
+        2,
+        0,
+        &[0],
+        None,
+        "0 Invalid match conditions not decided\n",
+    ),
+    (REPLICAS, 4, 0, &[0], None, ""),
+    (
+        TWO,
+        3,
+        1,
+        &[0, 2],
+        None,
+        "1 Invalid expression '1/0 == 1' resulted in error\n",
+    ),
+    (TWO, 3, 2, &[1, 2], Some("\u{3000}5 above 3\n"), FOUND_TWO),
+    (
+        TWO_IGNORED,
+        3,
+        1,
+        &[1, 2],
+        Some("5\nabove 3"),
+        "0 Forbidden a\n",
+    ),
+];
+
+#[test]
+fn what_verdicts_find(rt: HostRuntime) -> Result<(), Fail> {
+    for &(spec, outcome, denials, results, message, wanted) in FINDINGS.iter() {
+        let words = Words {
+            outcome,
+            denials,
+            results,
+            message,
+        };
+        let found = findings(rt.alloc(), spec, words)?;
+        assert_eq!(rt; found.as_str(), wanted);
+    }
+    Ok(())
+}
+
+/// What is found where the text of the message has so many letters.
+fn found_with_letters(alloc: Global, n: usize) -> Result<String, Fail> {
+    let letters = "m".repeat(alloc, n)?;
+    let words = Words {
+        outcome: 3,
+        denials: 1,
+        results: &[1, 2],
+        message: Some(letters.as_str()),
+    };
+    findings(alloc, TWO_IGNORED, words)
+}
+
+#[test]
+fn long_messages(rt: HostRuntime) -> Result<(), Fail> {
+    let longest = "m".repeat(rt.alloc(), 5_120)?;
+    let wanted = joined(rt.alloc(), &["0 Forbidden ", longest.as_str(), "\n"])?;
+    assert_eq!(rt; found_with_letters(rt.alloc(), 5_120)?, wanted);
+    let found = found_with_letters(rt.alloc(), 5_121)?;
+    assert_eq!(rt; found.as_str(), "0 Forbidden a\n");
     Ok(())
 }
 
