@@ -82,9 +82,17 @@ under_ignore spec = codes "\"failurePolicy\":\"Ignore\"," ++ spec
 abbrev pub with_params : List ℕ → List ℕ
 with_params spec = codes "\"paramKind\":{\"apiVersion\":\"v1\",\"kind\":\"ConfigMap\"}," ++ spec
 
--- the binding b with these fields of its specification
+-- the specification of a binding to the policy of this name, with these fields
+abbrev pub bound_to : List ℕ → List ℕ → List ℕ
+bound_to policy spec = codes "\"policyName\":\"" ++ (policy ++ (codes "\",\"validationActions\":[\"Warn\"]" ++ spec))
+
+-- the binding of this name with this specification
+abbrev pub binding_of : List ℕ → List ℕ → List ℕ
+binding_of name spec = codes "{\"apiVersion\":\"admissionregistration.k8s.io/v1\",\"kind\":\"ValidatingAdmissionPolicyBinding\",\"metadata\":{\"name\":\"" ++ (name ++ (codes "\"},\"spec\":{" ++ (spec ++ codes "}}")))
+
+-- the binding b of the policy p with these fields of its specification
 abbrev pub binding : List ℕ → List ℕ
-binding spec = codes "{\"apiVersion\":\"admissionregistration.k8s.io/v1\",\"kind\":\"ValidatingAdmissionPolicyBinding\",\"metadata\":{\"name\":\"b\"},\"spec\":{\"policyName\":\"p\",\"validationActions\":[\"Warn\"]" ++ (spec ++ codes "}}")
+binding spec = binding_of (codes "b") (bound_to (codes "p") spec)
 
 abbrev pub bare : List ℕ
 bare = binding []
@@ -99,6 +107,25 @@ to_limits = reference (codes "\"name\":\"limits\",\"parameterNotFoundAction\":\"
 abbrev pub to_each : List ℕ
 to_each = reference (codes "\"selector\":{},\"parameterNotFoundAction\":\"Allow\"")
 
+-- a reference to those of a label that none has
+abbrev pub to_labelled : List ℕ
+to_labelled = reference (codes "\"selector\":{\"matchLabels\":{\"a\":\"b\"}},\"parameterNotFoundAction\":\"Allow\"")
+
+-- a binding of the namespaces with a label
+abbrev pub bound_by_labels : List ℕ
+bound_by_labels = binding (codes ",\"matchResources\":{\"namespaceSelector\":{\"matchLabels\":{\"env\":\"prod\"}}}")
+
+-- a binding of resources of version v2
+abbrev pub bound_to_other_version : List ℕ
+bound_to_other_version = binding (codes ",\"matchResources\":{\"resourceRules\":[{\"operations\":[\"*\"],\"apiGroups\":[\"*\"],\"apiVersions\":[\"v2\"],\"resources\":[\"*\"]}]}")
+
+-- a kind of params without namespaces, and a reference that names a namespace
+abbrev pub with_namespaces : List ℕ → List ℕ
+with_namespaces spec = codes "\"paramKind\":{\"apiVersion\":\"v1\",\"kind\":\"Namespace\"}," ++ spec
+
+abbrev pub to_prod : List ℕ
+to_prod = reference (codes "\"name\":\"prod\",\"namespace\":\"prod\",\"parameterNotFoundAction\":\"Deny\"")
+
 -- ---- requests
 
 -- the deletion of an object of this kind and resource, of version v1 of the core group, with these further fields
@@ -110,6 +137,13 @@ pod_in namespace = deletion (codes "Pod") (codes "pods") (codes ",\"namespace\":
 
 abbrev pub node : List ℕ
 node = deletion (codes "Node") (codes "nodes") []
+
+-- the deletion of the namespace prod, and of all namespaces
+abbrev pub space : List ℕ
+space = deletion (codes "Namespace") (codes "namespaces") (codes ",\"name\":\"prod\",\"namespace\":\"prod\"")
+
+abbrev pub spaces : List ℕ
+spaces = deletion (codes "Namespace") (codes "namespaces") []
 
 -- a resource of version v2
 abbrev pub of_other_version : List ℕ
@@ -142,3 +176,35 @@ pub record StepRowsHold : Type 0 where
       rows_with (policy (under_ignore (with_params matches_all)) ∷ to_limits ∷ config (codes "a") ∷ prod ∷ []) (pod_in (codes "prod")) ≡ Some []
   pub no_params_and_no_namespace : rows_with (policy (with_params matches_all) ∷ to_each ∷ config (codes "a") ∷ prod ∷ []) (pod_in (codes "gone"))
       ≡ Some (not_found ∷ [])
+  -- a binding that does not match, or of which it is not known
+  pub other_labels_of_binding : rows_with (policy matches_all ∷ bound_by_labels ∷ prod ∷ []) (pod_in (codes "prod")) ≡ Some []
+  pub no_labels_of_binding : rows_with (policy matches_all ∷ bound_by_labels ∷ prod ∷ []) (pod_in (codes "gone"))
+      ≡ Some (error (Some (codes "b")) (codes "namespaces \"gone\" not found") ∷ [])
+  pub other_version_of_binding : rows_with (policy matches_all ∷ bound_to_other_version ∷ prod ∷ []) (pod_in (codes "prod")) ≡ Some (unknown ∷ [])
+  -- all namespaces at once
+  pub no_name : rows_with (policy matches_labels ∷ bare ∷ prod ∷ []) spaces
+      ≡ Some (error None (codes "Internal error occurred: resource name may not be empty") ∷ [])
+  -- what comes before a block, and what after it
+  pub is_blocked_in_trouble : rows_by (Some policy_refused) (policy matches_labels ∷ bare ∷ prod ∷ []) (pod_in (codes "gone"))
+      ≡ Some (error None (codes "namespaces \"gone\" not found") ∷ [])
+  pub is_blocked_if_it_matches : rows_by (Some policy_refused) (policy matches_all ∷ bare ∷ prod ∷ []) of_other_version ≡ Some (unknown ∷ [])
+  pub is_blocked_before_its_bindings : rows_by (Some policy_refused) (policy matches_all ∷ bare ∷ prod ∷ []) (pod_in (codes "gone")) ≡ Some (blocked ∷ [])
+  -- errors of params come before the namespace
+  pub absent_params_and_no_namespace : rows_with (policy (with_params matches_all) ∷ to_limits ∷ config (codes "a") ∷ prod ∷ []) (pod_in (codes "gone"))
+      ≡ Some (error (Some (codes "b")) (codes "no params found for policy binding with `Deny` parameterNotFoundAction") ∷ [])
+  pub absent_params_and_no_namespace_under_ignore :
+      rows_with (policy (under_ignore (with_params matches_all)) ∷ to_limits ∷ config (codes "a") ∷ prod ∷ []) (pod_in (codes "gone")) ≡ Some []
+  pub needless_namespace : rows_with (policy (with_namespaces matches_all) ∷ to_prod ∷ prod ∷ []) (pod_in (codes "prod"))
+      ≡ Some (error (Some (codes "b")) (codes "paramRef.namespace must not be provided for a cluster-scoped `paramKind`") ∷ [])
+  pub none_of_a_label : rows_with (policy (with_params matches_all) ∷ to_labelled ∷ config (codes "a") ∷ prod ∷ []) (pod_in (codes "prod")) ≡ Some []
+  pub no_kind : rows_with (policy matches_all ∷ to_limits ∷ config (codes "limits") ∷ prod ∷ []) (pod_in (codes "prod"))
+      ≡ Some (evaluated (codes "b") None (Some (codes "prod")) ∷ [])
+  -- params of a namespace are looked up in it, and its object is null
+  pub of_a_namespace : rows_with (policy (with_params matches_all) ∷ to_limits ∷ config (codes "limits") ∷ prod ∷ []) space
+      ≡ Some (evaluated (codes "b") (Some (codes "limits")) None ∷ [])
+  -- several bindings, of which one is of another policy
+  pub two_bindings : rows_with (policy matches_all ∷ binding_of (codes "c") (bound_to (codes "p") []) ∷ binding_of (codes "b") (bound_to (codes "q") [])
+      ∷ binding_of (codes "a") (bound_to (codes "p") []) ∷ prod ∷ []) node ≡ Some (evaluated (codes "a") None None ∷ evaluated (codes "c") None None ∷ [])
+  pub error_before_others : rows_with (policy (with_params matches_all) ∷ binding_of (codes "c") (bound_to (codes "p") []) ∷ to_limits ∷ config (codes "a") ∷ prod ∷ [])
+      (pod_in (codes "prod")) ≡ Some (error (Some (codes "b")) (codes "no params found for policy binding with `Deny` parameterNotFoundAction")
+      ∷ evaluated (codes "c") None (Some (codes "prod")) ∷ [])
