@@ -16,7 +16,8 @@ use Rattle.cluster_response.specs.Annotations.{html_safe}
 use Rattle.cluster_response.specs.Events.{Event, refuses, ends, configuration_event, findings_events}
 use Rattle.cluster_response.specs.Messages.{go_quoted, shown_name, shown_resource}
 use Rattle.cluster_response.specs.Response.{cluster_response}
-use Rattle.cluster_response.specs.declared.cluster_refusal.ClusterRefusal.TheVariants.{OutOfSteps, PolicyRefused}
+use Rattle.cluster_response.specs.declared.cluster_refusal.ClusterRefusal.{ClusterRefusal}
+use Rattle.cluster_response.specs.declared.cluster_refusal.ClusterRefusal.TheVariants.{ReviewRefused, NamespaceOrParamsRefused, OutOfSteps, OverLimit, UnknownMatch, PolicyRefused, UnknownParamKind}
 
 -- ---- requests
 
@@ -109,6 +110,19 @@ denied_by_m = codes "{\"allowed\":false,\"status\":{\"code\":403,\"message\":\"d
 abbrev pub is_not_found : List ℕ
 is_not_found = codes "\"status\":{\"code\":404,\"message\":\"namespaces \\\"prod\\\" not found\",\"reason\":\"NotFound\"},\"uid\":\"u1\""
 
+-- the policy q does not decide, for this reason
+abbrev pub undecided_by : ClusterRefusal → Event
+undecided_by refusal = refuses (record { policy = codes "q"; refusal = refusal })
+
+-- the line that says so
+abbrev pub refused_as : List ℕ → List ℕ
+refused_as code = codes "{\"policy\":\"q\",\"refused\":\"" ++ (code ++ codes "\",\"uid\":\"u1\"}")
+
+-- the annotation of a finding, with its message, place and actions
+abbrev pub annotation_of : List ℕ → List ℕ → List ℕ → List ℕ
+annotation_of message place actions = codes "\"auditAnnotations\":{\"validation.policy.admission.k8s.io/validation_failure\":\"[{\\\"message\\\":\\\"" ++ (message
+    ++ (codes "\\\",\\\"policy\\\":\\\"p\\\",\\\"binding\\\":\\\"b\\\",\\\"expressionIndex\\\":" ++ (place ++ (codes ",\\\"validationActions\\\":[" ++ (actions ++ codes "]}]\"}")))))
+
 pub record AnswerRowsHold : Type 0 where
   pub no_events : answer [] ≡ reviewed (codes "{\"allowed\":true,\"uid\":\"u1\"}")
   pub warned_and_audited : answer (under (Warn ∷ Audit ∷ []) (found 0 (codes "m") Invalid ∷ []))
@@ -133,3 +147,20 @@ pub record AnswerRowsHold : Type 0 where
   pub denied_after_refusal : answer (refuses (record { policy = codes "a"; refusal = OutOfSteps }) ∷ under (Deny ∷ []) twice) ≡ reviewed denied_by_m
   pub no_namespace_after_refusal : answer (refuses (record { policy = codes "a"; refusal = OutOfSteps }) ∷ ends ∷ [])
       ≡ reviewed (codes "{\"allowed\":false," ++ (is_not_found ++ codes "}"))
+  -- a denial beside audits and warnings
+  pub denied_and_audited : answer (under (Deny ∷ Audit ∷ []) (found 1 (codes "m") Forbidden ∷ found 2 (codes "n") Invalid ∷ []))
+      ≡ reviewed (codes "{\"allowed\":false," ++ (annotation_of (codes "m") (codes "1") (codes "\\\"Deny\\\",\\\"Audit\\\"")
+      ++ codes ",\"status\":{\"code\":403,\"message\":\"deployments.apps \\\"web\\\" is forbidden: ValidatingAdmissionPolicy 'p' with binding 'b' denied request: m\",\"reason\":\"Forbidden\"},\"uid\":\"u1\"}"))
+  pub denied_with_warning : answer (under (Warn ∷ []) (found 0 (codes "n") Invalid ∷ []) ++ under (Deny ∷ []) twice)
+      ≡ reviewed (codes "{\"allowed\":false,\"status\":{\"code\":403,\"message\":\"deployments.apps \\\"web\\\" is forbidden: ValidatingAdmissionPolicy 'p' with binding 'b' denied request: m\",\"reason\":\"Forbidden\"},\"uid\":\"u1\",\"warnings\":["
+      ++ (warning_of_n ++ codes "]}"))
+  -- texts in the annotation
+  pub escaped : answer (under (Audit ∷ []) (found 0 (codes "<a>\"&") Invalid ∷ []))
+      ≡ reviewed (codes "{\"allowed\":true," ++ (annotation_of (codes "\\\\u003ca\\\\u003e\\\\\\\"\\\\u0026") (codes "0") (codes "\\\"Audit\\\"") ++ codes ",\"uid\":\"u1\"}"))
+  -- refusals
+  pub after_warning : answer (under (Warn ∷ Audit ∷ []) twice ++ undecided_by OverLimit ∷ []) ≡ refused_as (codes "N5")
+  pub of_review : answer (undecided_by ReviewRefused ∷ []) ≡ refused_as (codes "N2")
+  pub of_params : answer (undecided_by NamespaceOrParamsRefused ∷ []) ≡ refused_as (codes "N3")
+  pub of_match : answer (undecided_by UnknownMatch ∷ []) ≡ refused_as (codes "N6")
+  pub of_policy : answer (undecided_by PolicyRefused ∷ []) ≡ refused_as (codes "C7")
+  pub of_kind : answer (undecided_by UnknownParamKind ∷ []) ≡ refused_as (codes "C8")

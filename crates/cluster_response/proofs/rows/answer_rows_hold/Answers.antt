@@ -19,4 +19,13 @@ returns c = record {
   undecided = refl;
   denied_after_refusal = refl;
   no_namespace_after_refusal = refl;
+  denied_and_audited = refl;
+  denied_with_warning = refl;
+  escaped = refl;
+  after_warning = refl;
+  of_review = refl;
+  of_params = refl;
+  of_match = refl;
+  of_policy = refl;
+  of_kind = refl;
 }
