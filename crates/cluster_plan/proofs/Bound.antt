@@ -1,5 +1,5 @@
 -- The steps of bindings, one after another, and the params of their evaluations.
-use Rattle.cluster_plan.proofs.Prelude.{◌≡◌, ◌∙◌, ◌+◌, ◌<◌, ◌++◌, ◌∷◌, ℕ, drop, drop_more, get_or, length, List, [], Bool, true, false, Option, Some, Result, Ok, ap, append_assoc, bytes_eq, map, map-append, option_map, refl, sym, Binding, CodeBinding, binding_view, Bor, ClusterState, AskedPolicy, ParamError, PlannedStep, Request, Value, binding_steps, bindings_steps, found_params, view}
+use Rattle.cluster_plan.proofs.Prelude.{◌≡◌, ◌∙◌, ◌+◌, ◌<◌, ◌++◌, ◌∷◌, ℕ, drop, drop_more, get_or, length, List, [], true, false, Option, Some, Result, Ok, ap, append_assoc, bytes_eq, map, option_map, refl, sym, Binding, CodeBinding, binding_view, Bor, ClusterState, AskedPolicy, ParamError, PlannedStep, Request, Value, binding_steps, bindings_steps, found_params, view}
 use Rattle.serde_json.specs.Data as json
 
 -- a binding of the policy has its steps before those of the others

@@ -181,6 +181,8 @@ pub record StepRowsHold : Type 0 where
   pub no_labels_of_binding : rows_with (policy matches_all ∷ bound_by_labels ∷ prod ∷ []) (pod_in (codes "gone"))
       ≡ Some (error (Some (codes "b")) (codes "namespaces \"gone\" not found") ∷ [])
   pub other_version_of_binding : rows_with (policy matches_all ∷ bound_to_other_version ∷ prod ∷ []) (pod_in (codes "prod")) ≡ Some (unknown ∷ [])
+  pub quotes_in_a_name : rows_with (policy matches_labels ∷ bare ∷ prod ∷ []) (pod_in (codes "a\\\"b"))
+      ≡ Some (error None (codes "namespaces \"a\\\"b\" not found") ∷ [])
   -- all namespaces at once
   pub no_name : rows_with (policy matches_labels ∷ bare ∷ prod ∷ []) spaces
       ≡ Some (error None (codes "Internal error occurred: resource name may not be empty") ∷ [])

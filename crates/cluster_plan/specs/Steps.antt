@@ -1,8 +1,8 @@
 -- What a policy of a cluster does with a request, step by step (Kubernetes, dispatch of ValidatingAdmissionPolicies). The
 -- policy's expressions are not evaluated here.
-use Rattle.std.specs.Prelude.{◌≡◌, ℕ, Vec, Bool, true, false, not, List, [], ◌∷◌, ◌++◌, map, Option, Some, None, Result, Ok, Err, bytes_eq, codes, filter, option_map, string_bytes}
+use Rattle.std.specs.Prelude.{◌≡◌, ℕ, Vec, Bool, true, false, not, List, [], ◌∷◌, map, Option, Some, None, Result, Ok, Err, bytes_eq, codes, filter, option_map, string_bytes}
 use Rattle.std.specs.Borrow.{Bor}
-use Rattle.std.specs.List.{flat_map}
+use Rattle.std.specs.List.{concat, flat_map}
 use Rattle.std.specs.declared.alloc.Global.{Global}
 use Rattle.serde_json.specs.Data as json
 use Rattle.serde_json.specs.View.{view}
@@ -23,6 +23,7 @@ use Rattle.cluster_state.specs.State.{ClusterState}
 use Rattle.cluster_state.specs.declared.param_error.ParamError.{ParamError}
 use Rattle.cluster_state.specs.declared.param_error.ParamError.TheVariants as params_error
 use Rattle.cluster_state.specs.declared.param_error.ParamError.TheVariants.{ClusterScopedRequest, NeedlessNamespace, Memory}
+use Rattle.cluster_plan.specs.Quotes.{go_quoted}
 use Rattle.cluster_plan.specs.declared.asked_policy.AskedPolicy.{AskedPolicy as CodeAsked}
 use Rattle.cluster_plan.specs.declared.step.Step.{Step as CodeStep}
 use Rattle.cluster_plan.specs.declared.step.Step.TheVariants as code
@@ -56,9 +57,9 @@ pub record AskedPolicy : Type 0 where
 unfoldable pub fails_closed : json.Data → Bool
 fails_closed d = not (equals_string (field_of (codes "failurePolicy") (field (codes "spec") d)) (codes "Ignore"))
 
--- what the API server says of a namespace that is not there
+-- what the API server says of a namespace that is not there (apimachinery, NewNotFound)
 unfoldable pub absent_text : List ℕ → List ℕ
-absent_text name = codes "namespaces \"" ++ (name ++ codes "\" not found")
+absent_text name = concat (codes "namespaces " ∷ go_quoted name ∷ codes " not found" ∷ [])
 
 -- what the API server says if the labels of the request's namespace are not known
 abbrev pub trouble_text : Trouble → List ℕ → List ℕ

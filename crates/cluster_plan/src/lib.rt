@@ -2,10 +2,12 @@
 #![tactic(auto)]
 
 mod asked_policy;
+mod quotes;
 pub mod rows;
 mod step;
 mod steps;
 
 pub use asked_policy::AskedPolicy;
+pub use quotes::go_quoted;
 pub use step::Step;
-pub use steps::{fails_closed, trouble_text};
+pub use steps::{absent_text, fails_closed, trouble_text};

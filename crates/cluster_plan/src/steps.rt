@@ -9,6 +9,7 @@ ghost use Rattle.cluster_state.specs.State.{state_view};
 ghost use Rattle.cluster_plan.specs.Steps.{binding_steps, bindings_steps, absent_text, error_steps, evaluates, evaluations, fails_closed, params_for, FindsParams, asked_view, matched_steps, step_view, trouble_text};
 
 use crate::asked_policy::AskedPolicy;
+use crate::quotes::go_quoted;
 use crate::step::Step;
 use admission_documents::{Request, field};
 use admission_match::{Answer, Trouble};
@@ -187,11 +188,13 @@ pub fn trouble_text(alloc: Global, trouble: Trouble, namespace: &str) -> Result<
     }
 }
 
+/// What the API server says of a namespace that is not there.
 #[tactic(auto, unfolding(crate::specs::Steps::absent_text))]
-fn absent_text(alloc: Global, namespace: &str) -> Result<String, AllocError>
+pub fn absent_text(alloc: Global, namespace: &str) -> Result<String, AllocError>
     ensures { IfOk result (λ s. string_bytes s ≡ absent_text namespace.now) }
 {
-    format!(in alloc; "namespaces \"{namespace}\" not found")
+    let name = go_quoted(alloc, namespace)?;
+    ["namespaces ", name.as_str(), " not found"].concat(alloc)
 }
 
 fn null_alone<'a>(alloc: Global) -> Result<Vec<Option<&'a Value>>, AllocError>

@@ -19,7 +19,6 @@ pub use Rattle.cluster_response.specs.Annotations.{action_tree, html_escape}
 pub use Rattle.cluster_response.specs.Events.{ClusterAudit, ClusterDenial, Event, EventSummary, KeepsEvents, Undecided, action_event, configuration_event, denies, warns, audits, refuses, ends, each_once, events_view, finding_events, findings_events, first_audit, first_denial, first_undecided, has_end, summary_of, warning_texts}
 pub use Rattle.cluster_response.specs.Keeping.{or_first, or_there, with_event, with_events}
 pub use Rattle.cluster_response.specs.Laws.{AllowsByEvents, allowed_in, is_against, is_refusal, warns_by}
-pub use Rattle.cluster_response.specs.Messages.{go_escape}
 unfoldable pub use Rattle.cluster_response.specs.Messages.{denial_text}
 pub use Rattle.cluster_response.specs.Response.{annotations_tree, answer_by, answer_tree, decision_tree, if_member, if_texts, status_of}
 unfoldable pub use Rattle.cluster_response.specs.Response.{cluster_response}

@@ -1,20 +1,12 @@
 -- What is said of a request that is not allowed.
-use Rattle.std.specs.Prelude.{ℕ, ◌==◌, List, [], ◌∷◌, ◌++◌, Option, Some, None, codes, encode_utf8, length, if◌then◌else◌}
-use Rattle.std.specs.List.{concat, flat_map}
-use Rattle.std.specs.Str.{chars}
+use Rattle.std.specs.Prelude.{ℕ, ◌==◌, List, [], ◌∷◌, ◌++◌, Option, Some, None, codes, length, if◌then◌else◌}
+use Rattle.std.specs.List.{concat}
 use Rattle.serde_json.specs.Data as json
 use Rattle.admission_documents.specs.Documents.{field, text_of}
 use Rattle.admission_documents.specs.Requests.{Request}
 use Rattle.admission_match.specs.Requests.{GroupVersionResource}
+use Rattle.cluster_plan.specs.Quotes.{go_quoted}
 use Rattle.cluster_response.specs.Events.{ClusterDenial}
-
--- a character as Go quotes it: a backslash is before a quote or a backslash (strconv.Quote, of printable characters)
-abbrev pub go_escape : ℕ → List ℕ
-go_escape c = if c == 34 then codes "\\\"" else (if c == 92 then codes "\\\\" else encode_utf8 c)
-
--- a text in Go's quotes
-abbrev pub go_quoted : List ℕ → List ℕ
-go_quoted t = 34 ∷ (flat_map go_escape (chars t) ++ 34 ∷ [])
 
 -- the text, or another one if it is empty
 abbrev pub or_text : List ℕ → List ℕ → List ℕ
@@ -66,7 +58,3 @@ denial_text d = concat (
 -- the message of a denial (apimachinery, NewForbidden)
 unfoldable pub denied_message : Request → ClusterDenial → List ℕ
 denied_message q d = forbidden_text q ++ denial_text d
-
--- the message where there is no namespace of this name (apimachinery, NewNotFound)
-unfoldable pub not_found_message : List ℕ → List ℕ
-not_found_message namespace = concat (codes "namespaces " ∷ go_quoted namespace ∷ codes " not found" ∷ [])

@@ -6,9 +6,10 @@ use Rattle.serde_json.specs.View.{items_of}
 use Rattle.serde_json.specs.Written.{compact_text}
 use Rattle.admission_documents.specs.Requests.{Request}
 use Rattle.policy_glue.specs.Response.{review_tree, status_tree}
+use Rattle.cluster_plan.specs.Steps.{absent_text}
 use Rattle.cluster_response.specs.Annotations.{annotation_text}
 use Rattle.cluster_response.specs.Events.{ClusterAudit, ClusterDenial, Event, EventSummary, Undecided, summary_of}
-use Rattle.cluster_response.specs.Messages.{denied_message, not_found_message}
+use Rattle.cluster_response.specs.Messages.{denied_message}
 use Rattle.cluster_response.specs.Refusals.{cluster_refusal_code}
 
 -- ---- parts
@@ -17,7 +18,7 @@ use Rattle.cluster_response.specs.Refusals.{cluster_refusal_code}
 abbrev pub not_found_status : List ℕ → json.Data
 not_found_status namespace = json.object
     (json.member (codes "code") (json.number (json.unsigned 404))
-    (json.member (codes "message") (json.string (not_found_message namespace))
+    (json.member (codes "message") (json.string (absent_text namespace))
     (json.member (codes "reason") (json.string (codes "NotFound")) json.no_members)))
 
 -- the status of a denial

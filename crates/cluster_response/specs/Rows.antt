@@ -12,9 +12,10 @@ use Rattle.cluster_state.specs.declared.action.Action.TheVariants.{Deny, Warn, A
 use Rattle.policy_glue.specs.Findings.{PolicyFinding}
 use Rattle.policy_glue.specs.declared.reason.Reason.{Reason}
 use Rattle.policy_glue.specs.declared.reason.Reason.TheVariants.{Forbidden, Invalid}
+use Rattle.cluster_plan.specs.Quotes.{go_quoted}
 use Rattle.cluster_response.specs.Annotations.{html_safe}
 use Rattle.cluster_response.specs.Events.{Event, refuses, ends, configuration_event, findings_events}
-use Rattle.cluster_response.specs.Messages.{go_quoted, shown_name, shown_resource}
+use Rattle.cluster_response.specs.Messages.{shown_name, shown_resource}
 use Rattle.cluster_response.specs.Response.{cluster_response}
 use Rattle.cluster_response.specs.declared.cluster_refusal.ClusterRefusal.{ClusterRefusal}
 use Rattle.cluster_response.specs.declared.cluster_refusal.ClusterRefusal.TheVariants.{ReviewRefused, NamespaceOrParamsRefused, OutOfSteps, OverLimit, UnknownMatch, PolicyRefused, UnknownParamKind}
@@ -60,10 +61,13 @@ pub record NameRowsHold : Type 0 where
   pub no_name : shown_of (codes "{\"metadata\":{}}") ≡ codes "Unknown"
   pub no_metadata : shown_of (codes "{\"spec\":{}}") ≡ codes "Unknown/errorGettingName"
   pub null_metadata : shown_of (codes "{\"metadata\":null}") ≡ codes "Unknown/errorGettingName"
+  pub no_text : shown_of (codes "{\"metadata\":{\"name\":1}}") ≡ codes "Unknown"
   pub no_object : shown_name (request_on pods [] None) ≡ codes "Unknown"
+  pub old_object_alone : shown_name (record (request_on pods [] None) { old_object = read (codes "{\"metadata\":{\"name\":\"b\"}}") }) ≡ codes "Unknown"
   pub of_a_group : shown_resource deployments ≡ codes "deployments.apps"
   pub of_no_group : shown_resource pods ≡ codes "pods"
   pub quotes : go_quoted (codes "a\"b\\c") ≡ codes "\"a\\\"b\\\\c\""
+  pub quotes_of_others : go_quoted (39 ∷ 195 ∷ 164 ∷ []) ≡ 34 ∷ 39 ∷ 195 ∷ 164 ∷ 34 ∷ []
   pub html : html_safe (codes "a<b>&c") ≡ codes "a\\u003cb\\u003e\\u0026c"
   pub separators : html_safe (226 ∷ 128 ∷ 168 ∷ 226 ∷ 128 ∷ 169 ∷ 195 ∷ 164 ∷ []) ≡ codes "\\u2028\\u2029" ++ 195 ∷ 164 ∷ []
 

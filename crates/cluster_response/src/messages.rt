@@ -2,11 +2,12 @@
 ghost use Rattle.std.specs.Prelude.{◌≡◌, IfOk, option_map, string_bytes};
 ghost use Rattle.admission_documents.specs.Requests.{request_view};
 ghost use Rattle.cluster_response.specs.Events.{denial_view};
-ghost use Rattle.cluster_response.specs.Messages.{denial_text, denied_message, forbidden_text, not_found_message, with_binding};
+ghost use Rattle.cluster_response.specs.Messages.{denial_text, denied_message, forbidden_text, with_binding};
 
 use crate::denial::Denial;
-use crate::names::{go_quoted, shown_name, shown_resource};
+use crate::names::{shown_name, shown_resource};
 use admission_documents::Request;
+use cluster_plan::go_quoted;
 use std::alloc::{AllocError, Global};
 
 /// The message of a denial.
@@ -58,13 +59,4 @@ fn with_binding(alloc: Global, binding: &Option<String>) -> Result<String, Alloc
         Some(binding) => [" with binding '", binding.as_str(), "'"].concat(alloc),
         None => Ok(String::new(alloc)),
     }
-}
-
-/// The message where there is no namespace of this name.
-#[tactic(auto, unfolding(crate::specs::Messages::not_found_message))]
-pub(crate) fn not_found_message(alloc: Global, namespace: &str) -> Result<String, AllocError>
-    ensures { IfOk result (λ t. string_bytes t ≡ not_found_message namespace.now) }
-{
-    let name = go_quoted(alloc, namespace)?;
-    ["namespaces ", name.as_str(), " not found"].concat(alloc)
 }

@@ -1,44 +1,14 @@
 //! Names that are shown.
-ghost use Rattle.std.specs.Prelude.{◌≡◌, ◌++◌, IfOk, OnOk, Some, option_map, string_bytes};
-ghost use Rattle.std.specs.List.{flat_map};
-ghost use Rattle.std.specs.Str.{chars};
+ghost use Rattle.std.specs.Prelude.{◌≡◌, IfOk, option_map, string_bytes};
 ghost use Rattle.serde_json.specs.View.{view};
 ghost use Rattle.admission_documents.specs.Requests.{request_view};
 ghost use Rattle.admission_match.specs.Requests.{resource_view};
-ghost use Rattle.cluster_response.specs.Messages.{go_escape, go_quoted, name_given, name_in_metadata, name_in_object, or_if_absent, or_text, shown_name, shown_resource};
+ghost use Rattle.cluster_response.specs.Messages.{name_given, name_in_metadata, name_in_object, or_if_absent, or_text, shown_name, shown_resource};
 
 use admission_documents::{Request, field, text};
 use admission_match::GroupVersionResource;
 use serde_json::Value;
 use std::alloc::{AllocError, Global};
-
-/// The text in Go's quotes.
-pub(crate) fn go_quoted(alloc: Global, text: &str) -> Result<String, AllocError>
-    ensures { IfOk result (λ t. string_bytes t ≡ go_quoted text.now) }
-{
-    let escaped = go_escaped(alloc, text)?;
-    ["\"", escaped.as_str(), "\""].concat(alloc)
-}
-
-fn go_escaped(alloc: Global, text: &str) -> Result<String, AllocError>
-    ensures { IfOk result (λ t. string_bytes t ≡ flat_map go_escape (chars text.now)) }
-{
-    let mut escaped = String::new(alloc);
-    for c in text.chars() {
-        push_escaped(&mut escaped, c)?;
-    }
-    Ok(escaped)
-}
-
-fn push_escaped(escaped: &mut String, c: char) -> Result<(), AllocError>
-    ensures { OnOk result (string_bytes escaped.new ≡ string_bytes escaped.old ++ go_escape c) }
-{
-    match c {
-        '"' => escaped.push_str("\\\""),
-        '\\' => escaped.push_str("\\\\"),
-        _ => escaped.push(c),
-    }
-}
 
 /// The resource with its group, if it has one.
 pub(crate) fn shown_resource(

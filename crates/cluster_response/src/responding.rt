@@ -12,9 +12,10 @@ use crate::annotation::annotation_text;
 use crate::audit::Audit;
 use crate::denial::Denial;
 use crate::events::Events;
-use crate::messages::{denied_message, not_found_message};
+use crate::messages::denied_message;
 use crate::undecided::Undecided;
 use admission_documents::Request;
+use cluster_plan::absent_text;
 use policy_glue::Reason;
 use serde_json::{Map, Value, json, put};
 use std::alloc::{AllocError, Global};
@@ -74,7 +75,7 @@ fn status_of(
 fn not_found_status(alloc: Global, namespace: &str) -> Result<Value, AllocError>
     ensures { IfOk result (λ v. view v ≡ not_found_status namespace.now) }
 {
-    let message = not_found_message(alloc, namespace)?;
+    let message = absent_text(alloc, namespace)?;
     let text = message.as_str();
     json!(in alloc; {"code": 404u64, "message": text, "reason": "NotFound"})
 }

@@ -24,6 +24,7 @@ returns c = record {
   other_labels_of_binding = refl;
   no_labels_of_binding = refl;
   other_version_of_binding = refl;
+  quotes_in_a_name = refl;
   no_name = refl;
   is_blocked_in_trouble = refl;
   is_blocked_if_it_matches = refl;

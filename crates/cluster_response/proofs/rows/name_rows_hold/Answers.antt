@@ -13,10 +13,13 @@ returns c = record {
   no_name = refl;
   no_metadata = refl;
   null_metadata = refl;
+  no_text = refl;
   no_object = refl;
+  old_object_alone = refl;
   of_a_group = refl;
   of_no_group = refl;
   quotes = refl;
+  quotes_of_others = refl;
   html = refl;
   separators = refl;
 }

@@ -1,4 +1,4 @@
-use Rattle.cluster_plan.proofs.Prelude.{◌≡◌, ◌∙◌, ◌++◌, ap, arith, asked_view, map, map-append, request_view, state_view, step_view, sym}
+use Rattle.cluster_plan.proofs.Prelude.{◌≡◌, ◌∙◌, ◌++◌, ap, asked_view, map, map-append, request_view, state_view, step_view, sym}
 use Rattle.cluster_plan.proofs.Bound.{go_first, go_other}
 use Rattle.cluster_plan.proofs.asked_policy.AskedPolicy.bindings_steps.Goals as goal
 use Rattle.cluster_plan.proofs.asked_policy.AskedPolicy.bindings_steps.Goals.{then-eq+in_ok-more+in_ok-append, else-eq}

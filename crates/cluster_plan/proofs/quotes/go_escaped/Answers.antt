@@ -1,5 +1,5 @@
-use Rattle.cluster_response.proofs.Prelude.{◌∙◌, YieldsList-end, YieldsList-from_chars, ap, flat_map, go_escape, map-id, sym}
-use Rattle.cluster_response.proofs.names.go_escaped.Goals as goal
+use Rattle.cluster_plan.proofs.Prelude.{◌∙◌, YieldsList-end, YieldsList-from_chars, ap, flat_map, go_escape, map-id, sym}
+use Rattle.cluster_plan.proofs.quotes.go_escaped.Goals as goal
 
 pub returns : goal.returns
 returns c =
