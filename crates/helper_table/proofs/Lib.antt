@@ -10,5 +10,6 @@ pub mod Depths
 pub mod Entering
 pub mod Performing
 pub mod Numbers
+pub mod Asking
 pub mod Tables
 pub mod Prelude

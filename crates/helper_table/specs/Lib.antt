@@ -13,3 +13,4 @@ pub mod Kinds
 pub mod Effects
 pub mod Laws
 pub mod Tables
+pub mod Answers

@@ -16,14 +16,14 @@ use guest_memory::Fault;
 use memchr::memmem;
 use value_store::{Shape, ValueStore};
 
-fn are_values(x: Shape<'_>, y: Shape<'_>) -> bool
+pub(crate) fn are_values(x: Shape<'_>, y: Shape<'_>) -> bool
     ensures { result ≡ is_value (shape_view x.entry) && is_value (shape_view y.entry) }
 {
     is_value(x) && is_value(y)
 }
 
 /// Deep equality, if both are values.
-fn equality<V: ValueStore>(table: &mut V, a: u64, b: u64, both: bool) -> Option<bool>
+pub(crate) fn equality<V: ValueStore>(table: &mut V, a: u64, b: u64, both: bool) -> Option<bool>
     requires { both ≡ is_some (equal_at (slice_get (V.values table.old) a) (slice_get (V.values table.old) b)) }
     ensures answer { result ≡ equal_at (slice_get (V.values table.old) a) (slice_get (V.values table.old) b) }
     ensures values { V.values table.new ≡ V.values table.old }

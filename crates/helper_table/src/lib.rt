@@ -1,7 +1,10 @@
 //! The helpers that a BPF program calls: the rows of the helper table, for any store of values and any memory.
 #![tactic(auto)]
 
+mod answer;
+mod answers;
 mod building;
+mod caller;
 mod calling;
 mod comparisons;
 mod conversions;
@@ -12,7 +15,10 @@ pub mod laws;
 mod lookups;
 mod operands;
 mod placement;
+mod question;
+mod recalling;
 mod text_test;
 
+pub use caller::Caller;
 pub use calling::call;
 pub use helper_end::HelperEnd;

@@ -1,5 +1,6 @@
 //! Calls of helpers on the plain store and plain memory.
 
+mod recalled;
 mod rows;
 mod same_calls;
 

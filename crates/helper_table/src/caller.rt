@@ -1,0 +1,93 @@
+//! A store of values, with kept answers.
+
+ghost use Rattle.std.specs.Prelude.{◌≡◌, false, IfOk, IsOk};
+ghost use Rattle.helper_table.specs.Calls.{outcome_of, call_end};
+ghost use Rattle.helper_table.specs.Ends.{CallReturns, takes_memory};
+
+use crate::answers::Answers;
+use crate::calling::perform;
+use crate::helper::Helper;
+use crate::helper_end::HelperEnd;
+use crate::recalling::recalled_effect;
+use guest_memory::{Fault, Regions};
+use std::alloc::{AllocError, Global};
+use std::marker::Model;
+use value_store::ValueStore;
+
+/// A store of values, with the last answers of helpers that read long texts. Clauses see only the
+/// values and the charge.
+#[derive(Drop)]
+pub struct Caller<V: ValueStore> {
+    table: V,
+    /// Copies begin without answers.
+    answers: Answers,
+}
+
+impl<V: ValueStore> Model for Caller<V> {
+    ghost use Rattle.std.specs.Coded.{codes};
+    ghost use Rattle.value_store.specs.Codes.{coded_stored};
+    ghost use Rattle.value_store.specs.Placing.{Contents};
+    ghost use Rattle.helper_table.specs.Answers.{AreAnswers};
+
+    ghost Value = { Contents };
+
+    ghost coded = { Prim.hlevel (codes, coded_stored) };
+
+    ghost view = { λ c. record { values = V.values c.table; charge = V.charge c.table } };
+
+    ghost invariant = { λ c. AreAnswers (V.values c.table) c.answers.kept.items };
+}
+
+impl<V: ValueStore> Caller<V> {
+    /// A store without answers.
+    pub fn new(alloc: Global, table: V) -> Caller<V>
+        ensures { result ≡ record { values = V.values table; charge = V.charge table } }
+    {
+        Caller {
+            table,
+            answers: Answers::new(alloc),
+        }
+    }
+
+    /// The store.
+    pub fn table(&self) -> &V
+        ensures { record { values = V.values result.now; charge = V.charge result.now } ≡ self.now }
+    {
+        &self.table
+    }
+
+    /// A copy of the store, without answers.
+    ///
+    /// # Errors
+    ///
+    /// `AllocError` if an allocation fails.
+    pub fn copy(&self) -> Result<Caller<V>, AllocError>
+        ensures { IfOk result (λ copy. copy ≡ self.now) }
+    {
+        let alloc = *self.answers.kept.allocator();
+        Ok(Caller::new(alloc, self.table.copy()?))
+    }
+
+    /// Calls helper `id` as the function `call` does, and reuses a kept answer if there is one.
+    ///
+    /// # Errors
+    ///
+    /// `AllocError` if the allocation for an appended value fails; the store is then unchanged.
+    pub fn call<M: Regions>(
+        &mut self,
+        id: i32,
+        args: [u64; 5],
+        memory: &M,
+    ) -> Result<HelperEnd, AllocError>
+        ensures ends { CallReturns (call_end id args self.old (M.bytes memory.now).constants) result self.old self.new }
+        ensures memory { takes_memory (outcome_of id args self.old.values (M.bytes memory.now).constants) self.old ≡ false → IsOk result }
+    {
+        let Some(helper) = Helper::of_number(id) else {
+            return Ok(HelperEnd::Stop(Fault::F5));
+        };
+        match recalled_effect(helper, args, &mut self.table, &mut self.answers, memory) {
+            Ok(effect) => perform(&mut self.table, effect),
+            Err(fault) => Ok(HelperEnd::Stop(fault)),
+        }
+    }
+}

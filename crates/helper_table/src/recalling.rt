@@ -1,0 +1,200 @@
+//! Calls that reuse a kept answer. Steps and charge do not count the bytes of a text, so a loop that
+//! reads the same long texts in each turn must not scan them each time.
+
+ghost use Rattle.std.specs.Prelude.{◌≡◌, ℕ, true, IfSome, IsSome, slice_get};
+ghost use Rattle.helper_table.specs.Answers.{reads_texts, second_operand, AreAnswers, AsksFor, IsAnswer, IsKeptAnswer, IsLasting};
+ghost use Rattle.helper_table.specs.Calls.{row_of};
+ghost use Rattle.helper_table.specs.Effects.{means, CanFollow};
+ghost use Rattle.value_store.specs.Calls.{equal_at};
+
+use crate::answer::Answer;
+use crate::answers::Answers;
+use crate::calling::effect_of;
+use crate::comparisons::are_values;
+use crate::helper::Helper;
+use crate::helper_effect::HelperEffect;
+use crate::placement::Placement;
+use crate::question::Question;
+use guest_memory::{Fault, Regions};
+use value_store::ValueStore;
+
+/// The least number of bytes of a long text.
+const LONG: usize = 512;
+
+/// Whether the answers of a helper are kept.
+fn reads_texts(helper: Helper) -> bool
+    ensures { result ≡ reads_texts helper }
+{
+    matches!(
+        helper,
+        Helper::Index
+            | Helper::Size
+            | Helper::Equal
+            | Helper::Less
+            | Helper::Starts
+            | Helper::Ends
+            | Helper::Contains
+            | Helper::Member
+    )
+}
+
+fn second_operand(helper: Helper, a: u64, b: u64) -> u64
+    ensures { result ≡ second_operand helper a b }
+{
+    match helper {
+        Helper::Size => a,
+        _ => b,
+    }
+}
+
+/// Whether a reference names a long text.
+fn is_long<V: ValueStore>(table: &V, h: u64) -> bool {
+    match table.text(h) {
+        Some(text) => text.len() >= LONG,
+        None => false,
+    }
+}
+
+/// Whether a helper reads a long text of these operands. A comparison of two texts reads at most the
+/// length of the shorter one. The store itself remembers how lists and maps compare.
+fn reads_long<V: ValueStore>(table: &V, helper: Helper, a: u64, b: u64) -> bool {
+    match helper {
+        Helper::Size | Helper::Equal | Helper::Contains | Helper::Member => is_long(table, a),
+        _ => is_long(table, b),
+    }
+}
+
+/// The question of a call, if it reads a long text.
+fn question<V: ValueStore>(helper: Helper, args: [u64; 5], table: &V) -> Option<Question>
+    ensures { IfSome result (AsksFor helper args) }
+{
+    let [a, second, _, _, _] = args;
+    let b = second_operand(helper, a, second);
+    if reads_texts(helper) && reads_long(table, helper, a, b) {
+        return Some(Question { helper, a, b });
+    }
+    None
+}
+
+/// Whether two references name values, which can be compared.
+fn can_be_equal<V: ValueStore>(table: &V, a: u64, b: u64) -> bool
+    ensures { result ≡ true → IsSome (equal_at (slice_get (V.values table.now) a) (slice_get (V.values table.now) b)) }
+{
+    match (table.at(a), table.at(b)) {
+        (Some(x), Some(y)) => are_values(x, y),
+        _ => false,
+    }
+}
+
+/// Whether two references name equal values.
+fn is_same<V: ValueStore>(table: &mut V, a: u64, b: u64) -> bool
+    ensures same { result ≡ true → slice_get (V.values table.old) a ≡ slice_get (V.values table.old) b }
+    ensures values { V.values table.new ≡ V.values table.old }
+    ensures charge { V.charge table.new ≡ V.charge table.old }
+{
+    if a == b {
+        return true;
+    }
+    if can_be_equal(table, a, b) {
+        return table.equal(a, b);
+    }
+    false
+}
+
+/// The effect of a kept answer, if it answers this question.
+#[tactic(auto, using(crate::proofs::Asking::recalled_answer))]
+fn recalled<V: ValueStore>(
+    table: &mut V,
+    kept: Option<Answer>,
+    question: Question,
+) -> Option<HelperEffect<'static>>
+    requires { IsKeptAnswer (V.values table.old) kept }
+    ensures answer { IfSome result (IsAnswer (V.values table.old) question) }
+    ensures values { V.values table.new ≡ V.values table.old }
+    ensures charge { V.charge table.new ≡ V.charge table.old }
+{
+    let Some(answer) = kept else {
+        return None;
+    };
+    if answer.question.helper != question.helper {
+        return None;
+    }
+    if !is_same(table, question.a, answer.question.a) {
+        return None;
+    }
+    if !is_same(table, question.b, answer.question.b) {
+        return None;
+    }
+    Some(answer.effect)
+}
+
+/// The effect of the answer to a question, if it is kept at a place or the next one.
+fn found<V: ValueStore>(
+    table: &mut V,
+    answers: &Answers,
+    question: Question,
+    place: usize,
+) -> Option<HelperEffect<'static>>
+    requires { AreAnswers (V.values table.old) answers.now.kept.items }
+    ensures answer { IfSome result (IsAnswer (V.values table.old) question) }
+    ensures values { V.values table.new ≡ V.values table.old }
+    ensures charge { V.charge table.new ≡ V.charge table.old }
+{
+    let first = recalled(table, answers.at(place), question);
+    if first.is_some() {
+        return first;
+    }
+    let next = answers.at(place.wrapping_add(1));
+    recalled(table, next, question)
+}
+
+/// The same effect, if it does not depend on the constants.
+fn lasting(effect: HelperEffect<'_>) -> Option<HelperEffect<'static>>
+    ensures { IfSome result (λ e. (e ≡ effect.entry) × IsLasting e.placement) }
+{
+    let added = effect.added;
+    match effect.placement {
+        Placement::Word(word) => Some(HelperEffect {
+            placement: Placement::Word(word),
+            added,
+        }),
+        Placement::Int(n) => Some(HelperEffect {
+            placement: Placement::Int(n),
+            added,
+        }),
+        Placement::Part(h, i) => Some(HelperEffect {
+            placement: Placement::Part(h, i),
+            added,
+        }),
+        _ => None,
+    }
+}
+
+/// The effect of a helper's row on these arguments, from a kept answer if there is one.
+pub(crate) fn recalled_effect<'a, V: ValueStore, M: Regions>(
+    helper: Helper,
+    args: [u64; 5],
+    table: &mut V,
+    answers: &mut Answers,
+    memory: &'a M,
+) -> Result<HelperEffect<'a>, Fault>
+    requires { AreAnswers (V.values table.old) answers.old.kept.items }
+    ensures means { means (V.values table.old) result ≡ row_of helper args (V.values table.old) (M.bytes memory.now).constants }
+    ensures can { CanFollow (V.values table.old) result }
+    ensures values { V.values table.new ≡ V.values table.old }
+    ensures charge { V.charge table.new ≡ V.charge table.old }
+    ensures answers { AreAnswers (V.values table.old) answers.new.kept.items }
+{
+    let Some(question) = question(helper, args, table) else {
+        return effect_of(helper, args, table, memory);
+    };
+    let place = question.place(table);
+    if let Some(effect) = found(table, answers, question, place) {
+        return Ok(effect);
+    }
+    let effect = effect_of(helper, args, table, memory)?;
+    if let Some(kept) = lasting(effect) {
+        answers.keep(place, question, kept);
+    }
+    Ok(effect)
+}
