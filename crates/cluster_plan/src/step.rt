@@ -5,7 +5,7 @@ use serde_json::Value;
 
 /// A step of a policy with a request.
 #[derive(Debug, Drop)]
-pub enum Step<'a> {
+pub enum Step<'s, 'a> {
     /// A configuration error denies the request: of the binding of this name.
     Denial {
         binding: Option<&'a str>,
@@ -16,7 +16,7 @@ pub enum Step<'a> {
     /// The policy is evaluated with these params and this namespace, each null if it is none, and
     /// the binding tells its findings.
     Evaluation {
-        binding: &'a Binding<'a>,
+        binding: &'s Binding<'a>,
         params: Option<&'a Value>,
         namespace: Option<&'a Value>,
     },

@@ -20,12 +20,12 @@ use std::alloc::{AllocError, Global};
 impl<'a> AskedPolicy<'a> {
     /// The steps of each binding of the policy with this request, which the policy's constraints
     /// match, in the order of the bindings' names. The error is that an allocation failed.
-    pub fn bindings_steps(
+    pub fn bindings_steps<'s>(
         &self,
         alloc: Global,
-        state: &'a State<'a>,
-        request: &'a Request<'a>,
-    ) -> Result<Vec<Step<'a>>, AllocError>
+        state: &'s State<'a>,
+        request: &Request<'_>,
+    ) -> Result<Vec<Step<'s, 'a>>, AllocError>
         ensures { IfOk result (λ v. map step_view v.items ≡ bindings_steps (state_view state.now) (asked_view self.now) (request_view request.now) (state_view state.now).bindings) }
     {
         let bindings = state.bindings();
@@ -39,13 +39,13 @@ impl<'a> AskedPolicy<'a> {
         Ok(steps)
     }
 
-    fn binding_steps(
+    fn binding_steps<'s>(
         &self,
         alloc: Global,
-        state: &'a State<'a>,
-        request: &'a Request<'a>,
-        binding: &'a Binding<'a>,
-    ) -> Result<Vec<Step<'a>>, AllocError>
+        state: &'s State<'a>,
+        request: &Request<'_>,
+        binding: &'s Binding<'a>,
+    ) -> Result<Vec<Step<'s, 'a>>, AllocError>
         ensures { IfOk result (λ v. map step_view v.items ≡ binding_steps (state_view state.now) (asked_view self.now) (request_view request.now) (binding_view binding.now)) }
     {
         match binding.resources.matches(&request.attributes, state) {
@@ -62,13 +62,13 @@ impl<'a> AskedPolicy<'a> {
     }
 
     /// The steps of a binding that matches.
-    fn matched_steps(
+    fn matched_steps<'s>(
         &self,
         alloc: Global,
-        state: &'a State<'a>,
-        request: &'a Request<'a>,
-        binding: &'a Binding<'a>,
-    ) -> Result<Vec<Step<'a>>, AllocError>
+        state: &'s State<'a>,
+        request: &Request<'_>,
+        binding: &'s Binding<'a>,
+    ) -> Result<Vec<Step<'s, 'a>>, AllocError>
         ensures { IfOk result (λ v. map step_view v.items ≡ matched_steps (state_view state.now) (asked_view self.now) (request_view request.now) (binding_view binding.now)) }
     {
         let name = request.attributes.namespace;
@@ -94,9 +94,9 @@ impl<'a> AskedPolicy<'a> {
     fn params(
         &self,
         alloc: Global,
-        state: &'a State<'a>,
-        binding: &'a Binding<'a>,
-        namespace: &'a str,
+        state: &State<'a>,
+        binding: &Binding<'a>,
+        namespace: &str,
     ) -> Result<Vec<Option<&'a Value>>, ParamError>
         ensures { FindsParams (params_for (state_view state.now).objects (asked_view self.now).kind (binding_view binding.now).param_ref namespace.now) result }
     {
@@ -113,25 +113,25 @@ impl<'a> AskedPolicy<'a> {
     }
 
     /// An error of params denies if the policy fails closed.
-    fn param_error_steps(
+    fn param_error_steps<'s>(
         &self,
         alloc: Global,
         binding: &Binding<'a>,
         error: ParamError,
-    ) -> Result<Vec<Step<'a>>, AllocError>
+    ) -> Result<Vec<Step<'s, 'a>>, AllocError>
         ensures { IfOk result (λ v. map step_view v.items ≡ error_steps (fails_closed (asked_view self.now).policy.document) (Some (binding_view binding.now).name) (param_error_text error)) }
     {
         self.error_steps(alloc, Some(binding.name), error.text())
     }
 
     /// A namespace whose labels are not known denies if the policy fails closed.
-    fn trouble_steps(
+    fn trouble_steps<'s>(
         &self,
         alloc: Global,
         binding: Option<&'a str>,
         trouble: Trouble,
         namespace: &str,
-    ) -> Result<Vec<Step<'a>>, AllocError>
+    ) -> Result<Vec<Step<'s, 'a>>, AllocError>
         ensures { IfOk result (λ v. map step_view v.items ≡ error_steps (fails_closed (asked_view self.now).policy.document) (option_map (λ s. s.now) binding.entry) (trouble_text trouble namespace.now)) }
     {
         let message = trouble_text(alloc, trouble, namespace)?;
@@ -139,12 +139,12 @@ impl<'a> AskedPolicy<'a> {
     }
 
     /// An error denies if the policy fails closed.
-    fn error_steps(
+    fn error_steps<'s>(
         &self,
         alloc: Global,
         binding: Option<&'a str>,
         message: &str,
-    ) -> Result<Vec<Step<'a>>, AllocError>
+    ) -> Result<Vec<Step<'s, 'a>>, AllocError>
         ensures { IfOk result (λ v. map step_view v.items ≡ error_steps (fails_closed (asked_view self.now).policy.document) (option_map (λ s. s.now) binding.entry) message.now) }
     {
         if fails_closed(self.policy.document) {
@@ -219,12 +219,12 @@ fn each_given<'a>(
 }
 
 /// An evaluation with each of these params, unless the namespace is not found.
-fn evaluations<'a>(
+fn evaluations<'s, 'a>(
     alloc: Global,
-    binding: &'a Binding<'a>,
+    binding: &'s Binding<'a>,
     namespace: NamespaceObject<'a>,
     params: &[Option<&'a Value>],
-) -> Result<Vec<Step<'a>>, AllocError>
+) -> Result<Vec<Step<'s, 'a>>, AllocError>
     ensures { IfOk result (λ v. map step_view v.items ≡ evaluations (binding_view binding.now) (namespace_object_view namespace.entry) (map (option_map (λ d. view d.now)) params.now)) }
 {
     match namespace {
@@ -234,12 +234,12 @@ fn evaluations<'a>(
     }
 }
 
-fn evaluations_in<'a>(
+fn evaluations_in<'s, 'a>(
     alloc: Global,
-    binding: &'a Binding<'a>,
+    binding: &'s Binding<'a>,
     namespace: Option<&'a Value>,
     params: &[Option<&'a Value>],
-) -> Result<Vec<Step<'a>>, AllocError>
+) -> Result<Vec<Step<'s, 'a>>, AllocError>
     ensures { IfOk result (λ v. map step_view v.items ≡ map (λ p. evaluates (binding_view binding.now) p (option_map (λ d. view d.now) namespace.entry)) (map (option_map (λ d. view d.now)) params.now)) }
 {
     let mut steps = Vec::new(alloc);
@@ -253,7 +253,7 @@ fn evaluations_in<'a>(
     Ok(steps)
 }
 
-fn one_step<'a>(alloc: Global, step: Step<'a>) -> Result<Vec<Step<'a>>, AllocError>
+fn one_step<'s, 'a>(alloc: Global, step: Step<'s, 'a>) -> Result<Vec<Step<'s, 'a>>, AllocError>
     ensures { IfOk result (λ v. map step_view v.items ≡ step_view step.entry ∷ []) }
 {
     let mut steps = Vec::new(alloc);

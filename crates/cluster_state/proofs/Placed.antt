@@ -1,5 +1,5 @@
 -- The maps of the code, as objects.
-use Rattle.cluster_state.proofs.Prelude.{◌≡◌, ◌∙◌, ◌∷◌, ◌&&◌, ℕ, Bool, true, false, List, [], Option, Some, None, ap, cond, map, refl, sym, BTreeMap, Bor, Equal, Greater, Less, Ordering, Value, Collection, Named, bytes_eq, collection_cmp, get_by, insert_entry, is_at, is_collection, is_eq, is_eq-slice_cmp, is_some, lookup, match_ordering, named_in, named_view, nat_cmp, not, option_copied, option_map, option_map_or, ordering_then, slice_cmp, view, if◌then◌else◌}
+use Rattle.cluster_state.proofs.Prelude.{◌≡◌, ◌∙◌, ◌∷◌, ◌&&◌, ℕ, Bool, true, false, List, [], Option, Some, None, ap, cond, map, refl, sym, BTreeMap, Bor, Equal, Greater, Less, Ordering, Value, Collection, Named, bytes_eq, collection_cmp, collection_view, get_by, insert_entry, is_at, is_collection, is_eq, is_eq-slice_cmp, is_some, lookup, match_ordering, named_in, named_view, nat_cmp, not, option_copied, option_map, option_map_or, ordering_then, slice_cmp, view, if◌then◌else◌}
 use Rattle.serde_json.specs.Data as json
 
 shown : Bor (List ℕ) × Bor Value → List ℕ × json.Data
@@ -82,3 +82,15 @@ found_as name (e ∷ es) =
     ap (λ b. option_map (λ v. view v.now) (cond b (Some e.1) (lookup (is_at (λ k. slice_cmp nat_cmp name k.now)) es))) (is_eq-slice_cmp name e.0.now)
     ∙ map_either (λ v. view v.now) (bytes_eq name e.0.now) e.1 (lookup (is_at (λ k. slice_cmp nat_cmp name k.now)) es)
     ∙ ap (cond (bytes_eq name e.0.now) (Some (view e.1.now))) (found_as name es)
+
+-- an entry of another place is passed by
+pub passed_place : (c : Collection) (it rest : List ((Bor (List ℕ) × Bor (List ℕ) × Bor (List ℕ)) × BTreeMap (Bor (List ℕ)) (Bor Value)))
+    (k : Bor (List ℕ) × Bor (List ℕ) × Bor (List ℕ)) (v : BTreeMap (Bor (List ℕ)) (Bor Value)) → it ≡ (k, v) ∷ rest → is_collection c (collection_view k) ≡ false
+    → lookup (is_at (collection_cmp c)) it ≡ lookup (is_at (collection_cmp c)) rest
+passed_place c it rest k v is other = rw (is, is_place c (collection_view k) ∙ other) refl
+
+-- the entry of the place is found
+pub found_place : (c : Collection) (it rest : List ((Bor (List ℕ) × Bor (List ℕ) × Bor (List ℕ)) × BTreeMap (Bor (List ℕ)) (Bor Value)))
+    (k : Bor (List ℕ) × Bor (List ℕ) × Bor (List ℕ)) (v : BTreeMap (Bor (List ℕ)) (Bor Value)) → it ≡ (k, v) ∷ rest → is_collection c (collection_view k) ≡ true
+    → lookup (is_at (collection_cmp c)) it ≡ Some v
+found_place c it rest k v is here = rw (is, is_place c (collection_view k) ∙ here) refl

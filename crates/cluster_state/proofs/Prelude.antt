@@ -22,7 +22,7 @@ unfoldable pub use Rattle.value_store.specs.Documents.{document_of}
 pub use Rattle.cluster_state.specs.Bindings.{Binding, ParamRef, action_in, binding_before, binding_view, bindings_in}
 pub use Rattle.cluster_state.specs.Policies.{BoundPolicy, policies_in, policy_before, policy_view}
 pub use Rattle.cluster_state.specs.Items.{Collection, Item, before, documents_in, item_before, item_in, item_view, items_in, items_list}
-pub use Rattle.cluster_state.specs.Objects.{Named, Objects, collection_cmp, is_collection, is_taken, named_in, named_view, no_objects, object_named, objects_view, with_item, with_items, with_name}
+pub use Rattle.cluster_state.specs.Objects.{Named, Objects, collection_cmp, collection_view, is_collection, is_taken, named_in, named_view, no_objects, object_named, objects_view, with_item, with_items, with_name}
 pub use Rattle.cluster_state.specs.Refusals.{Refusal, duplicate_item}
 pub use Rattle.cluster_state.specs.declared.binding.Binding.{Binding as CodeBinding}
 pub use Rattle.cluster_state.specs.declared.item.Item.{Item as CodeItem}

@@ -87,6 +87,30 @@ impl<'a> Objects<'a> {
     {
         self.collections.get(place)
     }
+
+    /// The objects of an `apiVersion`, a kind and a namespace, which need not outlive them.
+    pub(crate) fn at(
+        &self,
+        api_version: &str,
+        kind: &str,
+        namespace: &str,
+    ) -> Option<&BTreeMap<&'a str, &'a Value>>
+        ensures { option_map_or (λ m. named_view m.now.entries) result [] ≡ objects_view self.now (record { api_version = api_version.now; kind = kind.now; namespace = namespace.now }) }
+    {
+        for (place, objects) in self.collections.iter() {
+            if is_place(place, api_version, kind, namespace) {
+                return Some(objects);
+            }
+        }
+        None
+    }
+}
+
+/// Whether this is the place of these objects.
+fn is_place(place: &(&str, &str, &str), api_version: &str, kind: &str, namespace: &str) -> bool
+    ensures { result ≡ is_collection (record { api_version = api_version.now; kind = kind.now; namespace = namespace.now }) (collection_view place.now) }
+{
+    api_version == place.0 && kind == place.1 && namespace == place.2
 }
 
 fn add_to<'a>(

@@ -4,8 +4,8 @@ ghost use Rattle.std.specs.Option.{option_map_or, option_to_list};
 ghost use Rattle.serde_json.specs.View.{view};
 ghost use Rattle.label_selectors.specs.Selectors.{selector_view};
 ghost use Rattle.cluster_state.specs.Bindings.{choice_view, by_labels, param_ref_view};
-ghost use Rattle.cluster_state.specs.Objects.{collection_view, named_view, object_named};
-ghost use Rattle.cluster_state.specs.Params.{ParamsRead, chosen, has_needless_namespace, known_kind_view, lacks_namespace, namespace_or, params_of, params_place};
+ghost use Rattle.cluster_state.specs.Objects.{named_view, object_named};
+ghost use Rattle.cluster_state.specs.Params.{ParamsRead, chosen, has_needless_namespace, known_kind_view, lacks_namespace, params_of, params_place};
 ghost use Rattle.cluster_state.specs.Policies.{param_kind_view};
 ghost use Rattle.cluster_state.specs.State.{state_view};
 
@@ -13,6 +13,7 @@ use crate::known_kind::KnownKind;
 use crate::objects::object;
 use crate::param_choice::ParamChoice;
 use crate::param_error::ParamError;
+use crate::param_kind::ParamKind;
 use crate::param_ref::ParamRef;
 use crate::param_scope::ParamScope;
 use crate::state::State;
@@ -34,7 +35,7 @@ impl<'a> State<'a> {
         alloc: Global,
         kind: &KnownKind<'a>,
         reference: &ParamRef<'a>,
-        namespace: &'a str,
+        namespace: &str,
     ) -> Result<Vec<&'a Value>, ParamError>
         ensures { ParamsRead (params_of (state_view self.now).objects (known_kind_view kind.now) (param_ref_view reference.now) namespace.now) result }
     {
@@ -44,12 +45,37 @@ impl<'a> State<'a> {
         if has_needless_namespace(kind.scope, reference.namespace) {
             return Err(ParamError::NeedlessNamespace);
         }
-        let place = params_place(kind, reference.namespace, namespace);
-        let params = chosen(alloc, &reference.choice, self.objects.named(&place))?;
+        let objects = self.objects_for(kind, reference.namespace, namespace);
+        let params = chosen(alloc, &reference.choice, objects)?;
         if reference.denies_absence && params.is_empty() {
             return Err(ParamError::NotFound);
         }
         Ok(params)
+    }
+
+    /// The objects of the kind: in the namespace that the binding names, and else in the request's.
+    fn objects_for(
+        &self,
+        kind: &KnownKind<'_>,
+        named: &str,
+        own: &str,
+    ) -> Option<&BTreeMap<&'a str, &'a Value>>
+        ensures { option_map_or (λ m. named_view m.now.entries) result [] ≡ (state_view self.now).objects (params_place kind.now.scope (param_kind_view kind.now.kind) named.now own.now) }
+    {
+        let ParamKind {
+            api_version,
+            kind: name,
+        } = kind.kind;
+        match kind.scope {
+            ParamScope::Namespaced => {
+                if named.is_empty() {
+                    self.objects.at(api_version, name, own)
+                } else {
+                    self.objects.at(api_version, name, named)
+                }
+            }
+            ParamScope::Cluster => self.objects.at(api_version, name, ""),
+        }
     }
 }
 
@@ -69,30 +95,6 @@ fn has_needless_namespace(scope: ParamScope, named: &str) -> bool
         ParamScope::Namespaced => false,
         ParamScope::Cluster => !named.is_empty(),
     }
-}
-
-/// The collection of the params.
-fn params_place<'a>(
-    kind: &KnownKind<'a>,
-    named: &'a str,
-    own: &'a str,
-) -> (&'a str, &'a str, &'a str)
-    ensures { collection_view result ≡ params_place kind.now.scope (param_kind_view kind.now.kind) named.now own.now }
-{
-    match kind.scope {
-        ParamScope::Namespaced => (
-            kind.kind.api_version,
-            kind.kind.kind,
-            namespace_or(named, own),
-        ),
-        ParamScope::Cluster => (kind.kind.api_version, kind.kind.kind, ""),
-    }
-}
-
-fn namespace_or<'a>(named: &'a str, own: &'a str) -> &'a str
-    ensures { result.now ≡ namespace_or named.now own.now }
-{
-    if named.is_empty() { own } else { named }
 }
 
 /// The objects that the choice selects.
