@@ -1,0 +1,42 @@
+-- What evaluations find, by the texts of their documents.
+use Rattle.cluster_gate.proofs.Prelude.{◌≡◌, ℕ, List, Option, Result, Ok, Err, Vec, Global, option_map, refl, subst, sym, BoundPolicy, IsAskedGate, OneImage}
+use Rattle.std.specs.Borrow.{Bor}
+use Rattle.serde_json.specs.Data as json
+use Rattle.policy_glue.specs.Findings.{PolicyFinding}
+use Rattle.policy_glue.specs.declared.finding.Finding.{Finding}
+use Rattle.admission.specs.Deciding.{IsPolicyOf}
+use Rattle.admission.specs.Findings.{FindsReview, findings_view}
+use Rattle.admission.specs.Lent.{documents_lent}
+use Rattle.admission.specs.Standing.{RunAgrees}
+use Rattle.admission.specs.declared.policy_and_image.PolicyAndImage.{PolicyAndImage}
+use Rattle.admission.specs.declared.run_error.RunError.{RunError}
+use Rattle.cluster_response.specs.declared.cluster_refusal.ClusterRefusal.{ClusterRefusal}
+use Rattle.cluster_gate.specs.Dispatch.{EvaluatesPolicy}
+use Rattle.cluster_gate.specs.Running.{FindsOrRefuses, HasFound}
+use Rattle.cluster_gate.specs.Texts.{HasTextIf}
+
+module _ (p : BoundPolicy) (gate : PolicyAndImage) (review : List ℕ) (n : ℕ) (params namespace : Option json.Data) where
+  -- what is found under texts of the documents is what the policy finds
+  pub evaluated : (params_lent namespace_lent : Option (Bor (List ℕ))) (params_text namespace_text : Option (List ℕ)) (result : Result (List PolicyFinding) RunError)
+      → option_map (λ b. b.now) params_lent ≡ params_text → option_map (λ b. b.now) namespace_lent ≡ namespace_text
+      → HasTextIf params params_text → HasTextIf namespace namespace_text → IsAskedGate p gate
+      → ((policy : List ℕ) → IsPolicyOf policy gate → FindsReview (documents_lent policy review namespace_lent params_lent) n result)
+      → ((policy : List ℕ) → IsPolicyOf policy gate → OneImage gate.policy gate.image
+      → RunAgrees OneImage (documents_lent policy review namespace_lent params_lent) n result)
+      → EvaluatesPolicy OneImage review n p params namespace result
+  evaluated params_lent namespace_lent params_text namespace_text result params_are namespace_is of_params of_namespace asked finds runs = record {
+    documents = documents_lent asked.gate_of.text review namespace_lent params_lent;
+    policy = asked.gate_of.has_text;
+    review_is = refl;
+    namespace_text = subst (λ (o : Option (List ℕ)). HasTextIf namespace o) (sym namespace_is) of_namespace;
+    params_text = subst (λ (o : Option (List ℕ)). HasTextIf params o) (sym params_are) of_params;
+    finds = finds asked.gate_of.text asked.gate_of.of_policy;
+    runs = runs asked.gate_of.text asked.gate_of.of_policy asked.gate_of.image;
+  }
+
+  -- and what is told of it
+  pub told : (due : Result (Vec Finding Global) RunError) (r : Result (Vec Finding Global) ClusterRefusal)
+      → EvaluatesPolicy OneImage review n p params namespace (findings_view due) → HasFound due r → FindsOrRefuses OneImage review n p params namespace r
+  told due (Ok fs) evaluates is = subst (λ (x : Result (List PolicyFinding) RunError). EvaluatesPolicy OneImage review n p params namespace x) is evaluates
+  told due (Err e) evaluates (error, is, refusal) =
+      (error, subst (λ (x : Result (List PolicyFinding) RunError). EvaluatesPolicy OneImage review n p params namespace x) is evaluates, refusal)

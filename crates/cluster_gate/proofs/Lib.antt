@@ -1,0 +1,9 @@
+pub mod Prelude
+pub mod Written
+pub mod States
+pub mod Runs
+pub mod Evaluated
+pub mod Asked
+pub mod Dispatched
+pub mod Requested
+pub mod Opened

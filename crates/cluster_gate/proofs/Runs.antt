@@ -1,0 +1,125 @@
+-- The steps of a policy, one after another.
+use Rattle.cluster_gate.proofs.Prelude.{◌≡◌, ◌∙◌, ◌+◌, ◌<◌, ◌≤◌, ◌++◌, ◌∷◌, ℕ, zero, suc, ap, arith, drop, get_or, length, refl, List, [], Bool, true, false, Option, Ok, Err, map, append-nil, append_assoc, subst, sym, AddedBefore, Adds, AddsStep, AddsSteps, BoundPolicy, CodeEvents, Event, IsRunOf, KeepsEvents, OneImage, PlannedStep, PolicyRun, RunsSteps, finds_of, NextStep, NextPolicy, End}
+use Rattle.serde_json.specs.Data as json
+use Rattle.policy_glue.specs.Findings.{finding_view}
+use Rattle.policy_glue.specs.declared.finding.Finding.{Finding}
+use Rattle.cluster_state.specs.Bindings.{Binding}
+use Rattle.std.proofs.lemmas.List.{drop_more}
+use Rattle.cluster_plan.specs.Steps as plan
+use Rattle.cluster_plan.specs.Steps.{step_view}
+use Rattle.cluster_plan.specs.declared.step.Step.{Step as CodeStep}
+use Rattle.cluster_response.specs.Events as event
+use Rattle.cluster_response.specs.Events.{configuration_event, findings_events}
+use Rattle.cluster_response.specs.declared.cluster_refusal.ClusterRefusal.{ClusterRefusal}
+use Rattle.cluster_response.specs.declared.cluster_refusal.ClusterRefusal.TheVariants as refusal
+use Rattle.cluster_gate.specs.Dispatch.{no_steps, denied, not_known, found, refused, at_end, undecided_event}
+use Rattle.cluster_gate.specs.Running.{FindsOrRefuses}
+use Rattle.cluster_gate.specs.declared.progress.Progress.{Progress}
+
+-- nothing is added
+pub adds_none : (e : CodeEvents) → Adds e e []
+adds_none e es kept = subst (λ (l : List Event). KeepsEvents e l) (sym (append-nil es)) kept
+
+-- events are added after others
+pub adds_both : (a b c : CodeEvents) (xs ys : List Event) → Adds a b xs → Adds b c ys → Adds a c (xs ++ ys)
+adds_both a b c xs ys first then es kept = subst (λ (l : List Event). KeepsEvents c l) (append_assoc es xs ys) (then (es ++ xs) (first es kept))
+
+module _ (p : BoundPolicy) (run : PolicyRun) (all : List PlannedStep) (before : CodeEvents) where
+  -- before the first step
+  pub added_none : AddedBefore p run all all before before
+  added_none = ([], adds_none before, λ es ended runs. runs)
+
+  -- after the last step
+  pub added_all : (now : CodeEvents) → AddedBefore p run all [] before now → AddsSteps p run all before now false
+  added_all now (more, adds, goes) =
+      (more, adds, subst (λ (l : List Event). RunsSteps p.name (finds_of p run) all l false) (append-nil more) (goes [] false no_steps))
+
+  module _ (step : PlannedStep) (rest : List PlannedStep) (now after : CodeEvents) (so_far : AddedBefore p run all (step ∷ rest) before now) where
+    -- a step that others follow
+    pub added_step : AddsStep p run step now after NextStep → AddedBefore p run all rest before after
+    added_step (fs, adds, runs) = (
+      so_far.0 ++ fs,
+      adds_both before now after so_far.0 fs so_far.1 adds,
+      λ es ended others.
+          subst (λ (l : List Event). RunsSteps p.name (finds_of p run) all l ended) (sym (append_assoc so_far.0 fs es))
+          (so_far.2 (fs ++ es) ended (runs rest es ended others)),
+    )
+
+    -- the last step of the policy
+    pub added_last : AddsStep p run step now after NextPolicy → AddsSteps p run all before after false
+    added_last (fs, adds, runs) = (so_far.0 ++ fs, adds_both before now after so_far.0 fs so_far.1 adds, so_far.2 fs false (runs rest))
+
+    -- the last step of the dispatch
+    pub added_end : AddsStep p run step now after End → AddsSteps p run all before after true
+    added_end (fs, adds, runs) = (so_far.0 ++ fs, adds_both before now after so_far.0 fs so_far.1 adds, so_far.2 fs true (runs rest))
+
+-- ---- one step
+
+module _ (p : BoundPolicy) (run : PolicyRun) (of : IsRunOf p run) (before after : CodeEvents) where
+  -- the events of findings are added
+  pub found_step : (b : Binding) (params namespace : Option json.Data) (slice items : List Finding) → slice ≡ items
+      → ((es : List Event) → KeepsEvents before es → KeepsEvents after (es ++ findings_events run.name.now b (map finding_view slice)))
+      → finds_of p run params namespace (Ok (map finding_view items)) → AddsStep p run (plan.evaluates b params namespace) before after NextStep
+  found_step b params namespace slice items is adds finds = (
+    findings_events p.name b (map finding_view items),
+    λ es kept. subst (λ (xs : List Finding). KeepsEvents after (es ++ findings_events p.name b (map finding_view xs))) is
+        (subst (λ (name : List ℕ). KeepsEvents after (es ++ findings_events name b (map finding_view slice))) of.name (adds es kept)),
+    λ steps es ended rest. found finds rest,
+  )
+
+  told_last : (step : PlannedStep) (progress : Progress) (r : ClusterRefusal) → progress ≡ NextPolicy → Adds before after (undecided_event run.name.now r ∷ [])
+      → ((steps : List PlannedStep) → RunsSteps p.name (finds_of p run) (step ∷ steps) (undecided_event p.name r ∷ []) false) → AddsStep p run step before after progress
+  told_last step progress r is adds runs =
+      subst (λ (x : Progress). AddsStep p run step before after x) (sym is)
+      (undecided_event p.name r ∷ [], subst (λ (name : List ℕ). Adds before after (undecided_event name r ∷ [])) of.name adds, runs)
+
+  -- what is told instead of findings is added
+  pub refused_step : (b : Binding) (params namespace : Option json.Data) (progress : Progress) (r : ClusterRefusal)
+      → (progress ≡ NextPolicy) × Adds before after (undecided_event run.name.now r ∷ [])
+      → FindsOrRefuses OneImage run.case.now.review.now run.case.now.steps p params namespace (Err r) → AddsStep p run (plan.evaluates b params namespace) before after progress
+  refused_step b params namespace progress r told finds =
+      told_last (plan.evaluates b params namespace) progress r told.0 told.1 (λ steps. refused finds.1 finds.2)
+
+  -- that the match is not known is added
+  pub unknown_step : (step : PlannedStep) (progress : Progress) → step ≡ plan.unknown_match
+      → (progress ≡ NextPolicy) × Adds before after (undecided_event run.name.now refusal.UnknownMatch ∷ []) → AddsStep p run step before after progress
+  unknown_step step progress is told =
+      subst (λ (x : PlannedStep). AddsStep p run x before after progress) (sym is) (told_last plan.unknown_match progress refusal.UnknownMatch told.0 told.1 (λ steps. not_known))
+
+  -- an error of configuration is added
+  pub denied_step : (step : PlannedStep) (binding : Option (List ℕ)) (text message : List ℕ) → step ≡ plan.denies binding message → text ≡ message
+      → ((es : List Event) → KeepsEvents before es → KeepsEvents after (es ++ configuration_event run.name.now binding text ∷ []))
+      → AddsStep p run step before after NextStep
+  denied_step step binding text message is same adds =
+      subst (λ (x : PlannedStep). AddsStep p run x before after NextStep) (sym is) (
+        configuration_event p.name binding message ∷ [],
+        λ es kept. subst (λ (t : List ℕ). KeepsEvents after (es ++ configuration_event p.name binding t ∷ [])) same
+            (subst (λ (name : List ℕ). KeepsEvents after (es ++ configuration_event name binding text ∷ [])) of.name (adds es kept)),
+        λ steps es ended rest. denied rest,
+      )
+
+  -- the end is added
+  pub end_step : (step : PlannedStep) → step ≡ plan.ends → Adds before after (event.ends ∷ []) → AddsStep p run step before after End
+  end_step step is adds = subst (λ (x : PlannedStep). AddsStep p run x before after End) (sym is) (event.ends ∷ [], adds, λ steps. at_end)
+
+-- ---- the code's steps
+
+past_end : (xs : List CodeStep) (i : ℕ) → length xs ≤ i → drop i xs ≡ []
+past_end [] zero past = refl
+past_end [] (suc i) past = refl
+past_end (x ∷ xs) zero past = absurd (omega (arith, past))
+past_end (x ∷ xs) (suc i) past = past_end xs i (omega (arith, past))
+
+module _ (p : BoundPolicy) (run : PolicyRun) (xs : List CodeStep) (i : ℕ) (before now : CodeEvents)
+    (so_far : AddedBefore p run (map step_view xs) (map step_view (drop i xs)) before now) where
+  -- at the step of this place
+  pub at_step : (x : CodeStep) → i < length xs → x ≡ get_or xs i x → AddedBefore p run (map step_view xs) (step_view x ∷ map step_view (drop (i + 1) xs)) before now
+  at_step x within is =
+      let here : drop i xs ≡ x ∷ drop (i + 1) xs = drop_more xs i x within ∙ ap (λ y. y ∷ drop (i + 1) xs) (sym is) in
+      subst (λ (rest : List CodeStep). AddedBefore p run (map step_view xs) (map step_view rest) before now) here so_far
+
+  -- after all steps
+  pub at_last : length xs ≤ i → AddsSteps p run (map step_view xs) before now false
+  at_last past =
+      added_all p run (map step_view xs) before now
+      (subst (λ (rest : List CodeStep). AddedBefore p run (map step_view xs) (map step_view rest) before now) (past_end xs i past) so_far)

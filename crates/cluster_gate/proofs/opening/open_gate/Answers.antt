@@ -1,0 +1,8 @@
+use Rattle.cluster_gate.proofs.Prelude.{policy_view}
+use Rattle.cluster_gate.proofs.Asked.{compiled_of}
+use Rattle.cluster_gate.proofs.opening.open_gate.Goals as goal
+
+pub returns-in-Asked : goal.returns-in-Asked
+returns-in-Asked c =
+    let stands = rw c.in-Asked.is at c.in_ok-gate.ensures.stands in
+    (c.in_ok-gate.ensures, λ e. (compiled_of (policy_view c.args.policy.now) c.in-Asked.field-0 stands.0, stands.1))

@@ -1,0 +1,31 @@
+use Rattle.cluster_gate.proofs.Prelude.{◌+◌, drop, map, step_view}
+use Rattle.cluster_gate.proofs.Runs.{added_end, added_last, added_step, at_last, at_step}
+use Rattle.cluster_gate.proofs.policy_run.PolicyRun.run.Goals as goal
+
+pub returns-in-NextPolicy : goal.returns-in-NextPolicy
+returns-in-NextPolicy c p of =
+    added_last p c.args.self.now (map step_view c.args.steps.now) c.args.events.now (step_view c.step-item.result)
+    (map step_view (drop (c.loop-step.step-index + 1) c.args.steps.now)) c.loop-step.events c.run_step.new.events
+    (at_step p c.args.self.now c.args.steps.now c.loop-step.step-index c.args.events.now c.loop-step.events (c.loop-step.invariant p of) c.step-item.result
+    c.loop-step-test.true c.step-item.is)
+    (rw c.in-NextPolicy.is at (c.in_ok-run_step.ensures p of))
+
+pub returns-in-End : goal.returns-in-End
+returns-in-End c p of =
+    added_end p c.args.self.now (map step_view c.args.steps.now) c.args.events.now (step_view c.step-item.result)
+    (map step_view (drop (c.loop-step.step-index + 1) c.args.steps.now)) c.loop-step.events c.run_step.new.events
+    (at_step p c.args.self.now c.args.steps.now c.loop-step.step-index c.args.events.now c.loop-step.events (c.loop-step.invariant p of) c.step-item.result
+    c.loop-step-test.true c.step-item.is)
+    (rw c.in-End.is at (c.in_ok-run_step.ensures p of))
+
+pub loop-step-preserved : goal.loop-step-preserved
+loop-step-preserved c p of =
+    added_step p c.args.self.now (map step_view c.args.steps.now) c.args.events.now (step_view c.step-item.result)
+    (map step_view (drop (c.loop-step.step-index + 1) c.args.steps.now)) c.loop-step.events c.run_step.new.events
+    (at_step p c.args.self.now c.args.steps.now c.loop-step.step-index c.args.events.now c.loop-step.events (c.loop-step.invariant p of) c.step-item.result
+    c.loop-step-test.true c.step-item.is)
+    (rw c.in-NextStep.is at (c.in_ok-run_step.ensures p of))
+
+pub returns : goal.returns
+returns c p of =
+    at_last p c.args.self.now c.args.steps.now c.loop-step.step-index c.args.events.now c.loop-step.events (c.loop-step.invariant p of) c.loop-step-test.false

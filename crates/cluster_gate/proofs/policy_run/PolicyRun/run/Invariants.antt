@@ -1,0 +1,6 @@
+use Rattle.cluster_gate.proofs.Prelude.{drop, map, step_view, AddedBefore, BoundPolicy, IsRunOf}
+use Rattle.cluster_gate.proofs.policy_run.PolicyRun.run.Given as goal
+
+abbrev pub invariant-loop-step : goal.invariant-loop-step
+invariant-loop-step l = (p : BoundPolicy) → IsRunOf p l.self
+    → AddedBefore p l.self (map step_view l.steps) (map step_view (drop l.step-index l.steps)) l.fn.events l.events

@@ -1,0 +1,13 @@
+use Rattle.cluster_gate.proofs.Prelude.{◌∙◌, List, IfOk-weaker, ap, asked_policy, asked_view, map, request_view, state_view, step_view, subst, AddsSteps, PlannedStep}
+use Rattle.cluster_gate.proofs.Asked.{bound_steps}
+use Rattle.cluster_gate.proofs.policy_run.PolicyRun.run_bindings.Goals as goal
+
+pub returns : goal.returns
+returns c =
+    IfOk-weaker c.run.result _ _
+    (λ ended h s p state asked of.
+    subst (λ (st : List PlannedStep). AddsSteps p c.args.self.now st c.args.events.now c.run.new.events ended)
+    (ap (map step_view) c.as_slice.ensures.value
+    ∙ bound_steps s (state_view c.args.state.now) (asked_view c.args.asked.now) (asked_policy s p) (request_view c.args.self.now.case.now.request.now) _ state asked c.in_ok-steps.ensures)
+    (h p of))
+    c.run.ensures

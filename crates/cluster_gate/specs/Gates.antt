@@ -1,0 +1,135 @@
+-- The bound policies of a cluster before the first request: compiled, or blocked.
+use Rattle.std.specs.Prelude.{◌≡◌, ℕ, ◌&&◌, Bool, true, false, List, [], ◌∷◌, ◌++◌, Option, Some, None, Result, Ok, Err, Vec, string_bytes, is_none, is_some, option_and_then, option_map}
+use Rattle.std.specs.declared.alloc.Global.{Global}
+use Rattle.policy_glue.specs.Naming.{conditions_name_namespace}
+use Rattle.policy_glue.specs.OneImage.{OneImage}
+use Rattle.admission.specs.Deciding.{IsPolicy, IsPolicyOf, IsPolicyRefused}
+use Rattle.admission.specs.declared.policy_and_image.PolicyAndImage.{PolicyAndImage}
+use Rattle.admission.specs.declared.policy_refusal.PolicyRefusal.{PolicyRefusal}
+use Rattle.cluster_state.specs.Params.{KnownKind, known_kind}
+use Rattle.cluster_state.specs.Policies.{BoundPolicy}
+use Rattle.cluster_state.specs.State.{ClusterState, state_view}
+use Rattle.cluster_plan.specs.Steps.{AskedPolicy, PolicyBlock, asked_view, policy_refused, unknown_kind}
+use Rattle.cluster_gate.specs.Texts.{HasText, without_status}
+use Rattle.cluster_gate.specs.declared.block_cause.BlockCause.{BlockCause}
+use Rattle.cluster_gate.specs.declared.block_cause.BlockCause.TheVariants.{Refused, NamesNamespace, UnknownParamKind}
+use Rattle.cluster_gate.specs.declared.cluster.Cluster.{Cluster}
+use Rattle.cluster_gate.specs.declared.cluster_error.ClusterError.{ClusterError}
+use Rattle.cluster_gate.specs.declared.cluster_error.ClusterError.TheVariants.{BlockedPolicy, Memory}
+use Rattle.cluster_gate.specs.declared.policy_gate.PolicyGate.{PolicyGate}
+use Rattle.cluster_gate.specs.declared.standing.Standing.{Standing}
+use Rattle.cluster_gate.specs.declared.standing.Standing.TheVariants.{Asked, Blocked}
+
+-- ---- kinds of params
+
+-- the kind of the policy's params, if it has one and params of it can be found
+abbrev pub kind_of : ClusterState → BoundPolicy → Option KnownKind
+kind_of s p = option_and_then (λ k. known_kind k s.items s.objects) p.param_kind
+
+-- the policy has a kind of params that cannot be found
+abbrev pub lacks_kind : ClusterState → BoundPolicy → Bool
+lacks_kind s p = is_some p.param_kind && is_none (kind_of s p)
+
+abbrev pub asked_policy : ClusterState → BoundPolicy → AskedPolicy
+asked_policy s p = record { policy = p; kind = kind_of s p }
+
+-- ---- what blocks a policy
+
+-- the policy is compiled, and whether its match conditions name the namespace
+pub record IsCompiledPolicy (p : BoundPolicy) (names : Bool) : Type 0 where
+  pub text : List ℕ
+  pub has_text : HasText (without_status p.document) text
+  pub is_policy : IsPolicy text
+  pub naming : conditions_name_namespace is_policy.trees ≡ names
+
+-- the policy is refused
+pub record IsRefusedPolicy (p : BoundPolicy) (e : PolicyRefusal) : Type 0 where
+  pub text : List ℕ
+  pub has_text : HasText (without_status p.document) text
+  pub refused : IsPolicyRefused text e
+
+-- why a policy is blocked, the first of these: it is refused; a match condition names `namespaceObject`, which the API
+-- server has as null there; params of its kind cannot be found
+abbrev pub IsBlockedBy : ClusterState → BoundPolicy → BlockCause → Type 0
+IsBlockedBy s p (Refused e) = IsRefusedPolicy p e
+IsBlockedBy s p NamesNamespace = IsCompiledPolicy p true
+IsBlockedBy s p UnknownParamKind = IsCompiledPolicy p false × (lacks_kind s p ≡ true)
+
+-- nothing blocks a policy, or this does
+abbrev pub IsJudged : ClusterState → BoundPolicy → Option BlockCause → Type 0
+IsJudged s p None = IsCompiledPolicy p false × (lacks_kind s p ≡ false)
+IsJudged s p (Some cause) = IsBlockedBy s p cause
+
+abbrev pub block_of : BlockCause → PolicyBlock
+block_of (Refused e) = policy_refused
+block_of NamesNamespace = policy_refused
+block_of UnknownParamKind = unknown_kind
+
+-- no policy is blocked
+abbrev pub NoneIsBlocked : ClusterState → List BoundPolicy → Type 0
+NoneIsBlocked s [] = Unit {0}
+NoneIsBlocked s (p ∷ ps) = IsJudged s p None × NoneIsBlocked s ps
+
+-- the first policy that is blocked has this name, and is blocked by this
+pub record FirstIsBlocked (s : ClusterState) (policies : List BoundPolicy) (name : List ℕ) (cause : BlockCause) : Type 0 where
+  pub before : List BoundPolicy
+  pub policy : BoundPolicy
+  pub after : List BoundPolicy
+  pub are : policies ≡ before ++ policy ∷ after
+  pub none : NoneIsBlocked s before
+  pub blocked : IsBlockedBy s policy cause
+  pub name_is : name ≡ policy.name
+
+-- ---- the code's
+
+-- the gate is of the policy, whose match conditions may name the namespace
+pub record IsGateOfText (p : BoundPolicy) (gate : PolicyAndImage) : Type 0 where
+  pub text : List ℕ
+  pub has_text : HasText (without_status p.document) text
+  pub of_policy : IsPolicyOf text gate
+  pub image : OneImage gate.policy gate.image
+
+-- the gate by which the policy is asked
+pub record IsAskedGate (p : BoundPolicy) (gate : PolicyAndImage) : Type 0 where
+  pub gate_of : IsGateOfText p gate
+  pub naming : conditions_name_namespace gate_of.of_policy.1.trees ≡ false
+
+-- a policy is asked by this gate, or blocked by this
+abbrev pub StandsAs : ClusterState → BoundPolicy → Standing → Type 0
+StandsAs s p (Asked gate) = IsAskedGate p gate × (lacks_kind s p ≡ false)
+StandsAs s p (Blocked cause) = IsBlockedBy s p cause
+
+-- the code's gate is of this policy
+pub record IsGateFor (s : ClusterState) (p : BoundPolicy) (g : PolicyGate) : Type 0 where
+  pub asked : asked_view g.asked ≡ asked_policy s p
+  pub stands : StandsAs s p g.standing
+
+-- the gate of a policy, which may be blocked only if that is allowed, or what blocks it; or an allocation failed
+abbrev pub OpensGateFor : ClusterState → Bool → BoundPolicy → Result PolicyGate ClusterError → Type 0
+OpensGateFor s partial p (Ok g) = IsGateFor s p g × (partial ≡ false → IsJudged s p None)
+OpensGateFor s partial p (Err (BlockedPolicy name cause)) = (partial ≡ false) × IsBlockedBy s p cause × (string_bytes name ≡ p.name)
+OpensGateFor s partial p (Err Memory) = Unit {0}
+
+-- the code's gates are of these policies
+abbrev pub AreGatesFor : ClusterState → List BoundPolicy → List PolicyGate → Type 0
+AreGatesFor s [] [] = Unit {0}
+AreGatesFor s [] (g ∷ gs) = ⊥
+AreGatesFor s (p ∷ ps) [] = ⊥
+AreGatesFor s (p ∷ ps) (g ∷ gs) = IsGateFor s p g × AreGatesFor s ps gs
+
+-- the code's cluster has this state
+pub record IsClusterFor (s : ClusterState) (c : Cluster) : Type 0 where
+  pub state : state_view c.state.now ≡ s
+  pub gates : AreGatesFor s s.policies c.gates.items
+
+-- the gates of policies, of which none is blocked unless that is allowed, or the first that is; or an allocation failed
+abbrev pub GatesOpen : ClusterState → Bool → List BoundPolicy → Result (Vec PolicyGate Global) ClusterError → Type 0
+GatesOpen s partial ps (Ok gates) = AreGatesFor s ps gates.items × (partial ≡ false → NoneIsBlocked s ps)
+GatesOpen s partial ps (Err (BlockedPolicy name cause)) = (partial ≡ false) × FirstIsBlocked s ps (string_bytes name) cause
+GatesOpen s partial ps (Err Memory) = Unit {0}
+
+-- the same of a cluster with this state
+abbrev pub ClusterOpens : ClusterState → Bool → Result Cluster ClusterError → Type 0
+ClusterOpens s partial (Ok c) = IsClusterFor s c × (partial ≡ false → NoneIsBlocked s s.policies)
+ClusterOpens s partial (Err (BlockedPolicy name cause)) = (partial ≡ false) × FirstIsBlocked s s.policies (string_bytes name) cause
+ClusterOpens s partial (Err Memory) = Unit {0}

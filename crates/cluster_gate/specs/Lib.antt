@@ -1,0 +1,4 @@
+pub mod Texts
+pub mod Gates
+pub mod Dispatch
+pub mod Running

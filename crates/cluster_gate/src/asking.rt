@@ -1,0 +1,112 @@
+//! A policy that is asked about a request.
+ghost use Rattle.std.specs.Prelude.{◌≡◌, false, IfOk};
+ghost use Rattle.admission_documents.specs.Requests.{request_view};
+ghost use Rattle.policy_glue.specs.OneImage.{OneImage};
+ghost use Rattle.cluster_state.specs.Policies.{policy_view, BoundPolicy};
+ghost use Rattle.cluster_state.specs.State.{state_view, ClusterState};
+ghost use Rattle.cluster_plan.specs.Steps.{asked_view};
+ghost use Rattle.cluster_gate.specs.Gates.{asked_policy, IsGateFor};
+ghost use Rattle.cluster_gate.specs.Running.{AddsMatched, AddsPolicy, AddsRun, AddsTrouble, IsRunOf};
+
+use crate::case::Case;
+use crate::policy_gate::PolicyGate;
+use crate::policy_run::PolicyRun;
+use crate::standing::Standing;
+use admission_match::{Answer, Trouble};
+use cluster_plan::{AskedPolicy, fails_closed, trouble_text};
+use cluster_response::{ClusterRefusal, Events};
+use cluster_state::{Policy, State};
+use std::alloc::{AllocError, Global};
+
+/// Adds the events of a policy. Returns whether the dispatch ends. The error is that an allocation
+/// failed.
+pub(crate) fn ask<'a, 'c>(
+    alloc: Global,
+    state: &State<'a>,
+    gate: &PolicyGate<'a>,
+    case: &'c Case<'c>,
+    events: &mut Events,
+) -> Result<bool, AllocError>
+    ensures { IfOk result (λ ended. (s : ClusterState) (p : BoundPolicy) → state_view state.now ≡ s → IsGateFor s p gate.now
+        → AddsPolicy OneImage s case.now.review.now case.now.steps (request_view case.now.request.now) p events.old events.new ended) }
+{
+    let policy = gate.asked.policy;
+    let request = case.request;
+    match policy.constraints.matches(&request.attributes, state) {
+        Answer::No => Ok(false),
+        Answer::Unknown => {
+            events.refuse(alloc, policy.name, ClusterRefusal::UnknownMatch)?;
+            Ok(false)
+        }
+        Answer::Trouble(trouble) => {
+            ask_in_trouble(alloc, policy, case, trouble, events)?;
+            Ok(false)
+        }
+        Answer::Yes => ask_matched(alloc, state, gate, case, events),
+    }
+}
+
+/// The labels of the request's namespace are not known, which denies if the policy fails closed.
+fn ask_in_trouble(
+    alloc: Global,
+    policy: &Policy<'_>,
+    case: &Case<'_>,
+    trouble: Trouble,
+    events: &mut Events,
+) -> Result<(), AllocError>
+    ensures { IfOk result (λ u. (p : BoundPolicy) → policy_view policy.now ≡ p → AddsTrouble p (request_view case.now.request.now) trouble events.old events.new) }
+{
+    let request = case.request;
+    if !fails_closed(policy.document) {
+        return Ok(());
+    }
+    let message = trouble_text(alloc, trouble, request.attributes.namespace)?;
+    events.add_configuration_error(alloc, policy.name, None, message.as_str())?;
+    Ok(())
+}
+
+/// Adds the events of a policy whose constraints match.
+fn ask_matched<'a, 'c>(
+    alloc: Global,
+    state: &State<'a>,
+    gate: &PolicyGate<'a>,
+    case: &'c Case<'c>,
+    events: &mut Events,
+) -> Result<bool, AllocError>
+    ensures { IfOk result (λ ended. (s : ClusterState) (p : BoundPolicy) → state_view state.now ≡ s → IsGateFor s p gate.now
+        → AddsMatched OneImage s case.now.review.now case.now.steps (request_view case.now.request.now) p events.old events.new ended) }
+{
+    let policy = gate.asked.policy;
+    match &gate.standing {
+        Standing::Asked(compiled) => {
+            let run = PolicyRun {
+                alloc,
+                name: policy.name,
+                gate: compiled,
+                case,
+            };
+            run.run_bindings(state, &gate.asked, events)
+        }
+        Standing::Blocked(cause) => {
+            events.refuse(alloc, policy.name, cause.refusal())?;
+            Ok(false)
+        }
+    }
+}
+
+impl PolicyRun<'_, '_, '_> {
+    /// Adds the events of the bindings of the policy, which is compiled.
+    fn run_bindings<'a>(
+        &self,
+        state: &State<'a>,
+        asked: &AskedPolicy<'a>,
+        events: &mut Events,
+    ) -> Result<bool, AllocError>
+        ensures { IfOk result (λ ended. (s : ClusterState) (p : BoundPolicy) → state_view state.now ≡ s → asked_view asked.now ≡ asked_policy s p
+            → IsRunOf p self.now → AddsRun s (request_view self.now.case.now.request.now) p self.now events.old events.new ended) }
+    {
+        let case = self.case;
+        let steps = asked.bindings_steps(self.alloc, state, case.request)?;
+        self.run(events, steps.as_slice())
+    }
+}

@@ -1,0 +1,31 @@
+//! Why policies are blocked.
+ghost use Rattle.std.specs.Prelude.{◌≡◌};
+ghost use Rattle.cluster_gate.specs.Dispatch.{block_refusal};
+ghost use Rattle.cluster_gate.specs.Gates.{block_of};
+
+use admission::PolicyRefusal;
+use cluster_response::ClusterRefusal;
+
+/// Why a policy decides none of the requests that its constraints match. If several causes hold,
+/// the first of this list is told.
+#[derive(Clone, Copy, Debug, PartialEq, Eq)]
+pub enum BlockCause {
+    /// The policy is refused.
+    Refused(PolicyRefusal),
+    /// A match condition names `namespaceObject`, which the API server has as null there.
+    NamesNamespace,
+    /// Params of its kind cannot be found.
+    UnknownParamKind,
+}
+
+impl BlockCause {
+    /// What is told of the policy.
+    pub fn refusal(&self) -> ClusterRefusal
+        ensures { result ≡ block_refusal (block_of self.now) }
+    {
+        match self {
+            BlockCause::Refused(_) | BlockCause::NamesNamespace => ClusterRefusal::PolicyRefused,
+            BlockCause::UnknownParamKind => ClusterRefusal::UnknownParamKind,
+        }
+    }
+}

@@ -1,0 +1,138 @@
+//! Clusters.
+ghost use Rattle.std.specs.Prelude.{IfOk, option_map};
+ghost use Rattle.admission_documents.specs.Requests.{request_view};
+ghost use Rattle.policy_glue.specs.OneImage.{OneImage};
+ghost use Rattle.cluster_state.specs.State.{state_view, ClusterState};
+ghost use Rattle.cluster_gate.specs.Dispatch.{policies_asked, DecidesInCluster};
+ghost use Rattle.cluster_gate.specs.Gates.{AreGatesFor, ClusterOpens, IsClusterFor};
+ghost use Rattle.cluster_gate.specs.Running.{AnswersCase, GivesEvents};
+ghost use Rattle.std.specs.Prelude.{◌≡◌, Some};
+ghost use Rattle.serde_json.specs.View.{view};
+ghost use Rattle.value_store.specs.Documents.{document_of};
+
+use crate::asking::ask;
+use crate::case::Case;
+use crate::cluster_error::ClusterError;
+use crate::opening::open_gates;
+use crate::policy_gate::PolicyGate;
+use crate::review_request::review_request;
+use admission_documents::Request;
+use cluster_response::{Events, response};
+use cluster_state::{State, parse};
+use serde_json::Value;
+use std::alloc::{AllocError, Global};
+
+/// The state of a cluster, and its bound policies, each compiled or blocked. No review changes it.
+#[derive(Drop)]
+pub struct Cluster<'a> {
+    alloc: Global,
+    state: &'a State<'a>,
+    /// In the order of the policies' names.
+    gates: Vec<PolicyGate<'a>>,
+}
+
+impl<'a> Cluster<'a> {
+    /// Compiles the policies of the state that have a binding. With `partial` those that are blocked
+    /// stay, and the requests that their constraints match are not decided, unless they are denied.
+    ///
+    /// # Errors
+    ///
+    /// The first policy by name that is blocked, unless `partial`. `Memory` where memory runs out,
+    /// which says nothing of the rest.
+    pub fn new(
+        alloc: Global,
+        state: &'a State<'a>,
+        partial: bool,
+    ) -> Result<Cluster<'a>, ClusterError>
+        ensures { ClusterOpens (state_view state.now) partial result }
+    {
+        let gates = open_gates(alloc, state, partial)?;
+        Ok(Cluster {
+            alloc,
+            state,
+            gates,
+        })
+    }
+
+    /// The bound policies, in the order of their names.
+    pub fn policies(&self) -> &[PolicyGate<'a>]
+        ensures { (s : ClusterState) → IsClusterFor s self.now → AreGatesFor s s.policies result.now }
+    {
+        self.gates.as_slice()
+    }
+
+    /// The text that answers a review (AdmissionReview, `admission.k8s.io/v1`), in which each
+    /// evaluation of a policy may take at most `n` steps; none for bytes that are no review. The
+    /// error is that an allocation failed, which says nothing of the review.
+    pub fn decide(&self, review: &[u8], n: u64) -> Result<Option<Vec<u8>>, AllocError>
+        ensures { IfOk result (λ o. (s : ClusterState) → IsClusterFor s self.now → DecidesInCluster OneImage s review.now n (option_map (λ b. b.items) o)) }
+    {
+        match parse(self.alloc, review)? {
+            Some(document) => self.decide_document(review, &document, n),
+            None => Ok(None),
+        }
+    }
+
+    /// The answer to the review with this document.
+    fn decide_document<'x>(
+        &self,
+        review: &'x [u8],
+        document: &'x Value,
+        n: u64,
+    ) -> Result<Option<Vec<u8>>, AllocError>
+        ensures { IfOk result (λ o. (s : ClusterState) → IsClusterFor s self.now → document_of review.now ≡ Some (view document.now)
+            → DecidesInCluster OneImage s review.now n (option_map (λ b. b.items) o)) }
+    {
+        match review_request(document) {
+            None => Ok(None),
+            Some(found) => match Request::of(found.document) {
+                None => Ok(None),
+                Some(request) => {
+                    let case = Case {
+                        review,
+                        request: &request,
+                        steps: n,
+                    };
+                    Ok(Some(self.answer(&case, found.uid)?))
+                }
+            },
+        }
+    }
+
+    /// The answer to a request with this uid.
+    fn answer<'x>(&self, case: &'x Case<'x>, uid: &str) -> Result<Vec<u8>, AllocError>
+        ensures { IfOk result (λ b. (s : ClusterState) → IsClusterFor s self.now → AnswersCase OneImage s case.now.review.now case.now.steps (request_view case.now.request.now) uid.now b.items) }
+    {
+        let events = self.events(case)?;
+        let text = response(self.alloc, case.request, uid, &events)?;
+        Ok(text)
+    }
+
+    /// The events of the dispatch of a request.
+    fn events<'x>(&self, case: &'x Case<'x>) -> Result<Events, AllocError>
+        ensures { IfOk result (λ e. (s : ClusterState) → IsClusterFor s self.now
+            → GivesEvents OneImage s case.now.review.now case.now.steps (request_view case.now.request.now) (policies_asked s (request_view case.now.request.now)) e) }
+    {
+        let request = case.request;
+        if request.attributes.resource.is_exempt() {
+            Ok(Events::new(self.alloc))
+        } else {
+            self.dispatch(case)
+        }
+    }
+
+    /// The events of all policies, up to the one that ends the dispatch.
+    fn dispatch<'x>(&self, case: &'x Case<'x>) -> Result<Events, AllocError>
+        ensures { IfOk result (λ e. (s : ClusterState) → IsClusterFor s self.now
+            → GivesEvents OneImage s case.now.review.now case.now.steps (request_view case.now.request.now) s.policies e) }
+    {
+        let mut events = Events::new(self.alloc);
+        let gates = self.gates.as_slice();
+        for gate in gates {
+            if ask(self.alloc, self.state, gate, case, &mut events)? {
+                return Ok(events);
+            }
+        }
+        Ok(events)
+    }
+}

@@ -1,0 +1,76 @@
+//! Evaluations of policies.
+ghost use Rattle.std.specs.Prelude.{ℕ, List, option_map, IfOk};
+ghost use Rattle.serde_json.specs.View.{view};
+ghost use Rattle.policy_glue.specs.OneImage.{OneImage};
+ghost use Rattle.admission.specs.Deciding.{IsPolicyOf};
+ghost use Rattle.admission.specs.Findings.{findings_view, FindsReview};
+ghost use Rattle.admission.specs.Lent.{documents_lent};
+ghost use Rattle.admission.specs.Standing.{RunAgrees};
+ghost use Rattle.cluster_state.specs.Policies.{BoundPolicy};
+ghost use Rattle.cluster_gate.specs.Gates.{IsAskedGate};
+ghost use Rattle.cluster_gate.specs.Running.{FindsOrRefuses, HasFound};
+
+use crate::case::Case;
+use crate::texts::text_if;
+use admission::{Finding, Gate, RunError};
+use cluster_response::ClusterRefusal;
+use serde_json::Value;
+use std::alloc::{AllocError, Global};
+use value_table::Table;
+
+/// What the gate's policy finds against the request with these params and this namespace, each null
+/// if it is none, or why it does not decide.
+///
+/// # Errors
+///
+/// An allocation failed, which says nothing of the review.
+pub(crate) fn evaluate(
+    alloc: Global,
+    gate: &Gate,
+    case: &Case<'_>,
+    params: Option<&Value>,
+    namespace: Option<&Value>,
+) -> Result<Result<Vec<Finding>, ClusterRefusal>, AllocError>
+    ensures { IfOk result (λ r. (p : BoundPolicy) → IsAskedGate p gate.now
+        → FindsOrRefuses OneImage case.now.review.now case.now.steps p (option_map (λ v. view v.now) params.entry) (option_map (λ v. view v.now) namespace.entry) r) }
+{
+    let params = text_if(alloc, params)?;
+    let namespace = text_if(alloc, namespace)?;
+    found(findings_with(alloc, gate, case, params.as_deref(), namespace.as_deref()))
+}
+
+/// The findings under the texts of the params and the namespace.
+fn findings_with(
+    alloc: Global,
+    gate: &Gate,
+    case: &Case<'_>,
+    params: Option<&[u8]>,
+    namespace: Option<&[u8]>,
+) -> Result<Vec<Finding>, RunError>
+    ensures finds { (policy : List ℕ) → IsPolicyOf policy gate.now
+        → FindsReview (documents_lent policy case.now.review.now namespace.entry params.entry) case.now.steps (findings_view result) }
+    ensures runs { (policy : List ℕ) → IsPolicyOf policy gate.now → OneImage gate.now.policy gate.now.image
+        → RunAgrees OneImage (documents_lent policy case.now.review.now namespace.entry params.entry) case.now.steps (findings_view result) }
+{
+    let (table, _uid) = Table::of_review(alloc, case.review, namespace, params)?;
+    gate.findings_on(table, case.steps)
+}
+
+/// The findings, or what is told of the policy. The error is that memory ran out.
+fn found(
+    findings: Result<Vec<Finding>, RunError>,
+) -> Result<Result<Vec<Finding>, ClusterRefusal>, AllocError>
+    ensures { IfOk result (HasFound findings) }
+{
+    match findings {
+        Ok(findings) => Ok(Ok(findings)),
+        Err(RunError::PolicyRefused(_)) => Ok(Err(ClusterRefusal::PolicyRefused)),
+        Err(RunError::ReviewRefused) => Ok(Err(ClusterRefusal::ReviewRefused)),
+        Err(RunError::NamespaceOrParamsRefused) => {
+            Ok(Err(ClusterRefusal::NamespaceOrParamsRefused))
+        }
+        Err(RunError::OutOfSteps) => Ok(Err(ClusterRefusal::OutOfSteps)),
+        Err(RunError::OverLimit) => Ok(Err(ClusterRefusal::OverLimit)),
+        Err(RunError::Memory) => Err(AllocError),
+    }
+}

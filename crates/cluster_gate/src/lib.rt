@@ -1,0 +1,23 @@
+//! What the policies of a whole cluster decide of reviews.
+#![tactic(auto)]
+
+mod asking;
+mod block_cause;
+mod case;
+mod cluster;
+mod cluster_error;
+mod evaluating;
+mod opening;
+mod policy_gate;
+mod policy_run;
+mod progress;
+mod review_request;
+mod running;
+mod standing;
+mod texts;
+
+pub use block_cause::BlockCause;
+pub use cluster::Cluster;
+pub use cluster_error::ClusterError;
+pub use policy_gate::PolicyGate;
+pub use standing::Standing;

@@ -1,0 +1,9 @@
+//! How the dispatch goes on.
+
+/// How the dispatch goes on after a step.
+#[derive(Clone, Copy, Debug, PartialEq, Eq)]
+pub(crate) enum Progress {
+    NextStep,
+    NextPolicy,
+    End,
+}

@@ -1,0 +1,89 @@
+//! The steps of a policy, one after another.
+ghost use Rattle.std.specs.Prelude.{◌≡◌, [], ◌∷◌, map, option_map, IfOk};
+ghost use Rattle.serde_json.specs.View.{view};
+ghost use Rattle.cluster_plan.specs.Steps.{evaluates, step_view};
+ghost use Rattle.cluster_state.specs.Bindings.{binding_view};
+ghost use Rattle.cluster_state.specs.Policies.{BoundPolicy};
+ghost use Rattle.cluster_gate.specs.Running.{Adds, AddsStep, AddsSteps, IsRunOf};
+ghost use Rattle.cluster_gate.specs.Dispatch.{undecided_event};
+ghost use Rattle.cluster_gate.specs.declared.progress.Progress.TheVariants.{NextPolicy};
+
+use crate::evaluating::evaluate;
+use crate::policy_run::PolicyRun;
+use crate::progress::Progress;
+use cluster_plan::Step;
+use cluster_response::{ClusterRefusal, Events};
+use cluster_state::Binding;
+use serde_json::Value;
+use std::alloc::AllocError;
+
+impl PolicyRun<'_, '_, '_> {
+    /// Adds the events of the steps, up to the first that is the last of the policy. Returns whether
+    /// the dispatch ends.
+    pub(crate) fn run(
+        &self,
+        events: &mut Events,
+        steps: &[Step<'_, '_>],
+    ) -> Result<bool, AllocError>
+        ensures { IfOk result (λ ended. (p : BoundPolicy) → IsRunOf p self.now → AddsSteps p self.now (map step_view steps.now) events.old events.new ended) }
+    {
+        for step in steps {
+            match self.run_step(events, step)? {
+                Progress::NextStep => {}
+                Progress::NextPolicy => return Ok(false),
+                Progress::End => return Ok(true),
+            }
+        }
+        Ok(false)
+    }
+
+    /// Adds the events of a step. Returns how the dispatch goes on.
+    fn run_step(&self, events: &mut Events, step: &Step<'_, '_>) -> Result<Progress, AllocError>
+        ensures { IfOk result (λ progress. (p : BoundPolicy) → IsRunOf p self.now → AddsStep p self.now (step_view step.now) events.old events.new progress) }
+    {
+        match step {
+            Step::Denial { binding, message } => {
+                events.add_configuration_error(self.alloc, self.name, *binding, message.as_str())?;
+                Ok(Progress::NextStep)
+            }
+            Step::UnknownMatch => self.refuse(events, ClusterRefusal::UnknownMatch),
+            Step::Evaluation {
+                binding,
+                params,
+                namespace,
+            } => self.evaluate(events, binding, *params, *namespace),
+            Step::NamespaceNotFound => {
+                events.end();
+                Ok(Progress::End)
+            }
+        }
+    }
+
+    /// Adds what the policy finds under a binding.
+    fn evaluate(
+        &self,
+        events: &mut Events,
+        binding: &Binding<'_>,
+        params: Option<&Value>,
+        namespace: Option<&Value>,
+    ) -> Result<Progress, AllocError>
+        ensures { IfOk result (λ progress. (p : BoundPolicy) → IsRunOf p self.now
+            → AddsStep p self.now (evaluates (binding_view binding.now) (option_map (λ v. view v.now) params.entry) (option_map (λ v. view v.now) namespace.entry)) events.old events.new progress) }
+    {
+        match evaluate(self.alloc, self.gate, self.case, params, namespace)? {
+            Ok(findings) => {
+                events.add_findings(self.alloc, self.name, binding, findings.as_slice())?;
+                Ok(Progress::NextStep)
+            }
+            Err(refusal) => self.refuse(events, refusal),
+        }
+    }
+
+    /// The policy does not decide.
+    fn refuse(&self, events: &mut Events, refusal: ClusterRefusal) -> Result<Progress, AllocError>
+        ensures { IfOk result (λ progress. (progress ≡ NextPolicy) × Adds events.old events.new (undecided_event self.now.name.now refusal ∷ [])) }
+    {
+        events.refuse(self.alloc, self.name, refusal)?;
+        Ok(Progress::NextPolicy)
+    }
+}
