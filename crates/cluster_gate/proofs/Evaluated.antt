@@ -13,13 +13,13 @@ use Rattle.admission.specs.declared.run_error.RunError.{RunError}
 use Rattle.cluster_response.specs.declared.cluster_refusal.ClusterRefusal.{ClusterRefusal}
 use Rattle.cluster_gate.specs.Dispatch.{EvaluatesPolicy}
 use Rattle.cluster_gate.specs.Running.{FindsOrRefuses, HasFound}
-use Rattle.cluster_gate.specs.Texts.{HasTextIf}
+use Rattle.cluster_gate.specs.Texts.{IsJsonTextIf}
 
 module _ (p : BoundPolicy) (gate : PolicyAndImage) (review : List ℕ) (n : ℕ) (params namespace : Option json.Data) where
   -- what is found under texts of the documents is what the policy finds
   pub evaluated : (params_lent namespace_lent : Option (Bor (List ℕ))) (params_text namespace_text : Option (List ℕ)) (result : Result (List PolicyFinding) RunError)
       → option_map (λ b. b.now) params_lent ≡ params_text → option_map (λ b. b.now) namespace_lent ≡ namespace_text
-      → HasTextIf params params_text → HasTextIf namespace namespace_text → IsAskedGate p gate
+      → IsJsonTextIf params params_text → IsJsonTextIf namespace namespace_text → IsAskedGate p gate
       → ((policy : List ℕ) → IsPolicyOf policy gate → FindsReview (documents_lent policy review namespace_lent params_lent) n result)
       → ((policy : List ℕ) → IsPolicyOf policy gate → OneImage gate.policy gate.image
       → RunAgrees OneImage (documents_lent policy review namespace_lent params_lent) n result)
@@ -28,8 +28,8 @@ module _ (p : BoundPolicy) (gate : PolicyAndImage) (review : List ℕ) (n : ℕ)
     documents = documents_lent asked.gate_of.text review namespace_lent params_lent;
     policy = asked.gate_of.has_text;
     review_is = refl;
-    namespace_text = subst (λ (o : Option (List ℕ)). HasTextIf namespace o) (sym namespace_is) of_namespace;
-    params_text = subst (λ (o : Option (List ℕ)). HasTextIf params o) (sym params_are) of_params;
+    namespace_text = subst (λ (o : Option (List ℕ)). IsJsonTextIf namespace o) (sym namespace_is) of_namespace;
+    params_text = subst (λ (o : Option (List ℕ)). IsJsonTextIf params o) (sym params_are) of_params;
     finds = finds asked.gate_of.text asked.gate_of.of_policy;
     runs = runs asked.gate_of.text asked.gate_of.of_policy asked.gate_of.image;
   }

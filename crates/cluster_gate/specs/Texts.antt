@@ -8,16 +8,16 @@ use Rattle.value_store.specs.Reviews.{without}
 
 -- a text of a value: it is read as the value, if that is not nested deeper than texts that are read, and it is compact, if
 -- the value has no number with a fraction
-pub record HasText (d : json.Data) (text : List ℕ) : Type 0 where
+pub record IsJsonTextOf (d : json.Data) (text : List ℕ) : Type 0 where
   pub reads : json.depth d ≤ max_depth → document_of text ≡ Some d
   pub compact : has_float d ≡ false → text ≡ compact_text d
 
 -- a text of a value that may be absent
-abbrev pub HasTextIf : Option json.Data → Option (List ℕ) → Type 0
-HasTextIf None None = Unit {0}
-HasTextIf None (Some text) = ⊥
-HasTextIf (Some d) None = ⊥
-HasTextIf (Some d) (Some text) = HasText d text
+abbrev pub IsJsonTextIf : Option json.Data → Option (List ℕ) → Type 0
+IsJsonTextIf None None = Unit {0}
+IsJsonTextIf None (Some text) = ⊥
+IsJsonTextIf (Some d) None = ⊥
+IsJsonTextIf (Some d) (Some text) = IsJsonTextOf d text
 
 -- the document without its `status`, which the API server writes
 abbrev pub without_status : json.Data → json.Data

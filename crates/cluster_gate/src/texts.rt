@@ -2,14 +2,14 @@
 ghost use Rattle.std.specs.Prelude.{◌≡◌, codes, option_map, IfOk};
 ghost use Rattle.serde_json.specs.View.{members_view, view};
 ghost use Rattle.value_store.specs.Reviews.{without};
-ghost use Rattle.cluster_gate.specs.Texts.{without_status, HasText, HasTextIf};
+ghost use Rattle.cluster_gate.specs.Texts.{without_status, IsJsonTextOf, IsJsonTextIf};
 
 use serde_json::{Map, Value};
 use std::alloc::{AllocError, Global};
 
 /// The text of a document without its `status`.
 pub(crate) fn text_without_status(alloc: Global, document: &Value) -> Result<Vec<u8>, AllocError>
-    ensures { IfOk result (λ b. HasText (without_status (view document.now)) b.items) }
+    ensures { IfOk result (λ b. IsJsonTextOf (without_status (view document.now)) b.items) }
 {
     let document = without_status(document.clone()?);
     text_of(alloc, &document)
@@ -17,7 +17,7 @@ pub(crate) fn text_without_status(alloc: Global, document: &Value) -> Result<Vec
 
 /// The text of a value that may be absent.
 pub(crate) fn text_if(alloc: Global, value: Option<&Value>) -> Result<Option<Vec<u8>>, AllocError>
-    ensures { IfOk result (λ o. HasTextIf (option_map (λ v. view v.now) value.entry) (option_map (λ b. b.items) o)) }
+    ensures { IfOk result (λ o. IsJsonTextIf (option_map (λ v. view v.now) value.entry) (option_map (λ b. b.items) o)) }
 {
     match value {
         Some(value) => Ok(Some(text_of(alloc, value)?)),
@@ -26,7 +26,7 @@ pub(crate) fn text_if(alloc: Global, value: Option<&Value>) -> Result<Option<Vec
 }
 
 fn text_of(alloc: Global, value: &Value) -> Result<Vec<u8>, AllocError>
-    ensures { IfOk result (λ b. HasText (view value.now) b.items) }
+    ensures { IfOk result (λ b. IsJsonTextOf (view value.now) b.items) }
 {
     let text = value.to_vec(alloc)?;
     Ok(text)

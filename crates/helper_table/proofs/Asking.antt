@@ -11,7 +11,7 @@ use Rattle.helper_table.proofs.Prelude.{Err, charged, answer_among}
 use Rattle.helper_table.proofs.Placing.{outcome_follows}
 use Rattle.helper_table.specs.Ends.{CallReturns}
 use Rattle.helper_table.specs.declared.helper_end.HelperEnd.{HelperEnd, TheVariants.Word, TheVariants.Stop}
-use Rattle.helper_table.specs.Answers.{reads_texts, AsksFor, IsLasting, IsAnswer, IsKeptAnswer, AreAnswers}
+use Rattle.helper_table.specs.Answers.{reads_texts, IsQuestionOf, IsLasting, IsAnswer, IsKeptAnswer, AreAnswers}
 use Rattle.helper_table.specs.Effects.{CanDo}
 use Rattle.helper_table.specs.Laws.{ExtendsValues}
 use Rattle.helper_table.specs.declared.answer.Answer.{Answer}
@@ -41,7 +41,7 @@ same_row helper.Member vs a b c d r e f = pair member_row _ _ _ _ e f
 same_row _ vs a b c d r e f = absurd (cc)
 
 -- a call's row is that of its question
-pub asked_row : (h : Helper) (args constants : List ℕ) (vs : List ValueOrError) (q : Question) → AsksFor h args q
+pub asked_row : (h : Helper) (args constants : List ℕ) (vs : List ValueOrError) (q : Question) → IsQuestionOf h args q
     → row_of h args vs constants ≡ row_of q.helper (q.a ∷ q.b ∷ []) vs []
 unfolding row_of
 asked_row helper.Index args constants vs q asks = grind (arith, asks)
@@ -76,12 +76,12 @@ recalled_answer vs kept x q k are h a b =
     }
 
 -- an answer is the effect that the row of the call defines
-pub recalled_means : (vs : List ValueOrError) (constants : List ℕ) (h : Helper) (args : List ℕ) (q : Question) (e : HelperEffect) → AsksFor h args q → IsAnswer vs q e
+pub recalled_means : (vs : List ValueOrError) (constants : List ℕ) (h : Helper) (args : List ℕ) (q : Question) (e : HelperEffect) → IsQuestionOf h args q → IsAnswer vs q e
     → outcome_by vs e.placement e.added ≡ row_of h args vs constants
 recalled_means vs constants h args q e asks is = is.means ∙ sym (asked_row h args constants vs q asks)
 
 -- and the effect that the row of a call defines is an answer
-pub found_answer : (vs : List ValueOrError) (constants : List ℕ) (h : Helper) (args : List ℕ) (q : Question) (e k : HelperEffect) → AsksFor h args q → (k ≡ e) × IsLasting k.placement
+pub found_answer : (vs : List ValueOrError) (constants : List ℕ) (h : Helper) (args : List ℕ) (q : Question) (e k : HelperEffect) → IsQuestionOf h args q → (k ≡ e) × IsLasting k.placement
     → outcome_by vs e.placement e.added ≡ row_of h args vs constants → CanDo vs e.placement → IsAnswer vs q k
 found_answer vs constants h args q e k asks lasts means can =
     record {
@@ -92,7 +92,7 @@ found_answer vs constants h args q e k asks lasts means can =
     }
 
 -- also if the values are given by an equation
-pub found_later : (vs us : List ValueOrError) (constants : List ℕ) (h : Helper) (args : List ℕ) (q : Question) (e k : HelperEffect) → us ≡ vs → AsksFor h args q → (k ≡ e) × IsLasting k.placement
+pub found_later : (vs us : List ValueOrError) (constants : List ℕ) (h : Helper) (args : List ℕ) (q : Question) (e k : HelperEffect) → us ≡ vs → IsQuestionOf h args q → (k ≡ e) × IsLasting k.placement
     → outcome_by us e.placement e.added ≡ row_of h args us constants → CanDo us e.placement → IsAnswer vs q k
 found_later vs us constants h args q e k same asks lasts means can = subst (λ (ws : List ValueOrError). IsAnswer ws q k) same (found_answer us constants h args q e k asks lasts means can)
 

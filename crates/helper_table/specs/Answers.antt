@@ -29,7 +29,7 @@ second_operand helper.Size a b = a
 second_operand _ a b = b
 
 -- a question is that of a call of such a helper with these arguments
-pub record AsksFor (h : Helper) (args : List ℕ) (q : Question) : Type 0 where
+pub record IsQuestionOf (h : Helper) (args : List ℕ) (q : Question) : Type 0 where
   pub helper : q.helper ≡ h
   pub reads : reads_texts h ≡ true
   pub first : q.a ≡ r1 args

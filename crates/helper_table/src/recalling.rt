@@ -2,7 +2,7 @@
 //! reads the same long texts in each turn must not scan them each time.
 
 ghost use Rattle.std.specs.Prelude.{◌≡◌, ℕ, true, IfSome, IsSome, slice_get};
-ghost use Rattle.helper_table.specs.Answers.{reads_texts, second_operand, AreAnswers, AsksFor, IsAnswer, IsKeptAnswer, IsLasting};
+ghost use Rattle.helper_table.specs.Answers.{reads_texts, second_operand, AreAnswers, IsQuestionOf, IsAnswer, IsKeptAnswer, IsLasting};
 ghost use Rattle.helper_table.specs.Calls.{row_of};
 ghost use Rattle.helper_table.specs.Effects.{means, CanFollow};
 ghost use Rattle.value_store.specs.Calls.{equal_at};
@@ -66,7 +66,7 @@ fn reads_long<V: ValueStore>(table: &V, helper: Helper, a: u64, b: u64) -> bool 
 
 /// The question of a call, if it reads a long text.
 fn question<V: ValueStore>(helper: Helper, args: [u64; 5], table: &V) -> Option<Question>
-    ensures { IfSome result (AsksFor helper args) }
+    ensures { IfSome result (IsQuestionOf helper args) }
 {
     let [a, second, _, _, _] = args;
     let b = second_operand(helper, a, second);
