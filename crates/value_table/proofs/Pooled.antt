@@ -1,5 +1,5 @@
 -- Rows are unchanged when the pool grows; the items of one more row.
-use Rattle.value_table.proofs.Prelude.{◌≡◌, ℕ, ◌+◌, ◌<◌, List, [], ◌∷◌, ◌++◌, length, get_or, slice_set, map, map-append, get_or-map, refl, sym, ap, ap₂, ◌∙◌, arith, length-append}
+use Rattle.value_table.proofs.Prelude.{◌≡◌, ℕ, ◌+◌, ◌<◌, List, [], ◌∷◌, ◌++◌, length, get_or, slice_set, map-append, get_or-map, refl, sym, ap, ap₂, ◌∙◌, arith, length-append}
 use Rattle.std.proofs.lemmas.List.{map-set}
 use Rattle.value_table.specs.Pool.{row_items, rows_items, IsPoolRow, AreRows}
 use Rattle.value_table.specs.declared.row.Row.{Row}

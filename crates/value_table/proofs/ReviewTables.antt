@@ -1,5 +1,5 @@
 -- The values of the roots in documents.
-use Rattle.value_table.proofs.Prelude.{◌≡◌, ℕ, List, [], ◌∷◌, Option, Some, None, IsSome, Result, Ok, Err, inl, inr, refl, sym, ap, ◌∙◌, subst, arith, option_map, Value, value_in, HasGrown, IsHeap, IsValueAt, heap_values, Heap, Contents, start_contents}
+use Rattle.value_table.proofs.Prelude.{◌≡◌, ℕ, List, [], ◌∷◌, Option, Some, None, IsSome, Result, Ok, Err, inl, inr, refl, sym, ap, ◌∙◌, subst, arith, option_map, Value, value_in, HasGrown, IsValueAt, heap_values, Heap, Contents, start_contents}
 use Rattle.std.specs.Prelude.{option_and_then, codes}
 use Rattle.std.specs.Str.{IsUtf8}
 use Rattle.std.proofs.lemmas.Str.{IsUtf8-from_is_utf8, is_utf8-from_IsUtf8}
@@ -22,7 +22,6 @@ use Rattle.value_table.specs.declared.placed.Placed.{Placed}
 use Rattle.value_table.specs.declared.placed_request.PlacedRequest.{PlacedRequest}
 use Rattle.value_table.specs.declared.review_error.ReviewError.{ReviewError}
 use Rattle.value_table.specs.declared.review_error.ReviewError.TheVariants.{InvalidReview, InvalidDocument, RootRefused, ChargeTooLarge, Memory}
-use Rattle.value_table.proofs.Growing.{grown_more, stands_on}
 use Rattle.value_table.proofs.PlacedValues.{answers_stay}
 
 -- ---- texts

@@ -1,10 +1,9 @@
 -- Roots, one after the other.
-use Rattle.value_table.proofs.Prelude.{◌≡◌, ◌<◌, ◌≤◌, ℕ, suc, ◌+◌, List, [], ◌∷◌, ◌++◌, map, Option, Some, None, Result, Ok, Err, inl, inr, ◌⊎◌, refl, sym, ap, ◌∙◌, subst, arith, add-one, append-nil, append_assoc, map-append, Value, value, first_values, start_contents, saturated, TableError, heap_values, Heap, value_in, StartsWithValues, reference_values, AreReferences}
+use Rattle.value_table.proofs.Prelude.{◌≡◌, ◌<◌, ◌≤◌, ℕ, suc, ◌+◌, List, [], ◌∷◌, ◌++◌, map, Option, Some, None, Result, Ok, Err, inl, inr, ◌⊎◌, refl, sym, ap, ◌∙◌, subst, arith, add-one, append-nil, append_assoc, map-append, Value, value, first_values, start_contents, saturated, TableError, heap_values, Heap, value_in, StartsWithValues, reference_values}
 use Rattle.std.proofs.Common.{le-leb}
 use Rattle.std.proofs.lemmas.Bool.Decides.{nat_tests}
 use Rattle.serde_json.specs.Data as json
 use Rattle.value_store.specs.Size.{size_of}
-use Rattle.value_store.specs.Placing.{charge_limit}
 use Rattle.value_store.specs.Roots.{root_of, root_then, roots_of, before, sizes, within_limit, contents_of, value_of}
 use Rattle.value_store.specs.declared.table_error.TableError.TheVariants.{NotAnObject, NumberOutOfInt64, RootsTooLarge}
 use Rattle.value_table.specs.Reading.{PlacesValue, IsPlacedValue}

@@ -1,12 +1,12 @@
-//! Remembers where compared lists and maps differ.
+//! Remembers where compared texts, lists and maps differ.
 
 use std::alloc::Global;
 
 /// The number of hints that are kept.
 const COUNT: usize = 4096;
 
-/// Places at which two compared lists or maps differ, stored by a hash of the two. A hint only says
-/// where a comparison begins; the result does not depend on it.
+/// Places at which two compared texts, lists or maps differ, stored by a hash of the two. A hint only
+/// says where a comparison begins; the result does not depend on it.
 #[derive(Drop)]
 pub(crate) struct Hints {
     places: Vec<u64>,
@@ -19,7 +19,8 @@ impl Hints {
         }
     }
 
-    /// The place at which to begin comparing the values of two cells.
+    /// The place at which to begin comparing the values of two cells, or two texts, which are named by
+    /// their first byte's place.
     pub(crate) fn start(&self, a: u64, b: u64) -> usize {
         match self.places.get(slot(a, b)) {
             Some(place) => *place as usize,

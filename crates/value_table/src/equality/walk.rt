@@ -39,7 +39,7 @@ pub(crate) fn equal(
     }
     let left = cells.at(x as usize);
     let right = cells.at(y as usize);
-    if !alike(backings, left.content, right.content) {
+    if !alike(backings, hints, left.content, right.content) {
         return false;
     }
     let xs = parts_of(backings, left.content);

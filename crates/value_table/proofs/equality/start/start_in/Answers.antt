@@ -1,6 +1,6 @@
 -- Proofs of `equality::start::start_in`: the result meets the contract.
 
-use Rattle.value_table.proofs.Prelude.{◌≡◌, ℕ, List, drop, ap, sym, ◌∙◌, subst, Value, has_item, value_in, items_at, refs_at}
+use Rattle.value_table.proofs.Prelude.{◌≡◌, drop, ap, sym, ◌∙◌, subst, has_item, value_in, items_at, refs_at}
 use Rattle.value_table.specs.Search.{place_among}
 use Rattle.value_table.proofs.Indexed.{skips_by, start_of}
 use Rattle.value_table.proofs.equality.start.start_in.Goals as goal

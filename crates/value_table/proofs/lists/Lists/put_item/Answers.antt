@@ -1,6 +1,6 @@
 -- Proofs of `lists::Lists::put_item`: the result meets the contract.
 
-use Rattle.value_table.proofs.Prelude.{◌≡◌, ◌+◌, [], ◌∷◌, ◌++◌, ◌∙◌, sym, ap, get_or, take, length, slice_set, with_one}
+use Rattle.value_table.proofs.Prelude.{◌≡◌, ◌+◌, [], ◌∷◌, ◌++◌, ◌∙◌, sym, ap, get_or, take, slice_set, with_one}
 use Rattle.value_table.proofs.Backed.{items_pushed, items_behind, length_one}
 use Rattle.value_table.proofs.lists.Lists.put_item.Goals as goal
 
