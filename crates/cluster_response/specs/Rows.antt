@@ -138,6 +138,8 @@ pub record AnswerRowsHold : Type 0 where
       ++ (warning_of_m ++ (codes "," ++ (warning_of_n ++ codes "]}"))))))
   pub same_message_twice : answer (under (Warn ∷ []) (found 0 (codes "m") Invalid ∷ found 1 (codes "m") Invalid ∷ []))
       ≡ reviewed (codes "{\"allowed\":true,\"uid\":\"u1\",\"warnings\":[" ++ (warning_of_m ++ codes "]}"))
+  pub message_told_again : answer (under (Warn ∷ []) (twice ++ found 2 (codes "m") Invalid ∷ []))
+      ≡ reviewed (codes "{\"allowed\":true,\"uid\":\"u1\",\"warnings\":[" ++ (warning_of_m ++ (codes "," ++ (warning_of_n ++ codes "]}"))))
   pub no_namespace : answer (ends ∷ []) ≡ reviewed (codes "{\"allowed\":false," ++ (is_not_found ++ codes "}"))
   pub no_namespace_after_denial : answer (under (Deny ∷ []) twice ++ ends ∷ []) ≡ reviewed (codes "{\"allowed\":false," ++ (is_not_found ++ codes "}"))
   pub no_namespace_after_warning : answer (under (Warn ∷ []) (found 0 (codes "m") Invalid ∷ []) ++ ends ∷ [])

@@ -11,6 +11,7 @@ returns c = record {
   two_denials = refl;
   two_warned_and_audited = refl;
   same_message_twice = refl;
+  message_told_again = refl;
   no_namespace = refl;
   no_namespace_after_denial = refl;
   no_namespace_after_warning = refl;
