@@ -1,6 +1,7 @@
 -- What is found against requests, worked by hand.
-use Rattle.std.specs.Prelude.{◌≡◌, ℕ, true, false, List, [], ◌∷◌, Some, None, codes, replicate}
-use Rattle.policy_glue.specs.Findings.{PolicyFinding, findings_of, is_short_line}
+use Rattle.std.specs.Prelude.{◌≡◌, ℕ, ◌++◌, true, false, List, [], ◌∷◌, Some, None, codes, replicate}
+use Rattle.std.specs.List.{concat}
+use Rattle.policy_glue.specs.Findings.{PolicyFinding, expression_message, findings_of, is_short_line}
 use Rattle.policy_glue.specs.Policy.{Validation}
 use Rattle.policy_glue.specs.Rows.{plain_validation, policy_with, rejected, skipped}
 use Rattle.policy_glue.specs.Verdict.{CheckResult, Finding, Holds, Fails, Errs}
@@ -11,6 +12,10 @@ use Rattle.policy_glue.specs.declared.reason.Reason.{Reason, TheVariants.Forbidd
 -- the validation `a`, with a message that has a space at both ends, and a reason
 abbrev pub with_message : Validation
 with_message = record { expression = codes "a"; message = codes " no "; reason = Forbidden; message_expression = Some (codes "m") }
+
+-- the same with a message of white space alone
+abbrev pub blank : Validation
+blank = record with_message { message = codes " \t" }
 
 -- the result of a validation, without the text of a message expression
 abbrev pub bare_result : CheckResult → Finding
@@ -48,10 +53,16 @@ pub record FindingRowsStand : Type 0 where
   pub carriage_return : found_by_text (97 ∷ 13 ∷ 98 ∷ []) ≡ finding (97 ∷ 13 ∷ 98 ∷ []) Forbidden
   pub longest : is_short_line (replicate 5120 97) ≡ true
   pub too_long : is_short_line (replicate 5121 97) ≡ false
+  pub too_long_in_bytes : is_short_line (concat (replicate 2561 (195 ∷ 164 ∷ []))) ≡ false
+  pub blank_message : found_with Fail blank (bare_result Fails) ≡ finding (codes "failed expression: a") Forbidden
+  pub white_space : expression_message (Some (194 ∷ 160 ∷ 194 ∷ 133 ∷ codes "a b" ++ 226 ∷ 128 ∷ 168 ∷ [])) ≡ codes "a b"
+  pub no_white_space : expression_message (Some (226 ∷ 128 ∷ 139 ∷ [])) ≡ 226 ∷ 128 ∷ 139 ∷ []
   -- errors
   pub error : found_with Fail with_message (bare_result Errs) ≡ finding (codes "expression 'a' resulted in error") Invalid
   pub error_as_written : found_with Fail (plain_validation (codes " 1/0 == 1")) (bare_result Errs)
       ≡ finding (codes "expression ' 1/0 == 1' resulted in error") Invalid
+  pub error_with_text : found_with Fail with_message (record { truth = Errs; message = Some (codes "t") })
+      ≡ finding (codes "expression 'a' resulted in error") Invalid
   pub error_ignored : found_with Ignore with_message (bare_result Errs) ≡ []
   -- several validations
   pub two_of_three : found_by_three Fail
