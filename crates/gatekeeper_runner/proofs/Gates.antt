@@ -1,5 +1,5 @@
 -- The decisions of the gates, one after the other.
-use Rattle.gatekeeper_runner.proofs.Prelude.{◌≡◌, ℕ, zero, suc, ◌+◌, ◌<◌, ◌≤◌, List, [], ◌∷◌, ◌++◌, Ok, Err, Option, Some, None, Result, String, Global, string_bytes, drop, length, take, map, refl, sym, ap, ◌∙◌, subst, arith, get_or, map-append, take_all, take_more, document_of, OneImage, Decision, RunError, DecideTogether, AreGates, AreResults, AreValuesOf, AreTallied, AddsResult, IsGateOf, IsResult, DecidesAlone, Gatekeeper, NamedGate, PolicyFile, PolicyResult, Refused, Tally, decided, ending_of, joined, label_view, uid_in, values_under}
+use Rattle.gatekeeper_runner.proofs.Prelude.{◌≡◌, ℕ, zero, suc, ◌+◌, ◌<◌, ◌≤◌, List, [], ◌∷◌, ◌++◌, Ok, Err, Some, None, Result, String, Global, string_bytes, length, take, refl, sym, ap, ◌∙◌, subst, arith, get_or, map-append, take_all, take_more, document_of, OneImage, Decision, RunError, DecideTogether, AreGates, AreResults, AreValuesOf, AreTallied, AddsResult, IsGateOf, IsResult, DecidesAlone, Gatekeeper, NamedGate, PolicyFile, PolicyResult, Refused, Tally, decided, ending_of, joined, label_view, uid_in}
 use Rattle.std.specs.Prelude.{option_and_then}
 use Rattle.value_store.specs.Documents.{document_given}
 use Rattle.value_store.specs.Placing.{Contents}

@@ -1,7 +1,3 @@
--- The proofs of `gatekeeper_runner`.
-
-mod OneLine
-mod Going
 mod Gates
 mod Tallies
 mod RefusalTexts
@@ -10,4 +6,10 @@ mod Programs
 mod Shape
 mod SaidOnce
 mod LineOnce
+mod Choices
+mod ClusterOnce
+mod Ends
+mod Lists
+mod States
+mod Told
 pub mod Prelude

@@ -1,6 +1,6 @@
 -- A line has one answer.
-use Rattle.gatekeeper_runner.proofs.Prelude.{◌≡◌, ◌≢◌, ℕ, List, [], ◌∷◌, map, None, Result, Ok, Err, refl, sym, ap, ◌∙◌, subst, arith, true≢false, OneImage, ReviewHasOneResult, Decision, RunError, AnswersReviewLine, answer_text, line_of, no_memory, no_memory_text, passed_over, too_long, LinesHaveOneAnswer, AreResults, IsResult, DecideTogether, Gatekeeper, PolicyFile, PolicyResult, Refused, first_refused, joined, rejections, uid_in, under}
-use Rattle.gatekeeper_runner.specs.Lines.{decided}
+use Rattle.gatekeeper_runner.proofs.Prelude.{◌≡◌, ℕ, List, [], ◌∷◌, map, None, Result, Err, refl, sym, ap, ◌∙◌, subst, OneImage, ReviewHasOneResult, Decision, RunError, DecidesLine, answer_text, decides, too_long_text, LinesHaveOneAnswer, AreResults, IsResult, DecideTogether, Gatekeeper, PolicyFile, PolicyResult, Refused, first_refused, joined, rejections, uid_in, under}
+use Rattle.line_answers.proofs.OneAnswer.{HasOneText, answers_same}
 use Rattle.gatekeeper_runner.specs.Together as together
 use Rattle.policy_glue.specs.OneAnswer as policy
 use Rattle.gatekeeper_runner.proofs.SaidOnce.{says_once}
@@ -29,19 +29,13 @@ module _ (compiles_once : policy.CompileHasOneResult) (reviews_once : ReviewHasO
   together_once r s (together.decided xs given of are) (together.decided ys given2 of2 are2) =
       ap (λ (rs : List PolicyResult). joined (rejections rs) (first_refused rs) (uid_in line)) (results_once xs ys (of ∙ sym of2) are are2)
 
-  answers_same : (a b : List ℕ) → a ≢ no_memory_text → b ≢ no_memory_text → AnswersReviewLine OneImage t line a → AnswersReviewLine OneImage t line b → a ≡ b
-  answers_same a b some other (no_memory full) last = absurd (some refl)
-  answers_same a b some other first (no_memory full) = absurd (other refl)
-  answers_same a b some other (too_long long) (too_long also) = refl
-  answers_same a b some other (too_long long) (passed_over short blank) = absurd (omega (arith, long, short))
-  answers_same a b some other (too_long long) (decided short full decides) = absurd (omega (arith, long, short))
-  answers_same a b some other (passed_over short blank) (too_long long) = absurd (omega (arith, long, short))
-  answers_same a b some other (passed_over short blank) (passed_over short2 blank2) = refl
-  answers_same a b some other (passed_over short blank) (decided short2 full decides) = absurd (true≢false (sym blank ∙ full))
-  answers_same a b some other (decided short full decides) (too_long long) = absurd (omega (arith, long, short))
-  answers_same a b some other (decided short full decides) (passed_over short2 blank) = absurd (true≢false (sym blank ∙ full))
-  answers_same a b some other (decided short full decides) (decided short2 full2 decides2) =
-      ap (λ (r : Result Decision Refused). line_of (answer_text line r)) (together_once _ _ decides decides2)
+  text_once : HasOneText t.max_line too_long_text (DecidesLine OneImage t) line
+  text_once a b (decides {result = r} by) (decides {result = s} also) = ap (answer_text line) (together_once r s by also)
 
 pub lines_once : policy.CompileHasOneResult → ReviewHasOneResult → LinesHaveOneAnswer
-lines_once compiles reviews t line a b some other is also = answers_same compiles reviews t line a b some other is also
+lines_once compiles reviews t line = answers_same t.max_line too_long_text (DecidesLine OneImage t) line (text_once compiles reviews t line)
+
+-- the text of a line by what is decided together
+pub line_decided : (t : Gatekeeper) (line text : List ℕ) (result : Result Decision Refused) → DecideTogether OneImage t line result
+    → text ≡ answer_text line result → DecidesLine OneImage t line text
+line_decided t line text result by is = subst (DecidesLine OneImage t line) (sym is) (decides {result = result} by)

@@ -1,30 +1,21 @@
 -- The names of the library, of the crates below and of the definitions that these proofs use. Declares nothing.
-pub use Rattle.std.proofs.Common.{Bool, Err, IfErr, IfOk, IsErr, List, None, Ok, OnErr, OnOk, Option, Result, Some}
+pub use Rattle.std.proofs.Common.{Err, List, None, Ok, OnErr, OnOk, Option, Result, Some}
 pub use Rattle.std.proofs.Common.{String, ℕ, [], ap, append-nil, append_assoc, arith, codes, drop, false, get_or, inl}
-pub use Rattle.std.proofs.Common.{inr, length, length-drop, length-take, map, nat_lt, option_map, refl, string_bytes}
-pub use Rattle.std.proofs.Common.{subst, suc, sym, take, true, true≢false, unwrap_or, zero, ◌++◌, ◌+◌, ◌<◌, ◌∙◌, ◌∷◌}
-pub use Rattle.std.proofs.Common.{◌≡◌, ◌≢◌, ◌≤◌, ◌⊎◌}
+pub use Rattle.std.proofs.Common.{inr, length, map, option_map, refl, string_bytes}
+pub use Rattle.std.proofs.Common.{subst, suc, sym, take, true, unwrap_or, zero, ◌++◌, ◌+◌, ◌<◌, ◌∙◌, ◌∷◌}
+pub use Rattle.std.proofs.Common.{◌≡◌, ◌≢◌, ◌≤◌}
 pub use Rattle.std.proofs.Math.Seq.{split_at}
-pub use Rattle.std.proofs.lemmas.Bool.{ltb-false, ltb-true}
-pub use Rattle.std.proofs.lemmas.List.{map-append, take-append-drop, take_all, take_more}
-pub use Rattle.std.proofs.lemmas.Result.{IfOk-weaker, on_err_weaker, on_ok_weaker}
+pub use Rattle.std.proofs.lemmas.List.{map-append, take_all, take_more}
+pub use Rattle.std.proofs.lemmas.Result.{IfOk-weaker, on_ok_weaker}
 pub use Rattle.std.specs.declared.alloc.Global.{Global}
 pub use Rattle.clap.proofs.WalkLemmas.{raw_values-rows}
 unfoldable pub use Rattle.clap.proofs.OnLiterals.{clap_on_literals}
-pub use Rattle.clap.specs.Words.{App, FailsBy, Text, app_of, fault_of, found_of, is_simple, is_simple_and_free}
+pub use Rattle.clap.specs.Words.{App, Kinds, Row, Text, app_of, fault_of, found_of, is_simple, is_simple_and_free}
 pub use Rattle.clap.specs.Words.{matches_of, new_app, with_rule}
-pub use Rattle.streams.proofs.Cut.{Pieces, cut-line, cut-none, cut-part, input_lines-ended, readable-all}
-pub use Rattle.streams.specs.Hearing.{HasNoFeed, HeardByResult, OfBytes}
-pub use Rattle.streams.specs.Lines.{input_lines, with_rest}
-pub use Rattle.streams.specs.Streams.{AddsBytes}
-pub use Rattle.streams.specs.declared.session_error.SessionError.{SessionError}
-pub use Rattle.streams.specs.declared.session_error.SessionError.TheVariants.{ReadFailed, WriteFailed}
-unfoldable pub use Rattle.streams.specs.Lines.{cut, readable}
 pub use Rattle.policy_glue.specs.Rejections.{Rejection, rejection_view}
 pub use Rattle.policy_glue.specs.OneImage.{OneImage}
 unfoldable pub use Rattle.policy_glue.specs.Documents.{document_of}
 unfoldable pub use Rattle.policy_glue.specs.Evaluation.{decision_of}
-unfoldable pub use Rattle.policy_glue.specs.Rejections.{response_text}
 pub use Rattle.admission.proofs.Decided.{refused_so}
 pub use Rattle.admission.proofs.OneReview.{cases_once}
 pub use Rattle.admission.proofs.Results.{is_err}
@@ -32,8 +23,8 @@ pub use Rattle.admission.proofs.Standing.{of_one}
 pub use Rattle.admission.specs.Deciding.{Reply, CompilesDocument, Documents, IsPolicy, answer_of, decision}
 pub use Rattle.host.specs.FileSystem.{FileSystem, IsReading}
 pub use Rattle.admission.specs.OneAnswer.{ReviewHasOneResult, IsAnswerTo}
-pub use Rattle.cli.specs.Refusals.{order_refusal, policy_refusal_of}
-pub use Rattle.admission.specs.Decisions.{IsDecisionOf, Decision, DecidesReview, decision_from_verdict, decision_value}
+pub use Rattle.cli.specs.Refusals.{policy_refusal_of}
+pub use Rattle.admission.specs.Decisions.{IsDecisionOf, Decision, DecidesReview, decision_from_verdict}
 pub use Rattle.admission.specs.Standing.{RunAgrees}
 pub use Rattle.host.specs.declared.order_error.OrderError.{OrderError}
 pub use Rattle.host.specs.declared.order_error.OrderError.TheVariants.{InvalidArguments}
@@ -41,16 +32,12 @@ pub use Rattle.admission.specs.declared.policy_refusal.PolicyRefusal.{PolicyRefu
 pub use Rattle.cli.specs.declared.refusal.Refusal.{Refusal}
 pub use Rattle.cli.specs.Ending.{no_words}
 pub use Rattle.admission.specs.declared.run_error.RunError.{RunError}
-pub use Rattle.admission.specs.declared.run_error.RunError.TheVariants.{Memory, ReviewRefused}
-pub use Rattle.admission.specs.declared.policy_and_image.PolicyAndImage.{PolicyAndImage}
-unfoldable pub use Rattle.cli.specs.Arguments.{option_rule, required_option_rule, steps_rule, with_documents}
+pub use Rattle.admission.specs.declared.run_error.RunError.TheVariants.{Memory}
+unfoldable pub use Rattle.cli.specs.Arguments.{option_rule, steps_rule, with_documents}
 unfoldable pub use Rattle.admission.specs.Reviews.{uid_in}
-pub use Rattle.gatekeeper_runner.specs.Lines.{AnswersReviewLine, IsKeptOfLine, KeepsLine, answer_text}
-pub use Rattle.gatekeeper_runner.specs.Lines.{line_of, no_memory, no_memory_text, passed_over, too_long, too_long_text}
-pub use Rattle.gatekeeper_runner.specs.Lines.{uid_shown}
-pub use Rattle.gatekeeper_runner.specs.Orders.{GatekeeperOrderReturns, order_view}
-pub use Rattle.gatekeeper_runner.specs.Program.{AsksGatekeeper, answers, not_started}
-pub use Rattle.gatekeeper_runner.specs.Program.{nothing}
+pub use Rattle.gatekeeper_runner.specs.Lines.{DecidesLine, answer_text, decides, too_long_text}
+pub use Rattle.gatekeeper_runner.specs.Orders.{GatekeeperOrderReturns, choice_faults, go_together, lines_order_view}
+pub use Rattle.gatekeeper_runner.specs.Program.{AsksGatekeeper}
 pub use Rattle.gatekeeper_runner.specs.SameAnswers.{LinesHaveOneAnswer}
 pub use Rattle.gatekeeper_runner.specs.Starting.{GatesFrom, IsUnopened, OneUnopened, Opens, OpensGate, no_namespace}
 pub use Rattle.gatekeeper_runner.specs.Starting.{no_params, no_policy, ready, refused, unread}
@@ -58,14 +45,12 @@ pub use Rattle.gatekeeper_runner.specs.Together.{AreGates, AreResults, AreValues
 pub use Rattle.gatekeeper_runner.specs.Together.{Gatekeeper, IsGateOf, IsResult, RefusingPolicy, PolicyFile, PolicyResult, Refused}
 pub use Rattle.gatekeeper_runner.specs.Together.{and_also, decided, first_refused, gatekeeper_of, joined, label_of}
 pub use Rattle.gatekeeper_runner.specs.Together.{label_view, refused_or, refused_view, rejection_in, rejections}
-pub use Rattle.gatekeeper_runner.specs.Together.{together_view, under, values_under}
+pub use Rattle.gatekeeper_runner.specs.Together.{under}
 pub use Rattle.gatekeeper_runner.specs.Tally.{AddsResult, AreTallied, IsTallyOf, ending_of}
-pub use Rattle.gatekeeper_runner.specs.AnsweredLines.{Answered, AnsweredPart, AnswersBreak, AnswersByResult, AnswersCut}
-pub use Rattle.gatekeeper_runner.specs.AnsweredLines.{AnswersEach, AnswersEnd, AnswersSoFar, AnswersToEnd, UnderPolicies}
-pub use Rattle.gatekeeper_runner.specs.AnsweredLines.{UnderSame}
-pub use Rattle.gatekeeper_runner.specs.AnsweredLines.{AnsweredPartOfLines}
 pub use Rattle.gatekeeper_runner.specs.declared.named_gate.NamedGate.{NamedGate}
 pub use Rattle.gatekeeper_runner.specs.declared.order.Order.{Order}
 pub use Rattle.gatekeeper_runner.specs.declared.tally.Tally.{Tally}
 unfoldable pub use Rattle.gatekeeper_runner.specs.Lines.{refusal_text}
-unfoldable pub use Rattle.gatekeeper_runner.specs.Orders.{entered, faults, gatekeeper_app, max_line_rule, policies_rule}
+unfoldable pub use Rattle.gatekeeper_runner.specs.Orders.{entered, faults, files_rule, gatekeeper_app, max_line_rule}
+unfoldable pub use Rattle.gatekeeper_runner.specs.Orders.{partial_rule, policies_app}
+pub use Rattle.gatekeeper_runner.specs.declared.start_refusal.StartRefusal.{StartRefusal}

@@ -1,18 +1,62 @@
 -- How the program ends.
-use Rattle.gatekeeper_runner.proofs.Prelude.{◌≡◌, List, Option, Some, IfErr, IfOk, Ok, Err, refl, OneImage, Text, GatekeeperOrderReturns, order_view, AsksGatekeeper, Order}
-use Rattle.streams.specs.Writing.{WritesBytes, WritesPart}
+use Rattle.gatekeeper_runner.proofs.Prelude.{◌≡◌, ℕ, List, Some, None, Ok, Err, refl, OneImage, Text, GatekeeperOrderReturns, lines_order_view, AsksGatekeeper, Order}
+use Rattle.streams.specs.Streams.{Stream}
 use Rattle.cli.specs.Ending.{Ending, Given, System}
-use Rattle.cli.specs.declared.refusal.Refusal.TheVariants.{Output}
 use Rattle.gatekeeper_runner.specs.About.{text_asked}
-use Rattle.gatekeeper_runner.specs.Program.{GatekeeperEffect, ReadsNothing, tells, tells_part}
+use Rattle.gatekeeper_runner.specs.ClusterEnding as cluster
+use Rattle.gatekeeper_runner.specs.ClusterEnding.{TellsStart}
+use Rattle.gatekeeper_runner.specs.ClusterStarting.{no_list}
+use Rattle.gatekeeper_runner.specs.Orders.{GatekeeperOrder, by_policies}
+use Rattle.gatekeeper_runner.specs.Program.{AnswersUnder, GatekeeperEffect, GatekeeperResult, IsNotBegun, IsTaskOf, PerformsTask, ReadsNothing, ServesReviews, TellsText, all, answers, as_cluster, lines, no_lists, no_order, no_policies, not_started, nothing, part, serves, tells, tells_part, under_policies}
+use Rattle.gatekeeper_runner.specs.Starting.{GatekeeperStarts}
+use Rattle.gatekeeper_runner.specs.Together.{Gatekeeper, gatekeeper_of}
+use Rattle.gatekeeper_runner.specs.declared.start_refusal.StartRefusal.{StartRefusal}
+use Rattle.gatekeeper_runner.specs.declared.task.Task.{Task}
+use Rattle.gatekeeper_runner.specs.declared.task.Task.TheVariants as task
 
 -- the words give this order
-pub asks : (words : List Text) (o : Order) → GatekeeperOrderReturns words (Ok o) → AsksGatekeeper (Ok words) (order_view o)
+pub asks : (words : List Text) (o : Order) → GatekeeperOrderReturns words (Ok o) → AsksGatekeeper (Ok words) (lines_order_view o)
 asks words o ordered = record { words = words; are_given = refl; are_taken = ordered.0; asked = ordered.1 }
 
 -- the words ask for a text
-pub told : (given : Given) (old new : System) (text : Text) (r : Ending) → text_asked given ≡ Some text → ReadsNothing old new
-    → IfOk r (λ status. (status ≡ 0) × WritesBytes old.output new.output text) → IfErr r (λ e. (e ≡ Output) × WritesPart old.output new.output text)
-    → GatekeeperEffect OneImage given old new r
-told given old new text (Ok status) asked reads whole part = rw whole.0 (tells asked reads whole.1)
-told given old new text (Err e) asked reads whole part = rw part.0 (tells_part asked reads part.1)
+told : (given : Given) (old new : System) (text : Text) (r : Ending) → text_asked given ≡ Some text → ReadsNothing old new
+    → TellsText text old.output new.output r → GatekeeperEffect OneImage given old new r
+told given old new text r asked reads (all writes) = tells asked reads writes
+told given old new text r asked reads (part writes) = tells_part asked reads writes
+
+-- the lines are answered under policies
+served : (given : Given) (old new : System) (order : GatekeeperOrder) (t : Gatekeeper) (r : Ending) → AsksGatekeeper given (by_policies order)
+    → GatekeeperStarts old.files order (Ok t) → new.files ≡ old.files → AnswersUnder OneImage t old.input new.input old.output new.output r
+    → ServesReviews OneImage given old new r
+served given old new order t r asked starts files (lines result answered) = answers result asked starts answered files
+
+module _ (given : Given) (old new : System) (e e_after : Stream) (status : ℕ) where
+  -- a task is performed
+  pub performed : (t : Task) → new.files ≡ old.files → IsTaskOf given old.files t → PerformsTask OneImage t old.input new.input old.output new.output e e_after status
+      → GatekeeperResult OneImage given old new e e_after status
+  performed (task.Text text) files asked does = under_policies (record {
+    ending = does.1.ending;
+    does = told given old new text.now does.1.ending asked (record { files = files; input = does.0 }) does.1.does;
+    status_is = does.1.status_is;
+    says = does.1.says;
+  })
+  performed (task.Policies keeper) files is does =
+      let keeps = is.3 in
+      let ends = does keeps.0 keeps.1 in
+      under_policies (record {
+        ending = ends.ending;
+        does = serves is.1 (served given old new is.0 (gatekeeper_of keeps.0 keeper) ends.ending is.2 keeps.2 files ends.does);
+        status_is = ends.status_is;
+        says = ends.says;
+      })
+  performed (task.Cluster t) files is does = as_cluster is.0 is.1 files (does old.files is.2)
+
+  -- no task is begun
+  pub not_begun : (r : StartRefusal) → text_asked given ≡ None → IsNotBegun given old.files r → new ≡ old → TellsStart e e_after status r
+      → GatekeeperResult OneImage given old new e e_after status
+  not_begun r none (no_order {r = why} refused) same said =
+      under_policies (record { ending = Err why; does = serves none (nothing refused same); status_is = said.0; says = said.1 })
+  not_begun r none (no_policies {r = why} asked starts) same said =
+      under_policies (record { ending = Err why; does = serves none (not_started asked starts same); status_is = said.0; says = said.1 })
+  not_begun r none (no_lists asked why) same said =
+      as_cluster none asked (λ i. (same i).files) (cluster.not_started (no_list why) (λ i. (same i).input) (λ i. (same i).output) said)

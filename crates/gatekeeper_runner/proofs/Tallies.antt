@@ -1,5 +1,5 @@
 -- One more result in a tally.
-use Rattle.gatekeeper_runner.proofs.Prelude.{◌≡◌, ℕ, List, [], ◌∷◌, ◌++◌, map, Option, Some, None, option_map, Result, Ok, Err, refl, sym, ap, ◌∙◌, subst, map-append, rejection_view, Rejection, Decision, RunError, RefusingPolicy, PolicyFile, PolicyResult, Refused, Tally, IsTallyOf, and_also, first_refused, label_of, refused_or, refused_view, rejection_in, rejections}
+use Rattle.gatekeeper_runner.proofs.Prelude.{◌≡◌, List, [], ◌∷◌, ◌++◌, map, Option, Some, None, option_map, Result, Ok, Err, refl, sym, ap, ◌∙◌, map-append, rejection_view, Rejection, Decision, RunError, RefusingPolicy, PolicyFile, PolicyResult, Refused, Tally, IsTallyOf, and_also, first_refused, label_of, refused_or, refused_view, rejection_in, rejections}
 use Rattle.std.specs.Prelude.{fold}
 use Rattle.std.specs.Option.{option_or}
 use Rattle.std.proofs.lemmas.List.Sums.{fold-append}

@@ -1,5 +1,5 @@
 -- The help and version texts.
-use Rattle.std.specs.Prelude.{ℕ, List, ◌∷◌, ◌++◌, codes, Option, Some, None, Result, Ok, if◌then◌else◌}
+use Rattle.std.specs.Prelude.{◌∷◌, ◌++◌, codes, Option, Some, None, Ok, if◌then◌else◌}
 use Rattle.std.specs.Str.{bytes_eq}
 use Rattle.clap.specs.Words.{Text}
 use Rattle.cli.specs.Ending.{Given}
@@ -9,6 +9,8 @@ unfoldable pub help_text : Text
 help_text =
     codes "usage: gatekeeper --policy F [--policy F ..] [--namespace F] [--params F]\n"
     ++ (codes "                  [--steps N] [--max-line N]\n"
+    ++ (codes "       gatekeeper --cluster F [--cluster F ..] [--partial]\n"
+    ++ (codes "                  [--steps N] [--max-line N]\n"
     ++ (codes "\n"
     ++ (codes "Compiles the policies, and answers each review on standard input, a JSON document\n"
     ++ (codes "a line, with a line on standard output.\n"
@@ -16,10 +18,14 @@ help_text =
     ++ (codes "  --policy F     a ValidatingAdmissionPolicy; once or more\n"
     ++ (codes "  --namespace F  the namespace of the requests\n"
     ++ (codes "  --params F     the params of the policies\n"
+    ++ (codes "  --cluster F    a List of what a cluster holds, as kubectl get -o json prints it;\n"
+    ++ (codes "                 once or more\n"
+    ++ (codes "  --partial      a policy of the cluster that is refused does not end the start;\n"
+    ++ (codes "                 the requests that it matches are refused, if none denies them\n"
     ++ (codes "  --steps N      the most steps of a policy's program; 10000000 if not given\n"
     ++ (codes "  --max-line N   the most bytes of a line; 16777216 if not given\n"
     ++ (codes "  --help         prints this text\n"
-    ++ (codes "  --version      prints the version\n"))))))))))))
+    ++ codes "  --version      prints the version\n")))))))))))))))))
 
 -- the text for `--version`
 unfoldable pub version_text : Text

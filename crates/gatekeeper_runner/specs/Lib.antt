@@ -9,5 +9,9 @@ pub mod AnsweredLines
 pub mod Orders
 pub mod Starting
 pub mod About
+pub mod ClusterStarting
+pub mod ClusterTelling
+pub mod ClusterLines
+pub mod ClusterEnding
 pub mod Program
 pub mod SameAnswers

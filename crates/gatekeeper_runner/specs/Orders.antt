@@ -1,19 +1,29 @@
 -- What the command line asks for.
-use Rattle.std.specs.Prelude.{◌≡◌, ℕ, List, [], ◌∷◌, map, Option, Some, option_map, Result, codes, string_bytes, unwrap_or}
+use Rattle.std.specs.Prelude.{◌≡◌, ℕ, Bool, false, not, ◌&&◌, List, [], ◌∷◌, ◌++◌, map, Option, Some, is_some, option_map, Result, codes, string_bytes, unwrap_or, if◌then◌else◌}
+use Rattle.std.specs.Option.{option_map_or}
+use Rattle.std.specs.Str.{bytes_eq}
 use Rattle.clap.specs.Words.{App, Kinds, Row, Rule, Text, fault_of, first_of, matches_of, new_app, new_rule, one_of, with_rule}
 use Rattle.clap.specs.Walk.{all_of}
 use Rattle.clap.specs.declared.builder.action.ArgAction.TheVariants as arg_action
 use Rattle.clap.specs.declared.builder.value_parser.ValueParser.TheVariants as parser
-use Rattle.cli.specs.Arguments.{required_option_rule, steps_rule, with_documents}
+use Rattle.clap.specs.declared.error.kind.ErrorKind.TheVariants.{ArgumentConflict}
+use Rattle.cli.specs.Arguments.{option_rule, steps_rule, with_documents}
 use Rattle.cli.specs.Number.{number_of}
 use Rattle.cli.specs.Parsing.{TakesWords}
 use Rattle.cli.specs.Limits.{default_steps}
 use Rattle.host.specs.declared.order_error.OrderError.{OrderError}
+use Rattle.gatekeeper_runner.specs.declared.cluster_order.ClusterOrder.{ClusterOrder as CodeClusterOrder}
 use Rattle.gatekeeper_runner.specs.declared.order.Order.{Order as CodeOrder}
+use Rattle.gatekeeper_runner.specs.declared.order.Order.TheVariants as code
+use Rattle.gatekeeper_runner.specs.declared.policy_order.PolicyOrder.{PolicyOrder as CodePolicyOrder}
 
--- --policy F, one or more times
-unfoldable pub policies_rule : Rule
-policies_rule = record (required_option_rule (codes "policy")) { action = Some arg_action.Append }
+-- an option with a file's name, once or more
+unfoldable pub files_rule : Text → Rule
+files_rule name = record (option_rule name) { action = Some arg_action.Append }
+
+-- --partial, a switch
+unfoldable pub partial_rule : Rule
+partial_rule = record (option_rule (codes "partial")) { action = Some arg_action.SetTrue }
 
 -- the largest value of --max-line, and its default
 abbrev pub longest_line : ℕ
@@ -27,21 +37,47 @@ max_line_rule = record (new_rule (codes "max-line")) {
   parser = Some (parser.Unsigned 1 longest_line);
 }
 
--- gatekeeper --policy F [--policy F ..] [--namespace F] [--params F] [--steps N] [--max-line N]
+-- what is asked under policies: [--policy F ..] [--namespace F] [--params F]
+unfoldable pub policies_app : App
+policies_app = with_documents (with_rule (new_app (codes "gatekeeper")) (files_rule (codes "policy")))
+
+-- the same, and [--cluster F ..] [--partial] [--steps N] [--max-line N]
 unfoldable pub gatekeeper_app : App
 gatekeeper_app =
-    with_rule (with_rule (with_documents (with_rule (new_app (codes "gatekeeper")) policies_rule)) steps_rule) max_line_rule
+    with_rule (with_rule (with_rule (with_rule policies_app (files_rule (codes "cluster"))) partial_rule) steps_rule) max_line_rule
 
--- the errors of the words; there are none if the words are accepted
-unfoldable pub faults : List Text → Kinds
-faults words = fault_of gatekeeper_app words
+-- ---- words that go together
+
+-- an option was given
+abbrev pub is_named : Text → List Row → Bool
+is_named id rows = is_some (first_of id rows)
+
+-- the switch was given
+abbrev pub is_partial : List Row → Bool
+is_partial rows = option_map_or (λ t. bytes_eq t (codes "true")) (first_of (codes "partial") rows) false
+
+-- with --cluster there is none of --policy, --namespace and --params; else there is --policy, and no --partial
+abbrev pub go_together : List Row → Bool
+go_together rows =
+    if is_named (codes "cluster") rows
+    then not (is_named (codes "policy") rows) && (not (is_named (codes "namespace") rows) && not (is_named (codes "params") rows))
+    else is_named (codes "policy") rows && not (is_partial rows)
+
+-- the reason to refuse arguments that do not go together
+abbrev pub choice_faults : List Row → Kinds
+choice_faults rows = if go_together rows then [] else ArgumentConflict ∷ []
 
 -- the values of the arguments
 unfoldable pub entered : List Text → List Row
 entered words = matches_of gatekeeper_app words
 
--- the names of the files, the policies in the order of the words, the limit of steps, and the largest length of a
--- line
+-- the reasons to refuse the words, of which there are none where they are taken
+unfoldable pub faults : List Text → Kinds
+faults words = fault_of gatekeeper_app words ++ choice_faults (entered words)
+
+-- ---- what they ask for
+
+-- the names of the files, the policies in the order of the words, the most steps, and the most bytes of a line
 pub record GatekeeperOrder : Type 0 where
   pub policies : List Text
   pub namespace : Option Text
@@ -49,8 +85,58 @@ pub record GatekeeperOrder : Type 0 where
   pub steps : ℕ
   pub max_line : ℕ
 
--- an order of the code
-abbrev pub order_view : CodeOrder → GatekeeperOrder
+-- the names of the files of a cluster's state in the order of the words, whether a policy may be refused, the most steps,
+-- and the most bytes of a line
+pub record ClusterOrder : Type 0 where
+  pub files : List Text
+  pub partial : Bool
+  pub steps : ℕ
+  pub max_line : ℕ
+
+-- lines are answered under policies, or as a cluster does
+pub data LinesOrder : Type 0 where
+  by_policies : GatekeeperOrder → LinesOrder
+  by_cluster : ClusterOrder → LinesOrder
+
+-- the texts of an option, in the order of the words
+abbrev pub texts_of : Text → List Row → List Text
+texts_of id rows = unwrap_or (all_of id rows) []
+
+-- the most steps; a number that is not there is the default one
+abbrev pub steps_from : List Row → ℕ
+steps_from rows = unwrap_or (number_of (one_of (codes "steps") rows)) default_steps
+
+-- the most bytes of a line
+abbrev pub max_line_from : List Row → ℕ
+max_line_from rows = unwrap_or (number_of (one_of (codes "max-line") rows)) longest_line
+
+-- from the values of the arguments
+unfoldable pub policies_from : List Row → GatekeeperOrder
+policies_from rows = record {
+  policies = texts_of (codes "policy") rows;
+  namespace = first_of (codes "namespace") rows;
+  params = first_of (codes "params") rows;
+  steps = steps_from rows;
+  max_line = max_line_from rows;
+}
+
+-- from the values of the arguments
+unfoldable pub cluster_from : List Row → ClusterOrder
+cluster_from rows = record {
+  files = texts_of (codes "cluster") rows;
+  partial = is_partial rows;
+  steps = steps_from rows;
+  max_line = max_line_from rows;
+}
+
+-- by whether files of a cluster's state are named
+abbrev pub order_from : List Row → LinesOrder
+order_from rows = if is_named (codes "cluster") rows then by_cluster (cluster_from rows) else by_policies (policies_from rows)
+
+-- ---- the code's
+
+-- the same of the code's order
+abbrev pub order_view : CodePolicyOrder → GatekeeperOrder
 order_view o = record {
   policies = map string_bytes o.policies.items;
   namespace = option_map string_bytes o.namespace;
@@ -59,16 +145,14 @@ order_view o = record {
   max_line = o.max_line;
 }
 
--- the order in the values of the arguments; a number that is missing is the default
-unfoldable pub order_from : List Row → GatekeeperOrder
-order_from rows = record {
-  policies = unwrap_or (all_of (codes "policy") rows) [];
-  namespace = first_of (codes "namespace") rows;
-  params = first_of (codes "params") rows;
-  steps = unwrap_or (number_of (one_of (codes "steps") rows)) default_steps;
-  max_line = unwrap_or (number_of (one_of (codes "max-line") rows)) longest_line;
-}
+abbrev pub cluster_order_view : CodeClusterOrder → ClusterOrder
+cluster_order_view o =
+    record { files = map string_bytes o.files.items; partial = o.partial; steps = o.steps; max_line = o.max_line }
+
+abbrev pub lines_order_view : CodeOrder → LinesOrder
+lines_order_view (code.Policies o) = by_policies (order_view o)
+lines_order_view (code.Cluster o) = by_cluster (cluster_order_view o)
 
 -- an order is returned only if the words are accepted, and then it is theirs
 abbrev pub GatekeeperOrderReturns : List Text → Result CodeOrder OrderError → Type 0
-GatekeeperOrderReturns words result = TakesWords (faults words) (λ o. order_from (entered words) ≡ order_view o) result
+GatekeeperOrderReturns words result = TakesWords (faults words) (λ o. order_from (entered words) ≡ lines_order_view o) result

@@ -1,35 +1,36 @@
 -- The program's effect: what it reads and writes, and its status.
-use Rattle.std.specs.Prelude.{◌≡◌, ℕ, Some, None, Result, Ok, Err}
+use Rattle.std.specs.Prelude.{◌≡◌, ℕ, Option, Some, None, Result, Ok, Err, map, string_bytes}
 use Rattle.clap.specs.Words.{Text}
+use Rattle.serde_json.specs.View.{view}
 use Rattle.streams.specs.Streams.{Stream}
 use Rattle.streams.specs.Writing.{WritesBytes, WritesPart}
 use Rattle.streams.specs.declared.session_error.SessionError.{SessionError}
+use Rattle.host.specs.FileSystem.{FileSystem}
 use Rattle.cli.specs.Ending.{Asks, AsksNothing, Ending, Given, ProgramEnds, System}
-use Rattle.cli.specs.Refusals.{session_refusal}
 use Rattle.admission.specs.Standing.{Images}
 use Rattle.cli.specs.declared.refusal.Refusal.{Refusal, TheVariants.Output}
 use Rattle.gatekeeper_runner.specs.About.{text_asked}
-use Rattle.gatekeeper_runner.specs.Orders.{GatekeeperOrder, entered, faults, order_from}
-use Rattle.gatekeeper_runner.specs.Starting.{GatekeeperStarts}
+use Rattle.gatekeeper_runner.specs.Orders.{ClusterOrder, GatekeeperOrder, LinesOrder, by_cluster, by_policies, cluster_order_view, entered, faults, order_from}
+use Rattle.gatekeeper_runner.specs.Starting.{GatekeeperStarts, KeepsFrom}
 use Rattle.gatekeeper_runner.specs.Together.{Gatekeeper}
-use Rattle.gatekeeper_runner.specs.AnsweredLines.{AnswersLines}
+use Rattle.gatekeeper_runner.specs.AnsweredLines.{AnswersLines, UnderPolicies}
+use Rattle.gatekeeper_runner.specs.ClusterEnding.{ClusterEnds, ending_of}
+use Rattle.gatekeeper_runner.specs.ClusterStarting.{HoldLists, OneIsNoList}
+use Rattle.gatekeeper_runner.specs.declared.start_refusal.StartRefusal.{StartRefusal, TheVariants.Plain}
+use Rattle.gatekeeper_runner.specs.declared.task.Task.{Task}
+use Rattle.gatekeeper_runner.specs.declared.task.Task.TheVariants as task
 
--- the words are accepted, and give this order
-abbrev pub AsksGatekeeper : Given → GatekeeperOrder → Type 0
+-- the words are taken, and ask for this
+abbrev pub AsksGatekeeper : Given → LinesOrder → Type 0
 AsksGatekeeper given order = Asks faults (λ words. order_from (entered words)) given order
 
--- the end of answering: the end of the input, or an error if a read or a write failed
-abbrev pub ending_of : Result (Unit {0}) SessionError → Ending
-ending_of (Ok u) = Ok 0
-ending_of (Err e) = Err (session_refusal e)
-
--- the effect of words that do not ask for a text
+-- what becomes of words that ask for no text, and for no cluster
 pub data ServesReviews (chosen : Images) (given : Given) (old new : System) : Ending → Type 0 where
   nothing : {r : Refusal} → AsksNothing faults given r → new ≡ old → ServesReviews chosen given old new (Err r)
-  not_started : {order : GatekeeperOrder} {r : Refusal} → AsksGatekeeper given order → GatekeeperStarts old.files order (Err r) → new ≡ old
-      → ServesReviews chosen given old new (Err r)
-  answers : {order : GatekeeperOrder} {keeper : Gatekeeper} (result : Result (Unit {0}) SessionError) → AsksGatekeeper given order
-      → GatekeeperStarts old.files order (Ok keeper)
+  not_started : {order : GatekeeperOrder} {r : Refusal} → AsksGatekeeper given (by_policies order) → GatekeeperStarts old.files order (Err r)
+      → new ≡ old → ServesReviews chosen given old new (Err r)
+  answers : {order : GatekeeperOrder} {keeper : Gatekeeper} (result : Result (Unit {0}) SessionError)
+      → AsksGatekeeper given (by_policies order) → GatekeeperStarts old.files order (Ok keeper)
       → AnswersLines chosen keeper old.input new.input old.output new.output result → new.files ≡ old.files
       → ServesReviews chosen given old new (ending_of result)
 
@@ -49,6 +50,53 @@ pub data GatekeeperEffect (chosen : Images) (given : Given) (old new : System) :
       → GatekeeperEffect chosen given old new ending
 
 -- the program ends with this status
-abbrev pub GatekeeperResult : Images → Given → System → System → Stream → Stream → ℕ → Type 0
-GatekeeperResult chosen given old new errors errors_after status =
-    ProgramEnds (GatekeeperEffect chosen given old new) errors errors_after status
+pub data GatekeeperResult (chosen : Images) (given : Given) (old new : System) (errors errors_after : Stream) (status : ℕ) : Type 0 where
+  under_policies : ProgramEnds (GatekeeperEffect chosen given old new) errors errors_after status
+      → GatekeeperResult chosen given old new errors errors_after status
+  as_cluster : {order : ClusterOrder} → text_asked given ≡ None → AsksGatekeeper given (by_cluster order) → new.files ≡ old.files
+      → ClusterEnds chosen old.files order old.input new.input old.output new.output errors errors_after status
+      → GatekeeperResult chosen given old new errors errors_after status
+
+-- ---- parts
+
+-- why no task is begun: by the words, by a policy's start, or by a file of a cluster's state
+pub data IsNotBegun (given : Given) (known : Option FileSystem) : StartRefusal → Type 0 where
+  no_order : {r : Refusal} → AsksNothing faults given r → IsNotBegun given known (Plain r)
+  no_policies : {order : GatekeeperOrder} {r : Refusal} → AsksGatekeeper given (by_policies order) → GatekeeperStarts known order (Err r)
+      → IsNotBegun given known (Plain r)
+  no_lists : {order : ClusterOrder} {r : StartRefusal} → AsksGatekeeper given (by_cluster order) → OneIsNoList known order.files r
+      → IsNotBegun given known r
+
+-- what the words ask for, with what was read for it
+abbrev pub IsTaskOf : Given → Option FileSystem → Task → Type 0
+IsTaskOf given known (task.Text text) = text_asked given ≡ Some text.now
+IsTaskOf given known (task.Policies keeper) =
+    (order : GatekeeperOrder) × (text_asked given ≡ None) × AsksGatekeeper given (by_policies order) × KeepsFrom known order (Ok keeper)
+IsTaskOf given known (task.Cluster t) =
+    (text_asked given ≡ None) × AsksGatekeeper given (by_cluster (cluster_order_view t.order))
+    × HoldLists known (map string_bytes t.order.files.items) (map view t.lists.items)
+
+-- a task is begun, or the first refusal is due
+abbrev pub Begins : Given → Option FileSystem → Result Task StartRefusal → Type 0
+Begins given known (Ok t) = IsTaskOf given known t
+Begins given known (Err r) = (text_asked given ≡ None) × IsNotBegun given known r
+
+-- the text is written, or a beginning of it where a write fails
+pub data TellsText (text : Text) (w w_after : Stream) : Ending → Type 0 where
+  all : WritesBytes w w_after text → TellsText text w w_after (Ok 0)
+  part : WritesPart w w_after text → TellsText text w w_after (Err Output)
+
+-- the lines are answered under policies
+pub data AnswersUnder (chosen : Images) (t : Gatekeeper) (r r_after w w_after : Stream) : Ending → Type 0 where
+  lines : (result : Result (Unit {0}) SessionError) → AnswersLines chosen t r r_after w w_after result
+      → AnswersUnder chosen t r r_after w w_after (ending_of result)
+
+-- how a task ends
+abbrev pub PerformsTask : Images → Task → Stream → Stream → Stream → Stream → Stream → Stream → ℕ → Type 0
+PerformsTask chosen (task.Text text) r r_after w w_after e e_after status =
+    (r_after ≡ r) × ProgramEnds (TellsText text.now w w_after) e e_after status
+PerformsTask chosen (task.Policies keeper) r r_after w w_after e e_after status =
+    UnderPolicies keeper (λ t. ProgramEnds (AnswersUnder chosen t r r_after w w_after) e e_after status)
+PerformsTask chosen (task.Cluster t) r r_after w w_after e e_after status =
+    (known : Option FileSystem) → HoldLists known (map string_bytes t.order.files.items) (map view t.lists.items)
+    → ClusterEnds chosen known (cluster_order_view t.order) r r_after w w_after e e_after status

@@ -1,7 +1,8 @@
 -- Equal lines have equal answers.
 use Rattle.std.specs.Prelude.{◌≡◌, ◌≢◌, ℕ, List}
 use Rattle.policy_glue.specs.OneImage.{OneImage}
-use Rattle.gatekeeper_runner.specs.Lines.{AnswersReviewLine, no_memory_text}
+use Rattle.line_answers.specs.Lines.{no_memory_text}
+use Rattle.gatekeeper_runner.specs.Lines.{AnswersReviewLine}
 use Rattle.gatekeeper_runner.specs.Together.{Gatekeeper}
 
 -- two answers to one line are the same if neither reports a failed allocation

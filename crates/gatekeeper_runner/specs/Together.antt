@@ -1,10 +1,10 @@
 -- The joint decision of several policies on a review.
 use Rattle.std.specs.Prelude.{◌≡◌, ◌≢◌, ℕ, List, [], ◌∷◌, ◌++◌, codes, fold, map, Option, Some, None, Result, Ok, Err}
-use Rattle.std.specs.Prelude.{option_map, string_bytes, unwrap_or, Vec, String}
+use Rattle.std.specs.Prelude.{option_map, string_bytes, unwrap_or}
 use Rattle.value_store.specs.Placing.{Contents}
 use Rattle.policy_glue.specs.Documents.{document_of}
 use Rattle.policy_glue.specs.OneImage.{OneImage}
-use Rattle.policy_glue.specs.Rejections.{Rejection, rejection_view}
+use Rattle.policy_glue.specs.Rejections.{Rejection}
 use Rattle.admission.specs.Deciding.{Documents, IsPolicyOf}
 use Rattle.admission.specs.Decisions.{Decision, DecidesReview, decision_value}
 use Rattle.admission.specs.Reviews.{contents_given, uid_in}

@@ -37,6 +37,8 @@ fn help_text() -> &'static str
 {
     "usage: gatekeeper --policy F [--policy F ..] [--namespace F] [--params F]
                   [--steps N] [--max-line N]
+       gatekeeper --cluster F [--cluster F ..] [--partial]
+                  [--steps N] [--max-line N]
 
 Compiles the policies, and answers each review on standard input, a JSON document
 a line, with a line on standard output.
@@ -44,6 +46,10 @@ a line, with a line on standard output.
   --policy F     a ValidatingAdmissionPolicy; once or more
   --namespace F  the namespace of the requests
   --params F     the params of the policies
+  --cluster F    a List of what a cluster holds, as kubectl get -o json prints it;
+                 once or more
+  --partial      a policy of the cluster that is refused does not end the start;
+                 the requests that it matches are refused, if none denies them
   --steps N      the most steps of a policy's program; 10000000 if not given
   --max-line N   the most bytes of a line; 16777216 if not given
   --help         prints this text

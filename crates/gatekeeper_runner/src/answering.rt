@@ -1,22 +1,19 @@
 //! Reads reviews line by line and writes an answer to each.
-ghost use Rattle.std.specs.Prelude.{◌≡◌, ◌<◌, ◌≤◌, false, length, IfOk, OnErr, OnOk};
-ghost use Rattle.streams.specs.Streams.{one_more, stream};
+ghost use Rattle.std.specs.Prelude.{◌≡◌, IfOk};
+ghost use Rattle.streams.specs.Streams.{stream};
 ghost use Rattle.policy_glue.specs.OneImage.{OneImage};
-ghost use Rattle.gatekeeper_runner.specs.Lines.{answer_text, is_blank, line_of, too_long_text, AnswersReviewLine};
+ghost use Rattle.gatekeeper_runner.specs.Lines.{answer_text, too_long_text};
 ghost use Rattle.gatekeeper_runner.specs.Together.{together_view};
-ghost use Rattle.gatekeeper_runner.specs.AnsweredLines.{Answered, AnsweredPart, AnswersLines, OfLine, UnderPolicies};
+ghost use Rattle.gatekeeper_runner.specs.AnsweredLines.{AnswersLines, UnderPolicies};
 
 use crate::gatekeeper::Gatekeeper;
-use crate::line::Line;
 use crate::refused::Refused;
 use crate::refusing::{line_refusal_text, refusal_text};
 use admission::{Decision, RunError};
+use line_answers::Decider;
 use policy_glue::response_text;
 use std::alloc::{AllocError, Global};
-use streams::{Failed, LineSource, Listener, SessionError, Sink, write_all};
-
-/// The answer to a line if an allocation fails.
-const NO_MEMORY: &[u8] = b"{\"refused\":\"memory\"}\n";
+use streams::{LineSource, SessionError, Sink};
 
 /// Answers each line before it reads the next, until the end of the input. At most the first 2^63
 /// bytes of the input are read.
@@ -35,103 +32,28 @@ pub fn answer_lines<R: LineSource, W: Sink>(
         let read_after = stream (R.left r.new) (R.failed r.new) in
         UnderPolicies keeper.now (λ t. AnswersLines OneImage t read read_after written written_after result) }
 {
-    let mut answers = Answers {
-        keeper,
-        line: Line::new(keeper.alloc, keeper.max_line),
-    };
-    r.hear_lines(&mut answers, w)
+    line_answers::answer_lines(keeper.alloc, keeper, keeper.max_line, r, w)
 }
 
-/// Receives the parts of the input and answers the lines.
-#[derive(Drop)]
-pub struct Answers<'a> {
-    keeper: &'a Gatekeeper,
-    /// The part of the current line that was read so far.
-    line: Line,
-}
+impl Decider for Gatekeeper {
+    ghost use Rattle.gatekeeper_runner.specs.Lines.{DecidesLine};
 
-impl<'a> Listener for Answers<'a> {
-    ghost use Rattle.gatekeeper_runner.specs.AnsweredLines.{AnswersBreak, AnswersEnd, AnswersSoFar, UnderSame};
-    ghost use Rattle.gatekeeper_runner.specs.Lines.{KeepsLine};
-    ghost use Rattle.streams.specs.Lines.{cut};
+    ghost decides = { λ keeper line text. UnderPolicies keeper (λ t. DecidesLine OneImage t line text) };
 
-    ghost goes = { λ a start before heard written. UnderSame a.keeper.now start.keeper.now (λ t. AnswersSoFar OneImage t before heard written × KeepsLine t.max_line a.line (cut heard).1) };
+    ghost refuses = { λ _. too_long_text };
 
-    ghost ended = { λ last a start before heard written. UnderSame a.keeper.now start.keeper.now (λ t. AnswersEnd last OneImage t before heard written) };
-
-    ghost broke = { λ last a start before heard written. UnderSame a.keeper.now start.keeper.now (λ t. AnswersBreak last OneImage t before heard written) };
-
-    fn keep(&mut self, part: &[u8]) {
-        self.line.extend(part);
+    fn answer(&self, line: &[u8]) -> Result<Vec<u8>, AllocError> {
+        let outcome = self.decision(line)?;
+        outcome_text(self.alloc, outcome, line)
     }
 
-    fn hear<W: Sink>(&mut self, rest: &[u8], w: &mut W) -> Result<bool, Failed> {
-        self.line.extend(rest);
-        match answer_line(self.keeper, &self.line, w) {
-            Ok(()) => {
-                self.line.clear();
-                Ok(false)
-            }
-            Err(failed) => Err(failed),
-        }
-    }
-
-    fn hear_end<W: Sink>(&mut self, w: &mut W) -> Result<(), Failed> {
-        answer_line(self.keeper, &self.line, w)
+    fn refusal(&self) -> Result<Vec<u8>, AllocError> {
+        too_long_text(self.alloc)
     }
 }
 
-/// Writes the answer to a line; nothing for an empty or blank one.
-fn answer_line<W: Sink>(keeper: &Gatekeeper, line: &Line, w: &mut W) -> Result<(), Failed>
-    ensures whole { OnOk result (OfLine keeper.now line.now (λ t bytes. Answered OneImage t bytes (W.taken w.old) (W.taken w.new))) }
-    ensures part { OnErr result (OfLine keeper.now line.now (λ t bytes. AnsweredPart OneImage t bytes (W.taken w.old) (W.taken w.new))) }
-    ensures ok { OnOk result (W.failed w.new ≡ W.failed w.old) }
-    ensures err { OnErr result (W.failed w.new ≡ one_more (W.failed w.old)) }
-{
-    if line.is_empty() {
-        return Ok(());
-    }
-    match answer_of(keeper, line) {
-        Ok(text) => write_all(w, text.as_slice()),
-        Err(_) => write_all(w, NO_MEMORY),
-    }
-}
-
-/// The answer to a nonempty line, with its line feed; empty if the line is blank.
-fn answer_of(keeper: &Gatekeeper, line: &Line) -> Result<Vec<u8>, AllocError>
-    ensures { IfOk result (λ text. OfLine keeper.now line.now (λ t bytes. 0 < length bytes → AnswersReviewLine OneImage t bytes text.items)) }
-{
-    if line.lacks {
-        return Err(AllocError);
-    }
-    if line.is_too_long() {
-        return with_line_feed(too_long_text(keeper.alloc)?);
-    }
-    if is_blank(line.bytes.as_slice()) {
-        return Ok(Vec::new(keeper.alloc));
-    }
-    with_line_feed(decision_text(keeper, line.bytes.as_slice())?)
-}
-
-/// Whether all bytes are spaces, tabs or carriage returns.
-fn is_blank(line: &[u8]) -> bool
-    ensures { result ≡ is_blank line.now }
-{
-    line.iter()
-        .all(|byte| *byte == b' ' || *byte == b'\t' || *byte == b'\r')
-}
-
-/// The text with a line feed.
-fn with_line_feed(text: Vec<u8>) -> Result<Vec<u8>, AllocError>
-    ensures { IfOk result (λ line. line.items ≡ line_of text.items) }
-{
-    let mut line = text;
-    line.push(b'\n')?;
-    Ok(line)
-}
-
-/// The refusal of a line that is too long.
-fn too_long_text(alloc: Global) -> Result<Vec<u8>, AllocError>
+/// The text of the refusal of a line that is too long.
+pub fn too_long_text(alloc: Global) -> Result<Vec<u8>, AllocError>
     ensures { IfOk result (λ text. text.items ≡ too_long_text) }
 {
     let refused = Refused {
@@ -141,15 +63,7 @@ fn too_long_text(alloc: Global) -> Result<Vec<u8>, AllocError>
     refusal_text(alloc, &refused, None)
 }
 
-/// The answer to the review in a line.
-fn decision_text(keeper: &Gatekeeper, line: &[u8]) -> Result<Vec<u8>, AllocError>
-    ensures { IfOk result (λ text. UnderPolicies keeper.now (λ t. length line.now ≤ t.max_line → is_blank line.now ≡ false → AnswersReviewLine OneImage t line.now (line_of text.items))) }
-{
-    let outcome = keeper.decision(line)?;
-    outcome_text(keeper.alloc, outcome, line)
-}
-
-/// The text of a decision on the review in a line, or of its refusal.
+/// The text of a decision or a refusal of the review in a line.
 fn outcome_text(
     alloc: Global,
     outcome: Result<Decision, Refused>,

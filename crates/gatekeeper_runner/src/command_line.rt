@@ -1,25 +1,31 @@
 //! The command line as it is declared to `clap`.
-ghost use Rattle.std.specs.Prelude.{◌≡◌, map, IfOk, false};
-ghost use Rattle.clap.specs.Words.{app_of, found_of, rows_of, rule_of};
+ghost use Rattle.std.specs.Prelude.{◌≡◌, codes, map, IfOk, false};
+ghost use Rattle.clap.specs.Words.{app_of, fault_of, found_of, rows_of, rule_of};
 ghost use Rattle.cli.specs.Parsing.{TakesWords};
-ghost use Rattle.gatekeeper_runner.specs.Orders.{entered, faults, gatekeeper_app, max_line_rule, policies_rule};
+ghost use Rattle.gatekeeper_runner.specs.Orders.{entered, files_rule, gatekeeper_app, max_line_rule, partial_rule, policies_app};
 
 use crate::limits::LONGEST_LINE;
 use clap::{Arg, ArgAction, ArgMatches, Command, value_parser};
-use cli::{parse, steps_argument, with_documents};
+use cli::{option_argument, parse, steps_argument, with_documents};
 use host::OrderError;
 use std::alloc::{AllocError, Global};
 
 // --policy F, one or more times
-#[tactic(auto, unfolding(crate::specs::Orders::policies_rule, cli::specs::Arguments::required_option_rule))]
-fn policies_argument<'a>(alloc: Global) -> Arg<'a>
-    ensures rule { rule_of result ≡ policies_rule }
+#[tactic(auto, unfolding(crate::specs::Orders::files_rule))]
+fn files_argument<'a>(alloc: Global, name: &'a str) -> Arg<'a>
+    ensures rule { rule_of result ≡ files_rule name.entry.now }
     ensures local { result.global ≡ false }
 {
-    Arg::new(alloc, "policy")
-        .long("policy")
-        .required(true)
-        .action(ArgAction::Append)
+    option_argument(alloc, name).action(ArgAction::Append)
+}
+
+// --partial, a switch
+#[tactic(auto, unfolding(crate::specs::Orders::partial_rule))]
+fn partial_argument<'a>(alloc: Global) -> Arg<'a>
+    ensures rule { rule_of result ≡ partial_rule }
+    ensures local { result.global ≡ false }
+{
+    option_argument(alloc, "partial").action(ArgAction::SetTrue)
 }
 
 // --max-line N, the largest length of a line in bytes
@@ -34,12 +40,20 @@ fn max_line_argument<'a>(alloc: Global) -> Arg<'a>
         .default_value("16777216")
 }
 
-#[tactic(auto, unfolding(crate::specs::Orders::gatekeeper_app))]
+fn policies_command<'a>(alloc: Global) -> Result<Command<'a>, AllocError>
+    ensures { IfOk result (λ c. app_of c ≡ policies_app) }
+{
+    let command = Command::new(alloc, "gatekeeper").arg(files_argument(alloc, "policy"))?;
+    with_documents(alloc, command)
+}
+
 fn gatekeeper_command<'a>(alloc: Global) -> Result<Command<'a>, AllocError>
     ensures { IfOk result (λ c. app_of c ≡ gatekeeper_app) }
 {
-    let command = Command::new(alloc, "gatekeeper").arg(policies_argument(alloc))?;
-    let command = with_documents(alloc, command)?.arg(steps_argument(alloc))?;
+    let command = policies_command(alloc)?.arg(files_argument(alloc, "cluster"))?;
+    let command = command
+        .arg(partial_argument(alloc))?
+        .arg(steps_argument(alloc))?;
     command.arg(max_line_argument(alloc))
 }
 
@@ -49,7 +63,7 @@ pub fn gatekeeper_matches<'a>(
     words: &'a [&'a str],
 ) -> Result<ArgMatches<'a>, OrderError>
     ensures rows { IfOk result (λ m. rows_of (found_of m) ≡ entered (map (λ s. s.now) words.entry.now)) }
-    ensures taken { TakesWords (faults (map (λ s. s.now) words.entry.now)) (λ _. Unit {0}) result }
+    ensures taken { TakesWords (fault_of gatekeeper_app (map (λ s. s.now) words.entry.now)) (λ _. Unit {0}) result }
 {
     let command = gatekeeper_command(alloc)?;
     parse(command, words)

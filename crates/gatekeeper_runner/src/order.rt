@@ -1,14 +1,13 @@
 //! What the command line asks for.
 
-/// The names of the files, and the limits.
+use crate::cluster_order::ClusterOrder;
+use crate::policy_order::PolicyOrder;
+
+/// What the words ask for.
 #[derive(Drop)]
-pub struct Order {
-    /// The policies' files, in the order of the words.
-    pub policies: Vec<String>,
-    pub namespace: Option<String>,
-    pub params: Option<String>,
-    /// The largest number of steps of a policy's program.
-    pub steps: u64,
-    /// The largest length of a line in bytes.
-    pub max_line: u64,
+pub enum Order {
+    /// Lines are answered under policies.
+    Policies(PolicyOrder),
+    /// Lines are answered as a cluster does.
+    Cluster(ClusterOrder),
 }

@@ -1,15 +1,15 @@
 //! Reads the command line.
-ghost use Rattle.std.specs.Prelude.{◌≡◌, codes, map, string_bytes, unwrap_or, IfOk, []};
-ghost use Rattle.clap.specs.Words.{found_of, one_of, rows_of};
-ghost use Rattle.clap.specs.Walk.{all_of};
-ghost use Rattle.cli.specs.Number.{number_of};
-ghost use Rattle.gatekeeper_runner.specs.Orders.{longest_line, order_from, order_view, GatekeeperOrderReturns};
+ghost use Rattle.std.specs.Prelude.{◌≡◌, codes, map, string_bytes, IfOk};
+ghost use Rattle.clap.specs.Words.{found_of, rows_of};
+ghost use Rattle.gatekeeper_runner.specs.Orders.{cluster_from, cluster_order_view, go_together, is_named, is_partial, lines_order_view, max_line_from, order_from, order_view, policies_from, texts_of, GatekeeperOrderReturns};
 
+use crate::cluster_order::ClusterOrder;
 use crate::command_line::gatekeeper_matches;
 use crate::limits::LONGEST_LINE;
 use crate::order::Order;
+use crate::policy_order::PolicyOrder;
 use clap::ArgMatches;
-use cli::{name_in, number_in, steps_in};
+use cli::{name_in, number_in, steps_in, text_in};
 use host::OrderError;
 use std::alloc::{AllocError, Global};
 
@@ -23,19 +23,62 @@ pub fn order_of<'a>(alloc: Global, words: &'a [&'a str]) -> Result<Order, OrderE
     ensures { GatekeeperOrderReturns (map (λ s. s.now) words.entry.now) result }
 {
     let matches = gatekeeper_matches(alloc, words)?;
+    if !go_together(&matches) {
+        return Err(OrderError::InvalidArguments);
+    }
     Ok(order_from(alloc, &matches)?)
 }
 
-#[tactic(auto, unfolding(crate::specs::Orders::order_from))]
+/// Whether the arguments go together.
+fn go_together(matches: &ArgMatches) -> bool
+    ensures { result ≡ go_together (rows_of (found_of matches.now)) }
+{
+    if is_named(matches, "cluster") {
+        !is_named(matches, "policy")
+            && !is_named(matches, "namespace")
+            && !is_named(matches, "params")
+    } else {
+        is_named(matches, "policy") && !is_partial(matches)
+    }
+}
+
+/// Whether the argument `id` was given.
+fn is_named(matches: &ArgMatches, id: &str) -> bool
+    ensures { result ≡ is_named id.now (rows_of (found_of matches.now)) }
+{
+    text_in(matches, id).is_some()
+}
+
+/// Whether the switch was given.
+fn is_partial(matches: &ArgMatches) -> bool
+    ensures { result ≡ is_partial (rows_of (found_of matches.now)) }
+{
+    match text_in(matches, "partial") {
+        Some(text) => text == "true",
+        None => false,
+    }
+}
+
 fn order_from(alloc: Global, matches: &ArgMatches) -> Result<Order, AllocError>
-    ensures { IfOk result (λ o. order_view o ≡ order_from (rows_of (found_of matches.now))) }
+    ensures { IfOk result (λ o. lines_order_view o ≡ order_from (rows_of (found_of matches.now))) }
+{
+    if is_named(matches, "cluster") {
+        Ok(Order::Cluster(cluster_from(alloc, matches)?))
+    } else {
+        Ok(Order::Policies(policies_from(alloc, matches)?))
+    }
+}
+
+#[tactic(auto, unfolding(crate::specs::Orders::policies_from))]
+fn policies_from(alloc: Global, matches: &ArgMatches) -> Result<PolicyOrder, AllocError>
+    ensures { IfOk result (λ o. order_view o ≡ policies_from (rows_of (found_of matches.now))) }
 {
     let policies = names_in(alloc, matches, "policy")?;
     let namespace = name_in(alloc, matches, "namespace")?;
     let params = name_in(alloc, matches, "params")?;
     let steps = steps_in(matches);
     let max_line = max_line_in(matches);
-    Ok(Order {
+    Ok(PolicyOrder {
         policies,
         namespace,
         params,
@@ -44,16 +87,32 @@ fn order_from(alloc: Global, matches: &ArgMatches) -> Result<Order, AllocError>
     })
 }
 
+#[tactic(auto, unfolding(crate::specs::Orders::cluster_from))]
+fn cluster_from(alloc: Global, matches: &ArgMatches) -> Result<ClusterOrder, AllocError>
+    ensures { IfOk result (λ o. cluster_order_view o ≡ cluster_from (rows_of (found_of matches.now))) }
+{
+    let files = names_in(alloc, matches, "cluster")?;
+    let partial = is_partial(matches);
+    let steps = steps_in(matches);
+    let max_line = max_line_in(matches);
+    Ok(ClusterOrder {
+        files,
+        partial,
+        steps,
+        max_line,
+    })
+}
+
 // the value of --max-line
 fn max_line_in(matches: &ArgMatches) -> u64
-    ensures { result ≡ unwrap_or (number_of (one_of (codes "max-line") (rows_of (found_of matches.now)))) longest_line }
+    ensures { result ≡ max_line_from (rows_of (found_of matches.now)) }
 {
     number_in(matches, "max-line").unwrap_or(LONGEST_LINE)
 }
 
 // the values of the argument `id`
 fn names_in(alloc: Global, matches: &ArgMatches, id: &str) -> Result<Vec<String>, AllocError>
-    ensures { IfOk result (λ names. map string_bytes names.items ≡ unwrap_or (all_of id.now (rows_of (found_of matches.now))) []) }
+    ensures { IfOk result (λ names. map string_bytes names.items ≡ texts_of id.now (rows_of (found_of matches.now))) }
 {
     match matches.get_strs(id) {
         Some(texts) => names_of(alloc, texts),

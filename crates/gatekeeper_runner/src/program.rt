@@ -1,20 +1,19 @@
 //! The program, from its words to its exit code.
-ghost use Rattle.std.specs.Prelude.{◌≡◌, map, string_bytes, IfErr, IfOk};
+ghost use Rattle.std.specs.Prelude.{◌≡◌};
 ghost use Rattle.std.specs.Process.{exit_status};
 ghost use Rattle.streams.specs.Streams.{stream};
-ghost use Rattle.streams.specs.Writing.{WritesBytes, WritesPart};
 ghost use Rattle.policy_glue.specs.OneImage.{OneImage};
 ghost use Rattle.cli.specs.Ending.{given_of, system};
-ghost use Rattle.cli.specs.declared.refusal.Refusal.TheVariants.{Output};
-ghost use Rattle.gatekeeper_runner.specs.Orders.{GatekeeperOrderReturns};
-ghost use Rattle.gatekeeper_runner.specs.Program.{GatekeeperEffect, GatekeeperResult, ServesReviews};
+ghost use Rattle.gatekeeper_runner.specs.AnsweredLines.{UnderPolicies};
+ghost use Rattle.gatekeeper_runner.specs.Program.{AnswersUnder, GatekeeperResult, PerformsTask, TellsText};
 
-use crate::about::text_asked;
 use crate::answering::answer_lines;
-use crate::order::Order;
-use crate::ordering::order_of;
-use crate::starting::start;
-use cli::{Refusal, exit_with, texts_of};
+use crate::beginning::begin;
+use crate::cluster_program::answer_as_cluster;
+use crate::gatekeeper::Gatekeeper;
+use crate::start_ending::end_start;
+use crate::task::Task;
+use cli::{Refusal, exit_with};
 use host::{Files, OrderError};
 use std::alloc::Global;
 use std::process::ExitCode;
@@ -38,32 +37,42 @@ pub fn exit_code<F: Files, R: LineSource, W: Sink, E: Sink>(
         let told_after = stream (E.taken refusals.new) (E.failed refusals.new) in
         GatekeeperResult OneImage (given_of words) before after told told_after (exit_status result) }
 {
-    let ending = ending(alloc, words, files, requests, answers);
-    exit_with(alloc, ending, refusals)
-}
-
-/// Writes the help or version text, or answers the lines. Returns the status.
-fn ending<F: Files, R: LineSource, W: Sink>(
-    alloc: Global,
-    words: Result<Vec<String>, OrderError>,
-    files: &mut F,
-    requests: &mut R,
-    answers: &mut W,
-) -> Result<u8, Refusal>
-    ensures { let before = system (F.known files.old) (stream (R.left requests.old) (R.failed requests.old)) (stream (W.taken answers.old) (W.failed answers.old)) in
-        let after = system (F.known files.new) (stream (R.left requests.new) (R.failed requests.new)) (stream (W.taken answers.new) (W.failed answers.new)) in
-        GatekeeperEffect OneImage (given_of words) before after result }
-{
-    match text_asked(&words) {
-        Some(text) => tell(text, answers),
-        None => serve(alloc, words, files, requests, answers),
+    match begin(alloc, words, files) {
+        Ok(task) => perform(alloc, &task, requests, answers, refusals),
+        Err(refusal) => end_start(alloc, refusal, refusals),
     }
 }
 
-/// Writes a text.
+/// Does what is asked. Returns the code.
+fn perform<R: LineSource, W: Sink, E: Sink>(
+    alloc: Global,
+    task: &Task,
+    requests: &mut R,
+    answers: &mut W,
+    refusals: &mut E,
+) -> ExitCode
+    ensures { let read = stream (R.left requests.old) (R.failed requests.old) in
+        let read_after = stream (R.left requests.new) (R.failed requests.new) in
+        let written = stream (W.taken answers.old) (W.failed answers.old) in
+        let written_after = stream (W.taken answers.new) (W.failed answers.new) in
+        let told = stream (E.taken refusals.old) (E.failed refusals.old) in
+        let told_after = stream (E.taken refusals.new) (E.failed refusals.new) in
+        PerformsTask OneImage task.now read read_after written written_after told told_after (exit_status result) }
+{
+    match task {
+        Task::Text(text) => exit_with(alloc, tell(text, answers), refusals),
+        Task::Policies(keeper) => exit_with(
+            alloc,
+            answer_under(keeper, requests, answers),
+            refusals,
+        ),
+        Task::Cluster(task) => answer_as_cluster(task, requests, answers, refusals),
+    }
+}
+
+/// Writes a text. Returns the status.
 fn tell<W: Sink>(text: &str, answers: &mut W) -> Result<u8, Refusal>
-    ensures whole { IfOk result (λ status. (status ≡ 0) × WritesBytes (stream (W.taken answers.old) (W.failed answers.old)) (stream (W.taken answers.new) (W.failed answers.new)) text.now) }
-    ensures part { IfErr result (λ r. (r ≡ Output) × WritesPart (stream (W.taken answers.old) (W.failed answers.old)) (stream (W.taken answers.new) (W.failed answers.new)) text.now) }
+    ensures { TellsText text.now (stream (W.taken answers.old) (W.failed answers.old)) (stream (W.taken answers.new) (W.failed answers.new)) result }
 {
     match write_all(answers, text.as_bytes()) {
         Ok(()) => Ok(0),
@@ -71,29 +80,15 @@ fn tell<W: Sink>(text: &str, answers: &mut W) -> Result<u8, Refusal>
     }
 }
 
-/// Answers the lines. Returns the status.
-fn serve<F: Files, R: LineSource, W: Sink>(
-    alloc: Global,
-    words: Result<Vec<String>, OrderError>,
-    files: &mut F,
+/// Answers the lines under policies. Returns the status.
+fn answer_under<R: LineSource, W: Sink>(
+    keeper: &Gatekeeper,
     requests: &mut R,
     answers: &mut W,
 ) -> Result<u8, Refusal>
-    ensures { let before = system (F.known files.old) (stream (R.left requests.old) (R.failed requests.old)) (stream (W.taken answers.old) (W.failed answers.old)) in
-        let after = system (F.known files.new) (stream (R.left requests.new) (R.failed requests.new)) (stream (W.taken answers.new) (W.failed answers.new)) in
-        ServesReviews OneImage (given_of words) before after result }
+    ensures { UnderPolicies keeper.now (λ t. AnswersUnder OneImage t (stream (R.left requests.old) (R.failed requests.old)) (stream (R.left requests.new) (R.failed requests.new))
+        (stream (W.taken answers.old) (W.failed answers.old)) (stream (W.taken answers.new) (W.failed answers.new)) result) }
 {
-    let words = words?;
-    let order = asked_order(alloc, &words)?;
-    let keeper = start(alloc, &order, files)?;
-    answer_lines(&keeper, requests, answers)?;
+    answer_lines(keeper, requests, answers)?;
     Ok(0)
-}
-
-/// Reads the command line.
-fn asked_order(alloc: Global, words: &[String]) -> Result<Order, OrderError>
-    ensures { GatekeeperOrderReturns (map string_bytes words.now) result }
-{
-    let texts = texts_of(alloc, words)?;
-    order_of(alloc, texts.as_slice())
 }

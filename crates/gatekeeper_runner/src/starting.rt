@@ -6,7 +6,7 @@ ghost use Rattle.gatekeeper_runner.specs.Starting.{GatesFrom, KeepsFrom, OpensGa
 use crate::gatekeeper::Gatekeeper;
 use crate::labeling::label_of;
 use crate::named_gate::NamedGate;
-use crate::order::Order;
+use crate::policy_order::PolicyOrder;
 use admission::Gate;
 use cli::{Refusal, read_given};
 use host::Files;
@@ -20,7 +20,11 @@ use value_table::SharedDocuments;
 ///
 /// The first refusal: of a policy's file or its policy, then of the namespace's file, then of the
 /// params' file. `Memory` if an allocation fails, which says nothing about the files.
-pub fn start<F: Files>(alloc: Global, order: &Order, files: &mut F) -> Result<Gatekeeper, Refusal>
+pub fn start<F: Files>(
+    alloc: Global,
+    order: &PolicyOrder,
+    files: &mut F,
+) -> Result<Gatekeeper, Refusal>
     ensures keeps { KeepsFrom (F.known files.old) (order_view order.now) result }
     ensures known { F.known files.new ≡ F.known files.old }
 {

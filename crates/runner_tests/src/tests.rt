@@ -3,6 +3,7 @@
 use std::alloc::{AllocError, Global};
 
 mod assembling;
+mod clusters;
 mod doubles;
 mod drawn_images;
 mod errors;

@@ -1,10 +1,12 @@
 //! Files and a reader in memory.
 
+mod clusters;
 mod cut_short;
 mod folder;
 mod one_file;
 mod policies;
 
+pub use clusters::Clusters;
 pub use cut_short::CutShort;
 pub use folder::Folder;
 pub use one_file::OneFile;

@@ -1,6 +1,4 @@
--- Proofs of `command_line::gatekeeper_matches`: the result meets the contract.
-
-use Rattle.gatekeeper_runner.proofs.Prelude.{ap, ◌∙◌, map, List, subst, IfOk-weaker, App, Text, fault_of, is_simple, is_simple_and_free, matches_of, entered, faults}
+use Rattle.gatekeeper_runner.proofs.Prelude.{ap, ◌∙◌, map, List, subst, IfOk-weaker, App, Text, fault_of, is_simple, is_simple_and_free, matches_of, entered}
 use Rattle.cli.specs.Parsing.{TakesWords}
 use Rattle.gatekeeper_runner.proofs.Shape.{simple, free}
 use Rattle.gatekeeper_runner.proofs.command_line.gatekeeper_matches.Goals as goal
@@ -16,7 +14,6 @@ returns-clause-rows c =
     c.parse.ensures.matches
 
 pub returns-clause-taken : goal.returns-clause-taken
-unfolding faults
 returns-clause-taken c =
     let is = c.in_ok-command.ensures in
     let texts : List Text = map (λ s. s.now) c.args.words.now in

@@ -1,7 +1,4 @@
--- Proofs of `gatekeeper::Gatekeeper::decision_on`: the result meets the contract; the loop invariant holds at first
--- and is kept.
-
-use Rattle.gatekeeper_runner.proofs.Prelude.{[], refl, ◌∙◌, gatekeeper_of}
+use Rattle.gatekeeper_runner.proofs.Prelude.{[], refl, gatekeeper_of}
 use Rattle.gatekeeper_runner.proofs.Gates.{all_decided, tallied_all, tallied_more}
 use Rattle.gatekeeper_runner.proofs.gatekeeper.Gatekeeper.decision_on.Goals as goal
 

@@ -1,0 +1,24 @@
+-- The text of a line as a cluster decides it.
+use Rattle.gatekeeper_runner.proofs.Prelude.{◌≡◌, ℕ, List, Option, Result, sym, subst, OneImage, too_long_text}
+use Rattle.streams.specs.Streams.{Stream}
+use Rattle.streams.specs.declared.session_error.SessionError.{SessionError}
+use Rattle.line_answers.specs.Lines.{AnswersLine}
+use Rattle.line_answers.specs.AnsweredLines.{AnswersInput}
+use Rattle.line_answers.proofs.Meaning.{input_gives, line_gives}
+use Rattle.cluster_state.specs.State.{ClusterState}
+use Rattle.cluster_gate.specs.Dispatch.{DecidesInCluster}
+use Rattle.gatekeeper_runner.specs.ClusterLines.{AnswersClusterLine, DecidesAsCluster, DecidesClusterLine, IsKeeperOf, decides, decision_text}
+use Rattle.gatekeeper_runner.specs.ClusterStarting.{AnsweringCluster}
+use Rattle.gatekeeper_runner.specs.declared.cluster_keeper.ClusterKeeper.{ClusterKeeper}
+
+pub cluster_decided : (s : ClusterState) (steps : ℕ) (line text : List ℕ) (decision : Option (List ℕ)) → DecidesInCluster OneImage s line steps decision
+    → text ≡ decision_text line decision → DecidesClusterLine OneImage s steps line text
+cluster_decided s steps line text decision by is = subst (DecidesClusterLine OneImage s steps line) (sym is) (decides {decision = decision} by)
+
+-- the lines are answered as the cluster of this state does
+pub as_cluster : (r r_after w w_after : Stream) (result : Result (Unit {0}) SessionError) (c : AnsweringCluster) (k : ClusterKeeper) → IsKeeperOf c k
+    → AnswersInput (AnswersLine k.max_line too_long_text (DecidesAsCluster OneImage k)) r r_after w w_after result
+    → AnswersInput (AnswersClusterLine OneImage c) r r_after w w_after result
+as_cluster r r_after w w_after result c k keeps answered =
+    let gives = line_gives k.max_line too_long_text (DecidesAsCluster OneImage k) (DecidesClusterLine OneImage c.state k.steps) (λ line text by. by c.state keeps.of_state) in
+    rw (← keeps.max_line, ← keeps.steps) (input_gives _ _ gives r r_after w w_after result answered)

@@ -1,0 +1,7 @@
+use Rattle.gatekeeper_runner.proofs.Prelude.{IfOk-weaker}
+use Rattle.gatekeeper_runner.proofs.ClusterOnce.{cluster_decided}
+use Rattle.gatekeeper_runner.proofs.cluster_answering.ClusterKeeperDecider.answer.Goals as goal
+
+pub returns : goal.returns
+returns c =
+    IfOk-weaker c.decision_text.result _ _ (λ text is s of. cluster_decided s _ _ _ _ (c.in_ok-decision.ensures s of) is) c.decision_text.ensures

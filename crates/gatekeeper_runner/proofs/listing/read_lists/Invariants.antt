@@ -1,0 +1,10 @@
+use Rattle.gatekeeper_runner.proofs.Prelude.{◌≡◌, map, string_bytes, take}
+use Rattle.serde_json.specs.View.{view}
+use Rattle.gatekeeper_runner.specs.ClusterStarting.{HoldLists}
+use Rattle.gatekeeper_runner.proofs.listing.read_lists.Given as goal
+
+abbrev pub invariant-loop-name : goal.invariant-loop-name
+invariant-loop-name g l = record {
+  hold : HoldLists (g.F.Files.known l.fn.files) (map string_bytes (take l.name-index l.names)) (map view l.lists.items);
+  known : g.F.Files.known l.files ≡ g.F.Files.known l.fn.files;
+}

@@ -1,0 +1,14 @@
+use Rattle.gatekeeper_runner.specs.ClusterTelling.{none}
+use Rattle.gatekeeper_runner.proofs.Told.{told_all, told_more}
+use Rattle.gatekeeper_runner.proofs.telling.policies_text.Goals as goal
+
+pub loop-gate-init : goal.loop-gate-init
+loop-gate-init c s of are = rw c.new-text.ensures.items none
+
+pub loop-gate-preserved : goal.loop-gate-preserved
+loop-gate-preserved c s of are =
+    told_more _ s _ are _ _ (c.loop-gate.invariant s of are) c.gate-item.result _ _ c.loop-gate-test.true c.gate-item.is
+    (rw c.as_slice.ensures.value at c.in_ok-extend_from_slice.ensures.items) (λ p gate. c.in_ok-line.ensures s p of gate)
+
+pub returns : goal.returns
+returns c s of are = told_all _ s _ are _ _ (c.loop-gate.invariant s of are) c.loop-gate-test.false

@@ -1,0 +1,53 @@
+-- How the program ends where lines are answered as a cluster does.
+use Rattle.std.specs.Prelude.{◌≡◌, ℕ, ◌⊎◌, List, Option, Result, Ok, Err}
+use Rattle.streams.specs.Streams.{Stream}
+use Rattle.streams.specs.Writing.{WritesBytes, WritesPart}
+use Rattle.streams.specs.declared.session_error.SessionError.{SessionError}
+use Rattle.host.specs.FileSystem.{FileSystem}
+use Rattle.cli.specs.Ending.{Ending, ProgramEnds, WritesError}
+use Rattle.cli.specs.Refusals.{refusal_line, refusal_status, session_refusal}
+use Rattle.cli.specs.declared.refusal.Refusal.TheVariants.{Memory}
+use Rattle.admission.specs.Standing.{Images}
+use Rattle.line_answers.specs.AnsweredLines.{AnswersInput}
+use Rattle.gatekeeper_runner.specs.ClusterLines.{AnswersClusterLine}
+use Rattle.gatekeeper_runner.specs.ClusterStarting.{AnsweringCluster, ClusterStarts, fault_line}
+use Rattle.gatekeeper_runner.specs.ClusterTelling.{TellsPolicies}
+use Rattle.gatekeeper_runner.specs.Orders.{ClusterOrder}
+use Rattle.gatekeeper_runner.specs.declared.start_refusal.StartRefusal.{StartRefusal, TheVariants.Plain, TheVariants.Cluster}
+
+-- the lines are answered to the input's end, or until a read or a write fails
+abbrev pub ending_of : Result (Unit {0}) SessionError → Ending
+ending_of (Ok u) = Ok 0
+ending_of (Err e) = Err (session_refusal e)
+
+-- standard error took the text, or a beginning of it where a write failed
+abbrev pub Tells : Stream → Stream → List ℕ → Type 0
+Tells old new text = WritesBytes old new text ⊎ WritesPart old new text
+
+-- how a start that is refused ends: with a line of standard error, which tells that memory ran out where that happened at
+-- the line, and a status
+abbrev pub TellsStart : Stream → Stream → ℕ → StartRefusal → Type 0
+TellsStart e e_after status (Plain r) = (status ≡ refusal_status r) × WritesError e e_after (Err r)
+TellsStart e e_after status (Cluster fault) =
+    (status ≡ 3) × (Tells e e_after (fault_line fault) ⊎ Tells e e_after (refusal_line Memory))
+
+-- the lines are answered as the cluster does
+pub data AnswersAsCluster (chosen : Images) (c : AnsweringCluster) (r r_after w w_after : Stream) : Ending → Type 0 where
+  lines : (result : Result (Unit {0}) SessionError) → AnswersInput (AnswersClusterLine chosen c) r r_after w w_after result
+      → AnswersAsCluster chosen c r r_after w w_after (ending_of result)
+
+-- a line is told of each policy on standard error, then the lines are answered, and the program ends with this status
+pub record TellsAndAnswers (chosen : Images) (c : AnsweringCluster) (r r_after w w_after e e_after : Stream) (status : ℕ) : Type 0 where
+  pub text : List ℕ
+  pub policies : TellsPolicies c.lists c.state c.state.policies text
+  pub told : Stream
+  pub tells : Tells e told text
+  pub ends : ProgramEnds (AnswersAsCluster chosen c r r_after w w_after) told e_after status
+
+-- what is read and written, and the status, by the files: of the input, of standard output and of standard error
+pub data ClusterEnds (chosen : Images) (known : Option FileSystem) (order : ClusterOrder) (r r_after w w_after e e_after : Stream)
+    (status : ℕ) : Type 0 where
+  not_started : {why : StartRefusal} → ClusterStarts known order (Err why) → r_after ≡ r → w_after ≡ w → TellsStart e e_after status why
+      → ClusterEnds chosen known order r r_after w w_after e e_after status
+  started : {c : AnsweringCluster} → ClusterStarts known order (Ok c) → TellsAndAnswers chosen c r r_after w w_after e e_after status
+      → ClusterEnds chosen known order r r_after w w_after e e_after status

@@ -1,0 +1,58 @@
+-- What is answered to a line as a cluster does.
+use Rattle.std.specs.Prelude.{◌≡◌, ℕ, false, List, Option, Some, None, Result, Ok, Err, string_bytes}
+use Rattle.serde_json.specs.Data as json
+use Rattle.line_answers.specs.Lines.{AnswersLine, LineTexts}
+use Rattle.policy_glue.specs.Documents.{document_of}
+use Rattle.cli.specs.declared.refusal.Refusal.TheVariants.{Memory}
+use Rattle.admission.specs.Standing.{Images}
+use Rattle.admission.specs.declared.run_error.RunError.{TheVariants.ReviewRefused}
+use Rattle.cluster_state.specs.State.{ClusterState}
+use Rattle.cluster_gate.specs.Dispatch.{DecidesInCluster}
+use Rattle.cluster_gate.specs.Gates.{FirstIsBlocked, IsClusterFor, NoneIsBlocked}
+use Rattle.gatekeeper_runner.specs.ClusterStarting.{AnsweringCluster}
+use Rattle.gatekeeper_runner.specs.Lines.{refusal_text, too_long_text, uid_shown}
+use Rattle.gatekeeper_runner.specs.ClusterTelling.{TellsPolicies}
+use Rattle.gatekeeper_runner.specs.Orders.{ClusterOrder}
+use Rattle.gatekeeper_runner.specs.declared.cluster_fault.ClusterFault.{TheVariants.Blocked}
+use Rattle.gatekeeper_runner.specs.declared.cluster_keeper.ClusterKeeper.{ClusterKeeper}
+use Rattle.gatekeeper_runner.specs.declared.start_refusal.StartRefusal.{StartRefusal, TheVariants.Plain, TheVariants.Cluster}
+
+-- the refusal of a line that is no review
+abbrev pub no_review_text : List ℕ → List ℕ
+no_review_text line = refusal_text (record { error = ReviewRefused; policy = None }) (uid_shown (document_of line))
+
+-- the text of what is decided of the review in a line, if it is one
+abbrev pub decision_text : List ℕ → Option (List ℕ) → List ℕ
+decision_text line (Some text) = text
+decision_text line None = no_review_text line
+
+-- a line that is read and is not blank, and its text by what the cluster decides
+pub data DecidesClusterLine (chosen : Images) (s : ClusterState) (steps : ℕ) (line : List ℕ) : List ℕ → Type 0 where
+  decides : {decision : Option (List ℕ)} → DecidesInCluster chosen s line steps decision
+      → DecidesClusterLine chosen s steps line (decision_text line decision)
+
+-- a line, and what is written for it, which depends on the cluster's state and this line alone
+abbrev pub AnswersClusterLine : Images → AnsweringCluster → LineTexts
+AnswersClusterLine chosen c = AnswersLine c.max_line too_long_text (DecidesClusterLine chosen c.state c.steps)
+
+-- ---- the code's
+
+-- so it is with the state of the code's cluster
+abbrev pub DecidesAsCluster : Images → ClusterKeeper → List ℕ → List ℕ → Type 0
+DecidesAsCluster chosen k line text = (s : ClusterState) → IsClusterFor s k.cluster → DecidesClusterLine chosen s k.steps line text
+
+-- the code's cluster, and what is told of its policies, are these
+pub record IsKeeperOf (c : AnsweringCluster) (k : ClusterKeeper) : Type 0 where
+  pub of_state : IsClusterFor c.state k.cluster
+  pub steps : k.steps ≡ c.steps
+  pub max_line : k.max_line ≡ c.max_line
+  pub told : TellsPolicies c.lists c.state c.state.policies k.told.items
+
+-- a cluster with this state is opened, or the first policy that is blocked is the refusal
+abbrev pub OpensKeeper : List json.Data → ClusterOrder → ClusterState → Result ClusterKeeper StartRefusal → Type 0
+OpensKeeper lists order s (Ok k) =
+    IsKeeperOf (record { lists = lists; state = s; steps = order.steps; max_line = order.max_line }) k
+    × (order.partial ≡ false → NoneIsBlocked s s.policies)
+OpensKeeper lists order s (Err (Plain r)) = r ≡ Memory
+OpensKeeper lists order s (Err (Cluster (Blocked name cause))) = (order.partial ≡ false) × FirstIsBlocked s s.policies (string_bytes name) cause
+OpensKeeper lists order s (Err (Cluster _)) = ⊥

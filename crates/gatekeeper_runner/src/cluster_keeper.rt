@@ -1,0 +1,17 @@
+//! What decides the lines as a cluster does.
+
+use cluster_gate::Cluster;
+use std::alloc::Global;
+
+/// The cluster as which each line is decided. No line changes it.
+#[derive(Drop)]
+pub struct ClusterKeeper<'s, 'a> {
+    pub alloc: Global,
+    pub cluster: Cluster<'s, 'a>,
+    /// The most steps that a policy's program may take.
+    pub steps: u64,
+    /// The most bytes of a line that is read.
+    pub max_line: u64,
+    /// What is told of its policies before the first line.
+    pub told: Vec<u8>,
+}

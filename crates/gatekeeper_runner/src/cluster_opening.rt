@@ -1,0 +1,71 @@
+//! Clusters that are opened, and why one is not.
+ghost use Rattle.std.specs.Prelude.{◌≡◌, get_or, map, string_bytes, Err, [], Option};
+ghost use Rattle.serde_json.specs.View.{view};
+ghost use Rattle.host.specs.FileSystem.{FileSystem};
+ghost use Rattle.cluster_state.specs.Refusals.{IsDueRefusal};
+ghost use Rattle.cluster_state.specs.State.{state_of, state_view};
+ghost use Rattle.gatekeeper_runner.specs.ClusterLines.{OpensKeeper};
+ghost use Rattle.gatekeeper_runner.specs.ClusterStarting.{ClusterStarts, HoldLists, IsNotListed};
+ghost use Rattle.gatekeeper_runner.specs.Orders.{cluster_order_view};
+
+use crate::cluster_fault::ClusterFault;
+use crate::cluster_keeper::ClusterKeeper;
+use crate::cluster_task::ClusterTask;
+use crate::start_refusal::StartRefusal;
+use crate::telling::policies_text;
+use cli::Refusal;
+use cluster_gate::Cluster;
+use cluster_state::{State, StateError};
+
+/// The cluster with this state, and what is told of its policies.
+///
+/// # Errors
+///
+/// The first policy that is blocked, unless it may be. `Memory` where memory runs out.
+pub fn open_cluster<'s, 'a>(
+    task: &ClusterTask,
+    state: &'s State<'a>,
+) -> Result<ClusterKeeper<'s, 'a>, StartRefusal>
+    ensures { OpensKeeper (map view task.now.lists.items) (cluster_order_view task.now.order) (state_view state.now) result }
+{
+    let cluster = Cluster::new(task.alloc, state, task.order.partial)?;
+    let told = policies_text(task.alloc, &task.lists, state, cluster.policies())?;
+    Ok(ClusterKeeper {
+        alloc: task.alloc,
+        cluster,
+        steps: task.order.steps,
+        max_line: task.order.max_line,
+        told,
+    })
+}
+
+/// Why there is no state in the lists of a task.
+pub fn state_refusal(task: &ClusterTask, error: StateError) -> StartRefusal
+    ensures { (known : Option FileSystem) → HoldLists known (map string_bytes task.now.order.files.items) (map view task.now.lists.items)
+        → IsDueRefusal (state_of (map view task.now.lists.items)) error → ClusterStarts known (cluster_order_view task.now.order) (Err result) }
+{
+    match error {
+        StateError::NotAList(place) => not_listed(task, place),
+        other => StartRefusal::from(other),
+    }
+}
+
+/// The file at this place holds no List.
+fn not_listed(task: &ClusterTask, place: usize) -> StartRefusal
+    ensures { IsNotListed (map string_bytes task.now.order.files.items) place result }
+{
+    match String::from_str(task.alloc, name_at(&task.order.files, place)) {
+        Ok(name) => StartRefusal::Cluster(ClusterFault::NoList(name)),
+        Err(_) => StartRefusal::Plain(Refusal::Memory),
+    }
+}
+
+/// The name at this place, and the empty one if there is none.
+fn name_at(names: &[String], place: usize) -> &str
+    ensures { result.now ≡ get_or (map string_bytes names.now) place [] }
+{
+    match names.get(place) {
+        Some(name) => name.as_str(),
+        None => "",
+    }
+}

@@ -1,0 +1,14 @@
+//! A cluster's state that the words name.
+
+/// The names of files, and numbers.
+#[derive(Drop)]
+pub struct ClusterOrder {
+    /// Of the lists of a cluster's state, in the order of the words.
+    pub files: Vec<String>,
+    /// Whether a policy may be refused, with each request that it matches.
+    pub partial: bool,
+    /// The most steps of a policy's program.
+    pub steps: u64,
+    /// The most bytes of a line.
+    pub max_line: u64,
+}

@@ -1,0 +1,14 @@
+//! What is asked of a cluster.
+
+use crate::cluster_order::ClusterOrder;
+use serde_json::Value;
+use std::alloc::Global;
+
+/// What is asked of a cluster, and the lists that it is read from.
+#[derive(Drop)]
+pub struct ClusterTask {
+    pub alloc: Global,
+    pub order: ClusterOrder,
+    /// The documents in the files, in their order.
+    pub lists: Vec<Value>,
+}

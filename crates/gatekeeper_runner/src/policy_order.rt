@@ -1,0 +1,14 @@
+//! Policies that the words name.
+
+/// The names of files, and numbers.
+#[derive(Drop)]
+pub struct PolicyOrder {
+    /// Of the policies, in the order of the words.
+    pub policies: Vec<String>,
+    pub namespace: Option<String>,
+    pub params: Option<String>,
+    /// The most steps of a policy's program.
+    pub steps: u64,
+    /// The most bytes of a line.
+    pub max_line: u64,
+}

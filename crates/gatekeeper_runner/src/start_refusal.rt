@@ -1,0 +1,86 @@
+//! Why no line is read.
+ghost use Rattle.std.specs.Prelude.{◌≡◌};
+ghost use Rattle.cli.specs.Refusals.{file_refusal, order_refusal};
+ghost use Rattle.cli.specs.declared.refusal.Refusal.TheVariants.{Memory};
+ghost use Rattle.gatekeeper_runner.specs.ClusterStarting.{refusal_of_cluster, refusal_of_state};
+ghost use Rattle.gatekeeper_runner.specs.declared.start_refusal.StartRefusal.TheVariants.{Plain};
+
+use crate::cluster_fault::ClusterFault;
+use cli::Refusal;
+use cluster_gate::ClusterError;
+use cluster_state::StateError;
+use host::{FileError, OrderError};
+use std::alloc::{AllocError, AllocFailed};
+
+/// Why no line is read.
+#[derive(Drop)]
+pub enum StartRefusal {
+    /// The words, a file or a policy is refused, or memory ran out.
+    Plain(Refusal),
+    /// The state of a cluster is refused.
+    Cluster(ClusterFault),
+}
+
+impl From<AllocError> for StartRefusal {
+    ghost from_gives = { λ _ r. r ≡ Plain Memory };
+
+    fn from(_error: AllocError) -> StartRefusal {
+        StartRefusal::Plain(Refusal::Memory)
+    }
+}
+
+impl<T: Drop> From<AllocFailed<T>> for StartRefusal {
+    ghost from_gives = { λ _ r. r ≡ Plain Memory };
+
+    fn from(_error: AllocFailed<T>) -> StartRefusal {
+        StartRefusal::Plain(Refusal::Memory)
+    }
+}
+
+impl From<OrderError> for StartRefusal {
+    ghost from_gives = { λ e r. r ≡ Plain (order_refusal e) };
+
+    fn from(error: OrderError) -> StartRefusal {
+        StartRefusal::Plain(Refusal::from(error))
+    }
+}
+
+impl From<FileError> for StartRefusal {
+    ghost from_gives = { λ e r. r ≡ Plain (file_refusal e) };
+
+    fn from(error: FileError) -> StartRefusal {
+        StartRefusal::Plain(Refusal::from(error))
+    }
+}
+
+impl From<Refusal> for StartRefusal {
+    ghost from_gives = { λ e r. r ≡ Plain e };
+
+    fn from(refusal: Refusal) -> StartRefusal {
+        StartRefusal::Plain(refusal)
+    }
+}
+
+impl From<StateError> for StartRefusal {
+    ghost from_gives = { λ e r. r ≡ refusal_of_state e };
+
+    fn from(error: StateError) -> StartRefusal {
+        match error {
+            StateError::Memory => StartRefusal::Plain(Refusal::Memory),
+            other => StartRefusal::Cluster(ClusterFault::NoState(other)),
+        }
+    }
+}
+
+impl From<ClusterError> for StartRefusal {
+    ghost from_gives = { λ e r. r ≡ refusal_of_cluster e };
+
+    fn from(error: ClusterError) -> StartRefusal {
+        match error {
+            ClusterError::Memory => StartRefusal::Plain(Refusal::Memory),
+            ClusterError::BlockedPolicy(name, cause) => {
+                StartRefusal::Cluster(ClusterFault::Blocked(name, cause))
+            }
+        }
+    }
+}

@@ -1,0 +1,15 @@
+//! What is done with the streams.
+
+use crate::cluster_task::ClusterTask;
+use crate::gatekeeper::Gatekeeper;
+
+/// What the words ask for, with what was read for it.
+#[derive(Drop)]
+pub enum Task {
+    /// A text is written.
+    Text(&'static str),
+    /// Lines are answered under policies.
+    Policies(Gatekeeper),
+    /// Lines are answered as a cluster does.
+    Cluster(ClusterTask),
+}

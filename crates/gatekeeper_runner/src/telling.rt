@@ -1,0 +1,139 @@
+//! What is told on standard error of a cluster.
+ghost use Rattle.std.specs.Prelude.{◌≡◌, ◌-◌, ◌++◌, ◌≤◌, decimal, drop, length, map, option_map, take, IfOk, OnOk};
+ghost use Rattle.serde_json.specs.View.{view};
+ghost use Rattle.cli.specs.Refusals.{policy_text};
+ghost use Rattle.cluster_state.specs.Policies.{param_kind_view, BoundPolicy};
+ghost use Rattle.cluster_state.specs.State.{state_view, ClusterState};
+ghost use Rattle.cluster_state.specs.Bindings.{binding_view, Binding};
+ghost use Rattle.cluster_gate.specs.Gates.{AreGatesFor, IsGateFor};
+ghost use Rattle.cluster_plan.specs.Steps.{bindings_of};
+ghost use Rattle.gatekeeper_runner.specs.ClusterStarting.{cause_code, cause_text};
+ghost use Rattle.gatekeeper_runner.specs.ClusterTelling.{block_text, cause_of, params_text, policy_line, spaced, TellsPolicies};
+
+use crate::listed::listed;
+use cli::{Refusal, refusal_line};
+use cluster_gate::{BlockCause, PolicyGate, Standing};
+use cluster_state::{Binding, ParamKind, State};
+use itoa::Buffer;
+use serde_json::Value;
+use std::alloc::{AllocError, Global};
+
+/// A line for each policy of the cluster that has a binding, in the order of their names.
+pub fn policies_text(
+    alloc: Global,
+    lists: &[Value],
+    state: &State<'_>,
+    gates: &[PolicyGate<'_>],
+) -> Result<Vec<u8>, AllocError>
+    ensures { IfOk result (λ t. (s : ClusterState) → state_view state.now ≡ s → AreGatesFor s s.policies gates.now → TellsPolicies (map view lists.now) s s.policies t.items) }
+{
+    let mut text = Vec::new(alloc);
+    for gate in gates {
+        let line = policy_line(alloc, lists, state, gate)?;
+        text.extend_from_slice(line.as_slice())?;
+    }
+    Ok(text)
+}
+
+/// The line of a policy.
+fn policy_line(
+    alloc: Global,
+    lists: &[Value],
+    state: &State<'_>,
+    gate: &PolicyGate<'_>,
+) -> Result<Vec<u8>, AllocError>
+    ensures { IfOk result (λ l. (s : ClusterState) (p : BoundPolicy) → state_view state.now ≡ s → IsGateFor s p gate.now
+        → l.items ≡ policy_line (map view lists.now) s p (cause_of gate.now.standing)) }
+{
+    let policy = gate.asked.policy;
+    let mut line = Vec::from_slice(alloc, b"celbpf: policy ")?;
+    line.extend_from_slice(policy.name.as_bytes())?;
+    line.extend_from_slice(b", bindings")?;
+    add_bindings(&mut line, state.bindings(), policy.name)?;
+    add_params(alloc, &mut line, lists, &policy.param_kind)?;
+    add_standing(alloc, &mut line, &gate.standing)?;
+    line.extend_from_slice(b"\n")?;
+    Ok(line)
+}
+
+/// Adds the names of the bindings of the policy of this name.
+fn add_bindings(
+    line: &mut Vec<u8>,
+    bindings: &[Binding<'_>],
+    policy: &str,
+) -> Result<(), AllocError>
+    ensures { OnOk result (line.new.items ≡ line.old.items ++ spaced (map (λ b. b.name) (bindings_of policy.now (map binding_view bindings.now)))) }
+{
+    for binding in bindings {
+        if binding.policy_name == policy {
+            line.extend_from_slice(b" ")?;
+            line.extend_from_slice(binding.name.as_bytes())?;
+        }
+    }
+    Ok(())
+}
+
+/// Adds the kind of params, and how many of it are listed.
+fn add_params(
+    alloc: Global,
+    line: &mut Vec<u8>,
+    lists: &[Value],
+    kind: &Option<ParamKind<'_>>,
+) -> Result<(), AllocError>
+    ensures { OnOk result (line.new.items ≡ line.old.items ++ params_text (map view lists.now) (option_map param_kind_view kind.now)) }
+{
+    let Some(kind) = kind else { return Ok(()) };
+    let params = listed(alloc, lists, kind)?;
+    line.extend_from_slice(b", params ")?;
+    line.extend_from_slice(kind.api_version.as_bytes())?;
+    line.extend_from_slice(b" ")?;
+    line.extend_from_slice(kind.kind.as_bytes())?;
+    line.extend_from_slice(b" ")?;
+    add_number(line, params.len())
+}
+
+/// Adds a number.
+pub fn add_number(line: &mut Vec<u8>, n: usize) -> Result<(), AllocError>
+    ensures { OnOk result (line.new.items ≡ line.old.items ++ decimal n) }
+{
+    line.extend_from_slice(Buffer::new().format(n).as_bytes())?;
+    Ok(())
+}
+
+/// Adds why the policy is blocked, if it is.
+fn add_standing(alloc: Global, line: &mut Vec<u8>, standing: &Standing) -> Result<(), AllocError>
+    ensures { OnOk result (line.new.items ≡ line.old.items ++ block_text (cause_of standing.now)) }
+{
+    match standing {
+        Standing::Asked(_) => Ok(()),
+        Standing::Blocked(cause) => {
+            line.extend_from_slice(b", blocked ")?;
+            line.extend_from_slice(cause.refusal().code().as_bytes())?;
+            add_cause(alloc, line, *cause)
+        }
+    }
+}
+
+/// Adds what is told of a blocked policy beside its code.
+pub fn add_cause(alloc: Global, line: &mut Vec<u8>, cause: BlockCause) -> Result<(), AllocError>
+    ensures { OnOk result (line.new.items ≡ line.old.items ++ cause_text cause) }
+{
+    match cause {
+        BlockCause::Refused(error) => {
+            let told = refusal_line(alloc, Refusal::Policy(error));
+            line.extend_from_slice(b" ")?;
+            line.extend_from_slice(inner(told.as_slice()))?;
+        }
+        BlockCause::NamesNamespace => line.extend_from_slice(b" namespaceObject")?,
+        BlockCause::UnknownParamKind => {}
+    }
+    Ok(())
+}
+
+/// The text of a refusal in its line.
+fn inner(line: &[u8]) -> &[u8]
+    requires { 9 ≤ length line.now }
+    ensures { result.now ≡ take (length line.now - 9) (drop 8 line.now) }
+{
+    &line[8..line.len() - 1]
+}

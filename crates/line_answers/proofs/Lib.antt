@@ -1,0 +1,5 @@
+mod Going
+pub mod Meaning
+pub mod OneAnswer
+mod OneLine
+pub mod Prelude

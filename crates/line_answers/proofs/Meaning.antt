@@ -1,0 +1,57 @@
+-- What holds of each text that may be answered to a line holds of what is written for an input.
+use Rattle.line_answers.proofs.Prelude.{ℕ, List, Option, Result, Ok, Err, SessionError, ReadFailed, WriteFailed, AnswersLine, LineTexts, decided, no_memory, passed_over, too_long, AnswersEach, AnswersByResult, AnswersInput, Stream}
+use Rattle.streams.specs.declared.session_error.SessionError.TheVariants.{Memory as SessionMemory}
+use Rattle.line_answers.specs.AnsweredLines as told
+
+-- each text by the first is one by the second
+abbrev pub Gives : LineTexts → LineTexts → Type 0
+Gives texts others = (line text : List ℕ) → texts line text → others line text
+
+pub line_gives : (most : ℕ) (long : List ℕ) (decides others : LineTexts) → Gives decides others → Gives (AnswersLine most long decides) (AnswersLine most long others)
+line_gives most long decides others gives line text (too_long above) = too_long above
+line_gives most long decides others gives line text (passed_over short blank) = passed_over short blank
+line_gives most long decides others gives line text (decided {text = t} short full by) = decided short full (gives line t by)
+line_gives most long decides others gives line text (no_memory some) = no_memory some
+
+module _ (texts others : LineTexts) (gives : Gives texts others) where
+  each_gives : (lines : List (List ℕ)) (text : List ℕ) → AnswersEach texts lines text → AnswersEach others lines text
+  each_gives lines text told.none = told.none
+  each_gives lines text (told.more {lines = before} {text = first} {line = line} {answer = answer} each last) =
+      told.more (each_gives before first each) (gives line answer last)
+
+  result_gives : (input before : List ℕ) (left written : Option (List ℕ)) (result : Result (Unit {0}) SessionError)
+      → AnswersByResult texts input before left written result → AnswersByResult others input before left written result
+  result_gives input before left written (Ok u) a =
+      record { all_left = a.all_left; text = a.text; all_lines = each_gives _ a.text a.all_lines; all_written = a.all_written }
+  result_gives input before left written (Err ReadFailed) a = record {
+    read = a.read;
+    within = a.within;
+    some_left = a.some_left;
+    text = a.text;
+    some_lines = each_gives _ a.text a.some_lines;
+    some_written = a.some_written;
+  }
+  result_gives input before left written (Err WriteFailed) a = record {
+    read = a.read;
+    within = a.within;
+    line_read = a.line_read;
+    part_left = a.part_left;
+    lines = a.lines;
+    last = a.last;
+    lines_are = a.lines_are;
+    text = a.text;
+    answered = each_gives a.lines a.text a.answered;
+    part = a.part;
+    rest = a.rest;
+    answers = gives a.last _ a.answers;
+    is_cut = a.is_cut;
+    part_written = a.part_written;
+  }
+  result_gives input before left written (Err SessionMemory) none = absurd none
+
+  pub input_gives : (r r_after w w_after : Stream) (result : Result (Unit {0}) SessionError)
+      → AnswersInput texts r r_after w w_after result → AnswersInput others r r_after w w_after result
+  input_gives r r_after w w_after result a = record {
+    told = λ input before e f. result_gives input before r_after.bytes w_after.bytes result (a.told input before e f);
+    fails = a.fails;
+  }

@@ -1,0 +1,53 @@
+-- What is answered to a line.
+use Rattle.std.specs.Prelude.{◌≡◌, ℕ, ◌<◌, ◌≤◌, Bool, true, false, List, [], ◌∷◌, ◌++◌, ◌||◌, codes, length, nat_eq, suc, take}
+use Rattle.std.specs.List.{list_all}
+use Rattle.line_answers.specs.declared.line.Line.{Line}
+
+-- a line, and a text that may be answered to it
+abbrev pub LineTexts : Type 1
+LineTexts = List ℕ → List ℕ → Type 0
+
+-- ---- a line
+
+-- a space, a tab or a carriage return
+abbrev pub is_blank_byte : ℕ → Bool
+is_blank_byte b = nat_eq b 32 || (nat_eq b 9 || nat_eq b 13)
+
+-- no other byte, or none at all
+abbrev pub is_blank : List ℕ → Bool
+is_blank line = list_all is_blank_byte line
+
+-- a text and the line feed that ends it
+abbrev pub line_of : List ℕ → List ℕ
+line_of text = text ++ 10 ∷ []
+
+-- what is written where the host has no memory for the answer to a line
+abbrev pub no_memory_text : List ℕ
+no_memory_text = codes "{\"refused\":\"memory\"}\n"
+
+-- a line, and what is written for it, which depends on no other line: by the most bytes that are read of one, the text
+-- for a longer one, and the texts for a line that is decided
+pub data AnswersLine (most : ℕ) (too_long_text : List ℕ) (decides : LineTexts) (line : List ℕ) : List ℕ → Type 0 where
+  -- a line of more bytes is refused unread
+  too_long : most < length line → AnswersLine most too_long_text decides line (line_of too_long_text)
+  passed_over : length line ≤ most → is_blank line ≡ true → AnswersLine most too_long_text decides line []
+  decided : {text : List ℕ} → length line ≤ most → is_blank line ≡ false → decides line text
+      → AnswersLine most too_long_text decides line (line_of text)
+  -- the host has no memory for it, which says nothing of the line
+  no_memory : 0 < length line → AnswersLine most too_long_text decides line no_memory_text
+
+-- ---- the line that is read
+
+-- what is kept of a line: its bytes up to one more than the most, or that there was no memory for them
+abbrev pub IsKeptOfLine : Bool → ℕ → List ℕ → List ℕ → Type 0
+IsKeptOfLine true most kept line = 0 < length line
+IsKeptOfLine false most kept line = kept ≡ take (suc most) line
+
+-- a line of which at most this many bytes are read
+pub record KeepsLine (most : ℕ) (l : Line) (line : List ℕ) : Type 0 where
+  pub most_is : l.most ≡ most
+  pub kept : IsKeptOfLine l.lacks most l.bytes.items line
+
+-- the most bytes for which there is room between two lines
+abbrev pub kept_room : ℕ
+kept_room = 1048576

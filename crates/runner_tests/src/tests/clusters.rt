@@ -1,0 +1,97 @@
+//! The gatekeeper that decides as a whole cluster, over files and streams in memory.
+
+use super::doubles::Clusters;
+use super::programs::{is_text, words};
+use debugger::Counting;
+use gatekeeper_runner::exit_code;
+use std::alloc::{AllocError, Global};
+use std::process::ExitCode;
+use std::test::Fail;
+use streams::Buffered;
+
+const BOTH: &str = "gatekeeper --cluster policies --cluster bindings";
+
+/// Deployments of 3 and of 5 replicas, and a document that is no review.
+const THREE: &str =
+    r#"{"apiVersion":"admission.k8s.io/v1","kind":"AdmissionReview","request":{"uid":"u1","kind":{"group":"apps","version":"v1","kind":"Deployment"},"resource":{"group":"apps","version":"v1","resource":"deployments"},"operation":"CREATE","name":"web","namespace":"prod","object":{"metadata":{"name":"web"},"spec":{"replicas":3}}}}
+{"apiVersion":"admission.k8s.io/v1","kind":"AdmissionReview","request":{"uid":"u2","kind":{"group":"apps","version":"v1","kind":"Deployment"},"resource":{"group":"apps","version":"v1","resource":"deployments"},"operation":"CREATE","name":"web","namespace":"prod","object":{"metadata":{"name":"web"},"spec":{"replicas":5}}}}
+{"kind":"Scale","request":{"uid":"u3"}}
+"#;
+
+const THREE_ANSWERS: &str =
+    r#"{"apiVersion":"admission.k8s.io/v1","kind":"AdmissionReview","response":{"allowed":true,"uid":"u1","warnings":["Validation failed for ValidatingAdmissionPolicy 'q' with binding 'c': odd"]}}
+{"apiVersion":"admission.k8s.io/v1","kind":"AdmissionReview","response":{"allowed":false,"status":{"code":422,"message":"deployments.apps \"web\" is forbidden: ValidatingAdmissionPolicy 'p' with binding 'b' denied request: failed expression: object.spec.replicas <= 3","reason":"Invalid"},"uid":"u2","warnings":["Validation failed for ValidatingAdmissionPolicy 'q' with binding 'c': odd"]}}
+{"refused":"N2","uid":"u3"}
+"#;
+
+/// The words, the status, standard output and standard error, on the lines above.
+#[rattlefmt::skip]
+const ROWS: [(&str, u8, &str, &str); 21] = [
+    (BOTH, 0, THREE_ANSWERS, "celbpf: policy p, bindings b\ncelbpf: policy q, bindings c\n"),
+    ("gatekeeper --cluster policies", 0, NOTHING_BOUND, ""),
+    ("gatekeeper --cluster none", 3, "", "celbpf: C1 none\n"),
+    ("gatekeeper --cluster policies --cluster namespace", 3, "", "celbpf: C1 namespace\n"),
+    ("gatekeeper --cluster policies --cluster missing --cluster none", 3, "", "celbpf: file\n"),
+    ("gatekeeper --cluster no-item", 3, "", "celbpf: C2 1\n"),
+    ("gatekeeper --cluster double", 3, "", "celbpf: C3 prod\n"),
+    ("gatekeeper --cluster no-namespace", 3, "", "celbpf: C4\n"),
+    ("gatekeeper --cluster no-binding", 3, "", "celbpf: C5 b\n"),
+    ("gatekeeper --cluster no-constraints", 3, "", "celbpf: C6 p\n"),
+    ("gatekeeper --cluster no-validations", 3, "", "celbpf: C7 p K4\n"),
+    ("gatekeeper --cluster no-kind", 3, "", "celbpf: C8 p\n"),
+    ("gatekeeper --cluster no-validations --partial", 0, C7_REFUSED, "celbpf: policy p, bindings b, blocked C7 K4\n"),
+    ("gatekeeper --partial --cluster no-kind", 0, C8_REFUSED, "celbpf: policy p, bindings b, params example.com/v1 Limit 0, blocked C8\n"),
+    ("gatekeeper --cluster policies --policy few", 2, "", "celbpf: U1\n"),
+    ("gatekeeper --cluster policies --namespace n", 2, "", "celbpf: U1\n"),
+    ("gatekeeper --cluster policies --params n", 2, "", "celbpf: U1\n"),
+    ("gatekeeper --cluster policies --partial --partial", 2, "", "celbpf: U1\n"),
+    ("gatekeeper --policy few --partial", 2, "", "celbpf: U1\n"),
+    ("gatekeeper --partial", 2, "", "celbpf: U1\n"),
+    ("gatekeeper --cluster", 2, "", "celbpf: U1\n"),
+];
+
+/// The answers where no policy is bound.
+const NOTHING_BOUND: &str =
+    r#"{"apiVersion":"admission.k8s.io/v1","kind":"AdmissionReview","response":{"allowed":true,"uid":"u1"}}
+{"apiVersion":"admission.k8s.io/v1","kind":"AdmissionReview","response":{"allowed":true,"uid":"u2"}}
+{"refused":"N2","uid":"u3"}
+"#;
+
+/// The answers where the policy that matches is blocked.
+const C7_REFUSED: &str = r#"{"policy":"p","refused":"C7","uid":"u1"}
+{"policy":"p","refused":"C7","uid":"u2"}
+{"refused":"N2","uid":"u3"}
+"#;
+
+const C8_REFUSED: &str = r#"{"policy":"p","refused":"C8","uid":"u1"}
+{"policy":"p","refused":"C8","uid":"u2"}
+{"refused":"N2","uid":"u3"}
+"#;
+
+/// Whether the program with these words ends with the status and both outputs.
+fn ends(alloc: Global, line: &str, due: (u8, &str, &str)) -> Result<bool, AllocError> {
+    let mut out = [0u8; 1024];
+    let mut err = [0u8; 128];
+    let mut input = Buffered::<_, 64>::new(Counting::new(THREE.as_bytes()));
+    let code = exit_code(
+        alloc,
+        Ok(words(alloc, line)?),
+        &mut Clusters,
+        &mut input,
+        &mut Counting::new(&mut out[..]),
+        &mut Counting::new(&mut err[..]),
+    );
+    Ok(
+        code == ExitCode::from(due.0)
+            && is_text(&out, due.1.as_bytes())
+            && is_text(&err, due.2.as_bytes()),
+    )
+}
+
+#[test]
+fn answers_as_a_cluster(rt: HostRuntime) -> Result<(), Fail> {
+    for (row, &(line, status, out, err)) in ROWS.iter().enumerate() {
+        assert!(rt; ends(rt.alloc(), line, (status, out, err))?, "row {row}");
+    }
+    Ok(())
+}
