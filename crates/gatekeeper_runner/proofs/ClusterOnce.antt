@@ -2,7 +2,7 @@
 use Rattle.gatekeeper_runner.proofs.Prelude.{◌≡◌, ℕ, List, Option, Result, sym, subst, OneImage, too_long_text}
 use Rattle.streams.specs.Streams.{Stream}
 use Rattle.streams.specs.declared.session_error.SessionError.{SessionError}
-use Rattle.line_answers.specs.Lines.{AnswersLine}
+use Rattle.line_answers.specs.Lines.{AnswersInputLine}
 use Rattle.line_answers.specs.AnsweredLines.{AnswersInput}
 use Rattle.line_answers.proofs.Meaning.{input_gives, line_gives}
 use Rattle.cluster_state.specs.State.{ClusterState}
@@ -17,7 +17,7 @@ cluster_decided s steps line text decision by is = subst (DecidesClusterLine One
 
 -- the lines are answered as the cluster of this state does
 pub as_cluster : (r r_after w w_after : Stream) (result : Result (Unit {0}) SessionError) (c : AnsweringCluster) (k : ClusterKeeper) → IsKeeperOf c k
-    → AnswersInput (AnswersLine k.max_line too_long_text (DecidesAsCluster OneImage k)) r r_after w w_after result
+    → AnswersInput (AnswersInputLine k.max_line too_long_text (DecidesAsCluster OneImage k)) r r_after w w_after result
     → AnswersInput (AnswersClusterLine OneImage c) r r_after w w_after result
 as_cluster r r_after w w_after result c k keeps answered =
     let gives = line_gives k.max_line too_long_text (DecidesAsCluster OneImage k) (DecidesClusterLine OneImage c.state k.steps) (λ line text by. by c.state keeps.of_state) in

@@ -7,7 +7,7 @@ use Rattle.cluster_state.specs.Refusals.{IsDueRefusal, not_a_list}
 use Rattle.cluster_state.specs.State.{ClusterState, state_of}
 use Rattle.cluster_state.specs.declared.state_error.StateError.{StateError}
 use Rattle.cluster_state.specs.declared.state_error.StateError.TheVariants as state_error
-use Rattle.gatekeeper_runner.specs.ClusterEnding.{Tells}
+use Rattle.gatekeeper_runner.specs.ClusterEnding.{TellsCluster}
 use Rattle.gatekeeper_runner.specs.ClusterLines.{OpensKeeper}
 use Rattle.gatekeeper_runner.specs.ClusterStarting.{ClusterStarts, HoldLists, IsNotListed, is_blocked, no_memory, no_state, not_listed, ready, refusal_of_state}
 use Rattle.gatekeeper_runner.specs.Orders.{ClusterOrder}
@@ -17,7 +17,7 @@ use Rattle.gatekeeper_runner.specs.declared.start_refusal.StartRefusal.TheVarian
 
 -- bytes were written, or a beginning of them
 pub tells : (old new : Stream) (bytes : List ℕ) (result : Result (Unit {0}) Failed) → OnOk result (AddsBytes old.bytes new.bytes bytes)
-    → OnOk result (new.failed ≡ old.failed) → OnErr result ((many : ℕ) × (many < length bytes) × AddsBytes old.bytes new.bytes (take many bytes)) → OnErr result (new.failed ≡ one_more old.failed) → Tells old new bytes
+    → OnOk result (new.failed ≡ old.failed) → OnErr result ((many : ℕ) × (many < length bytes) × AddsBytes old.bytes new.bytes (take many bytes)) → OnErr result (new.failed ≡ one_more old.failed) → TellsCluster old new bytes
 tells old new bytes (Ok u) adds failed part fails = inl (record { adds = adds; failed = failed })
 tells old new bytes (Err e) adds failed part fails = inr (record { many = part.0; is_cut = part.1; adds = part.2; failed = fails })
 

@@ -21,15 +21,15 @@ ending_of (Ok u) = Ok 0
 ending_of (Err e) = Err (session_refusal e)
 
 -- standard error took the text, or a beginning of it where a write failed
-abbrev pub Tells : Stream → Stream → List ℕ → Type 0
-Tells old new text = WritesBytes old new text ⊎ WritesPart old new text
+abbrev pub TellsCluster : Stream → Stream → List ℕ → Type 0
+TellsCluster old new text = WritesBytes old new text ⊎ WritesPart old new text
 
 -- how a start that is refused ends: with a line of standard error, which tells that memory ran out where that happened at
 -- the line, and a status
 abbrev pub TellsStart : Stream → Stream → ℕ → StartRefusal → Type 0
 TellsStart e e_after status (Plain r) = (status ≡ refusal_status r) × WritesError e e_after (Err r)
 TellsStart e e_after status (Cluster fault) =
-    (status ≡ 3) × (Tells e e_after (fault_line fault) ⊎ Tells e e_after (refusal_line Memory))
+    (status ≡ 3) × (TellsCluster e e_after (fault_line fault) ⊎ TellsCluster e e_after (refusal_line Memory))
 
 -- the lines are answered as the cluster does
 pub data AnswersAsCluster (chosen : Images) (c : AnsweringCluster) (r r_after w w_after : Stream) : Ending → Type 0 where
@@ -41,7 +41,7 @@ pub record TellsAndAnswers (chosen : Images) (c : AnsweringCluster) (r r_after w
   pub text : List ℕ
   pub policies : TellsPolicies c.lists c.state c.state.policies text
   pub told : Stream
-  pub tells : Tells e told text
+  pub tells : TellsCluster e told text
   pub ends : ProgramEnds (AnswersAsCluster chosen c r r_after w w_after) told e_after status
 
 -- what is read and written, and the status, by the files: of the input, of standard output and of standard error

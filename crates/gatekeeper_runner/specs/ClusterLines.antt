@@ -1,7 +1,7 @@
 -- What is answered to a line as a cluster does.
 use Rattle.std.specs.Prelude.{◌≡◌, ℕ, false, List, Option, Some, None, Result, Ok, Err, string_bytes}
 use Rattle.serde_json.specs.Data as json
-use Rattle.line_answers.specs.Lines.{AnswersLine, LineTexts}
+use Rattle.line_answers.specs.Lines.{AnswersInputLine, LineTexts}
 use Rattle.policy_glue.specs.Documents.{document_of}
 use Rattle.cli.specs.declared.refusal.Refusal.TheVariants.{Memory}
 use Rattle.admission.specs.Standing.{Images}
@@ -33,7 +33,7 @@ pub data DecidesClusterLine (chosen : Images) (s : ClusterState) (steps : ℕ) (
 
 -- a line, and what is written for it, which depends on the cluster's state and this line alone
 abbrev pub AnswersClusterLine : Images → AnsweringCluster → LineTexts
-AnswersClusterLine chosen c = AnswersLine c.max_line too_long_text (DecidesClusterLine chosen c.state c.steps)
+AnswersClusterLine chosen c = AnswersInputLine c.max_line too_long_text (DecidesClusterLine chosen c.state c.steps)
 
 -- ---- the code's
 

@@ -2,7 +2,7 @@
 use Rattle.std.specs.Prelude.{ℕ, List, codes, Option, Some, None, Result, Ok, Err}
 use Rattle.serde_json.specs.Data as json
 use Rattle.serde_json.specs.Written.{compact_text}
-use Rattle.line_answers.specs.Lines.{AnswersLine, LineTexts}
+use Rattle.line_answers.specs.Lines.{AnswersInputLine, LineTexts}
 use Rattle.policy_glue.specs.Rejections.{response_text}
 use Rattle.policy_glue.specs.Documents.{document_of}
 use Rattle.admission.specs.ErrorCodes.{run_error_code}
@@ -56,4 +56,4 @@ pub data DecidesLine (chosen : Images) (t : Gatekeeper) (line : List ℕ) : List
 
 -- a line, and what is written for it, which depends on no other line
 abbrev pub AnswersReviewLine : Images → Gatekeeper → LineTexts
-AnswersReviewLine chosen t = AnswersLine t.max_line too_long_text (DecidesLine chosen t)
+AnswersReviewLine chosen t = AnswersInputLine t.max_line too_long_text (DecidesLine chosen t)

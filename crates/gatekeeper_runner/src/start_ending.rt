@@ -4,7 +4,7 @@ ghost use Rattle.std.specs.Process.{exit_status};
 ghost use Rattle.streams.specs.Streams.{stream};
 ghost use Rattle.cli.specs.Refusals.{refusal_line};
 ghost use Rattle.cli.specs.declared.refusal.Refusal.TheVariants.{Memory};
-ghost use Rattle.gatekeeper_runner.specs.ClusterEnding.{Tells, TellsStart};
+ghost use Rattle.gatekeeper_runner.specs.ClusterEnding.{TellsCluster, TellsStart};
 ghost use Rattle.gatekeeper_runner.specs.ClusterStarting.{fault_line};
 
 use crate::cluster_fault::ClusterFault;
@@ -31,8 +31,8 @@ pub fn end_start<E: Sink>(alloc: Global, refusal: StartRefusal, errors: &mut E) 
 
 /// Writes the line of a fault, or that memory ran out for it.
 fn tell_fault<E: Sink>(alloc: Global, fault: &ClusterFault, errors: &mut E)
-    ensures { Tells (stream (E.taken errors.old) (E.failed errors.old)) (stream (E.taken errors.new) (E.failed errors.new)) (fault_line fault.now)
-        ⊎ Tells (stream (E.taken errors.old) (E.failed errors.old)) (stream (E.taken errors.new) (E.failed errors.new)) (refusal_line Memory) }
+    ensures { TellsCluster (stream (E.taken errors.old) (E.failed errors.old)) (stream (E.taken errors.new) (E.failed errors.new)) (fault_line fault.now)
+        ⊎ TellsCluster (stream (E.taken errors.old) (E.failed errors.old)) (stream (E.taken errors.new) (E.failed errors.new)) (refusal_line Memory) }
 {
     match fault_line(alloc, fault) {
         Ok(line) => tell_bytes(line.as_slice(), errors),
@@ -42,7 +42,7 @@ fn tell_fault<E: Sink>(alloc: Global, fault: &ClusterFault, errors: &mut E)
 
 /// Writes that memory ran out.
 fn tell_memory<E: Sink>(alloc: Global, errors: &mut E)
-    ensures { Tells (stream (E.taken errors.old) (E.failed errors.old)) (stream (E.taken errors.new) (E.failed errors.new)) (refusal_line Memory) }
+    ensures { TellsCluster (stream (E.taken errors.old) (E.failed errors.old)) (stream (E.taken errors.new) (E.failed errors.new)) (refusal_line Memory) }
 {
     let line = refusal_line(alloc, Refusal::Memory);
     tell_bytes(line.as_slice(), errors);
@@ -50,7 +50,7 @@ fn tell_memory<E: Sink>(alloc: Global, errors: &mut E)
 
 /// Writes bytes. There is nowhere to tell of a write that fails.
 pub fn tell_bytes<E: Sink>(bytes: &[u8], errors: &mut E)
-    ensures { Tells (stream (E.taken errors.old) (E.failed errors.old)) (stream (E.taken errors.new) (E.failed errors.new)) bytes.now }
+    ensures { TellsCluster (stream (E.taken errors.old) (E.failed errors.old)) (stream (E.taken errors.new) (E.failed errors.new)) bytes.now }
 {
     let _ = write_all(errors, bytes);
 }

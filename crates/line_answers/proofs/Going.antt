@@ -1,11 +1,11 @@
 -- How the answers go on.
-use Rattle.line_answers.proofs.Prelude.{◌≡◌, ℕ, ◌<◌, ◌≤◌, Bool, true, false, List, [], ◌∷◌, ◌++◌, length, length-drop, take, drop, Option, Some, refl, sym, ap, subst, ◌∙◌, inl, inr, arith, append_assoc, append-nil, true≢false, Result, Ok, Err, ◌⊎◌, take-append-drop, AddsBytes, cut, input_lines, readable, with_rest, SessionError, ReadFailed, WriteFailed, Pieces, cut-none, cut-line, cut-part, input_lines-ended, readable-all, HasNoFeed, HeardByResult, OfBytes, AnswersLine, LineTexts, no_memory, passed_over, too_long, decided, is_blank, IsKeptOfLine, KeepsLine, Answered, AnsweredPart, AnswersEach, AnswersByResult, AnswersSoFar, AnswersToEnd, AnswersCut, AnswersEnd, AnswersBreak, AnsweredPartOfLines}
+use Rattle.line_answers.proofs.Prelude.{◌≡◌, ℕ, ◌<◌, ◌≤◌, Bool, true, false, List, [], ◌∷◌, ◌++◌, length, length-drop, take, drop, Option, Some, refl, sym, ap, subst, ◌∙◌, inl, inr, arith, append_assoc, append-nil, true≢false, Result, Ok, Err, ◌⊎◌, take-append-drop, AddsBytes, cut, input_lines, readable, with_rest, SessionError, ReadFailed, WriteFailed, Pieces, cut-none, cut-line, cut-part, input_lines-ended, readable-all, HasNoFeed, HeardByResult, OfBytes, AnswersInputLine, LineTexts, no_memory, passed_over, too_long, decided, is_blank, IsKeptOfLine, KeepsLine, Answered, AnsweredPart, AnswersEach, AnswersByResult, AnswersSoFar, AnswersToEnd, AnswersCut, AnswersEnd, AnswersBreak, AnsweredPartOfLines}
 use Rattle.streams.specs.declared.session_error.SessionError.TheVariants.{Memory as SessionMemory}
 use Rattle.line_answers.specs.declared.line.Line.{Line}
 use Rattle.line_answers.specs.AnsweredLines as told
 
 -- nothing is answered to an empty line
-no_answer : (most : ℕ) (long : List ℕ) (decides : LineTexts) (line text : List ℕ) → line ≡ [] → AnswersLine most long decides line text → text ≡ []
+no_answer : (most : ℕ) (long : List ℕ) (decides : LineTexts) (line text : List ℕ) → line ≡ [] → AnswersInputLine most long decides line text → text ≡ []
 no_answer most long decides line text none (passed_over short blank) = refl
 no_answer most long decides line text none (too_long above) = absurd (let zero = ap length none in omega (arith, above, zero))
 no_answer most long decides line text none (decided short full decides_it) = absurd (let blank : is_blank line ≡ true = ap is_blank none in true≢false (sym blank ∙ full))
@@ -15,7 +15,7 @@ no_answer most long decides line text none (no_memory some) = absurd (let zero =
 abbrev pub PassesNone : LineTexts → Type 0
 PassesNone texts = (text : List ℕ) → texts [] text → text ≡ []
 
-pub passes_none : (most : ℕ) (long : List ℕ) (decides : LineTexts) → PassesNone (AnswersLine most long decides)
+pub passes_none : (most : ℕ) (long : List ℕ) (decides : LineTexts) → PassesNone (AnswersInputLine most long decides)
 passes_none most long decides text answers = no_answer most long decides [] text refl answers
 
 -- the answers to ended lines and to the rest behind them

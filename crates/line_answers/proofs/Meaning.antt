@@ -1,5 +1,5 @@
 -- What holds of each text that may be answered to a line holds of what is written for an input.
-use Rattle.line_answers.proofs.Prelude.{ℕ, List, Option, Result, Ok, Err, SessionError, ReadFailed, WriteFailed, AnswersLine, LineTexts, decided, no_memory, passed_over, too_long, AnswersEach, AnswersByResult, AnswersInput, Stream}
+use Rattle.line_answers.proofs.Prelude.{ℕ, List, Option, Result, Ok, Err, SessionError, ReadFailed, WriteFailed, AnswersInputLine, LineTexts, decided, no_memory, passed_over, too_long, AnswersEach, AnswersByResult, AnswersInput, Stream}
 use Rattle.streams.specs.declared.session_error.SessionError.TheVariants.{Memory as SessionMemory}
 use Rattle.line_answers.specs.AnsweredLines as told
 
@@ -7,7 +7,7 @@ use Rattle.line_answers.specs.AnsweredLines as told
 abbrev pub Gives : LineTexts → LineTexts → Type 0
 Gives texts others = (line text : List ℕ) → texts line text → others line text
 
-pub line_gives : (most : ℕ) (long : List ℕ) (decides others : LineTexts) → Gives decides others → Gives (AnswersLine most long decides) (AnswersLine most long others)
+pub line_gives : (most : ℕ) (long : List ℕ) (decides others : LineTexts) → Gives decides others → Gives (AnswersInputLine most long decides) (AnswersInputLine most long others)
 line_gives most long decides others gives line text (too_long above) = too_long above
 line_gives most long decides others gives line text (passed_over short blank) = passed_over short blank
 line_gives most long decides others gives line text (decided {text = t} short full by) = decided short full (gives line t by)

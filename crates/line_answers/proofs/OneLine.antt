@@ -2,7 +2,7 @@
 use Rattle.std.proofs.Math.Seq.{take-add}
 use Rattle.std.proofs.lemmas.List.{drop_at, take_at}
 use Rattle.streams.proofs.Cut.{take-join}
-use Rattle.line_answers.proofs.Prelude.{◌≡◌, ◌++◌, ◌+◌, ◌-◌, ◌∙◌, refl, ℕ, suc, arith, length-take, ◌<◌, ◌≤◌, Bool, true, false, List, [], length, take, take_all, Option, sym, ap, subst, nat_lt, ltb-false, ltb-true, AddsBytes, AnswersLine, IsKeptOfLine, KeepsLine, LineTexts, AnsweredPart, is_blank, line_of, passed_over, too_long, decided}
+use Rattle.line_answers.proofs.Prelude.{◌≡◌, ◌++◌, ◌+◌, ◌-◌, ◌∙◌, refl, ℕ, suc, arith, length-take, ◌<◌, ◌≤◌, Bool, true, false, List, [], length, take, take_all, Option, sym, ap, subst, nat_lt, ltb-false, ltb-true, AddsBytes, AnswersInputLine, IsKeptOfLine, KeepsLine, LineTexts, AnsweredPart, is_blank, line_of, passed_over, too_long, decided}
 use Rattle.line_answers.specs.declared.line.Line.{Line}
 
 -- what is kept of a line that is not too long is the line
@@ -14,20 +14,20 @@ kept_whole most kept line keeps short =
 
 module _ (most : ℕ) (long : List ℕ) (decides : LineTexts) where
   -- an empty line is blank
-  pub is_passed : (line : List ℕ) → line ≡ [] → AnswersLine most long decides line []
-  is_passed line is = subst (λ (l : List ℕ). AnswersLine most long decides l []) (sym is) (passed_over (omega arith) refl)
+  pub is_passed : (line : List ℕ) → line ≡ [] → AnswersInputLine most long decides line []
+  is_passed line is = subst (λ (l : List ℕ). AnswersInputLine most long decides l []) (sym is) (passed_over (omega arith) refl)
 
   module _ (l : Line) (line : List ℕ) (held : l.lacks ≡ false) (keeps : KeepsLine most l line) where
     kept : l.bytes.items ≡ take (suc most) line
     kept = subst (λ (lacks : Bool). IsKeptOfLine lacks most l.bytes.items line) held keeps.kept
 
     pub was_long : (text answer : List ℕ) → true ≡ nat_lt l.most (length l.bytes.items) → answer ≡ line_of text → text ≡ long
-        → AnswersLine most long decides line answer
+        → AnswersInputLine most long decides line answer
     was_long text answer above is same =
         let many = ap length kept in
         let all = length-take (suc most) line in
         let over = ltb-true l.most (length l.bytes.items) (sym above) in
-        subst (AnswersLine most long decides line) (sym (is ∙ ap line_of same)) (too_long (omega (arith, many, over, all, keeps.most_is)))
+        subst (AnswersInputLine most long decides line) (sym (is ∙ ap line_of same)) (too_long (omega (arith, many, over, all, keeps.most_is)))
 
     -- what is answered to what is kept is answered to the line
     was_whole : false ≡ nat_lt l.most (length l.bytes.items) → (Q : List ℕ → Type 0) → (length l.bytes.items ≤ most → Q l.bytes.items) → Q line
@@ -37,16 +37,16 @@ module _ (most : ℕ) (long : List ℕ) (decides : LineTexts) where
         subst Q (kept_whole most l.bytes.items line kept short) (of_kept short)
 
     pub was_blank : (answer : List ℕ) → false ≡ nat_lt l.most (length l.bytes.items) → is_blank l.bytes.items ≡ true → answer ≡ []
-        → AnswersLine most long decides line answer
+        → AnswersInputLine most long decides line answer
     was_blank answer whole blank is =
-        was_whole whole (λ (b : List ℕ). AnswersLine most long decides b answer)
-        (λ short. subst (AnswersLine most long decides l.bytes.items) (sym is) (passed_over short blank))
+        was_whole whole (λ (b : List ℕ). AnswersInputLine most long decides b answer)
+        (λ short. subst (AnswersInputLine most long decides l.bytes.items) (sym is) (passed_over short blank))
 
     pub was_decided : (text answer : List ℕ) → false ≡ nat_lt l.most (length l.bytes.items) → is_blank l.bytes.items ≡ false
-        → answer ≡ line_of text → decides l.bytes.items text → AnswersLine most long decides line answer
+        → answer ≡ line_of text → decides l.bytes.items text → AnswersInputLine most long decides line answer
     was_decided text answer whole full is decides_it =
-        was_whole whole (λ (b : List ℕ). AnswersLine most long decides b answer)
-        (λ short. subst (AnswersLine most long decides l.bytes.items) (sym is) (decided short full decides_it))
+        was_whole whole (λ (b : List ℕ). AnswersInputLine most long decides b answer)
+        (λ short. subst (AnswersInputLine most long decides l.bytes.items) (sym is) (decided short full decides_it))
 
 pub written_part : (texts : LineTexts) (line text : List ℕ) (old new : Option (List ℕ)) → texts line text
     → (n : ℕ) × (n < length text) × AddsBytes old new (take n text) → AnsweredPart texts line old new

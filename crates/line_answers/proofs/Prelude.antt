@@ -13,7 +13,7 @@ pub use Rattle.streams.specs.Streams.{AddsBytes, Stream}
 pub use Rattle.streams.specs.declared.session_error.SessionError.{SessionError}
 pub use Rattle.streams.specs.declared.session_error.SessionError.TheVariants.{ReadFailed, WriteFailed}
 unfoldable pub use Rattle.streams.specs.Lines.{cut, readable}
-pub use Rattle.line_answers.specs.Lines.{AnswersLine, IsKeptOfLine, KeepsLine, LineTexts, is_blank, line_of}
+pub use Rattle.line_answers.specs.Lines.{AnswersInputLine, IsKeptOfLine, KeepsLine, LineTexts, is_blank, line_of}
 pub use Rattle.line_answers.specs.Lines.{decided, no_memory, no_memory_text, passed_over, too_long}
 pub use Rattle.line_answers.specs.AnsweredLines.{Answered, AnsweredAllLines, AnsweredPart, AnsweredPartOfLines}
 pub use Rattle.line_answers.specs.AnsweredLines.{AnsweredSomeLines, AnswersBreak, AnswersByResult, AnswersCut}

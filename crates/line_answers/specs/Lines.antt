@@ -27,14 +27,14 @@ no_memory_text = codes "{\"refused\":\"memory\"}\n"
 
 -- a line, and what is written for it, which depends on no other line: by the most bytes that are read of one, the text
 -- for a longer one, and the texts for a line that is decided
-pub data AnswersLine (most : ℕ) (too_long_text : List ℕ) (decides : LineTexts) (line : List ℕ) : List ℕ → Type 0 where
+pub data AnswersInputLine (most : ℕ) (too_long_text : List ℕ) (decides : LineTexts) (line : List ℕ) : List ℕ → Type 0 where
   -- a line of more bytes is refused unread
-  too_long : most < length line → AnswersLine most too_long_text decides line (line_of too_long_text)
-  passed_over : length line ≤ most → is_blank line ≡ true → AnswersLine most too_long_text decides line []
+  too_long : most < length line → AnswersInputLine most too_long_text decides line (line_of too_long_text)
+  passed_over : length line ≤ most → is_blank line ≡ true → AnswersInputLine most too_long_text decides line []
   decided : {text : List ℕ} → length line ≤ most → is_blank line ≡ false → decides line text
-      → AnswersLine most too_long_text decides line (line_of text)
+      → AnswersInputLine most too_long_text decides line (line_of text)
   -- the host has no memory for it, which says nothing of the line
-  no_memory : 0 < length line → AnswersLine most too_long_text decides line no_memory_text
+  no_memory : 0 < length line → AnswersInputLine most too_long_text decides line no_memory_text
 
 -- ---- the line that is read
 

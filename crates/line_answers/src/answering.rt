@@ -1,7 +1,7 @@
 //! Line after line.
 ghost use Rattle.std.specs.Prelude.{◌≡◌, ◌<◌, ◌≤◌, false, length, IfOk, OnErr, OnOk};
 ghost use Rattle.streams.specs.Streams.{one_more, stream};
-ghost use Rattle.line_answers.specs.Lines.{is_blank, line_of, AnswersLine};
+ghost use Rattle.line_answers.specs.Lines.{is_blank, line_of, AnswersInputLine};
 ghost use Rattle.line_answers.specs.AnsweredLines.{Answered, AnsweredPart, AnswersInput, OfLine};
 
 use crate::decider::Decider;
@@ -29,7 +29,7 @@ pub fn answer_lines<D: Decider, R: LineSource, W: Sink>(
         let written_after = stream (W.taken w.new) (W.failed w.new) in
         let read = stream (R.left r.old) (R.failed r.old) in
         let read_after = stream (R.left r.new) (R.failed r.new) in
-        AnswersInput (AnswersLine max_line (D.refuses decider.now) (D.decides decider.now)) read read_after written written_after result }
+        AnswersInput (AnswersInputLine max_line (D.refuses decider.now) (D.decides decider.now)) read read_after written written_after result }
 {
     let mut answers = Answers {
         alloc,
@@ -53,11 +53,11 @@ impl<'a, D: Decider> Listener for Answers<'a, D> {
     ghost use Rattle.line_answers.specs.Lines.{KeepsLine};
     ghost use Rattle.streams.specs.Lines.{cut};
 
-    ghost goes = { λ a start before heard written. (a.decider.now ≡ start.decider.now) × AnswersSoFar (AnswersLine start.line.most (D.refuses start.decider.now) (D.decides start.decider.now)) before heard written × KeepsLine start.line.most a.line (cut heard).1 };
+    ghost goes = { λ a start before heard written. (a.decider.now ≡ start.decider.now) × AnswersSoFar (AnswersInputLine start.line.most (D.refuses start.decider.now) (D.decides start.decider.now)) before heard written × KeepsLine start.line.most a.line (cut heard).1 };
 
-    ghost ended = { λ last a start before heard written. AnswersEnd last (AnswersLine start.line.most (D.refuses start.decider.now) (D.decides start.decider.now)) before heard written };
+    ghost ended = { λ last a start before heard written. AnswersEnd last (AnswersInputLine start.line.most (D.refuses start.decider.now) (D.decides start.decider.now)) before heard written };
 
-    ghost broke = { λ last a start before heard written. AnswersBreak last (AnswersLine start.line.most (D.refuses start.decider.now) (D.decides start.decider.now)) before heard written };
+    ghost broke = { λ last a start before heard written. AnswersBreak last (AnswersInputLine start.line.most (D.refuses start.decider.now) (D.decides start.decider.now)) before heard written };
 
     fn keep(&mut self, part: &[u8]) {
         self.line.extend(part);
@@ -86,8 +86,8 @@ fn answer_line<D: Decider, W: Sink>(
     line: &Line,
     w: &mut W,
 ) -> Result<(), Failed>
-    ensures whole { OnOk result (OfLine line.now (λ most bytes. Answered (AnswersLine most (D.refuses decider.now) (D.decides decider.now)) bytes (W.taken w.old) (W.taken w.new))) }
-    ensures part { OnErr result (OfLine line.now (λ most bytes. AnsweredPart (AnswersLine most (D.refuses decider.now) (D.decides decider.now)) bytes (W.taken w.old) (W.taken w.new))) }
+    ensures whole { OnOk result (OfLine line.now (λ most bytes. Answered (AnswersInputLine most (D.refuses decider.now) (D.decides decider.now)) bytes (W.taken w.old) (W.taken w.new))) }
+    ensures part { OnErr result (OfLine line.now (λ most bytes. AnsweredPart (AnswersInputLine most (D.refuses decider.now) (D.decides decider.now)) bytes (W.taken w.old) (W.taken w.new))) }
     ensures ok { OnOk result (W.failed w.new ≡ W.failed w.old) }
     ensures err { OnErr result (W.failed w.new ≡ one_more (W.failed w.old)) }
 {
@@ -102,7 +102,7 @@ fn answer_line<D: Decider, W: Sink>(
 
 /// The answer to a line that is not empty, with its line feed; nothing if the line is blank.
 fn answer_of<D: Decider>(alloc: Global, decider: &D, line: &Line) -> Result<Vec<u8>, AllocError>
-    ensures { IfOk result (λ text. OfLine line.now (λ most bytes. 0 < length bytes → AnswersLine most (D.refuses decider.now) (D.decides decider.now) bytes text.items)) }
+    ensures { IfOk result (λ text. OfLine line.now (λ most bytes. 0 < length bytes → AnswersInputLine most (D.refuses decider.now) (D.decides decider.now) bytes text.items)) }
 {
     if line.lacks {
         return Err(AllocError);

@@ -1,4 +1,4 @@
-use Rattle.line_answers.proofs.Prelude.{◌≡◌, ℕ, List, cut, refl, AnswersLine, KeepsLine}
+use Rattle.line_answers.proofs.Prelude.{◌≡◌, ℕ, List, cut, refl, AnswersInputLine, KeepsLine}
 use Rattle.line_answers.proofs.Going.{going_start, heard_told, kept_start}
 use Rattle.line_answers.proofs.answering.answer_lines.Goals as goal
 
@@ -9,7 +9,7 @@ pub returns : goal.returns
 returns g c = record {
   told = λ input before e f.
       rw c.new.ensures.most_is at
-      (heard_told (AnswersLine c.new.result.most (g.D.Decider.refuses c.args.decider.now) (g.D.Decider.decides c.args.decider.now)) input before _ _
+      (heard_told (AnswersInputLine c.new.result.most (g.D.Decider.refuses c.args.decider.now) (g.D.Decider.decides c.args.decider.now)) input before _ _
       (c.hear_lines.new.listener.decider.now ≡ c.args.decider.now)
       (λ (heard : List ℕ). KeepsLine c.new.result.most c.hear_lines.new.listener.line (cut heard).1)
       c.hear_lines.result (c.hear_lines.ensures.told input before e f));
