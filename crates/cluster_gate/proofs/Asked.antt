@@ -1,5 +1,5 @@
 -- A policy that is asked about a request.
-use Rattle.cluster_gate.proofs.Prelude.{◌≡◌, ◌∙◌, ℕ, List, [], ◌∷◌, Bool, true, false, Option, Some, None, ap, option_map, refl, subst, sym, Adds, AddsMatched, AddsPolicy, AddsTrouble, AsksPolicy, BoundPolicy, ClusterState, CodeEvents, Event, IsGateFor, IsJudged, OneImage, PolicyGate, PlannedStep, PolicyRun, Request, RunsSteps, bindings_steps, asked_policy, asked_view, block_of, by_block, policy_view}
+use Rattle.cluster_gate.proofs.Prelude.{◌≡◌, ◌∙◌, ℕ, List, [], ◌∷◌, Bool, true, false, Option, Some, None, ap, option_map, subst, Adds, AddsMatched, AddsPolicy, AddsTrouble, BoundPolicy, ClusterState, CodeEvents, Event, IsGateFor, IsJudged, OneImage, PolicyGate, PlannedStep, Request, RunsSteps, bindings_steps, asked_policy, block_of, policy_view}
 use Rattle.admission_match.specs.Matching.{match_answer}
 use Rattle.admission_match.specs.declared.answer.Answer.{Answer}
 use Rattle.admission_match.specs.declared.answer.Answer.TheVariants as matching

@@ -1,5 +1,5 @@
 -- The policies of a dispatch, one after another.
-use Rattle.cluster_gate.proofs.Prelude.{◌≡◌, ◌∙◌, ◌+◌, ◌<◌, ◌≤◌, ◌++◌, ◌∷◌, ℕ, zero, suc, List, [], Bool, true, false, ap, append-nil, append_assoc, arith, drop, get_or, length, refl, subst, sym, AddsPolicy, AreGatesFor, BoundPolicy, ClusterState, CodeEvents, Dispatches, Event, GivesBefore, GivesEvents, IsGateFor, KeepsEvents, OneImage, PolicyGate, Request}
+use Rattle.cluster_gate.proofs.Prelude.{◌≡◌, ◌∙◌, ◌+◌, ◌<◌, ◌≤◌, ◌++◌, ◌∷◌, ℕ, zero, suc, List, [], true, false, ap, append-nil, append_assoc, arith, drop, get_or, length, refl, subst, sym, AddsPolicy, AreGatesFor, BoundPolicy, ClusterState, CodeEvents, Dispatches, Event, GivesBefore, GivesEvents, IsGateFor, KeepsEvents, OneImage, PolicyGate, Request}
 use Rattle.cluster_gate.specs.Dispatch.{no_policies, next, last}
 
 -- ---- gates

@@ -1,12 +1,8 @@
 -- The gates of policies, one after another.
-use Rattle.cluster_gate.proofs.Prelude.{◌≡◌, ◌∙◌, ◌+◌, ◌<◌, ◌≤◌, ◌++◌, ◌∷◌, ℕ, List, [], Bool, true, false, Option, None, Some, Result, Ok, Err, Vec, Global, ap, arith, drop, get_or, length, map, refl, string_bytes, subst, sym, take, AreGatesFor, BoundPolicy, ClusterState, IsGateFor, IsGateOfText, IsJudged, PolicyGate, policy_view}
-use Rattle.std.proofs.Common.{String}
+use Rattle.cluster_gate.proofs.Prelude.{◌≡◌, ◌∙◌, ◌+◌, ◌<◌, ◌≤◌, ◌++◌, ◌∷◌, ℕ, List, [], Bool, false, None, Ok, Err, Vec, Global, ap, drop, get_or, length, map, subst, sym, take, AreGatesFor, BoundPolicy, ClusterState, IsGateFor, IsJudged, PolicyGate, policy_view}
 use Rattle.std.proofs.lemmas.List.{drop_more, map-append, take-append-drop, take_all, take_more}
-use Rattle.admission.specs.Deciding.{IsPolicyOf}
-use Rattle.admission.specs.declared.policy_and_image.PolicyAndImage.{PolicyAndImage}
 use Rattle.cluster_state.specs.declared.policy.Policy.{Policy as CodePolicy}
-use Rattle.cluster_gate.specs.Gates.{FirstIsBlocked, GatesOpen, IsBlockedBy, NoneIsBlocked, OpensGateFor}
-use Rattle.cluster_gate.specs.declared.block_cause.BlockCause.{BlockCause}
+use Rattle.cluster_gate.specs.Gates.{GatesOpen, NoneIsBlocked, OpensGateFor}
 use Rattle.cluster_gate.specs.declared.cluster_error.ClusterError.{ClusterError}
 use Rattle.cluster_gate.specs.declared.cluster_error.ClusterError.TheVariants.{BlockedPolicy, Memory}
 

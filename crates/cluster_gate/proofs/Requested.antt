@@ -1,11 +1,11 @@
 -- The requests of reviews.
-use Rattle.cluster_gate.proofs.Prelude.{◌≡◌, ◌∙◌, ℕ, List, Option, Some, None, ap, option_and_then, refl, sym}
+use Rattle.cluster_gate.proofs.Prelude.{◌≡◌, ℕ, List, Some, None, option_and_then, refl}
 use Rattle.std.proofs.Common.{codes}
 use Rattle.serde_json.specs.Data as json
 use Rattle.serde_json.specs.Find.{get_member}
-use Rattle.value_store.specs.Documents.{document_of, text_or_empty}
+use Rattle.value_store.specs.Documents.{document_of}
 use Rattle.value_store.specs.Reviews.{request_of, uid_in}
-use Rattle.admission_documents.specs.Requests.{Request, request_in}
+use Rattle.admission_documents.specs.Requests.{request_in}
 use Rattle.cluster_gate.specs.Dispatch.{request_document, request_given}
 
 -- bytes that are no document

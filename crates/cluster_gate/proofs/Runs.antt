@@ -1,5 +1,5 @@
 -- The steps of a policy, one after another.
-use Rattle.cluster_gate.proofs.Prelude.{◌≡◌, ◌∙◌, ◌+◌, ◌<◌, ◌≤◌, ◌++◌, ◌∷◌, ℕ, zero, suc, ap, arith, drop, get_or, length, refl, List, [], Bool, true, false, Option, Ok, Err, map, append-nil, append_assoc, subst, sym, AddedBefore, Adds, AddsStep, AddsSteps, BoundPolicy, CodeEvents, Event, IsRunOf, KeepsEvents, OneImage, PlannedStep, PolicyRun, RunsSteps, finds_of, NextStep, NextPolicy, End}
+use Rattle.cluster_gate.proofs.Prelude.{◌≡◌, ◌∙◌, ◌+◌, ◌<◌, ◌≤◌, ◌++◌, ◌∷◌, ℕ, zero, suc, ap, arith, drop, get_or, length, refl, List, [], true, false, Option, Ok, Err, map, append-nil, append_assoc, subst, sym, AddedBefore, Adds, AddsStep, AddsSteps, BoundPolicy, CodeEvents, Event, IsRunOf, KeepsEvents, OneImage, PlannedStep, PolicyRun, RunsSteps, finds_of, NextStep, NextPolicy, End}
 use Rattle.serde_json.specs.Data as json
 use Rattle.policy_glue.specs.Findings.{finding_view}
 use Rattle.policy_glue.specs.declared.finding.Finding.{Finding}

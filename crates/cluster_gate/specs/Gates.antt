@@ -1,5 +1,5 @@
 -- The bound policies of a cluster before the first request: compiled, or blocked.
-use Rattle.std.specs.Prelude.{◌≡◌, ℕ, ◌&&◌, Bool, true, false, List, [], ◌∷◌, ◌++◌, Option, Some, None, Result, Ok, Err, Vec, string_bytes, is_none, is_some, option_and_then, option_map}
+use Rattle.std.specs.Prelude.{◌≡◌, ℕ, ◌&&◌, Bool, true, false, List, [], ◌∷◌, ◌++◌, Option, Some, None, Result, Ok, Err, Vec, string_bytes, is_none, is_some, option_and_then}
 use Rattle.std.specs.declared.alloc.Global.{Global}
 use Rattle.policy_glue.specs.Naming.{conditions_name_namespace}
 use Rattle.policy_glue.specs.OneImage.{OneImage}

@@ -2,7 +2,7 @@
 use Rattle.std.specs.Prelude.{◌≡◌, ℕ, Bool, true, false, List, [], ◌∷◌, ◌++◌, map, option_map, Option, None, Some, Result, Ok, Err, Vec}
 use Rattle.std.specs.declared.alloc.Global.{Global}
 use Rattle.serde_json.specs.Data as json
-use Rattle.policy_glue.specs.Findings.{PolicyFinding, finding_view}
+use Rattle.policy_glue.specs.Findings.{finding_view}
 use Rattle.policy_glue.specs.OneImage.{OneImage}
 use Rattle.policy_glue.specs.declared.finding.Finding.{Finding}
 use Rattle.admission.specs.Findings.{findings_view}

@@ -1,5 +1,5 @@
 -- Items are added one after another.
-use Rattle.cluster_state.proofs.Prelude.{◌≡◌, ◌∙◌, ◌∷◌, ℕ, Bool, true, false, not, List, Result, Ok, Err, ap, refl, sym, insert_entry, is_some, nat_cmp, object_named, slice_cmp, Collection, Item, Named, Objects, Refusal, duplicate_item, is_collection, is_taken, no_objects, with_item, with_items, if◌then◌else◌}
+use Rattle.cluster_state.proofs.Prelude.{◌≡◌, ◌∙◌, ◌∷◌, Bool, true, false, not, List, Result, Err, ap, refl, sym, insert_entry, is_some, nat_cmp, object_named, slice_cmp, Collection, Item, Objects, Refusal, duplicate_item, is_collection, is_taken, no_objects, with_item, with_items, if◌then◌else◌}
 
 -- the objects of the code hold the items before `rest`
 pub record AddGo (all rest : List Item) (code : Objects) : Type 0 where

@@ -1,5 +1,5 @@
 -- Lists are read one after another, with their places.
-use Rattle.cluster_state.proofs.Prelude.{◌≡◌, ◌∙◌, ◌++◌, ◌∷◌, ◌+◌, ℕ, List, [], Option, Some, None, Result, Ok, Err, ap, append_assoc, refl, Item, Refusal, documents_in, before, items_in, item_before, item_in, items_list}
+use Rattle.cluster_state.proofs.Prelude.{◌≡◌, ◌++◌, ◌∷◌, ℕ, List, [], Result, Ok, Err, ap, refl, Item, Refusal, documents_in, items_in, items_list}
 use Rattle.serde_json.specs.Data as json
 use Rattle.serde_json.specs.View.{items_of}
 

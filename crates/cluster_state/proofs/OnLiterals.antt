@@ -1,7 +1,5 @@
 -- The definitions that examples on literal lists unfold.
-use Rattle.std.specs.Char.{encode_utf8}
 use Rattle.std.specs.Prelude.{⊤}
-use Rattle.std.specs.Str.{chars, is_utf8}
 use Rattle.admission_documents.proofs.OnLiterals.{documents_on_literals}
 use Rattle.cluster_state.specs.Bindings.{absence_of, actions_of, are_actions, binding_in, binding_keys, binding_parts, choice_in, if_text, param_ref_keys, param_ref_of, param_ref_parts}
 use Rattle.cluster_state.specs.Items.{group_in, has_other_version, is_list, is_policy_kind, item_parts, list_in}

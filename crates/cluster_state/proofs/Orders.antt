@@ -1,5 +1,5 @@
 -- The objects do not depend on the order of the items.
-use Rattle.cluster_state.proofs.Prelude.{◌≡◌, ◌∙◌, ◌∷◌, ◌++◌, ◌||◌, ◌&&◌, ℕ, Bool, true, false, List, [], Option, Some, None, Result, Ok, Err, ap, cond, refl, sym, Decides, Equal, Greater, Less, Ordering, bytes_eq, insert_entry, is_eq, is_eq-slice_cmp, is_some, lookup, match_ordering, nat_cmp, slice_cmp, if◌then◌else◌, Collection, Item, Named, Objects, Refusal, duplicate_item, is_collection, is_taken, object_named, with_item, with_items, with_name}
+use Rattle.cluster_state.proofs.Prelude.{◌≡◌, ◌∙◌, ◌∷◌, ◌++◌, ◌||◌, ◌&&◌, ℕ, Bool, true, false, List, [], Option, Some, None, Result, Ok, Err, ap, cond, refl, sym, Equal, Greater, Less, Ordering, bytes_eq, insert_entry, is_eq, is_eq-slice_cmp, is_some, lookup, match_ordering, nat_cmp, slice_cmp, if◌then◌else◌, Collection, Item, Named, Objects, Refusal, duplicate_item, is_collection, is_taken, with_item, with_items}
 use Rattle.serde_json.specs.Data as json
 use Rattle.std.proofs.Common.{subst, true≢false}
 use Rattle.std.proofs.lemmas.Cmp.{nat_list_cmp_total}

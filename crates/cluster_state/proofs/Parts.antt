@@ -1,5 +1,5 @@
 -- Records all of whose parts are there.
-use Rattle.cluster_state.proofs.Prelude.{◌∙◌, Err, None, ap, binding_view, option_map, param_ref_view, sym, ◌≡◌, List, ℕ, Option, Some, refl, codes, Action, Binding, MatchResources, ParamKind, ParamRef, BoundPolicy, actions_of, binding_parts, field, if_text, match_constraints_of, match_resources_of, param_kind_of, param_ref_of, policy_parts, text_of}
+use Rattle.cluster_state.proofs.Prelude.{◌∙◌, Err, None, ap, binding_view, option_map, param_ref_view, sym, ◌≡◌, List, ℕ, Option, Some, refl, codes, Action, MatchResources, ParamKind, ParamRef, actions_of, binding_parts, field, if_text, match_constraints_of, match_resources_of, param_kind_of, param_ref_of, policy_parts, text_of}
 use Rattle.serde_json.specs.Data as json
 use Rattle.admission_documents.specs.Fields.{ReadsField}
 use Rattle.admission_documents.specs.declared.field_error.FieldError.{FieldError}

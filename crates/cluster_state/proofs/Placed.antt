@@ -1,5 +1,5 @@
 -- The maps of the code, as objects.
-use Rattle.cluster_state.proofs.Prelude.{◌≡◌, ◌∙◌, ◌∷◌, ◌&&◌, ℕ, Bool, true, false, List, [], Option, Some, None, ap, cond, map, refl, sym, BTreeMap, Bor, Equal, Greater, Less, Ordering, Value, Collection, Named, bytes_eq, collection_cmp, collection_view, get_by, insert_entry, is_at, is_collection, is_eq, is_eq-slice_cmp, is_some, lookup, match_ordering, named_in, named_view, nat_cmp, not, option_copied, option_map, option_map_or, ordering_then, slice_cmp, view, if◌then◌else◌}
+use Rattle.cluster_state.proofs.Prelude.{◌≡◌, ◌∙◌, ◌∷◌, ◌&&◌, ℕ, Bool, true, false, List, [], Option, Some, None, ap, cond, map, refl, BTreeMap, Bor, Equal, Greater, Less, Ordering, Value, Collection, Named, bytes_eq, collection_cmp, collection_view, insert_entry, is_at, is_collection, is_eq, is_eq-slice_cmp, is_some, lookup, match_ordering, named_view, nat_cmp, not, option_copied, option_map, option_map_or, ordering_then, slice_cmp, view, if◌then◌else◌}
 use Rattle.serde_json.specs.Data as json
 
 shown : Bor (List ℕ) × Bor Value → List ℕ × json.Data

@@ -1,5 +1,5 @@
 -- Bindings (Kubernetes, ValidatingAdmissionPolicyBinding of admissionregistration.k8s.io/v1), with the API server's defaults.
-use Rattle.std.specs.Prelude.{ℕ, ◌&&◌, ◌||◌, ◌==◌, Bool, true, false, not, List, [], ◌∷◌, map, Option, Some, None, Result, Ok, Err, bytes_eq, codes, length, nat_le, option_map, if◌then◌else◌}
+use Rattle.std.specs.Prelude.{ℕ, ◌&&◌, ◌==◌, Bool, true, false, not, List, [], ◌∷◌, Option, Some, None, Result, Ok, Err, bytes_eq, codes, length, nat_le, option_map, if◌then◌else◌}
 use Rattle.std.specs.List.{list_any}
 use Rattle.serde_json.specs.Data as json
 use Rattle.label_selectors.specs.Selectors.{LabelSelector, selector_view}

@@ -1,5 +1,5 @@
 -- Params of a policy and a binding, and the namespace of a request.
-use Rattle.std.specs.Prelude.{◌≡◌, ◌==◌, ◌&&◌, ◌||◌, ◌+◌, ℕ, Bool, true, false, not, List, [], ◌∷◌, map, Option, Some, None, option_map, Result, Ok, Err, bytes_eq, codes, drop, is_some, length, position, if◌then◌else◌}
+use Rattle.std.specs.Prelude.{◌≡◌, ◌==◌, ◌&&◌, ◌||◌, ◌+◌, ℕ, Bool, false, not, List, [], ◌∷◌, map, Option, Some, None, option_map, Result, Ok, Err, bytes_eq, codes, drop, length, position, if◌then◌else◌}
 use Rattle.std.specs.List.{filter, list_any}
 use Rattle.std.specs.Option.{option_to_list}
 use Rattle.std.specs.Borrow.{Bor}

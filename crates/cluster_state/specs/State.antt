@@ -3,7 +3,7 @@ use Rattle.std.specs.Prelude.{◌≡◌, ◌==◌, ℕ, List, [], Result, Ok, Er
 use Rattle.serde_json.specs.Data as json
 use Rattle.cluster_state.specs.Bindings.{Binding, binding_view, bindings_in}
 use Rattle.cluster_state.specs.Items.{Collection, Item, item_view, items_of}
-use Rattle.cluster_state.specs.Objects.{Named, Objects, no_objects, objects_view, with_items}
+use Rattle.cluster_state.specs.Objects.{Objects, no_objects, objects_view, with_items}
 use Rattle.cluster_state.specs.Policies.{BoundPolicy, policies_in, policy_view}
 use Rattle.cluster_state.specs.Refusals.{Refusal, IsDueRefusal, no_namespace}
 use Rattle.cluster_state.specs.declared.objects.Objects.{Objects as CodeObjects}

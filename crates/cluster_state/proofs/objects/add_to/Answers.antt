@@ -1,6 +1,6 @@
 -- Proofs of `objects::add_to`: the result meets the contract.
 
-use Rattle.cluster_state.proofs.Prelude.{◌∙◌, ◌≡◌, [], Bor, List, ℕ, Collection, Named, None, Some, ap, bytes_eq, collection_cmp, cond, get_by, insert_entry, is_collection, is_some, item_view, lookup, named_in, named_view, nat_cmp, not, option_map_or, slice_cmp, view, if◌then◌else◌}
+use Rattle.cluster_state.proofs.Prelude.{◌∙◌, ◌≡◌, [], None, Some, ap, bytes_eq, collection_cmp, cond, get_by, insert_entry, is_collection, is_some, item_view, lookup, named_in, named_view, nat_cmp, not, option_map_or, slice_cmp, view, if◌then◌else◌}
 use Rattle.cluster_state.proofs.Placed.{found_in_both, inserted, is_place, lent, not_back, refilled}
 use Rattle.cluster_state.proofs.objects.add_to.Goals as goal
 
