@@ -23,7 +23,7 @@ use std::alloc::{AllocError, Global};
 pub(crate) fn ask<'a, 'c>(
     alloc: Global,
     state: &State<'a>,
-    gate: &PolicyGate<'a>,
+    gate: &PolicyGate<'_, 'a>,
     case: &'c Case<'c>,
     events: &mut Events,
 ) -> Result<bool, AllocError>
@@ -69,7 +69,7 @@ fn ask_in_trouble(
 fn ask_matched<'a, 'c>(
     alloc: Global,
     state: &State<'a>,
-    gate: &PolicyGate<'a>,
+    gate: &PolicyGate<'_, 'a>,
     case: &'c Case<'c>,
     events: &mut Events,
 ) -> Result<bool, AllocError>
@@ -99,7 +99,7 @@ impl PolicyRun<'_, '_, '_> {
     fn run_bindings<'a>(
         &self,
         state: &State<'a>,
-        asked: &AskedPolicy<'a>,
+        asked: &AskedPolicy<'_, 'a>,
         events: &mut Events,
     ) -> Result<bool, AllocError>
         ensures { IfOk result (λ ended. (s : ClusterState) (p : BoundPolicy) → state_view state.now ≡ s → asked_view asked.now ≡ asked_policy s p

@@ -24,14 +24,14 @@ use std::alloc::{AllocError, Global};
 
 /// The state of a cluster, and its bound policies, each compiled or blocked. No review changes it.
 #[derive(Drop)]
-pub struct Cluster<'a> {
+pub struct Cluster<'s, 'a> {
     alloc: Global,
-    state: &'a State<'a>,
+    state: &'s State<'a>,
     /// In the order of the policies' names.
-    gates: Vec<PolicyGate<'a>>,
+    gates: Vec<PolicyGate<'s, 'a>>,
 }
 
-impl<'a> Cluster<'a> {
+impl<'s, 'a> Cluster<'s, 'a> {
     /// Compiles the policies of the state that have a binding. With `partial` those that are blocked
     /// stay, and the requests that their constraints match are not decided, unless they are denied.
     ///
@@ -41,9 +41,9 @@ impl<'a> Cluster<'a> {
     /// which says nothing of the rest.
     pub fn new(
         alloc: Global,
-        state: &'a State<'a>,
+        state: &'s State<'a>,
         partial: bool,
-    ) -> Result<Cluster<'a>, ClusterError>
+    ) -> Result<Cluster<'s, 'a>, ClusterError>
         ensures { ClusterOpens (state_view state.now) partial result }
     {
         let gates = open_gates(alloc, state, partial)?;
@@ -55,7 +55,7 @@ impl<'a> Cluster<'a> {
     }
 
     /// The bound policies, in the order of their names.
-    pub fn policies(&self) -> &[PolicyGate<'a>]
+    pub fn policies(&self) -> &[PolicyGate<'s, 'a>]
         ensures { (s : ClusterState) → IsClusterFor s self.now → AreGatesFor s s.policies result.now }
     {
         self.gates.as_slice()

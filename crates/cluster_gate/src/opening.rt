@@ -17,11 +17,11 @@ use std::alloc::{AllocError, Global};
 
 /// The gate of each bound policy, in the order of their names. Unless `partial` the first policy
 /// that is blocked is the error.
-pub(crate) fn open_gates<'a>(
+pub(crate) fn open_gates<'s, 'a>(
     alloc: Global,
-    state: &'a State<'a>,
+    state: &'s State<'a>,
     partial: bool,
-) -> Result<Vec<PolicyGate<'a>>, ClusterError>
+) -> Result<Vec<PolicyGate<'s, 'a>>, ClusterError>
     ensures { GatesOpen (state_view state.now) partial (state_view state.now).policies result }
 {
     let policies = state.policies();
@@ -36,12 +36,12 @@ pub(crate) fn open_gates<'a>(
 }
 
 /// The gate of a policy, which may be blocked only if `partial`.
-fn open_gate<'a>(
+fn open_gate<'s, 'a>(
     alloc: Global,
-    state: &'a State<'a>,
-    policy: &'a Policy<'a>,
+    state: &'s State<'a>,
+    policy: &'s Policy<'a>,
     partial: bool,
-) -> Result<PolicyGate<'a>, ClusterError>
+) -> Result<PolicyGate<'s, 'a>, ClusterError>
     ensures { OpensGateFor (state_view state.now) partial (policy_view policy.now) result }
 {
     let gate = gate_for(alloc, state, policy)?;
@@ -58,11 +58,11 @@ fn open_gate<'a>(
 }
 
 /// The gate of a policy.
-fn gate_for<'a>(
+fn gate_for<'s, 'a>(
     alloc: Global,
-    state: &'a State<'a>,
-    policy: &'a Policy<'a>,
-) -> Result<PolicyGate<'a>, AllocError>
+    state: &'s State<'a>,
+    policy: &'s Policy<'a>,
+) -> Result<PolicyGate<'s, 'a>, AllocError>
     ensures { IfOk result (IsGateFor (state_view state.now) (policy_view policy.now)) }
 {
     let kind = kind_of(state, policy);

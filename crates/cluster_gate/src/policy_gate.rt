@@ -5,7 +5,7 @@ use cluster_plan::AskedPolicy;
 
 /// A bound policy, and whether it is asked.
 #[derive(Drop)]
-pub struct PolicyGate<'a> {
-    pub asked: AskedPolicy<'a>,
+pub struct PolicyGate<'s, 'a> {
+    pub asked: AskedPolicy<'s, 'a>,
     pub standing: Standing,
 }

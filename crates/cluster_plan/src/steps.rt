@@ -17,7 +17,7 @@ use cluster_state::{Binding, NamespaceObject, ParamError, State};
 use serde_json::Value;
 use std::alloc::{AllocError, Global};
 
-impl<'a> AskedPolicy<'a> {
+impl<'a> AskedPolicy<'_, 'a> {
     /// The steps of each binding of the policy with this request, which the policy's constraints
     /// match, in the order of the bindings' names. The error is that an allocation failed.
     pub fn bindings_steps<'s>(
