@@ -10,6 +10,5 @@ mod Choices
 mod ClusterOnce
 mod Ends
 mod Lists
-mod States
 mod Told
 pub mod Prelude

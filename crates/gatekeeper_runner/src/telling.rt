@@ -23,7 +23,7 @@ pub fn policies_text(
     alloc: Global,
     lists: &[Value],
     state: &State<'_>,
-    gates: &[PolicyGate<'_>],
+    gates: &[PolicyGate<'_, '_>],
 ) -> Result<Vec<u8>, AllocError>
     ensures { IfOk result (λ t. (s : ClusterState) → state_view state.now ≡ s → AreGatesFor s s.policies gates.now → TellsPolicies (map view lists.now) s s.policies t.items) }
 {
@@ -40,7 +40,7 @@ fn policy_line(
     alloc: Global,
     lists: &[Value],
     state: &State<'_>,
-    gate: &PolicyGate<'_>,
+    gate: &PolicyGate<'_, '_>,
 ) -> Result<Vec<u8>, AllocError>
     ensures { IfOk result (λ l. (s : ClusterState) (p : BoundPolicy) → state_view state.now ≡ s → IsGateFor s p gate.now
         → l.items ≡ policy_line (map view lists.now) s p (cause_of gate.now.standing)) }

@@ -1,5 +1,5 @@
 use Rattle.gatekeeper_runner.proofs.Prelude.{refl}
-use Rattle.gatekeeper_runner.proofs.States.{same_state}
+use Rattle.cluster_gate.proofs.States.{same_state}
 use Rattle.gatekeeper_runner.specs.ClusterEnding.{not_started}
 use Rattle.gatekeeper_runner.proofs.cluster_program.answer_as_cluster.Goals as goal
 
