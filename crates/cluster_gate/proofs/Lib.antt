@@ -1,3 +1,4 @@
+-- The proofs of cluster_gate, file by file.
 pub mod Prelude
 pub mod Written
 pub mod States

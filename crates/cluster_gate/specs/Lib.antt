@@ -1,3 +1,4 @@
+-- The definitions of cluster_gate, file by file.
 pub mod Texts
 pub mod Gates
 pub mod Dispatch

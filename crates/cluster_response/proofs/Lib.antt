@@ -1,3 +1,4 @@
+-- The proofs of cluster_response, file by file.
 pub mod Prelude
 pub mod Allowed
 pub mod Floats

@@ -1,3 +1,4 @@
+-- The definitions of cluster_response, file by file.
 pub mod Annotations
 pub mod Events
 pub mod Keeping

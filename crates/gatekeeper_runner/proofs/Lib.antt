@@ -1,3 +1,4 @@
+-- The proofs of gatekeeper_runner, file by file.
 mod Gates
 mod Tallies
 mod RefusalTexts

@@ -1,3 +1,4 @@
+-- The proofs of line_answers, file by file.
 mod Going
 pub mod Meaning
 pub mod OneAnswer

@@ -1,2 +1,3 @@
+-- The definitions of line_answers, file by file.
 pub mod Lines
 pub mod AnsweredLines

@@ -1,3 +1,4 @@
+-- Proof obligations of `asking::ask`.
 use Rattle.cluster_gate.proofs.Prelude.{IfOk-weaker, ap, policy_view, request_view, state_view, BoundPolicy}
 use Rattle.cluster_gate.proofs.Asked.{asks_in_trouble, asks_matched, asks_no, asks_unknown, policy_of, same_answer}
 use Rattle.cluster_gate.proofs.asking.ask.Goals as goal

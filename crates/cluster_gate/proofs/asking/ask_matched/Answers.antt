@@ -1,3 +1,4 @@
+-- Proof obligations of `asking::ask_matched`.
 use Rattle.cluster_gate.proofs.Prelude.{IfOk-weaker, ap, request_view, BoundPolicy}
 use Rattle.cluster_gate.proofs.Asked.{matched_asked, matched_blocked, policy_of}
 use Rattle.cluster_gate.proofs.asking.ask_matched.Goals as goal

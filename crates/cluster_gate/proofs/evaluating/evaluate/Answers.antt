@@ -1,3 +1,4 @@
+-- Proof obligations of `evaluating::evaluate`.
 use Rattle.cluster_gate.proofs.Prelude.{IfOk-weaker, option_map, view}
 use Rattle.cluster_gate.proofs.Evaluated.{evaluated, told}
 use Rattle.cluster_gate.proofs.evaluating.evaluate.Goals as goal

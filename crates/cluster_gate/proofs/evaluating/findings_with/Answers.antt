@@ -1,3 +1,4 @@
+-- Proof obligations of `evaluating::findings_with`.
 use Rattle.std.proofs.Common.{Global, String}
 use Rattle.value_store.specs.Placing.{Contents}
 use Rattle.value_table.specs.declared.table.Table.{Table}

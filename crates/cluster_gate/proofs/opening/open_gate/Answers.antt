@@ -1,3 +1,4 @@
+-- Proof obligations of `opening::open_gate`.
 use Rattle.cluster_gate.proofs.Prelude.{policy_view}
 use Rattle.cluster_gate.proofs.Asked.{compiled_of}
 use Rattle.cluster_gate.proofs.opening.open_gate.Goals as goal

@@ -1,3 +1,4 @@
+-- Proof obligations of `opening::open_gates`.
 use Rattle.cluster_gate.proofs.Prelude.{List, Err, state_view, subst, BoundPolicy}
 use Rattle.cluster_gate.proofs.Opened.{opened_more, opened_until}
 use Rattle.cluster_gate.specs.Gates.{GatesOpen}

@@ -1,3 +1,4 @@
+-- Loop invariants of `opening::open_gates`.
 use Rattle.cluster_gate.proofs.Prelude.{map, policy_view, state_view, take}
 use Rattle.cluster_gate.proofs.Opened.{OpenedFirst}
 use Rattle.cluster_gate.proofs.opening.open_gates.Given as goal

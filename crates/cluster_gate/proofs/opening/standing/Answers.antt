@@ -1,3 +1,4 @@
+-- Proof obligations of `opening::standing`.
 use Rattle.cluster_gate.proofs.Prelude.{IfOk-weaker, policy_view}
 use Rattle.cluster_gate.proofs.opening.standing.Goals as goal
 

@@ -1,3 +1,4 @@
+-- Proof obligations of `opening::standing_of`.
 use Rattle.cluster_gate.proofs.Prelude.{◌∙◌, true, false, sym}
 use Rattle.cluster_gate.proofs.Asked.{compiled_with}
 use Rattle.cluster_gate.proofs.opening.standing_of.Goals as goal

@@ -1,3 +1,4 @@
+-- Proof obligations of `texts::others`.
 use Rattle.std.proofs.Common.{◌∙◌, ap, codes}
 use Rattle.serde_json.specs.View.{members_view}
 use Rattle.cluster_gate.proofs.Written.{without_entry}

@@ -1,3 +1,4 @@
+-- Proof obligations of `texts::text_of`.
 use Rattle.cluster_gate.proofs.Written.{has_text}
 use Rattle.cluster_gate.proofs.texts.text_of.Goals as goal
 

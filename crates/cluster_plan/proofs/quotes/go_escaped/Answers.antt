@@ -1,3 +1,4 @@
+-- Proof obligations of `quotes::go_escaped`.
 use Rattle.cluster_plan.proofs.Prelude.{◌∙◌, YieldsList-end, YieldsList-from_chars, ap, flat_map, go_escape, map-id, sym}
 use Rattle.cluster_plan.proofs.quotes.go_escaped.Goals as goal
 

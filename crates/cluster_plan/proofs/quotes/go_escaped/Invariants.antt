@@ -1,3 +1,4 @@
+-- Loop invariants of `quotes::go_escaped`.
 use Rattle.cluster_plan.proofs.Prelude.{◌≡◌, flat_map, go_escape, string_bytes}
 use Rattle.cluster_plan.proofs.quotes.go_escaped.Given as goal
 

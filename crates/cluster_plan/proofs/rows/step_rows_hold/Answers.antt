@@ -1,3 +1,4 @@
+-- Proof obligations of `rows::step_rows_hold`.
 use Rattle.cluster_plan.proofs.Prelude.{refl}
 use Rattle.cluster_plan.proofs.OnLiterals.{steps_on_literals}
 use Rattle.cluster_plan.proofs.rows.step_rows_hold.Goals as goal

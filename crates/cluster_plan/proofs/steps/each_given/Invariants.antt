@@ -1,3 +1,4 @@
+-- Loop invariants of `steps::each_given`.
 use Rattle.cluster_plan.proofs.Prelude.{◌≡◌, ◌++◌, Some, drop, map}
 use Rattle.cluster_plan.proofs.steps.each_given.Given as goal
 

@@ -1,3 +1,4 @@
+-- Loop invariants of `steps::evaluations_in`.
 use Rattle.cluster_plan.proofs.Prelude.{◌≡◌, ◌++◌, binding_view, drop, evaluates, map, option_map, step_view, view}
 use Rattle.cluster_plan.proofs.steps.evaluations_in.Given as goal
 

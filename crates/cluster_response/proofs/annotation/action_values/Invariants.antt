@@ -1,3 +1,4 @@
+-- Loop invariants of `annotation::action_values`.
 use Rattle.cluster_response.proofs.Prelude.{◌≡◌, ◌++◌, action_tree, drop, map, view}
 use Rattle.cluster_response.proofs.annotation.action_values.Given as goal
 

@@ -1,3 +1,4 @@
+-- Proof obligations of `annotation::actions_text`.
 use Rattle.cluster_response.proofs.Prelude.{◌∙◌, IfOk-weaker, ap, compact_text, has_float}
 use Rattle.cluster_response.proofs.Floats.{actions_float}
 use Rattle.cluster_response.proofs.annotation.actions_text.Goals as goal

@@ -1,3 +1,4 @@
+-- Proof obligations of `annotation::html_safe`.
 use Rattle.cluster_response.proofs.Prelude.{◌∙◌, YieldsList-end, YieldsList-from_chars, ap, flat_map, html_escape, map-id, sym}
 use Rattle.cluster_response.proofs.annotation.html_safe.Goals as goal
 

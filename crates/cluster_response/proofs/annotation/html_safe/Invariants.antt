@@ -1,3 +1,4 @@
+-- Loop invariants of `annotation::html_safe`.
 use Rattle.cluster_response.proofs.Prelude.{◌≡◌, flat_map, html_escape, string_bytes}
 use Rattle.cluster_response.proofs.annotation.html_safe.Given as goal
 

@@ -1,3 +1,4 @@
+-- Proof obligations of `laws::allowed_exactly`.
 use Rattle.cluster_response.proofs.Allowed.{allows_by_events}
 use Rattle.cluster_response.proofs.laws.allowed_exactly.Goals as goal
 

@@ -1,3 +1,4 @@
+-- Proof obligations of `messages::denial_text`.
 use Rattle.cluster_response.proofs.Prelude.{◌∙◌, IfOk-weaker, denial_text, refl}
 use Rattle.cluster_response.proofs.messages.denial_text.Goals as goal
 

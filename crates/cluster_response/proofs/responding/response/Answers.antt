@@ -1,3 +1,4 @@
+-- Proof obligations of `responding::response`.
 use Rattle.cluster_response.proofs.Prelude.{◌∙◌, IfOk-weaker, answer_tree, ap, cluster_response, compact_text, has_float, request_view}
 use Rattle.cluster_response.proofs.Floats.{answer_float}
 use Rattle.cluster_response.proofs.responding.response.Goals as goal

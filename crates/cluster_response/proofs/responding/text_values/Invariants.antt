@@ -1,3 +1,4 @@
+-- Loop invariants of `responding::text_values`.
 use Rattle.serde_json.specs.Data as json
 use Rattle.cluster_response.proofs.Prelude.{◌≡◌, ◌++◌, drop, map, string_bytes, view}
 use Rattle.cluster_response.proofs.responding.text_values.Given as goal

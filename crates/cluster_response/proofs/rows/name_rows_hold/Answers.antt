@@ -1,3 +1,4 @@
+-- Proof obligations of `rows::name_rows_hold`.
 use Rattle.cluster_response.proofs.Prelude.{refl}
 use Rattle.cluster_response.proofs.OnLiterals.{answers_on_literals}
 use Rattle.cluster_response.proofs.rows.name_rows_hold.Goals as goal

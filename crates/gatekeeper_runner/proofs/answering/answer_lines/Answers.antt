@@ -1,3 +1,4 @@
+-- Proof obligations of `answering::answer_lines`.
 use Rattle.line_answers.proofs.Meaning.{input_gives, line_gives}
 use Rattle.gatekeeper_runner.proofs.answering.answer_lines.Goals as goal
 

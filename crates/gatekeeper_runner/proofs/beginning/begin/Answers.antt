@@ -1,3 +1,4 @@
+-- Proof obligations of `beginning::begin`.
 use Rattle.gatekeeper_runner.proofs.Prelude.{sym}
 use Rattle.gatekeeper_runner.proofs.beginning.begin.Goals as goal
 

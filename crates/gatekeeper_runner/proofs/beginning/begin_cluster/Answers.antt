@@ -1,3 +1,4 @@
+-- Proof obligations of `beginning::begin_cluster`.
 use Rattle.gatekeeper_runner.proofs.Prelude.{is_err}
 use Rattle.gatekeeper_runner.specs.Program.{no_lists}
 use Rattle.gatekeeper_runner.proofs.beginning.begin_cluster.Goals as goal

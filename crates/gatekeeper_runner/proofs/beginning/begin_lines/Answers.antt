@@ -1,3 +1,4 @@
+-- Proof obligations of `beginning::begin_lines`.
 use Rattle.gatekeeper_runner.proofs.Prelude.{faults, is_err, no_words}
 use Rattle.gatekeeper_runner.specs.Program.{no_order}
 use Rattle.gatekeeper_runner.proofs.Programs.{asks}

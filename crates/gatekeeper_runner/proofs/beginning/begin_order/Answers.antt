@@ -1,3 +1,4 @@
+-- Proof obligations of `beginning::begin_order`.
 use Rattle.gatekeeper_runner.proofs.Prelude.{is_err}
 use Rattle.gatekeeper_runner.specs.Program.{no_policies}
 use Rattle.gatekeeper_runner.proofs.beginning.begin_order.Goals as goal

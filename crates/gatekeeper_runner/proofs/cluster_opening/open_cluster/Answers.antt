@@ -1,3 +1,4 @@
+-- Proof obligations of `cluster_opening::open_cluster`.
 use Rattle.gatekeeper_runner.proofs.Prelude.{refl}
 use Rattle.gatekeeper_runner.proofs.cluster_opening.open_cluster.Goals as goal
 

@@ -1,3 +1,4 @@
+-- Proof obligations of `cluster_opening::state_refusal`.
 use Rattle.gatekeeper_runner.proofs.Ends.{not_listed_at, refused_state}
 use Rattle.gatekeeper_runner.proofs.cluster_opening.state_refusal.Goals as goal
 

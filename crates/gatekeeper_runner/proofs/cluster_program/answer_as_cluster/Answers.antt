@@ -1,3 +1,4 @@
+-- Proof obligations of `cluster_program::answer_as_cluster`.
 use Rattle.gatekeeper_runner.proofs.Prelude.{refl}
 use Rattle.cluster_gate.proofs.States.{same_state}
 use Rattle.gatekeeper_runner.specs.ClusterEnding.{not_started}

@@ -1,3 +1,4 @@
+-- Proof obligations of `cluster_program::answer_by`.
 use Rattle.gatekeeper_runner.proofs.Prelude.{Err, Ok, is_err}
 use Rattle.gatekeeper_runner.proofs.ClusterOnce.{as_cluster}
 use Rattle.gatekeeper_runner.specs.ClusterEnding.{lines}

@@ -1,3 +1,4 @@
+-- Proof obligations of `cluster_program::answer_by_state`.
 use Rattle.gatekeeper_runner.proofs.Prelude.{Err, Ok, map, refl, subst}
 use Rattle.serde_json.specs.View.{view}
 use Rattle.cluster_state.specs.State.{ClusterState}

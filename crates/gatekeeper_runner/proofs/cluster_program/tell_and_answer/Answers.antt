@@ -1,3 +1,4 @@
+-- Proof obligations of `cluster_program::tell_and_answer`.
 use Rattle.gatekeeper_runner.proofs.cluster_program.tell_and_answer.Goals as goal
 
 pub returns : goal.returns

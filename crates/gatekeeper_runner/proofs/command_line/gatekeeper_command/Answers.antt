@@ -1,3 +1,4 @@
+-- Proof obligations of `command_line::gatekeeper_command`.
 use Rattle.gatekeeper_runner.proofs.Prelude.{◌≡◌, ◌∙◌, codes, IfOk-weaker, app_of, with_rule, files_rule, gatekeeper_app, partial_rule, policies_app, steps_rule}
 use Rattle.gatekeeper_runner.proofs.command_line.gatekeeper_command.Goals as goal
 

@@ -1,3 +1,4 @@
+-- Proof obligations of `command_line::gatekeeper_matches`.
 use Rattle.gatekeeper_runner.proofs.Prelude.{ap, ◌∙◌, map, List, subst, IfOk-weaker, App, Text, fault_of, is_simple, is_simple_and_free, matches_of, entered}
 use Rattle.cli.specs.Parsing.{TakesWords}
 use Rattle.gatekeeper_runner.proofs.Shape.{simple, free}

@@ -1,3 +1,4 @@
+-- Proof obligations of `command_line::policies_command`.
 use Rattle.gatekeeper_runner.proofs.Prelude.{◌≡◌, ◌∙◌, ap, codes, IfOk-weaker, app_of, new_app, with_rule, with_documents, files_rule, policies_app}
 use Rattle.gatekeeper_runner.proofs.command_line.policies_command.Goals as goal
 

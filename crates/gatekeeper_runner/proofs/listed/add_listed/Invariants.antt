@@ -1,3 +1,4 @@
+-- Loop invariants of `listed::add_listed`.
 use Rattle.gatekeeper_runner.proofs.Prelude.{◌≡◌, ◌++◌, drop, map}
 use Rattle.std.specs.Prelude.{filter}
 use Rattle.serde_json.specs.View.{view}

@@ -1,3 +1,4 @@
+-- Loop invariants of `listed::listed`.
 use Rattle.gatekeeper_runner.proofs.Prelude.{◌≡◌, ◌++◌, drop, map}
 use Rattle.serde_json.specs.View.{view}
 use Rattle.cluster_state.specs.Policies.{param_kind_view}

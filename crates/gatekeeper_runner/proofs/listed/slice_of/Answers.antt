@@ -1,3 +1,4 @@
+-- Proof obligations of `listed::slice_of`.
 use Rattle.gatekeeper_runner.proofs.Prelude.{◌∙◌, ap, map, sym}
 use Rattle.serde_json.specs.View.{view}
 use Rattle.cluster_state.proofs.Listed.{listed}

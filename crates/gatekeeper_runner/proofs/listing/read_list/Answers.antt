@@ -1,3 +1,4 @@
+-- Proof obligations of `listing::read_list`.
 use Rattle.gatekeeper_runner.proofs.Prelude.{◌∙◌, ap, is_err, option_map, sym}
 use Rattle.serde_json.specs.View.{view}
 use Rattle.gatekeeper_runner.specs.ClusterStarting.{no_json, no_memory, unread}

@@ -1,3 +1,4 @@
+-- Proof obligations of `listing::read_lists`.
 use Rattle.gatekeeper_runner.proofs.Prelude.{◌∙◌, refl, is_err}
 use Rattle.gatekeeper_runner.specs.ClusterStarting.{no_memory, none}
 use Rattle.gatekeeper_runner.proofs.Lists.{lists_more, no_list_at}

@@ -1,3 +1,4 @@
+-- Loop invariants of `listing::read_lists`.
 use Rattle.gatekeeper_runner.proofs.Prelude.{◌≡◌, map, string_bytes, take}
 use Rattle.serde_json.specs.View.{view}
 use Rattle.gatekeeper_runner.specs.ClusterStarting.{HoldLists}

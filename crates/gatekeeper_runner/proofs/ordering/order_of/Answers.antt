@@ -1,3 +1,4 @@
+-- Proof obligations of `ordering::order_of`.
 use Rattle.gatekeeper_runner.proofs.Prelude.{◌≡◌, ◌∙◌, List, ap, entered, false, go_together, is_err, map, sym, true, Text}
 use Rattle.gatekeeper_runner.proofs.Choices.{not_taken, not_together, taken}
 use Rattle.gatekeeper_runner.proofs.ordering.order_of.Goals as goal

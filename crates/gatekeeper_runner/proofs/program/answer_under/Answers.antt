@@ -1,3 +1,4 @@
+-- Proof obligations of `program::answer_under`.
 use Rattle.gatekeeper_runner.proofs.Prelude.{Err, Ok, is_err}
 use Rattle.gatekeeper_runner.specs.Program.{lines}
 use Rattle.gatekeeper_runner.proofs.program.answer_under.Goals as goal

@@ -1,3 +1,4 @@
+-- Proof obligations of `program::exit_code`.
 use Rattle.gatekeeper_runner.proofs.Prelude.{refl}
 use Rattle.gatekeeper_runner.proofs.Programs.{not_begun, performed}
 use Rattle.gatekeeper_runner.proofs.program.exit_code.Goals as goal

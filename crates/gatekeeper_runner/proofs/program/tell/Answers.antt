@@ -1,3 +1,4 @@
+-- Proof obligations of `program::tell`.
 use Rattle.gatekeeper_runner.specs.Program.{all, part}
 use Rattle.gatekeeper_runner.proofs.program.tell.Goals as goal
 

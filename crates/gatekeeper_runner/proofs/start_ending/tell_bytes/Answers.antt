@@ -1,3 +1,4 @@
+-- Proof obligations of `start_ending::tell_bytes`.
 use Rattle.gatekeeper_runner.proofs.Ends.{tells}
 use Rattle.gatekeeper_runner.proofs.start_ending.tell_bytes.Goals as goal
 

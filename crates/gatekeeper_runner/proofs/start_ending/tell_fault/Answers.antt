@@ -1,3 +1,4 @@
+-- Proof obligations of `start_ending::tell_fault`.
 use Rattle.gatekeeper_runner.proofs.Prelude.{inl, inr}
 use Rattle.gatekeeper_runner.proofs.start_ending.tell_fault.Goals as goal
 

@@ -1,3 +1,4 @@
+-- Proof obligations of `start_ending::tell_memory`.
 use Rattle.gatekeeper_runner.proofs.Prelude.{◌≡◌, ◌∙◌}
 use Rattle.cli.specs.Refusals.{refusal_line}
 use Rattle.cli.specs.declared.refusal.Refusal.TheVariants.{Memory}

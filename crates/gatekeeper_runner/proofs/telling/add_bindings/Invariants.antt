@@ -1,3 +1,4 @@
+-- Loop invariants of `telling::add_bindings`.
 use Rattle.gatekeeper_runner.proofs.Prelude.{◌≡◌, ◌++◌, drop, map}
 use Rattle.cluster_state.specs.Bindings.{Binding, binding_view}
 use Rattle.cluster_plan.specs.Steps.{bindings_of}

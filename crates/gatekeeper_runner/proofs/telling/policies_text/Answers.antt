@@ -1,3 +1,4 @@
+-- Proof obligations of `telling::policies_text`.
 use Rattle.gatekeeper_runner.specs.ClusterTelling.{none}
 use Rattle.gatekeeper_runner.proofs.Told.{told_all, told_more}
 use Rattle.gatekeeper_runner.proofs.telling.policies_text.Goals as goal

@@ -1,3 +1,4 @@
+-- Loop invariants of `telling::policies_text`.
 use Rattle.gatekeeper_runner.proofs.Prelude.{◌≡◌, map, take}
 use Rattle.serde_json.specs.View.{view}
 use Rattle.cluster_state.specs.State.{ClusterState, state_view}

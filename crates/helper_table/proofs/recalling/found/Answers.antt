@@ -1,3 +1,4 @@
+-- Proof obligations of `recalling::found`.
 use Rattle.helper_table.proofs.recalling.found.Goals as goal
 
 pub recalled-first-requires : goal.recalled-first-requires

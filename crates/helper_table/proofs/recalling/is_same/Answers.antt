@@ -1,3 +1,4 @@
+-- Proof obligations of `recalling::is_same`.
 use Rattle.std.proofs.Common.{Some, sym, ap, ◌∙◌}
 use Rattle.helper_table.proofs.Asking.{equal_same}
 use Rattle.helper_table.proofs.recalling.is_same.Goals as goal

@@ -1,3 +1,4 @@
+-- Proof obligations of `recalling::recalled_effect`.
 use Rattle.helper_table.proofs.Asking.{recalled_means, found_later}
 use Rattle.helper_table.proofs.recalling.recalled_effect.Goals as goal
 use Rattle.helper_table.proofs.recalling.recalled_effect.Goals.{in-Some-lasting, in_default-lasting}

@@ -1,3 +1,4 @@
+-- Proof obligations of `answering::answer_line`.
 use Rattle.line_answers.proofs.Prelude.{◌∙◌, [], Some, ap, append-nil, sym, on_err_weaker, on_ok_weaker, no_memory}
 use Rattle.line_answers.proofs.OneLine.{is_passed, written_part}
 use Rattle.line_answers.proofs.answering.answer_line.Goals as goal

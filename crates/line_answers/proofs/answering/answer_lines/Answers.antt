@@ -1,3 +1,4 @@
+-- Proof obligations of `answering::answer_lines`.
 use Rattle.line_answers.proofs.Prelude.{◌≡◌, ℕ, List, cut, refl, AnswersInputLine, KeepsLine}
 use Rattle.line_answers.proofs.Going.{going_start, heard_told, kept_start}
 use Rattle.line_answers.proofs.answering.answer_lines.Goals as goal

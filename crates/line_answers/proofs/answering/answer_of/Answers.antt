@@ -1,3 +1,4 @@
+-- Proof obligations of `answering::answer_of`.
 use Rattle.line_answers.proofs.Prelude.{◌≡◌, ◌∙◌, true, false, sym, IfOk-weaker, is_blank}
 use Rattle.line_answers.proofs.OneLine.{was_blank, was_decided, was_long}
 use Rattle.line_answers.proofs.answering.answer_of.Goals as goal

@@ -1,3 +1,4 @@
+-- Loop invariants of `findings::findings`.
 use Rattle.policy_glue.proofs.Prelude.{drop, map, words_view, validation_view}
 use Rattle.policy_glue.proofs.Found.{FindingsGo}
 use Rattle.policy_glue.specs.Findings.{finding_view}

@@ -1,3 +1,4 @@
+-- Proof obligations of `findings::findings_of`.
 use Rattle.policy_glue.proofs.Prelude.{map, sym, IfOk-weaker, words_view}
 use Rattle.policy_glue.proofs.Found.{found}
 use Rattle.policy_glue.specs.Findings.{finding_view}

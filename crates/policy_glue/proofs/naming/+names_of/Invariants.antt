@@ -1,3 +1,4 @@
+-- Loop invariants of `naming::+names_of`.
 use Rattle.policy_glue.proofs.Prelude.{◌≡◌, drop, view}
 use Rattle.std.specs.Prelude as list
 use Rattle.cel_reader.specs.Tree.{trees, entries}

@@ -1,3 +1,4 @@
+-- Proof obligations of `naming::conditions_name_namespace`.
 use Rattle.policy_glue.proofs.Prelude.{Ok, List, map, refl, sym, ap, subst, ◌∙◌, NamedExpression, Policy, named_view}
 use Rattle.policy_glue.proofs.Named.{compiled_reads}
 use Rattle.policy_glue.specs.Naming.{EachReads}

@@ -1,3 +1,4 @@
+-- Proof obligations of `naming::one_expression_names`.
 use Rattle.policy_glue.proofs.Named.{named_next}
 use Rattle.policy_glue.specs.Naming.{names}
 use Rattle.policy_glue.proofs.naming.one_expression_names.Goals as goal

@@ -1,3 +1,4 @@
+-- Loop invariants of `naming::one_expression_names`.
 use Rattle.policy_glue.proofs.Prelude.{drop, map, named_view}
 use Rattle.policy_glue.proofs.Named.{NamesGo}
 use Rattle.policy_glue.specs.Naming.{names}

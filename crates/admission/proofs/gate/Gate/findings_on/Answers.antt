@@ -1,3 +1,4 @@
+-- Proof obligations of `gate::Gate::findings_on`.
 use Rattle.policy_glue.specs.Findings.{PolicyFinding}
 use Rattle.admission.proofs.Prelude.{List, refl, Exit, exactly, uid_in}
 use Rattle.admission.proofs.Decided.{found_so, refused_so}

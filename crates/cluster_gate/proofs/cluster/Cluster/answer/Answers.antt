@@ -1,3 +1,4 @@
+-- Proof obligations of `cluster::Cluster::answer`.
 use Rattle.cluster_gate.proofs.cluster.Cluster.answer.Goals as goal
 
 pub returns : goal.returns

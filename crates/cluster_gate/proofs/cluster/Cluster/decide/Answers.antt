@@ -1,3 +1,4 @@
+-- Proof obligations of `cluster::Cluster::decide`.
 use Rattle.cluster_gate.proofs.Prelude.{◌∙◌, IfOk-weaker, ap, option_map, sym, view}
 use Rattle.cluster_gate.specs.Dispatch.{no_review}
 use Rattle.cluster_gate.proofs.Requested.{not_json}

@@ -1,3 +1,4 @@
+-- Proof obligations of `cluster::Cluster::decide_document`.
 use Rattle.cluster_gate.proofs.Prelude.{◌∙◌, ℕ, List, Some, ap, request_view, subst, sym, view, OneImage}
 use Rattle.cluster_response.specs.Response.{cluster_response}
 use Rattle.cluster_gate.specs.Dispatch.{DecidesInCluster, decided, no_review}

@@ -1,3 +1,4 @@
+-- Proof obligations of `cluster::Cluster::dispatch`.
 use Rattle.cluster_gate.proofs.Prelude.{◌+◌, List, drop, request_view, subst, sym, AreGatesFor, PolicyGate}
 use Rattle.cluster_gate.proofs.Dispatched.{gives_all, gives_last, gives_more, left_policy, none_left}
 use Rattle.cluster_gate.proofs.cluster.Cluster.dispatch.Goals as goal

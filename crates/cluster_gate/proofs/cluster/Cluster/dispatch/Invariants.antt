@@ -1,3 +1,4 @@
+-- Loop invariants of `cluster::Cluster::dispatch`.
 use Rattle.cluster_gate.proofs.Prelude.{drop, request_view, ClusterState, GivesBefore, IsClusterFor, OneImage}
 use Rattle.cluster_gate.proofs.cluster.Cluster.dispatch.Given as goal
 

@@ -1,3 +1,4 @@
+-- Proof obligations of `cluster::Cluster::events`.
 use Rattle.cluster_gate.proofs.Prelude.{◌∙◌, [], IfOk-weaker, sym}
 use Rattle.cluster_gate.specs.Dispatch.{no_policies}
 use Rattle.cluster_gate.proofs.cluster.Cluster.events.Goals as goal

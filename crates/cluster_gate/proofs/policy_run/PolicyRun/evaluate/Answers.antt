@@ -1,3 +1,4 @@
+-- Proof obligations of `policy_run::PolicyRun::evaluate`.
 use Rattle.cluster_gate.proofs.Prelude.{IfOk-weaker, option_map, view}
 use Rattle.cluster_state.specs.Bindings.{binding_view}
 use Rattle.cluster_gate.proofs.Runs.{found_step, refused_step}

@@ -1,3 +1,4 @@
+-- Proof obligations of `policy_run::PolicyRun::run`.
 use Rattle.cluster_gate.proofs.Prelude.{◌+◌, drop, map, step_view}
 use Rattle.cluster_gate.proofs.Runs.{added_end, added_last, added_step, at_last, at_step}
 use Rattle.cluster_gate.proofs.policy_run.PolicyRun.run.Goals as goal

@@ -1,3 +1,4 @@
+-- Loop invariants of `policy_run::PolicyRun::run`.
 use Rattle.cluster_gate.proofs.Prelude.{drop, map, step_view, AddedBefore, BoundPolicy, IsRunOf}
 use Rattle.cluster_gate.proofs.policy_run.PolicyRun.run.Given as goal
 

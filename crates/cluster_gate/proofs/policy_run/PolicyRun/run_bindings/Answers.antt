@@ -1,3 +1,4 @@
+-- Proof obligations of `policy_run::PolicyRun::run_bindings`.
 use Rattle.cluster_gate.proofs.Prelude.{◌∙◌, List, IfOk-weaker, ap, asked_policy, asked_view, map, request_view, state_view, step_view, subst, AddsSteps, PlannedStep}
 use Rattle.cluster_gate.proofs.Asked.{bound_steps}
 use Rattle.cluster_gate.proofs.policy_run.PolicyRun.run_bindings.Goals as goal

@@ -1,3 +1,4 @@
+-- Proof obligations of `asked_policy::AskedPolicy::bindings_steps`.
 use Rattle.cluster_plan.proofs.Prelude.{◌≡◌, ◌∙◌, ◌++◌, ap, asked_view, map, map-append, request_view, state_view, step_view, sym}
 use Rattle.cluster_plan.proofs.Bound.{go_first, go_other}
 use Rattle.cluster_plan.proofs.asked_policy.AskedPolicy.bindings_steps.Goals as goal

@@ -1,3 +1,4 @@
+-- Loop invariants of `asked_policy::AskedPolicy::bindings_steps`.
 use Rattle.cluster_plan.proofs.Prelude.{◌≡◌, ◌++◌, asked_view, binding_view, bindings_steps, drop, map, request_view, state_view, step_view}
 use Rattle.cluster_plan.proofs.asked_policy.AskedPolicy.bindings_steps.Given as goal
 

@@ -1,3 +1,4 @@
+-- Proof obligations of `asked_policy::AskedPolicy::params`.
 use Rattle.cluster_plan.proofs.Prelude.{◌∙◌, Some, ap, map}
 use Rattle.cluster_plan.proofs.Bound.{given_params}
 use Rattle.cluster_plan.proofs.asked_policy.AskedPolicy.params.Goals as goal

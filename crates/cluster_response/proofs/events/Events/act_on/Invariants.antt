@@ -1,3 +1,4 @@
+-- Loop invariants of `events::Events::act_on`.
 use Rattle.cluster_response.proofs.Prelude.{◌≡◌, action_event, binding_view, drop, events_view, finding_view, map, with_events}
 use Rattle.cluster_response.proofs.events.Events.act_on.Given as goal
 

@@ -1,3 +1,4 @@
+-- Loop invariants of `events::Events::act_on_each`.
 use Rattle.cluster_response.proofs.Prelude.{◌≡◌, binding_view, drop, events_view, finding_view, findings_events, map, with_events}
 use Rattle.cluster_response.proofs.events.Events.act_on_each.Given as goal
 

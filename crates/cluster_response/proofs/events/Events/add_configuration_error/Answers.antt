@@ -1,3 +1,4 @@
+-- Proof obligations of `events::Events::add_configuration_error`.
 use Rattle.cluster_response.proofs.Prelude.{on_ok_weaker}
 use Rattle.cluster_response.proofs.Kept.{kept_one}
 use Rattle.cluster_response.proofs.events.Events.add_configuration_error.Goals as goal

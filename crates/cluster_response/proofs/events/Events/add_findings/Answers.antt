@@ -1,3 +1,4 @@
+-- Proof obligations of `events::Events::add_findings`.
 use Rattle.cluster_response.proofs.Prelude.{on_ok_weaker}
 use Rattle.cluster_response.proofs.Kept.{kept_later}
 use Rattle.cluster_response.proofs.events.Events.add_findings.Goals as goal

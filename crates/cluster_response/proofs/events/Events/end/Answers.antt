@@ -1,3 +1,4 @@
+-- Proof obligations of `events::Events::end`.
 use Rattle.cluster_response.proofs.Prelude.{ends, refl, true}
 use Rattle.cluster_response.proofs.Kept.{kept_one}
 use Rattle.cluster_response.proofs.events.Events.end.Goals as goal

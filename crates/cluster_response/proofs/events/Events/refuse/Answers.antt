@@ -1,3 +1,4 @@
+-- Proof obligations of `events::Events::refuse`.
 use Rattle.cluster_response.proofs.Prelude.{sym}
 use Rattle.cluster_response.proofs.Kept.{kept_one}
 use Rattle.cluster_response.proofs.events.Events.refuse.Goals as goal

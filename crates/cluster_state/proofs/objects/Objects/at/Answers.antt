@@ -1,3 +1,4 @@
+-- Proof obligations of `objects::Objects::at`.
 use Rattle.cluster_state.proofs.Prelude.{◌≡◌, ◌∙◌, [], Some, ap, collection_cmp, get_by, named_view, option_map_or, sym, Collection}
 use Rattle.cluster_state.proofs.Placed.{found_place, passed_place}
 use Rattle.cluster_state.proofs.objects.Objects.at.Goals as goal

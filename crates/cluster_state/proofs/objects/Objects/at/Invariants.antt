@@ -1,3 +1,4 @@
+-- Loop invariants of `objects::Objects::at`.
 use Rattle.cluster_state.proofs.Prelude.{◌≡◌, collection_cmp, is_at, lookup}
 use Rattle.cluster_state.proofs.objects.Objects.at.Given as goal
 

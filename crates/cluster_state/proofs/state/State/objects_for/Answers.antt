@@ -1,3 +1,4 @@
+-- Proof obligations of `state::State::objects_for`.
 use Rattle.cluster_state.proofs.Prelude.{◌∙◌, sym}
 use Rattle.cluster_state.proofs.state.State.objects_for.Goals as goal
 

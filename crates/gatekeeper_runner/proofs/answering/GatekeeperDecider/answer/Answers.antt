@@ -1,3 +1,4 @@
+-- Proof obligations of `answering::GatekeeperDecider::answer`.
 use Rattle.gatekeeper_runner.proofs.Prelude.{IfOk-weaker, gatekeeper_of}
 use Rattle.gatekeeper_runner.proofs.LineOnce.{line_decided}
 use Rattle.gatekeeper_runner.proofs.answering.GatekeeperDecider.answer.Goals as goal

@@ -1,3 +1,4 @@
+-- Proof obligations of `cluster_answering::ClusterKeeperDecider::answer`.
 use Rattle.gatekeeper_runner.proofs.Prelude.{IfOk-weaker}
 use Rattle.gatekeeper_runner.proofs.ClusterOnce.{cluster_decided}
 use Rattle.gatekeeper_runner.proofs.cluster_answering.ClusterKeeperDecider.answer.Goals as goal

@@ -1,3 +1,4 @@
+-- Proof obligations of `gatekeeper::Gatekeeper::decision_on`.
 use Rattle.gatekeeper_runner.proofs.Prelude.{[], refl, gatekeeper_of}
 use Rattle.gatekeeper_runner.proofs.Gates.{all_decided, tallied_all, tallied_more}
 use Rattle.gatekeeper_runner.proofs.gatekeeper.Gatekeeper.decision_on.Goals as goal

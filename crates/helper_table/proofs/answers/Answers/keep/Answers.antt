@@ -1,3 +1,4 @@
+-- Proof obligations of `answers::Answers::keep`.
 use Rattle.helper_table.proofs.answers.Answers.keep.Goals as goal
 
 pub returns : goal.returns

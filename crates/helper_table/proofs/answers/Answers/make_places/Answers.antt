@@ -1,3 +1,4 @@
+-- Proof obligations of `answers::Answers::make_places`.
 use Rattle.std.proofs.Common.{vec_len, ◌-◌}
 use Rattle.helper_table.proofs.Asking.{answers_resized}
 use Rattle.helper_table.proofs.answers.Answers.make_places.Goals as goal

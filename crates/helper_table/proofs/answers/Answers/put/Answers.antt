@@ -1,3 +1,4 @@
+-- Proof obligations of `answers::Answers::put`.
 use Rattle.helper_table.proofs.Asking.{answers_set}
 use Rattle.helper_table.proofs.answers.Answers.put.Goals as goal
 

@@ -1,3 +1,4 @@
+-- Proof obligations of `caller::Caller::call`.
 use Rattle.std.proofs.Common.{List, sym, subst}
 use Rattle.helper_table.proofs.Prelude.{Contents, ValueOrError, outcome_by}
 use Rattle.helper_table.proofs.Asking.{answers_after}

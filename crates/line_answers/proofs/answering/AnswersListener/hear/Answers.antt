@@ -1,3 +1,4 @@
+-- Proof obligations of `answering::AnswersListener::hear`.
 use Rattle.line_answers.proofs.Going.{going_line, kept_none, told_part}
 use Rattle.line_answers.proofs.answering.AnswersListener.hear.Goals as goal
 

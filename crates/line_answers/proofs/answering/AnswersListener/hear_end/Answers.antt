@@ -1,3 +1,4 @@
+-- Proof obligations of `answering::AnswersListener::hear_end`.
 use Rattle.line_answers.proofs.Prelude.{on_err_weaker, on_ok_weaker}
 use Rattle.line_answers.proofs.Going.{end_part, end_whole, passes_none}
 use Rattle.line_answers.proofs.answering.AnswersListener.hear_end.Goals as goal

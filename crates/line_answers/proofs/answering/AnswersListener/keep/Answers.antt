@@ -1,3 +1,4 @@
+-- Proof obligations of `answering::AnswersListener::keep`.
 use Rattle.line_answers.proofs.Going.{going_part, kept_part}
 use Rattle.line_answers.proofs.answering.AnswersListener.keep.Goals as goal
 
