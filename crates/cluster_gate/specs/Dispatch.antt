@@ -41,12 +41,12 @@ policies_asked s q = if is_exempt q.attributes.resource then [] else s.policies
 
 -- ---- refusals
 
--- what is told of a policy that is blocked
+-- the refusal that reports a blocked policy
 abbrev pub block_refusal : PolicyBlock → ClusterRefusal
 block_refusal plan.policy_refused = refusal.PolicyRefused
 block_refusal plan.unknown_kind = refusal.UnknownParamKind
 
--- what is told of an evaluation that is refused; nothing is told if an allocation failed
+-- the refusal that reports a refused evaluation; there is none if an allocation failed
 abbrev pub error_refusal : RunError → Option ClusterRefusal
 error_refusal (run_error.PolicyRefused e) = Some refusal.PolicyRefused
 error_refusal run_error.ReviewRefused = Some refusal.ReviewRefused

@@ -128,7 +128,7 @@ GatesOpen s partial ps (Ok gates) = AreGatesFor s ps gates.items × (partial ≡
 GatesOpen s partial ps (Err (BlockedPolicy name cause)) = (partial ≡ false) × FirstIsBlocked s ps (string_bytes name) cause
 GatesOpen s partial ps (Err Memory) = Unit {0}
 
--- the same of a cluster with this state
+-- the cluster that opens from this state
 abbrev pub ClusterOpens : ClusterState → Bool → Result Cluster ClusterError → Type 0
 ClusterOpens s partial (Ok c) = IsClusterFor s c × (partial ≡ false → NoneIsBlocked s s.policies)
 ClusterOpens s partial (Err (BlockedPolicy name cause)) = (partial ≡ false) × FirstIsBlocked s s.policies (string_bytes name) cause

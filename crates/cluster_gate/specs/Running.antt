@@ -26,12 +26,12 @@ use Rattle.cluster_gate.specs.declared.progress.Progress.TheVariants.{NextStep, 
 
 -- ---- evaluations
 
--- the findings, or what is told instead of them
+-- the findings, or the refusal instead of them
 abbrev pub HasFound : Result (Vec Finding Global) RunError → Result (Vec Finding Global) ClusterRefusal → Type 0
 HasFound due (Ok fs) = findings_view due ≡ Ok (map finding_view fs.items)
 HasFound due (Err r) = (e : RunError) × (findings_view due ≡ Err e) × (error_refusal e ≡ Some r)
 
--- what an evaluation finds, or what is told instead
+-- what an evaluation finds, or the refusal instead
 abbrev pub FindsOrRefuses : Images → List ℕ → ℕ → BoundPolicy → Option json.Data → Option json.Data → Result (Vec Finding Global) ClusterRefusal → Type 0
 FindsOrRefuses chosen review n p params namespace (Ok fs) = EvaluatesPolicy chosen review n p params namespace (Ok (map finding_view fs.items))
 FindsOrRefuses chosen review n p params namespace (Err r) =

@@ -19,7 +19,7 @@ pub enum BlockCause {
 }
 
 impl BlockCause {
-    /// What is told of the policy.
+    /// The refusal that reports the policy.
     pub fn refusal(&self) -> ClusterRefusal
         ensures { result ≡ block_refusal (block_of self.now) }
     {

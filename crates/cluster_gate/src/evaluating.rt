@@ -56,7 +56,7 @@ fn findings_with(
     gate.findings_on(table, case.steps)
 }
 
-/// The findings, or what is told of the policy. The error is that memory ran out.
+/// The findings, or the refusal that reports the policy.
 fn found(
     findings: Result<Vec<Finding>, RunError>,
 ) -> Result<Result<Vec<Finding>, ClusterRefusal>, AllocError>

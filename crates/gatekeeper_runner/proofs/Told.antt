@@ -1,4 +1,4 @@
--- What is told of a cluster's policies, one after the other.
+-- The lines on a cluster's policies, one after the other.
 use Rattle.gatekeeper_runner.proofs.Prelude.{◌≡◌, ℕ, zero, suc, ◌+◌, ◌<◌, ◌≤◌, List, [], ◌∷◌, ◌++◌, length, take, refl, sym, ap, ◌∙◌, subst, arith, get_or, take_all, take_more}
 use Rattle.serde_json.specs.Data as json
 use Rattle.cluster_state.specs.Policies.{BoundPolicy}

@@ -88,7 +88,7 @@ state_text (InvalidBinding name) = codes "C5 " ++ string_bytes name
 state_text (InvalidPolicy name) = codes "C6 " ++ string_bytes name
 state_text state_error.Memory = codes "memory"
 
--- what is told of a blocked policy beside its code
+-- what the line on a blocked policy has beside its code
 abbrev pub cause_text : BlockCause → List ℕ
 cause_text (Refused e) = codes " " ++ policy_text e
 cause_text NamesNamespace = codes " namespaceObject"

@@ -1,4 +1,4 @@
--- What is told of each policy of a cluster before the first line.
+-- The line on each policy of a cluster that is written before the first review is read.
 use Rattle.std.specs.Prelude.{ℕ, ◌&&◌, Bool, false, List, [], ◌∷◌, ◌++◌, codes, bytes_eq, decimal, filter, length, map, Option, Some, None, unwrap_or}
 use Rattle.std.specs.Option.{option_map_or}
 use Rattle.std.specs.List.{flat_map}
@@ -66,7 +66,7 @@ pub data TellsPolicies (lists : List json.Data) (s : ClusterState) : List BoundP
 
 -- ---- the code's
 
--- why a policy that stands so is blocked
+-- why a policy of this standing is blocked
 abbrev pub cause_of : Standing → Option BlockCause
 cause_of (Asked gate) = None
 cause_of (Blocked cause) = Some cause

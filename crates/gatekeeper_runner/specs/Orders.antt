@@ -135,7 +135,7 @@ order_from rows = if is_named (codes "cluster") rows then by_cluster (cluster_fr
 
 -- ---- the code's
 
--- the same of the code's order
+-- the order of the code
 abbrev pub order_view : CodePolicyOrder → GatekeeperOrder
 order_view o = record {
   policies = map string_bytes o.policies.items;

@@ -12,6 +12,6 @@ pub struct ClusterKeeper<'s, 'a> {
     pub steps: u64,
     /// The most bytes of a line that is read.
     pub max_line: u64,
-    /// What is told of its policies before the first line.
+    /// The lines on its policies, written before the first review is read.
     pub told: Vec<u8>,
 }

@@ -17,7 +17,7 @@ use cli::Refusal;
 use cluster_gate::Cluster;
 use cluster_state::{State, StateError};
 
-/// The cluster with this state, and what is told of its policies.
+/// The cluster with this state, and the lines on its policies.
 ///
 /// # Errors
 ///

@@ -3,7 +3,7 @@
 /// The names of files, and numbers.
 #[derive(Drop)]
 pub struct ClusterOrder {
-    /// Of the lists of a cluster's state, in the order of the words.
+    /// The files with lists of a cluster's state, in the order of the words.
     pub files: Vec<String>,
     /// Whether a policy may be refused, with each request that it matches.
     pub partial: bool,

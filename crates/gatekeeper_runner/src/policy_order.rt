@@ -3,7 +3,7 @@
 /// The names of files, and numbers.
 #[derive(Drop)]
 pub struct PolicyOrder {
-    /// Of the policies, in the order of the words.
+    /// The files of the policies, in the order of the words.
     pub policies: Vec<String>,
     pub namespace: Option<String>,
     pub params: Option<String>,

@@ -1,4 +1,4 @@
-//! What is told on standard error of a cluster.
+//! The lines on a cluster that go to standard error.
 ghost use Rattle.std.specs.Prelude.{◌≡◌, ◌-◌, ◌++◌, ◌≤◌, decimal, drop, length, map, option_map, take, IfOk, OnOk};
 ghost use Rattle.serde_json.specs.View.{view};
 ghost use Rattle.cli.specs.Refusals.{policy_text};
@@ -114,7 +114,7 @@ fn add_standing(alloc: Global, line: &mut Vec<u8>, standing: &Standing) -> Resul
     }
 }
 
-/// Adds what is told of a blocked policy beside its code.
+/// Adds what the line on a blocked policy has beside its code.
 pub fn add_cause(alloc: Global, line: &mut Vec<u8>, cause: BlockCause) -> Result<(), AllocError>
     ensures { OnOk result (line.new.items ≡ line.old.items ++ cause_text cause) }
 {

@@ -21,7 +21,7 @@ pub record AnsweredAllLines (texts : LineTexts) (input before : List ℕ) (left 
   pub all_lines : AnswersEach texts (input_lines (readable input)) text
   pub all_written : written ≡ Some (before ++ text)
 
--- so many bytes were read, and the lines that ended among them were answered
+-- `read` bytes were read, and the lines that ended among them were answered
 pub record AnsweredSomeLines (texts : LineTexts) (input before : List ℕ) (left written : Option (List ℕ)) : Type 0 where
   pub read : ℕ
   pub within : read ≤ length (readable input)

@@ -21,7 +21,7 @@ is_blank line = list_all is_blank_byte line
 abbrev pub line_of : List ℕ → List ℕ
 line_of text = text ++ 10 ∷ []
 
--- what is written where the host has no memory for the answer to a line
+-- what is written if an allocation for the answer to a line fails
 abbrev pub no_memory_text : List ℕ
 no_memory_text = codes "{\"refused\":\"memory\"}\n"
 
@@ -33,7 +33,7 @@ pub data AnswersInputLine (most : ℕ) (too_long_text : List ℕ) (decides : Lin
   passed_over : length line ≤ most → is_blank line ≡ true → AnswersInputLine most too_long_text decides line []
   decided : {text : List ℕ} → length line ≤ most → is_blank line ≡ false → decides line text
       → AnswersInputLine most too_long_text decides line (line_of text)
-  -- the host has no memory for it, which says nothing of the line
+  -- an allocation fails, which says nothing of the line
   no_memory : 0 < length line → AnswersInputLine most too_long_text decides line no_memory_text
 
 -- ---- the line that is read

@@ -51,7 +51,7 @@ fn word(
     caller.call(id, [a, b, 0, 0, 0], memory)
 }
 
-/// What stands at the reference that a call answers.
+/// The value at the reference that a call returns.
 fn shape(caller: &Caller<Table>, end: HelperEnd) -> Option<Shape<'_>> {
     match end {
         HelperEnd::Word(h) => caller.table().at(h),

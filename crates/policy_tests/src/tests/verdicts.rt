@@ -221,7 +221,7 @@ fn what_verdicts_find(rt: HostRuntime) -> Result<(), Fail> {
     Ok(())
 }
 
-/// What is found where the text of the message has so many letters.
+/// The findings if the text of the message has `n` letters.
 fn found_with_letters(alloc: Global, n: usize) -> Result<String, Fail> {
     let letters = "m".repeat(alloc, n)?;
     let words = Words {
