@@ -1,6 +1,5 @@
 //! Calls of helpers on the plain store and plain memory.
 
-mod recalled;
 mod rows;
 mod same_calls;
 
