@@ -8,3 +8,4 @@ pub mod Asked
 pub mod Dispatched
 pub mod Requested
 pub mod Opened
+pub mod Allowed

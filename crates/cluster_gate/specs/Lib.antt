@@ -3,3 +3,4 @@ pub mod Texts
 pub mod Gates
 pub mod Dispatch
 pub mod Running
+pub mod Laws

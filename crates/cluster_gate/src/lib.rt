@@ -7,6 +7,7 @@ mod case;
 mod cluster;
 mod cluster_error;
 mod evaluating;
+pub mod laws;
 mod opening;
 mod policy_gate;
 mod policy_run;

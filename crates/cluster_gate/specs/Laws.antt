@@ -1,0 +1,28 @@
+-- Laws of what a cluster decides.
+use Rattle.std.specs.Prelude.{◌≡◌, ℕ, true, List, [], ◌∷◌, Option, Some, None}
+use Rattle.value_store.specs.Reviews.{uid_in}
+use Rattle.policy_glue.specs.OneImage.{OneImage}
+use Rattle.policy_glue.specs.Rejections.{response_text}
+use Rattle.admission_match.specs.Matching.{match_answer}
+use Rattle.admission_match.specs.Requests.{is_exempt}
+use Rattle.admission_match.specs.declared.answer.Answer.TheVariants.{No}
+use Rattle.admission_documents.specs.Requests.{Request}
+use Rattle.cluster_state.specs.Params.{namespace_labels}
+use Rattle.cluster_state.specs.Policies.{BoundPolicy}
+use Rattle.cluster_state.specs.State.{ClusterState}
+use Rattle.cluster_gate.specs.Dispatch.{DecidesInCluster, request_given}
+
+-- a request that no policy is asked about is allowed
+abbrev pub ExemptIsAllowed : Type 0
+ExemptIsAllowed = (s : ClusterState) (review : List ℕ) (n : ℕ) (q : Request) (o : Option (List ℕ)) → request_given review ≡ Some q
+    → is_exempt q.attributes.resource ≡ true → DecidesInCluster OneImage s review n o → o ≡ Some (response_text None (uid_in review))
+
+-- the constraints of none of these policies match
+abbrev pub NoneMatches : ClusterState → Request → List BoundPolicy → Type 0
+NoneMatches s q [] = Unit {0}
+NoneMatches s q (p ∷ ps) = (match_answer p.constraints (namespace_labels s.objects) q.attributes ≡ No) × NoneMatches s q ps
+
+-- a request that no policy matches is allowed
+abbrev pub UnmatchedIsAllowed : Type 0
+UnmatchedIsAllowed = (s : ClusterState) (review : List ℕ) (n : ℕ) (q : Request) (o : Option (List ℕ)) → request_given review ≡ Some q
+    → NoneMatches s q s.policies → DecidesInCluster OneImage s review n o → o ≡ Some (response_text None (uid_in review))
