@@ -1,3 +1,4 @@
+-- Proof obligations of `laws::exempt_is_allowed`.
 use Rattle.cluster_gate.proofs.Allowed.{exempt_is_allowed}
 use Rattle.cluster_gate.proofs.laws.exempt_is_allowed.Goals as goal
 

@@ -1,3 +1,4 @@
+-- Proof obligations of `laws::unmatched_is_allowed`.
 use Rattle.cluster_gate.proofs.Allowed.{unmatched_is_allowed}
 use Rattle.cluster_gate.proofs.laws.unmatched_is_allowed.Goals as goal
 
