@@ -12,7 +12,13 @@ use Rattle.helper_table.proofs.Placing.{outcome_follows}
 use Rattle.helper_table.specs.Ends.{CallReturns}
 use Rattle.helper_table.specs.declared.helper_end.HelperEnd.{HelperEnd, TheVariants.Word, TheVariants.Stop}
 use Rattle.helper_table.specs.Answers.{reads_texts, IsQuestionOf, IsLasting, IsAnswer, IsKeptAnswer, AreAnswers}
+use Rattle.helper_table.proofs.Covering.{all_stay, outside_row}
+use Rattle.helper_table.proofs.Prelude.{text_at, contains}
+use Rattle.helper_table.proofs.Seeing.{worded}
+use Rattle.helper_table.specs.Comparisons.{on_texts}
 use Rattle.helper_table.specs.Effects.{CanDo}
+use Rattle.helper_table.specs.Kept.{IsKept}
+use Rattle.helper_table.specs.declared.kept.Kept.{Kept}
 use Rattle.helper_table.specs.Laws.{ExtendsValues}
 use Rattle.helper_table.specs.declared.answer.Answer.{Answer}
 use Rattle.helper_table.specs.declared.question.Question.{Question}
@@ -196,11 +202,23 @@ pub answers_resized : (vs : List ValueOrError) (ok : Bool) (k n : ℕ) (xs : Lis
 answers_resized vs true k n xs are = both vs _ _ (taken vs k xs are) (no_answers vs n)
 answers_resized vs false k n xs are = are
 
--- ---- answers after a call
+-- ---- what is kept after a call
+
+kept_stays : (vs us : List ValueOrError) (k : Kept) → ExtendsValues vs us → IsKept vs k → IsKept us k
+kept_stays vs us k more is = record { answers = answers_stay vs us _ more is.answers; searches = all_stay vs us k.searches.words.items _ more is.searches }
 
 -- the values after a call are the old ones, and perhaps one more
-pub answers_after : (o : RowOutcome) (r : Result HelperEnd AllocError) (old new : Contents) (xs : List (Option Answer))
-    → CallReturns (charged (answer_among old.values o) old.charge) r old new → AreAnswers old.values xs → AreAnswers new.values xs
-answers_after o (Ok (Word word)) old new xs ends are = answers_stay old.values new.values xs (outcome_follows o old new word ends).values are
-answers_after o (Ok (Stop f)) old new xs ends are = subst (λ (c : Contents). AreAnswers c.values xs) (sym ends.1) are
-answers_after o (Err e) old new xs ends are = subst (λ (c : Contents). AreAnswers c.values xs) (sym ends) are
+pub kept_after : (o : RowOutcome) (r : Result HelperEnd AllocError) (old new : Contents) (k : Kept)
+    → CallReturns (charged (answer_among old.values o) old.charge) r old new → IsKept old.values k → IsKept new.values k
+kept_after o (Ok (Word word)) old new k ends is = kept_stays old.values new.values k (outcome_follows o old new word ends).values is
+kept_after o (Ok (Stop f)) old new k ends is = subst (λ (c : Contents). IsKept c.values k) (sym ends.1) is
+kept_after o (Err e) old new k ends is = subst (λ (c : Contents). IsKept c.values k) (sym ends) is
+
+-- ---- an effect without a search
+
+-- the effect of a text that is known not to contain another
+pub outside_means : (vs : List ValueOrError) (constants args : List ℕ) (q : Question) (e : HelperEffect) → q.helper ≡ helper.Contains → IsQuestionOf q.helper args q
+    → on_texts contains (text_at (slice_get vs q.a)) (text_at (slice_get vs q.b)) ≡ Some false → e.placement ≡ placement.Word 2 → e.added ≡ 0
+    → outcome_by vs e.placement e.added ≡ row_of q.helper args vs constants
+outside_means vs constants args q e h asks out is free =
+    worded vs e.placement e.added 2 is free ∙ sym (outside_row q.helper vs q.a q.b h out) ∙ sym (asked_row q.helper args constants vs q asks)

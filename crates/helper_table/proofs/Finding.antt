@@ -10,9 +10,9 @@ starts_at hay needle e =
 starts_if : (hay needle : List ℕ) → OccursAt hay needle 0 → starts_with nat_eq hay needle ≡ true
 starts_if hay needle at = (bytes_decides needle (take (length needle) hay)).1 (sym (OccursAt-part hay needle 0 at))
 
-record Stands (hay needle : List ℕ) : Type 0 where
-  place : ℕ
-  at : OccursAt hay needle place
+pub record Stands (hay needle : List ℕ) : Type 0 where
+  pub place : ℕ
+  pub at : OccursAt hay needle place
 
 later : (b : ℕ) (bs needle : List ℕ) (k : ℕ) → OccursAt bs needle k → OccursAt (b ∷ bs) needle (suc k)
 later b bs needle k at = grind arith
@@ -20,7 +20,7 @@ later b bs needle k at = grind arith
 earlier : (b : ℕ) (bs needle : List ℕ) (k : ℕ) → OccursAt (b ∷ bs) needle (suc k) → OccursAt bs needle k
 earlier b bs needle k at = grind arith
 
-stands : (hay needle : List ℕ) → contains hay needle ≡ true → Stands hay needle
+pub stands : (hay needle : List ℕ) → contains hay needle ≡ true → Stands hay needle
 stands [] needle e = record { place = 0; at = starts_at [] needle e }
 stands (b ∷ bs) needle e =
     ⊎_elim (λ first. record { place = 0; at = starts_at (b ∷ bs) needle first })

@@ -5,6 +5,8 @@ pub mod Seeing
 pub mod Maps
 pub mod Pairs
 pub mod Finding
+pub mod Marking
+pub mod Covering
 pub mod Bounded
 pub mod Depths
 pub mod Entering

@@ -14,3 +14,5 @@ pub mod Effects
 pub mod Laws
 pub mod Tables
 pub mod Answers
+pub mod Windows
+pub mod Kept

@@ -8,26 +8,28 @@ use crate::answers::Answers;
 use crate::calling::perform;
 use crate::helper::Helper;
 use crate::helper_end::HelperEnd;
+use crate::kept::Kept;
 use crate::recalling::recalled_effect;
+use crate::searches::Searches;
 use guest_memory::{Fault, Regions};
 use std::alloc::{AllocError, Global};
 use std::marker::Model;
 use value_store::ValueStore;
 
-/// A store of values, with the last answers of helpers that read long texts. Clauses see only the
-/// values and the charge.
+/// A store of values, with what is kept of calls that read long texts. Clauses see only the values and
+/// the charge.
 #[derive(Drop)]
 pub struct Caller<V: ValueStore> {
     table: V,
-    /// Copies begin without answers.
-    answers: Answers,
+    /// Copies begin with nothing kept.
+    kept: Kept,
 }
 
 impl<V: ValueStore> Model for Caller<V> {
     ghost use Rattle.std.specs.Coded.{codes};
     ghost use Rattle.value_store.specs.Codes.{coded_stored};
     ghost use Rattle.value_store.specs.Placing.{Contents};
-    ghost use Rattle.helper_table.specs.Answers.{AreAnswers};
+    ghost use Rattle.helper_table.specs.Kept.{IsKept};
 
     ghost Value = { Contents };
 
@@ -35,7 +37,7 @@ impl<V: ValueStore> Model for Caller<V> {
 
     ghost view = { λ c. record { values = V.values c.table; charge = V.charge c.table } };
 
-    ghost invariant = { λ c. AreAnswers (V.values c.table) c.answers.kept.items };
+    ghost invariant = { λ c. IsKept (V.values c.table) c.kept };
 }
 
 impl<V: ValueStore> Caller<V> {
@@ -45,7 +47,10 @@ impl<V: ValueStore> Caller<V> {
     {
         Caller {
             table,
-            answers: Answers::new(alloc),
+            kept: Kept {
+                answers: Answers::new(alloc),
+                searches: Searches::new(alloc),
+            },
         }
     }
 
@@ -64,7 +69,7 @@ impl<V: ValueStore> Caller<V> {
     pub fn copy(&self) -> Result<Caller<V>, AllocError>
         ensures { IfOk result (λ copy. copy ≡ self.now) }
     {
-        let alloc = *self.answers.kept.allocator();
+        let alloc = *self.kept.answers.kept.allocator();
         Ok(Caller::new(alloc, self.table.copy()?))
     }
 
@@ -85,7 +90,7 @@ impl<V: ValueStore> Caller<V> {
         let Some(helper) = Helper::of_number(id) else {
             return Ok(HelperEnd::Stop(Fault::F5));
         };
-        match recalled_effect(helper, args, &mut self.table, &mut self.answers, memory) {
+        match recalled_effect(helper, args, &mut self.table, &mut self.kept, memory) {
             Ok(effect) => perform(&mut self.table, effect),
             Err(fault) => Ok(HelperEnd::Stop(fault)),
         }

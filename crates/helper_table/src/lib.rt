@@ -11,13 +11,17 @@ mod conversions;
 mod helper;
 mod helper_effect;
 mod helper_end;
+mod kept;
 pub mod laws;
 mod lookups;
 mod operands;
 mod placement;
 mod question;
 mod recalling;
+mod searched;
+mod searches;
 mod text_test;
+mod windows;
 
 pub use caller::Caller;
 pub use calling::call;

@@ -5,6 +5,8 @@ ghost use Rattle.std.specs.Prelude.{◌≡◌, ℕ, true, IfSome, IsSome, slice_
 ghost use Rattle.helper_table.specs.Answers.{reads_texts, second_operand, AreAnswers, IsQuestionOf, IsAnswer, IsKeptAnswer, IsLasting};
 ghost use Rattle.helper_table.specs.Calls.{row_of};
 ghost use Rattle.helper_table.specs.Effects.{means, CanFollow};
+ghost use Rattle.helper_table.specs.Kept.{IsKept};
+ghost use Rattle.helper_table.specs.Windows.{AreSearched};
 ghost use Rattle.value_store.specs.Calls.{equal_at};
 
 use crate::answer::Answer;
@@ -13,8 +15,10 @@ use crate::calling::effect_of;
 use crate::comparisons::are_values;
 use crate::helper::Helper;
 use crate::helper_effect::HelperEffect;
+use crate::kept::Kept;
 use crate::placement::Placement;
 use crate::question::Question;
+use crate::searches::Searches;
 use guest_memory::{Fault, Regions};
 use value_store::ValueStore;
 
@@ -87,7 +91,7 @@ fn can_be_equal<V: ValueStore>(table: &V, a: u64, b: u64) -> bool
 }
 
 /// Whether two references name equal values.
-fn is_same<V: ValueStore>(table: &mut V, a: u64, b: u64) -> bool
+pub(crate) fn is_same<V: ValueStore>(table: &mut V, a: u64, b: u64) -> bool
     ensures same { result ≡ true → slice_get (V.values table.old) a ≡ slice_get (V.values table.old) b }
     ensures values { V.values table.new ≡ V.values table.old }
     ensures charge { V.charge table.new ≡ V.charge table.old }
@@ -170,31 +174,54 @@ fn lasting(effect: HelperEffect<'_>) -> Option<HelperEffect<'static>>
     }
 }
 
+/// The effect of the row of a question that has no kept answer. It is found without a search if the first
+/// operand is known not to contain the second.
+fn new_effect<'a, V: ValueStore, M: Regions>(
+    question: Question,
+    args: [u64; 5],
+    table: &mut V,
+    searches: &mut Searches,
+    memory: &'a M,
+) -> Result<HelperEffect<'a>, Fault>
+    requires question { IsQuestionOf question.helper args question }
+    requires searches { AreSearched (V.values table.old) searches.old }
+    ensures means { means (V.values table.old) result ≡ row_of question.helper args (V.values table.old) (M.bytes memory.now).constants }
+    ensures can { CanFollow (V.values table.old) result }
+    ensures values { V.values table.new ≡ V.values table.old }
+    ensures charge { V.charge table.new ≡ V.charge table.old }
+    ensures searches { AreSearched (V.values table.old) searches.new }
+{
+    if question.helper == Helper::Contains && searches.exclude(table, question.a, question.b) {
+        return Ok(HelperEffect::truth(Some(false)));
+    }
+    effect_of(question.helper, args, table, memory)
+}
+
 /// The effect of a helper's row on these arguments, from a kept answer if there is one.
 pub(crate) fn recalled_effect<'a, V: ValueStore, M: Regions>(
     helper: Helper,
     args: [u64; 5],
     table: &mut V,
-    answers: &mut Answers,
+    kept: &mut Kept,
     memory: &'a M,
 ) -> Result<HelperEffect<'a>, Fault>
-    requires { AreAnswers (V.values table.old) answers.old.kept.items }
+    requires { IsKept (V.values table.old) kept.old }
     ensures means { means (V.values table.old) result ≡ row_of helper args (V.values table.old) (M.bytes memory.now).constants }
     ensures can { CanFollow (V.values table.old) result }
     ensures values { V.values table.new ≡ V.values table.old }
     ensures charge { V.charge table.new ≡ V.charge table.old }
-    ensures answers { AreAnswers (V.values table.old) answers.new.kept.items }
+    ensures kept { IsKept (V.values table.old) kept.new }
 {
     let Some(question) = question(helper, args, table) else {
         return effect_of(helper, args, table, memory);
     };
     let place = question.place(table);
-    if let Some(effect) = found(table, answers, question, place) {
+    if let Some(effect) = found(table, &kept.answers, question, place) {
         return Ok(effect);
     }
-    let effect = effect_of(helper, args, table, memory)?;
-    if let Some(kept) = lasting(effect) {
-        answers.keep(place, question, kept);
+    let effect = new_effect(question, args, table, &mut kept.searches, memory)?;
+    if let Some(lasting) = lasting(effect) {
+        kept.answers.keep(place, question, lasting);
     }
     Ok(effect)
 }
