@@ -18,6 +18,7 @@ mod hints;
 mod index;
 mod indexes;
 mod items;
+mod kept_scratch;
 mod lengths;
 mod lists;
 mod lookup;

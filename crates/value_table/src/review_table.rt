@@ -44,8 +44,9 @@ impl Table {
             ReviewTableReturns (λ r. held_contents r.0) result parts namespace_given params_given }
         ensures uid { IfOk result (λ r. string_bytes r.1 ≡ uid_in review.now) }
     {
-        let others = read_others(alloc, namespace, params)?;
-        opened(others, review)
+        let mut scratch = Scratch::new(alloc);
+        let others = read_others(alloc, &mut scratch, namespace, params)?;
+        opened(others, &mut scratch, review)
     }
 
     /// The table without a review: the roots of the review are null.
@@ -58,7 +59,8 @@ impl Table {
             let params_given = document_given (option_map (λ b. b.now) params.entry) in
             ReviewTableReturns held_contents result (Some null_parts) namespace_given params_given }
     {
-        let others = read_others(alloc, namespace, params)?;
+        let mut scratch = Scratch::new(alloc);
+        let others = read_others(alloc, &mut scratch, namespace, params)?;
         let PlacedOthers { mut heap, places } = others;
         let Some(places) = places else {
             return Err(ReviewError::InvalidDocument);
@@ -70,7 +72,11 @@ impl Table {
 }
 
 /// The table of a review with these values, and the uid of the review's request.
-pub(crate) fn opened(others: PlacedOthers, review: &[u8]) -> Result<(Table, String), ReviewError>
+pub(crate) fn opened(
+    others: PlacedOthers,
+    scratch: &mut Scratch,
+    review: &[u8],
+) -> Result<(Table, String), ReviewError>
     requires { ArePlaced others }
     ensures table { (namespace params : Option Data) → ArePlacedOthers others namespace params
         → ReviewTableReturns (λ r. held_contents r.0) result (option_and_then parts_in (document_of review.now)) namespace params }
@@ -78,8 +84,7 @@ pub(crate) fn opened(others: PlacedOthers, review: &[u8]) -> Result<(Table, Stri
 {
     let PlacedOthers { mut heap, places } = others;
     let alloc = heap.cells.alloc();
-    let mut scratch = Scratch::new(alloc);
-    let request = review_values(&mut heap, &mut scratch, review)?;
+    let request = review_values(&mut heap, scratch, review)?;
     let Some(places) = places else {
         return Err(ReviewError::InvalidDocument);
     };
@@ -112,14 +117,14 @@ impl PlacedOthers {
 /// Reads a namespace and params. A missing one is null.
 pub(crate) fn read_others(
     alloc: Global,
+    scratch: &mut Scratch,
     namespace: Option<&[u8]>,
     params: Option<&[u8]>,
 ) -> Result<PlacedOthers, AllocError>
     ensures { IfOk result (λ o. ArePlacedOthers o (document_given (option_map (λ b. b.now) namespace.entry)) (document_given (option_map (λ b. b.now) params.entry))) }
 {
     let mut heap = Heap::new(alloc)?;
-    let mut scratch = Scratch::new(alloc);
-    match other_roots(&mut heap, &mut scratch, namespace, params) {
+    match other_roots(&mut heap, scratch, namespace, params) {
         Ok(places) => Ok(PlacedOthers {
             heap,
             places: Some(places),

@@ -1,15 +1,19 @@
 //! A namespace and params that are parsed once for any number of reviews.
 
-ghost use Rattle.std.specs.Prelude.{◌≡◌, option_map, option_and_then, string_bytes, IfOk};
+ghost use Rattle.std.specs.Prelude.{◌≡◌, Option, option_map, option_and_then, string_bytes, IfOk};
+ghost use Rattle.serde_json.specs.Data.{Data};
 ghost use Rattle.value_store.specs.Documents.{document_given, document_of};
 ghost use Rattle.value_store.specs.Reviews.{parts_in, uid_in};
 ghost use Rattle.value_table.specs.Held.{held_contents};
+ghost use Rattle.value_table.specs.OtherRoots.{ArePlaced, ArePlacedOthers};
 ghost use Rattle.value_table.specs.ReviewTable.{ReviewTableReturns};
 
+use crate::kept_scratch::KeptScratch;
 use crate::other_roots::PlacedOthers;
 use crate::review_error::ReviewError;
 use crate::review_table::{opened, read_others};
 use crate::table::Table;
+use json::Scratch;
 use std::alloc::Global;
 use std::marker::Model;
 
@@ -21,6 +25,7 @@ pub struct SharedDocuments {
     params: Option<Vec<u8>>,
     /// `None` if an allocation failed; then they are parsed for each review.
     values: Option<PlacedOthers>,
+    scratch: KeptScratch,
 }
 
 impl Model for SharedDocuments {
@@ -44,12 +49,16 @@ impl SharedDocuments {
         ensures namespace { result.namespace ≡ option_map (λ b. b.items) namespace }
         ensures params { result.params ≡ option_map (λ b. b.items) params }
     {
-        let values = read_others(alloc, namespace.as_deref(), params.as_deref()).ok();
+        let mut scratch = Scratch::new(alloc);
+        let namespace_bytes = namespace.as_deref();
+        let params_bytes = params.as_deref();
+        let values = read_others(alloc, &mut scratch, namespace_bytes, params_bytes).ok();
         SharedDocuments {
             alloc,
             namespace,
             params,
             values,
+            scratch: KeptScratch::new(),
         }
     }
 
@@ -61,7 +70,7 @@ impl SharedDocuments {
         ensures uid { IfOk result (λ r. string_bytes r.1 ≡ uid_in review.now) }
     {
         match &self.values {
-            Some(values) => opened(values.copy()?, review),
+            Some(values) => self.opened(values.copy()?, review),
             None => Table::of_review(
                 self.alloc,
                 review,
@@ -69,5 +78,18 @@ impl SharedDocuments {
                 self.params.as_deref(),
             ),
         }
+    }
+
+    /// The table of a review with these values, read with the memory that is kept.
+    fn opened(&self, others: PlacedOthers, review: &[u8]) -> Result<(Table, String), ReviewError>
+        requires { ArePlaced others }
+        ensures table { (namespace params : Option Data) → ArePlacedOthers others namespace params
+            → ReviewTableReturns (λ r. held_contents r.0) result (option_and_then parts_in (document_of review.now)) namespace params }
+        ensures uid { IfOk result (λ r. string_bytes r.1 ≡ uid_in review.now) }
+    {
+        let mut scratch = self.scratch.take(self.alloc)?;
+        let table = opened(others, &mut scratch, review);
+        self.scratch.keep(scratch, review.len());
+        table
     }
 }
