@@ -12,5 +12,6 @@ mod OnLiterals
 mod OneAnswer
 mod Programs
 mod Read
+mod ResponseTexts
 mod Told
 pub mod Prelude

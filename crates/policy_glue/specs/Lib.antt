@@ -30,6 +30,7 @@ pub mod ProgramParts
 pub mod ProgramTrees
 pub mod Reading
 pub mod Response
+pub mod ResponseTokens
 pub mod LimitRows
 pub mod Rows
 pub mod RunRows

@@ -1,19 +1,21 @@
 //! Responses to reviews.
 
-ghost use Rattle.std.specs.Prelude.{◌≡◌, option_map, IfOk};
-ghost use Rattle.serde_json.specs.View.{view};
+ghost use Rattle.std.specs.Prelude.{◌≡◌, option_map, IfOk, OnOk};
 ghost use Rattle.policy_glue.specs.Verdict as decided;
 ghost use Rattle.policy_glue.specs.Layout.{words_view, Encodes};
-ghost use Rattle.policy_glue.specs.Rejections.{rejection_tree, rejection_view, response_text};
-ghost use Rattle.policy_glue.specs.Response.{allowed_tree, denied_tree, response_of, review_tree, status_tree};
+ghost use Rattle.policy_glue.specs.Rejections.{rejection_view, response_text};
+ghost use Rattle.policy_glue.specs.Response.{response_of};
+ghost use Rattle.policy_glue.specs.ResponseTokens.{allowed_tokens, denied_tokens, rejection_tokens, review_tokens, status_tokens, text_tokens, AddsTokens};
 
 use crate::policy::Policy;
-use crate::reason::Reason;
 use crate::rejecting::rejection_of;
 use crate::rejection::Rejection;
 use crate::verdict::Verdict;
-use serde_json::{Value, json};
+use json::Writer;
 use std::alloc::{AllocError, Global};
+
+/// The room that a response without a long message takes.
+const ROOM: usize = 256;
 
 /// The text of the response to a verdict of the policy, for the request with this uid
 /// (AdmissionReview, `admission.k8s.io/v1`).
@@ -32,7 +34,6 @@ pub fn respond(
 
 /// The text of the response to the request with this uid: it denies the request if there is a
 /// rejection, else it allows it (AdmissionReview, `admission.k8s.io/v1`).
-#[tactic(auto, unfolding(crate::specs::Rejections::response_text, crate::specs::Response::review_tree))]
 pub fn response_text(
     alloc: Global,
     said: &Option<Rejection>,
@@ -40,44 +41,72 @@ pub fn response_text(
 ) -> Result<Vec<u8>, AllocError>
     ensures { IfOk result (λ bytes. bytes.items ≡ response_text (option_map rejection_view said.now) uid.now) }
 {
-    let response = response(alloc, said, uid)?;
-    let review = review(alloc, response)?;
-    review.to_vec(alloc)
+    let mut writer = Writer::new(Vec::with_capacity(alloc, ROOM)?);
+    write_review(&mut writer, said, uid)?;
+    Ok(writer.into_inner())
 }
 
-fn response(alloc: Global, said: &Option<Rejection>, uid: &str) -> Result<Value, AllocError>
-    ensures { IfOk result (λ v. view v ≡ rejection_tree (option_map rejection_view said.now) uid.now) }
+fn write_review(writer: &mut Writer, said: &Option<Rejection>, uid: &str) -> Result<(), AllocError>
+    ensures { OnOk result (AddsTokens writer.old writer.new (review_tokens (rejection_tokens (option_map rejection_view said.now) uid.now))) }
+{
+    writer.begin_object()?;
+    write_text(writer, "apiVersion", "admission.k8s.io/v1")?;
+    write_text(writer, "kind", "AdmissionReview")?;
+    writer.key("response")?;
+    write_response(writer, said, uid)?;
+    writer.end_object()
+}
+
+fn write_response(
+    writer: &mut Writer,
+    said: &Option<Rejection>,
+    uid: &str,
+) -> Result<(), AllocError>
+    ensures { OnOk result (AddsTokens writer.old writer.new (rejection_tokens (option_map rejection_view said.now) uid.now)) }
 {
     match said {
-        Some(rejection) => denied(alloc, uid, rejection.message.as_str(), rejection.reason),
-        None => allowed(alloc, uid),
+        Some(rejection) => write_denied(writer, uid, rejection),
+        None => write_allowed(writer, uid),
     }
 }
 
-fn allowed(alloc: Global, uid: &str) -> Result<Value, AllocError>
-    ensures { IfOk result (λ v. view v ≡ allowed_tree uid.now) }
+fn write_allowed(writer: &mut Writer, uid: &str) -> Result<(), AllocError>
+    ensures { OnOk result (AddsTokens writer.old writer.new (allowed_tokens uid.now)) }
 {
-    json!(in alloc; {"allowed": true, "uid": uid})
+    writer.begin_object()?;
+    writer.key("allowed")?;
+    writer.boolean(true)?;
+    write_text(writer, "uid", uid)?;
+    writer.end_object()
 }
 
-fn denied(alloc: Global, uid: &str, text: &str, reason: Reason) -> Result<Value, AllocError>
-    ensures { IfOk result (λ v. view v ≡ denied_tree uid.now text.now reason) }
+fn write_denied(writer: &mut Writer, uid: &str, rejection: &Rejection) -> Result<(), AllocError>
+    ensures { OnOk result (AddsTokens writer.old writer.new (denied_tokens uid.now (rejection_view rejection.now))) }
 {
-    let status = status(alloc, text, reason)?;
-    json!(in alloc; {"allowed": false, "status": status, "uid": uid})
+    writer.begin_object()?;
+    writer.key("allowed")?;
+    writer.boolean(false)?;
+    writer.key("status")?;
+    write_status(writer, rejection)?;
+    write_text(writer, "uid", uid)?;
+    writer.end_object()
 }
 
-fn status(alloc: Global, text: &str, reason: Reason) -> Result<Value, AllocError>
-    ensures { IfOk result (λ v. view v ≡ status_tree text.now reason) }
+fn write_status(writer: &mut Writer, rejection: &Rejection) -> Result<(), AllocError>
+    ensures { OnOk result (AddsTokens writer.old writer.new (status_tokens (rejection_view rejection.now))) }
 {
-    let name = reason.name();
-    let code = reason.code();
-    json!(in alloc; {"code": code, "message": text, "reason": name})
+    writer.begin_object()?;
+    writer.key("code")?;
+    writer.u64(rejection.reason.code())?;
+    write_text(writer, "message", rejection.message.as_str())?;
+    write_text(writer, "reason", rejection.reason.name())?;
+    writer.end_object()
 }
 
-#[tactic(auto, unfolding(crate::specs::Response::review_tree))]
-fn review(alloc: Global, response: Value) -> Result<Value, AllocError>
-    ensures { IfOk result (λ v. view v ≡ review_tree (view response)) }
+/// Writes a member whose value is a text.
+fn write_text(writer: &mut Writer, name: &str, text: &str) -> Result<(), AllocError>
+    ensures { OnOk result (AddsTokens writer.old writer.new (text_tokens name.now text.now)) }
 {
-    json!(in alloc; {"apiVersion": "admission.k8s.io/v1", "kind": "AdmissionReview", "response": response})
+    writer.key(name)?;
+    writer.string(text)
 }

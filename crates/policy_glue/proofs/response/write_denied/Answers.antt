@@ -1,0 +1,15 @@
+-- Proofs of `response::write_denied`: the result meets the contract.
+
+use Rattle.policy_glue.proofs.ResponseTexts.{last, one, then}
+use Rattle.policy_glue.proofs.response.write_denied.Goals as goal
+
+pub returns : goal.returns
+returns c =
+    last c.end_object.result
+    (then (one c.in_ok-begin_object.ensures)
+    (then (one c.in_ok-key.ensures)
+    (then (one c.in_ok-boolean.ensures)
+    (then (one c.in_ok-key-2.ensures)
+    (then c.in_ok-write_status.ensures
+    c.in_ok-write_text.ensures)))))
+    c.end_object.ensures
