@@ -9,3 +9,7 @@ pub mod Dispatched
 pub mod Requested
 pub mod Opened
 pub mod Allowed
+pub mod SameReading
+pub mod JudgedOnce
+pub mod ShallowSteps
+pub mod OneAnswer

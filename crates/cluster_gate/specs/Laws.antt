@@ -1,5 +1,8 @@
 -- Laws of what a cluster decides.
-use Rattle.std.specs.Prelude.{◌≡◌, ℕ, true, List, [], ◌∷◌, Option, Some, None}
+use Rattle.std.specs.Prelude.{◌≡◌, ℕ, ◌≤◌, true, List, [], ◌∷◌, Option, Some, None}
+use Rattle.std.specs.List.{All}
+use Rattle.serde_json.specs.Data as json
+use Rattle.serde_json.specs.Read.{max_depth}
 use Rattle.value_store.specs.Reviews.{uid_in}
 use Rattle.policy_glue.specs.OneImage.{OneImage}
 use Rattle.policy_glue.specs.Rejections.{response_text}
@@ -7,10 +10,13 @@ use Rattle.admission_match.specs.Matching.{match_answer}
 use Rattle.admission_match.specs.Requests.{is_exempt}
 use Rattle.admission_match.specs.declared.answer.Answer.TheVariants.{No}
 use Rattle.admission_documents.specs.Requests.{Request}
+use Rattle.cluster_state.specs.Items.{Collection}
 use Rattle.cluster_state.specs.Params.{namespace_labels}
 use Rattle.cluster_state.specs.Policies.{BoundPolicy}
 use Rattle.cluster_state.specs.State.{ClusterState}
 use Rattle.cluster_gate.specs.Dispatch.{DecidesInCluster, request_given}
+
+-- ---- requests that are allowed
 
 -- a request that no policy is asked about is allowed
 abbrev pub ExemptIsAllowed : Type 0
@@ -26,3 +32,19 @@ NoneMatches s q (p ∷ ps) = (match_answer p.constraints (namespace_labels s.obj
 abbrev pub UnmatchedIsAllowed : Type 0
 UnmatchedIsAllowed = (s : ClusterState) (review : List ℕ) (n : ℕ) (q : Request) (o : Option (List ℕ)) → request_given review ≡ Some q
     → NoneMatches s q s.policies → DecidesInCluster OneImage s review n o → o ≡ Some (response_text None (uid_in review))
+
+-- ---- one answer
+
+-- the value is nested no deeper than JSON texts that are read
+abbrev pub IsShallow : json.Data → Type 0
+IsShallow d = json.depth d ≤ max_depth
+
+-- so are the documents of the state
+pub record HasShallowDocuments (s : ClusterState) : Type 0 where
+  pub policies : All (λ p. IsShallow p.document) s.policies
+  pub objects : (c : Collection) → All (λ o. IsShallow o.1) (s.objects c)
+
+-- a review has one answer in a cluster, if no document is nested deeper than JSON texts that are read
+abbrev pub OneAnswer : Type 0
+OneAnswer = (s : ClusterState) (review : List ℕ) (n : ℕ) (a b : Option (List ℕ)) → HasShallowDocuments s
+    → DecidesInCluster OneImage s review n a → DecidesInCluster OneImage s review n b → a ≡ b

@@ -1,0 +1,127 @@
+-- Documents whose texts are read as the same values decide alike.
+use Rattle.cluster_gate.proofs.Prelude.{◌≡◌, ◌∙◌, ◌≤◌, ℕ, Bool, true, false, List, Option, Some, None, Result, Ok, Err, ap, arith, refl, sym}
+use Rattle.std.specs.Prelude.{bytes_eq, codes, if◌then◌else◌}
+use Rattle.serde_json.specs.Data as json
+use Rattle.value_store.specs.Documents.{document_given, document_of}
+use Rattle.value_store.specs.Reviews.{parts_given, without}
+use Rattle.policy_glue.specs.Findings.{PolicyFinding}
+use Rattle.policy_glue.specs.Reading.{policy_in, policy_read}
+use Rattle.admission.specs.Deciding.{Case, Documents, HasNoResponse, IsPolicy, IsPolicyRefused, values_given}
+use Rattle.admission.specs.Findings.{FindsReview}
+use Rattle.admission.specs.Reviews.{contents_from, contents_given, documents_from, documents_given}
+use Rattle.admission.specs.Standing.{Images, RunAgrees, RunHasStatus}
+use Rattle.admission.specs.declared.policy_refusal.PolicyRefusal.{PolicyRefusal, TheVariants.Unread, TheVariants.Uncompiled}
+use Rattle.admission.specs.declared.policy_refusal.PolicyRefusal.TheVariants as policy_refusal
+use Rattle.admission.specs.declared.run_error.RunError.{RunError, TheVariants.PolicyRefused, TheVariants.ReviewRefused, TheVariants.NamespaceOrParamsRefused, TheVariants.OutOfSteps, TheVariants.OverLimit, TheVariants.Memory}
+use Rattle.bpf_machine.specs.declared.status.Status.{Status}
+use Rattle.policy_glue.specs.Verdict.{Verdict}
+use Rattle.cluster_gate.specs.Laws.{IsShallow}
+use Rattle.cluster_gate.specs.Texts.{IsJsonTextIf, IsJsonTextOf, without_status}
+
+-- ---- texts
+
+-- two texts of a value are read as the same
+pub same_text : (d : json.Data) (t u : List ℕ) → IsShallow d → IsJsonTextOf d t → IsJsonTextOf d u → document_of t ≡ document_of u
+same_text d t u shallow a b = a.reads shallow ∙ sym (b.reads shallow)
+
+-- a value that may be absent is nested no deeper than texts that are read
+abbrev pub IsShallowIf : Option json.Data → Type 0
+IsShallowIf None = Unit {0}
+IsShallowIf (Some d) = IsShallow d
+
+pub same_text_if : (o : Option json.Data) (t u : Option (List ℕ)) → IsShallowIf o → IsJsonTextIf o t → IsJsonTextIf o u → document_given t ≡ document_given u
+same_text_if None None None shallow a b = refl
+same_text_if None None (Some u) shallow a b = absurd b
+same_text_if None (Some t) u shallow a b = absurd a
+same_text_if (Some d) None u shallow a b = absurd a
+same_text_if (Some d) (Some t) None shallow a b = absurd b
+same_text_if (Some d) (Some t) (Some u) shallow a b = same_text d t u shallow a b
+
+pub same_policy : (t u : List ℕ) → document_of t ≡ document_of u → policy_in t ≡ policy_in u
+unfolding policy_in
+same_policy t u is = ap policy_read is
+
+pub same_contents : (r s : List ℕ) (n m p q : Option (List ℕ)) → r ≡ s → document_given n ≡ document_given m → document_given p ≡ document_given q
+    → contents_given (Some r) n p ≡ contents_given (Some s) m q
+unfolding contents_given documents_given
+same_contents r s n m p q review namespace params =
+    ap (λ (x : List ℕ). contents_from (documents_from (parts_given (Some x)) (document_given n) (document_given p))) review
+    ∙ ap (λ (x : Option json.Data). contents_from (documents_from (parts_given (Some s)) x (document_given p))) namespace
+    ∙ ap (λ (x : Option json.Data). contents_from (documents_from (parts_given (Some s)) (document_given m) x)) params
+
+picked_depth : (b : Bool) (k : List ℕ) (d : json.Data) (ms rest : json.Members) → json.members_depth rest ≤ json.members_depth ms
+    → json.members_depth (if b then ms else json.member k d rest) ≤ json.members_depth (json.member k d ms)
+picked_depth true k d ms rest below = omega arith
+picked_depth false k d ms rest below = omega arith
+
+-- without a member a value is nested no deeper
+members_without : (key : List ℕ) (ms : json.Members) → json.members_depth (without key ms) ≤ json.members_depth ms
+members_without key json.no_members = omega arith
+members_without key (json.member k d ms) = picked_depth (bytes_eq key k) k d ms (without key ms) (members_without key ms)
+
+pub without_status_shallow : (d : json.Data) → IsShallow d → IsShallow (without_status d)
+without_status_shallow json.null shallow = shallow
+without_status_shallow (json.boolean b) shallow = shallow
+without_status_shallow (json.number n) shallow = shallow
+without_status_shallow (json.string s) shallow = shallow
+without_status_shallow (json.array ds) shallow = shallow
+without_status_shallow (json.object ms) shallow =
+    let fewer = members_without (codes "status") ms in omega arith
+
+-- ---- documents
+
+-- the documents are read as the same
+pub record SameReading (d e : Documents) : Type 0 where
+  pub policy : policy_in d.policy ≡ policy_in e.policy
+  pub values : values_given d ≡ values_given e
+
+-- a refusal of one text is one of the other
+pub refused_moved : (t u : List ℕ) → policy_in t ≡ policy_in u → (r : PolicyRefusal) → IsPolicyRefused t r → IsPolicyRefused u r
+refused_moved t u same (Unread x) is = sym same ∙ is
+refused_moved t u same (Uncompiled x) (p, is, compiles) = (p, sym same ∙ is, compiles)
+refused_moved t u same policy_refusal.Memory is = is
+
+module _ (d e : Documents) (same : SameReading d e) where
+  policy_moved : IsPolicy d.policy → IsPolicy e.policy
+  policy_moved p = record { parsed = p.parsed; is_said = sym same.policy ∙ p.is_said; trees = p.trees; compiles = p.compiles }
+
+  case_moved : Case d → Case e
+  case_moved c = record {
+    policy = record { parsed = c.policy.parsed; is_said = sym same.policy ∙ c.policy.is_said; trees = c.policy.trees; compiles = c.policy.compiles };
+    roots = c.roots;
+    are_given = sym same.values ∙ c.are_given;
+  }
+
+  -- so they have no response alike
+  pub no_response_moved : (n : ℕ) (x : RunError) → HasNoResponse d n x → HasNoResponse e n x
+  unfolding case_moved
+  no_response_moved n (PolicyRefused r) is = refused_moved d.policy e.policy same.policy r is
+  no_response_moved n ReviewRefused is = (policy_moved is.0, sym same.values ∙ is.1)
+  no_response_moved n NamespaceOrParamsRefused is = (policy_moved is.0, sym same.values ∙ is.1)
+  no_response_moved n OutOfSteps is = record { case = case_moved is.case; early = is.early }
+  no_response_moved n OverLimit is = record { case = case_moved is.case; beyond = is.beyond }
+  no_response_moved n Memory is = is
+
+  -- the same is found
+  pub findings_moved : (n : ℕ) (r : Result (List PolicyFinding) RunError) → FindsReview d n r → FindsReview e n r
+  unfolding case_moved
+  findings_moved n (Ok found) is = record { case = case_moved is.case; findings_are = is.findings_are }
+  findings_moved n (Err x) is = no_response_moved n x is
+
+  status_moved : (chosen : Images) (n : ℕ) (due : Verdict → Status) → RunHasStatus chosen d n due → RunHasStatus chosen e n due
+  unfolding case_moved
+  status_moved chosen n due is = record {
+    run = record { case = case_moved is.run.case; image = is.run.image; program = is.run.program };
+    is_chosen = is.is_chosen;
+    status = is.status;
+  }
+
+  -- and the program's run agrees with the same
+  pub runs_moved : {A : Type 0} (chosen : Images) (n : ℕ) (r : Result A RunError) → RunAgrees chosen d n r → RunAgrees chosen e n r
+  runs_moved chosen n (Ok a) is = status_moved chosen n _ is
+  runs_moved chosen n (Err (PolicyRefused x)) is = is
+  runs_moved chosen n (Err ReviewRefused) is = is
+  runs_moved chosen n (Err NamespaceOrParamsRefused) is = is
+  runs_moved chosen n (Err OutOfSteps) is = status_moved chosen n _ is
+  runs_moved chosen n (Err OverLimit) is = status_moved chosen n _ is
+  runs_moved chosen n (Err Memory) is = is
