@@ -4,3 +4,4 @@ pub mod Gates
 pub mod Dispatch
 pub mod Running
 pub mod Laws
+pub mod StepRows

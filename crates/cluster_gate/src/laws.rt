@@ -1,5 +1,6 @@
 //! Laws of the definitions, each the clause of a function that does nothing.
 ghost use Rattle.cluster_gate.specs.Laws.{ExemptIsAllowed, OneAnswer, UnmatchedIsAllowed};
+ghost use Rattle.cluster_gate.specs.StepRows.{EventAnswersHold, StepRowsHold};
 
 use admission::laws::findings_once;
 use policy_glue::laws::compiles_once;
@@ -22,3 +23,9 @@ pub fn one_answer()
     compiles_once();
     findings_once();
 }
+
+/// The events of some steps, and the answers by them, worked by hand.
+pub fn step_rows_hold()
+    ensures steps { StepRowsHold }
+    ensures answers { EventAnswersHold }
+{}
