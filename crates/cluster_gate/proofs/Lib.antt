@@ -13,3 +13,7 @@ pub mod SameReading
 pub mod JudgedOnce
 pub mod ShallowSteps
 pub mod OneAnswer
+pub mod Each
+pub mod ToldSteps
+pub mod OtherOrder
+pub mod OrderIsFree

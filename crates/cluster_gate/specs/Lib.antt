@@ -4,4 +4,5 @@ pub mod Gates
 pub mod Dispatch
 pub mod Running
 pub mod Laws
+pub mod Orders
 pub mod StepRows

@@ -1,8 +1,10 @@
 //! Laws of the definitions, each the clause of a function that does nothing.
 ghost use Rattle.cluster_gate.specs.Laws.{ExemptIsAllowed, OneAnswer, UnmatchedIsAllowed};
+ghost use Rattle.cluster_gate.specs.Orders.{OrderIsFree};
 ghost use Rattle.cluster_gate.specs.StepRows.{EventAnswersHold, StepRowsHold};
 
 use admission::laws::findings_once;
+use cluster_response::laws::{allowed_exactly, warnings_are_those_of_events};
 use policy_glue::laws::compiles_once;
 
 /// A request on a resource that no policy is asked about is allowed.
@@ -22,6 +24,17 @@ pub fn one_answer()
 {
     compiles_once();
     findings_once();
+}
+
+/// Whether a request is allowed does not depend on the order of policies and of bindings. Nor do the
+/// warnings and the end because its namespace is not found, if each policy decides.
+pub fn order_is_free()
+    ensures { OrderIsFree }
+{
+    compiles_once();
+    findings_once();
+    allowed_exactly();
+    warnings_are_those_of_events();
 }
 
 /// The events of some steps, and the answers by them, worked by hand.

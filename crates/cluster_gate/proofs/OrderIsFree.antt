@@ -1,0 +1,99 @@
+-- A decision does not depend on the order of policies and of bindings.
+use Rattle.cluster_gate.proofs.Prelude.{◌≡◌, ◌∙◌, ◌∷◌, ℕ, List, [], Bool, true, false, Some, refl, subst, sym, Event, Request, policies_asked}
+use Rattle.std.proofs.lemmas.List.Sorted.{list_any-IsPermutation}
+use Rattle.std.specs.List.{list_any}
+use Rattle.serde_json.specs.Data as json
+use Rattle.value_store.specs.Reviews.{uid_in}
+use Rattle.policy_glue.specs.OneAnswer.{CompileHasOneResult}
+use Rattle.admission.specs.OneAnswer.{FindingsHaveOneResult}
+use Rattle.admission_match.specs.Requests.{is_exempt}
+use Rattle.cluster_response.specs.Events as event
+use Rattle.cluster_response.specs.Events.{has_end, summary_of}
+use Rattle.cluster_response.specs.Laws.{AllowedExactly, WarningsAreThoseOfEvents, allowed_in, is_against, is_refusal, warns_by}
+use Rattle.cluster_gate.proofs.Each.{to_permutation}
+use Rattle.cluster_gate.proofs.OneAnswer.{asked_shallow, dispatches_once}
+use Rattle.cluster_gate.proofs.OtherOrder.{also_shallow, differ_back, other_events}
+use Rattle.cluster_gate.proofs.ToldSteps.{GoOn}
+use Rattle.cluster_gate.specs.Orders.{InAnyOrder, OrderIsFree, answer}
+
+-- ---- ends
+
+is_end : Event → Bool
+is_end (event.denies d) = false
+is_end (event.warns t) = false
+is_end (event.audits a) = false
+is_end (event.refuses r) = false
+is_end event.ends = true
+
+some_end : (es : List Event) → has_end es ≡ list_any is_end es
+unfolding is_end
+some_end [] = refl
+some_end (event.denies d ∷ es) = some_end es
+some_end (event.warns t ∷ es) = some_end es
+some_end (event.audits a ∷ es) = some_end es
+some_end (event.refuses r ∷ es) = some_end es
+some_end (event.ends ∷ es) = refl
+
+same_end : (es fs : List Event) → InAnyOrder es fs → has_end es ≡ has_end fs
+same_end es fs same = some_end es ∙ (list_any-IsPermutation is_end es fs (to_permutation es fs same) ∙ sym (some_end fs))
+
+-- an end is against the request
+no_end_from : (es : List Event) → list_any is_against es ≡ false → has_end es ≡ false
+no_end_from [] none = refl
+no_end_from (event.denies d ∷ es) none = absurd (cc)
+no_end_from (event.warns t ∷ es) none = no_end_from es none
+no_end_from (event.audits a ∷ es) none = no_end_from es none
+no_end_from (event.refuses r ∷ es) none = no_end_from es none
+no_end_from (event.ends ∷ es) none = absurd (cc)
+
+-- ---- what is allowed
+
+-- nothing is against the request, and each policy decides
+record Allows (es : List Event) : Type 0 where
+  none_against : list_any is_against es ≡ false
+  none_refuses : list_any is_refusal es ≡ false
+
+module _ (exactly : AllowedExactly) (q : Request) (uid : List ℕ) where
+  allows_by : (es : List Event) (against refuses : Bool) → list_any is_against es ≡ against → list_any is_refusal es ≡ refuses
+      → allowed_in (answer q uid es) ≡ Some (json.boolean true) → Allows es
+  allows_by es true r a b allowed = let both = sym ((exactly q uid es).denied a) ∙ allowed in absurd (cc)
+  allows_by es false true a b allowed = let both = sym ((exactly q uid es).undecided a b) ∙ allowed in absurd (cc)
+  allows_by es false false a b allowed = record { none_against = a; none_refuses = b }
+
+  same_allowed : (es fs : List Event) → (GoOn es → InAnyOrder es fs) → allowed_in (answer q uid es) ≡ Some (json.boolean true)
+      → allowed_in (answer q uid fs) ≡ Some (json.boolean true)
+  same_allowed es fs same allowed =
+      let allows = allows_by es _ _ refl refl allowed in
+      let order = to_permutation es fs (same (record { decide = allows.none_refuses; no_end = no_end_from es allows.none_against })) in
+      (exactly q uid fs).allowed (sym (list_any-IsPermutation is_against es fs order) ∙ allows.none_against)
+      (sym (list_any-IsPermutation is_refusal es fs order) ∙ allows.none_refuses)
+
+-- ---- both orders
+
+both_end : (es fs : List Event) (x y : Bool) → has_end es ≡ x → has_end fs ≡ y → (has_end es ≡ false → has_end es ≡ has_end fs)
+    → (has_end fs ≡ false → has_end es ≡ has_end fs) → has_end es ≡ has_end fs
+both_end es fs true true a b left right = a ∙ sym b
+both_end es fs false y a b left right = left a
+both_end es fs true false a b left right = right b
+
+pub order_is_free : CompileHasOneResult → FindingsHaveOneResult → AllowedExactly → WarningsAreThoseOfEvents → OrderIsFree
+order_is_free compiles findings exactly warn s t review n q es fs shallow differ one other =
+    let also = also_shallow s t differ review n q shallow in
+    let same : GoOn es → InAnyOrder es fs = λ on.
+        let events = other_events s t differ review n q es one on in
+        subst (λ (l : List Event). InAnyOrder es l)
+        (dispatches_once compiles findings review n t q also (policies_asked t q) events.0 fs (asked_shallow compiles findings review n t (is_exempt q.attributes.resource) also) events.1 other)
+        events.2 in
+    let reverse : GoOn fs → InAnyOrder fs es = λ on.
+        let events = other_events t s (differ_back s t differ) review n q fs other on in
+        subst (λ (l : List Event). InAnyOrder fs l)
+        (dispatches_once compiles findings review n s q shallow (policies_asked s q) events.0 es (asked_shallow compiles findings review n s (is_exempt q.attributes.resource) shallow) events.1 one)
+        events.2 in
+    record {
+      allowed = same_allowed exactly q (uid_in review) es fs same;
+      not_found = λ a b. both_end es fs _ _ refl refl
+          (λ no. same_end es fs (same (record { decide = a; no_end = no })))
+          (λ no. sym (same_end fs es (reverse (record { decide = b; no_end = no }))));
+      events = λ a no. to_permutation es fs (same (record { decide = a; no_end = no }));
+      warnings = λ a no text. warn text es ∙ (list_any-IsPermutation (warns_by text) es fs (to_permutation es fs (same (record { decide = a; no_end = no }))) ∙ sym (warn text fs));
+    }

@@ -1,0 +1,53 @@
+-- The order of policies and of bindings, which API servers leave open: what does not depend on it.
+use Rattle.std.specs.Prelude.{◌≡◌, ℕ, false, true, List, [], ◌∷◌, Some, IsPermutation, bytes_eq}
+use Rattle.std.specs.List.{list_any}
+use Rattle.serde_json.specs.Data as json
+use Rattle.value_store.specs.Reviews.{uid_in}
+use Rattle.policy_glue.specs.OneImage.{OneImage}
+use Rattle.admission_documents.specs.Requests.{Request}
+use Rattle.cluster_state.specs.Params.{known_kind}
+use Rattle.cluster_state.specs.Policies.{ParamKind}
+use Rattle.cluster_state.specs.State.{AreObjects, ClusterState}
+use Rattle.cluster_response.specs.Events.{Event, has_end, summary_of}
+use Rattle.cluster_response.specs.Laws.{allowed_in, is_refusal}
+use Rattle.cluster_response.specs.Response.{answer_tree}
+use Rattle.cluster_gate.specs.Dispatch.{Dispatches, policies_asked}
+use Rattle.cluster_gate.specs.Laws.{HasShallowDocuments}
+
+-- the same elements, in any order
+pub data InAnyOrder {A : Type 0} : List A → List A → Type 0 where
+  none : InAnyOrder [] []
+  first : {x : A} {xs ys : List A} → InAnyOrder xs ys → InAnyOrder (x ∷ xs) (x ∷ ys)
+  exchanged : {x y : A} {xs : List A} → InAnyOrder (x ∷ y ∷ xs) (y ∷ x ∷ xs)
+  through : {xs ys zs : List A} → InAnyOrder xs ys → InAnyOrder ys zs → InAnyOrder xs zs
+
+-- two states that differ only in the order of their policies and of their bindings
+pub record DifferInOrder (s t : ClusterState) : Type 0 where
+  pub policies : InAnyOrder s.policies t.policies
+  pub bindings : InAnyOrder s.bindings t.bindings
+  pub objects : AreObjects s.objects t.objects
+  pub kinds : (k : ParamKind) → known_kind k t.items t.objects ≡ known_kind k s.items s.objects
+
+-- the answer to a request with this uid by these events
+abbrev pub answer : Request → List ℕ → List Event → json.Data
+answer q uid es = answer_tree q uid (summary_of es)
+
+-- each policy decides
+abbrev pub EachDecides : List Event → Type 0
+EachDecides es = list_any is_refusal es ≡ false
+
+-- What two orders have in common. A request that is allowed in one is allowed in the other. If each policy decides in
+-- both, both end because the namespace is not found, or neither. If each policy decides in one, which does not end so,
+-- then the other has the same events, in any order, and so the same warnings.
+pub record HaveInCommon (q : Request) (uid : List ℕ) (es fs : List Event) : Type 0 where
+  pub allowed : allowed_in (answer q uid es) ≡ Some (json.boolean true) → allowed_in (answer q uid fs) ≡ Some (json.boolean true)
+  pub not_found : EachDecides es → EachDecides fs → has_end es ≡ has_end fs
+  pub events : EachDecides es → has_end es ≡ false → IsPermutation es fs
+  pub warnings : EachDecides es → has_end es ≡ false
+      → (t : List ℕ) → list_any (bytes_eq t) (summary_of es).warnings ≡ list_any (bytes_eq t) (summary_of fs).warnings
+
+-- a decision does not depend on the order of policies and of bindings
+abbrev pub OrderIsFree : Type 0
+OrderIsFree = (s t : ClusterState) (review : List ℕ) (n : ℕ) (q : Request) (es fs : List Event) → HasShallowDocuments s → DifferInOrder s t
+    → Dispatches OneImage s review n q (policies_asked s q) es → Dispatches OneImage t review n q (policies_asked t q) fs
+    → HaveInCommon q (uid_in review) es fs
