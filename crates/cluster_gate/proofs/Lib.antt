@@ -17,3 +17,5 @@ pub mod Each
 pub mod ToldSteps
 pub mod OtherOrder
 pub mod OrderIsFree
+pub mod ServedSteps
+pub mod ServedOnce

@@ -1,5 +1,6 @@
 -- A review has one answer in a cluster.
-use Rattle.cluster_gate.proofs.Prelude.{◌≡◌, ◌∙◌, ◌∷◌, ◌++◌, ℕ, List, [], Bool, true, false, Option, Some, None, Result, Ok, Err, ap, option_map, refl, subst, sym, AsksPolicy, BoundPolicy, ClusterState, Dispatches, Event, OneImage, PlannedStep, Request, RunsSteps, asked_policy, block_of, policies_asked, policy_steps}
+use Rattle.cluster_gate.specs.declared.block_cause.BlockCause.{BlockCause}
+use Rattle.cluster_gate.proofs.Prelude.{◌≡◌, ◌∙◌, ◌∷◌, ◌++◌, ℕ, List, [], Bool, true, false, Option, Some, None, Result, Ok, Err, ap, option_map, refl, subst, sym, AsksPolicy, BoundPolicy, ClusterState, Dispatches, Event, OneImage, PlannedStep, Request, RunsSteps, asked_policy, block_of, policies_asked, policy_steps, IsJudged}
 use Rattle.std.proofs.lemmas.List.Elements.{All-head, All-nil, All-tail, All-weaker}
 use Rattle.std.specs.List.{All}
 use Rattle.std.specs.Prelude.{◌≢◌, if◌then◌else◌}
@@ -110,15 +111,23 @@ module _ (compiles : CompileHasOneResult) (findings : FindingsHaveOneResult) (re
   -- ---- policies
 
   module _ (s : ClusterState) (q : Request) (shallow : HasShallowDocuments s) where
+    -- a policy has one list of events by its steps, for each way in which it may be blocked
+    pub policy_once : (p : BoundPolicy) (steps : Option plan.PolicyBlock → List PlannedStep) → ((block : Option plan.PolicyBlock) → All IsShallowStep (steps block))
+        → IsShallow p.document → (c d : Option BlockCause) (es fs : List Event) (x y : Bool) → IsJudged s p c → IsJudged s p d
+        → RunsSteps p.name (EvaluatesPolicy OneImage review n p) (steps (option_map block_of c)) es x
+        → RunsSteps p.name (EvaluatesPolicy OneImage review n p) (steps (option_map block_of d)) fs y → (es ≡ fs) × (x ≡ y)
+    policy_once p steps deep_steps deep c d es fs x y judged other one two =
+        let finds = EvaluatesPolicy OneImage review n p in
+        runs_once p.name finds (steps (option_map block_of c)) es fs x y
+        (All-weaker IsShallowStep (IsOnce finds) (once_at p deep) (steps (option_map block_of c)) (deep_steps (option_map block_of c)))
+        one
+        (subst (λ (k : Option plan.PolicyBlock). RunsSteps p.name finds (steps k) fs y) (judged_once compiles p deep s d c other judged) two)
+
     asks_once : (p : BoundPolicy) (es fs : List Event) (x y : Bool) → IsShallow p.document → AsksPolicy OneImage s review n q p es x
         → AsksPolicy OneImage s review n q p fs y → (es ≡ fs) × (x ≡ y)
     asks_once p es fs x y deep a b =
-        let same = judged_once compiles p deep s b.cause a.cause b.judged a.judged in
-        runs_once p.name (EvaluatesPolicy OneImage review n p) (policy_steps s (asked_policy s p) (option_map block_of a.cause) q) es fs x y
-        (All-weaker IsShallowStep (IsOnce (EvaluatesPolicy OneImage review n p)) (once_at p deep) (policy_steps s (asked_policy s p) (option_map block_of a.cause) q)
-        (steps_are_shallow s shallow.objects (asked_policy s p) q (option_map block_of a.cause)))
-        a.runs
-        (subst (λ (c : Option plan.PolicyBlock). RunsSteps p.name (EvaluatesPolicy OneImage review n p) (policy_steps s (asked_policy s p) c q) fs y) same b.runs)
+        policy_once p (λ block. policy_steps s (asked_policy s p) block q) (steps_are_shallow s shallow.objects (asked_policy s p) q) deep a.cause b.cause es fs x y
+        a.judged b.judged a.runs b.runs
 
     -- policies have one list of events
     pub dispatches_once : (ps : List BoundPolicy) (es fs : List Event) → All (λ (p : BoundPolicy). IsShallow p.document) ps → Dispatches OneImage s review n q ps es

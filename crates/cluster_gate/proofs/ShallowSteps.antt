@@ -1,4 +1,5 @@
 -- The params and the namespace of each evaluation are documents of the state.
+use Rattle.cluster_gate.specs.Servers.{Answers, answered_steps_by, binding_steps_by, block_steps_by, policy_steps_by}
 use Rattle.cluster_gate.proofs.Prelude.{◌∷◌, ℕ, List, [], Bool, true, false, Option, Some, None, Result, Ok, Err, map, subst, sym, ClusterState, PlannedStep, Request, by_block, policy_steps}
 use Rattle.std.proofs.lemmas.List.Elements.{All-append, All-cons, All-filter, All-head, All-map, All-nil, All-tail, All-weaker}
 use Rattle.std.proofs.lemmas.List.Concat.{flat_map-cons}
@@ -34,7 +35,7 @@ IsShallowStep plan.ends = Unit {0}
 abbrev Shallow : Named → Type 0
 Shallow os = All (λ (o : List ℕ × json.Data). IsShallow o.1) os
 
-abbrev IsShallowNamespace : NamespaceObject → Type 0
+abbrev pub IsShallowNamespace : NamespaceObject → Type 0
 IsShallowNamespace no_object = Unit {0}
 IsShallowNamespace (object d) = IsShallow d
 IsShallowNamespace missing = Unit {0}
@@ -107,7 +108,7 @@ by_params fails b n (Ok ps) is are = evaluated b n ps is are
 by_params fails b n (Err e) is are = an_error fails (Some b.name) (param_error_text e)
 
 module _ (s : ClusterState) (shallow : (c : Collection) → Shallow (s.objects c)) (p : AskedPolicy) (q : Request) where
-  namespace_is : IsShallowNamespace (namespace_object s.objects q.kind q.attributes.namespace)
+  pub namespace_is : IsShallowNamespace (namespace_object s.objects q.kind q.attributes.namespace)
   namespace_is =
       null_or (is_core_namespace q.kind || length q.attributes.namespace == 0) (namespace_named q.attributes.namespace s.objects)
       (found q.attributes.namespace (s.objects namespaces) (shallow namespaces))
@@ -145,3 +146,19 @@ module _ (s : ClusterState) (shallow : (c : Collection) → Shallow (s.objects c
   -- each evaluation of the policy has params and a namespace of the state
   pub steps_are_shallow : (block : Option PolicyBlock) → All IsShallowStep (policy_steps s p block q)
   steps_are_shallow block = by_answer block (match_answer p.policy.constraints (namespace_labels s.objects) q.attributes)
+
+  -- ---- steps by other answers
+
+  blocked_by : (answers : Answers) (block : Option PolicyBlock) → All IsShallowStep (block_steps_by answers s p q block)
+  blocked_by answers (Some b) = one (plan.is_blocked b) tt
+  blocked_by answers None = each (binding_steps_by answers s p q) (bindings_of p.policy.name s.bindings) (λ b. by_binding b (answers b.resources))
+
+  answered_by : (answers : Answers) (block : Option PolicyBlock) (answer : Answer) → All IsShallowStep (answered_steps_by answers s p block q answer)
+  answered_by answers block matching.No = All-nil IsShallowStep
+  answered_by answers block matching.Unknown = one plan.unknown_match tt
+  answered_by answers block (matching.Trouble t) = an_error (fails_closed p.policy.document) None (trouble_text t q.attributes.namespace)
+  answered_by answers block matching.Yes = blocked_by answers block
+
+  -- so it is by the answers of a server
+  pub steps_by_are_shallow : (answers : Answers) (block : Option PolicyBlock) → All IsShallowStep (policy_steps_by answers s p block q)
+  steps_by_are_shallow answers block = answered_by answers block (answers p.policy.constraints)

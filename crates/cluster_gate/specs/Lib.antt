@@ -6,3 +6,4 @@ pub mod Running
 pub mod Laws
 pub mod Orders
 pub mod StepRows
+pub mod Servers

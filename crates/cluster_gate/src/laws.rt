@@ -1,9 +1,11 @@
 //! Laws of the definitions, each the clause of a function that does nothing.
 ghost use Rattle.cluster_gate.specs.Laws.{ExemptIsAllowed, OneAnswer, UnmatchedIsAllowed};
 ghost use Rattle.cluster_gate.specs.Orders.{OrderIsFree};
+ghost use Rattle.cluster_gate.specs.Servers.{EquivalentsAreFree, ServersHaveAnswers};
 ghost use Rattle.cluster_gate.specs.StepRows.{EventAnswersHold, StepRowsHold};
 
 use admission::laws::findings_once;
+use admission_match::laws::every_server_agrees;
 use cluster_response::laws::{allowed_exactly, warnings_are_those_of_events};
 use policy_glue::laws::compiles_once;
 
@@ -42,3 +44,14 @@ pub fn step_rows_hold()
     ensures steps { StepRowsHold }
     ensures answers { EventAnswersHold }
 {}
+
+/// If each policy decides, an API server has the same answer, for any other versions and groups of
+/// the resource that it stores in the same place.
+pub fn equivalents_are_free()
+    ensures answers { ServersHaveAnswers }
+    ensures same { EquivalentsAreFree }
+{
+    compiles_once();
+    findings_once();
+    every_server_agrees();
+}
