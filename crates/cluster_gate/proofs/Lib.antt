@@ -17,5 +17,7 @@ pub mod Each
 pub mod ToldSteps
 pub mod OtherOrder
 pub mod OrderIsFree
+pub mod FoundOrAllowed
 pub mod ServedSteps
 pub mod ServedOnce
+pub mod OnePolicy

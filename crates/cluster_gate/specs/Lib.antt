@@ -5,5 +5,6 @@ pub mod Dispatch
 pub mod Running
 pub mod Laws
 pub mod Orders
+pub mod OnePolicy
 pub mod StepRows
 pub mod Servers

@@ -1,10 +1,11 @@
 //! Laws of the definitions, each the clause of a function that does nothing.
 ghost use Rattle.cluster_gate.specs.Laws.{ExemptIsAllowed, OneAnswer, UnmatchedIsAllowed};
+ghost use Rattle.cluster_gate.specs.OnePolicy.{OnePolicyIsReview};
 ghost use Rattle.cluster_gate.specs.Orders.{OrderIsFree};
 ghost use Rattle.cluster_gate.specs.Servers.{EquivalentsAreFree, ServersHaveAnswers};
 ghost use Rattle.cluster_gate.specs.StepRows.{EventAnswersHold, StepRowsHold};
 
-use admission::laws::findings_once;
+use admission::laws::{findings_once, reviews_once};
 use admission_match::laws::every_server_agrees;
 use cluster_response::laws::{allowed_exactly, warnings_are_those_of_events};
 use policy_glue::laws::compiles_once;
@@ -54,4 +55,14 @@ pub fn equivalents_are_free()
     compiles_once();
     findings_once();
     every_server_agrees();
+}
+
+/// A cluster with one policy, without params, and one binding that denies decides as a review under
+/// that policy, if both match the request.
+pub fn one_policy_is_review()
+    ensures { OnePolicyIsReview }
+{
+    compiles_once();
+    reviews_once();
+    allowed_exactly();
 }

@@ -1,0 +1,246 @@
+-- A cluster with one policy decides as a review under that policy.
+use Rattle.cluster_gate.proofs.ShallowSteps.{IsShallowNamespace, namespace_is}
+use Rattle.cluster_state.specs.Policies.{ParamKind}
+use Rattle.std.proofs.lemmas.Slice.Eq.{bytes_eq-Decides}
+use Rattle.std.proofs.lemmas.List.Concat.{flat_map-cons}
+use Rattle.std.proofs.lemmas.List.Elements.{All-head}
+use Rattle.cluster_gate.specs.Gates.{IsRefusedPolicy, kind_of}
+use Rattle.cluster_plan.specs.Steps.{bindings_of, binding_answered, binding_steps, evaluations, fails_closed, params_for, params_steps, policy_answered}
+use Rattle.cluster_gate.proofs.Prelude.{◌≡◌, ◌∙◌, ◌∷◌, ◌++◌, ℕ, List, [], Bool, true, false, Option, Some, None, Result, Ok, Err, ap, append-nil, map, option_map, refl, subst, sym, BoundPolicy, ClusterState, Dispatches, Event, IsJudged, OneImage, PlannedStep, Request, RunsSteps, asked_policy, block_of, by_block, policies_asked, policy_steps}
+use Rattle.std.specs.List.{flat_map, list_any, All}
+use Rattle.std.specs.Prelude.{◌≢◌, bytes_eq, if◌then◌else◌, cond, is_some, is_none, option_and_then, ◌&&◌}
+use Rattle.serde_json.specs.Data as json
+use Rattle.serde_json.specs.Written.{compact_text}
+use Rattle.value_store.specs.Reviews.{uid_in}
+use Rattle.policy_glue.specs.Findings.{PolicyFinding}
+use Rattle.policy_glue.specs.OneAnswer.{CompileHasOneResult}
+use Rattle.admission.proofs.Decided.{compiled_length}
+use Rattle.admission.specs.Deciding.{Documents, Reply, answer_of, decision, is_allowed}
+use Rattle.admission.specs.Findings.{FindsReview}
+use Rattle.admission.specs.OneAnswer.{IsAnswerTo, ReviewHasOneResult}
+use Rattle.admission.specs.Standing.{RunAgrees}
+use Rattle.admission.specs.declared.policy_refusal.PolicyRefusal.{PolicyRefusal}
+use Rattle.admission.specs.declared.run_error.RunError.{RunError}
+use Rattle.admission.specs.declared.run_error.RunError.TheVariants as run_error
+use Rattle.cluster_state.specs.Bindings.{Binding}
+use Rattle.cluster_state.specs.Params.{NamespaceObject, missing, namespace_object, no_object, object, KnownKind, known_kind}
+use Rattle.cluster_state.specs.declared.action.Action.{Action}
+use Rattle.cluster_state.specs.declared.action.Action.TheVariants.{Deny}
+use Rattle.cluster_plan.specs.Steps as plan
+use Rattle.cluster_response.specs.Events.{findings_events, summary_of, action_event, finding_events}
+use Rattle.cluster_response.specs.Laws.{AllowedExactly, allowed_in, is_against}
+use Rattle.cluster_response.specs.Response.{answer_tree, cluster_response, undecided_tree}
+use Rattle.cluster_response.specs.declared.cluster_refusal.ClusterRefusal.{ClusterRefusal}
+use Rattle.cluster_response.specs.declared.cluster_refusal.ClusterRefusal.TheVariants as refusal
+use Rattle.cluster_gate.proofs.FoundOrAllowed.{NoneExactlyIf, found_or_allowed}
+use Rattle.cluster_gate.proofs.JudgedOnce.{one_reading}
+use Rattle.cluster_gate.proofs.SameReading.{SameReading, findings_moved, runs_moved, same_contents, same_text_if, IsShallowIf, refused_moved}
+use Rattle.cluster_gate.specs.Dispatch.{EvaluatesPolicy, error_refusal, undecided_event, no_policies, next, last, no_steps, blocked, found, refused, decided, FindsWith, block_refusal}
+use Rattle.cluster_gate.specs.Laws.{HasShallowDocuments, IsShallow}
+use Rattle.cluster_gate.specs.OnePolicy.{AreDocumentsOf, HasOnePolicy, IsSameDecision, OnePolicyIsReview, namespace_seen}
+use Rattle.cluster_gate.specs.Texts.{IsJsonTextIf}
+use Rattle.cluster_gate.specs.declared.block_cause.BlockCause.{BlockCause}
+use Rattle.cluster_gate.specs.declared.block_cause.BlockCause.TheVariants.{Refused, NamesNamespace, UnknownParamKind}
+
+-- ---- replies by findings
+
+-- the reply that the findings of a policy give: its allowance tells whether there are any
+pub record HasReply (d : Documents) (n : ℕ) (found : List PolicyFinding) : Type 0 where
+  pub reply : Reply
+  pub answers : IsAnswerTo d n (Ok reply)
+  pub exactly : NoneExactlyIf reply.allowed found
+
+reply_by : (d : Documents) (n : ℕ) (fs : List PolicyFinding) → FindsReview d n (Ok fs) → RunAgrees {A = List PolicyFinding} OneImage d n (Ok fs) → HasReply d n fs
+reply_by d n fs finds runs =
+    let case = finds.case in
+    record {
+      reply = answer_of case.policy.parsed (decision case) (uid_in d.review);
+      answers = record { reviews = record { case = case; answer_is = refl }; runs = runs };
+      exactly = subst (λ (l : List PolicyFinding). NoneExactlyIf (is_allowed (decision case).outcome) l) (sym finds.findings_are)
+          (found_or_allowed case.policy.parsed case.policy.trees case.roots (compiled_length case.policy.parsed (Ok case.policy.trees) case.policy.trees case.policy.compiles refl));
+    }
+
+-- ---- answers by events
+
+module _ (exactly : AllowedExactly) (q : Request) (uid : List ℕ) (policy : List ℕ) where
+  refused_answer : (r : ClusterRefusal) → answer_tree q uid (summary_of (undecided_event policy r ∷ [])) ≡ undecided_tree (record { policy = policy; refusal = r }) uid
+  refused_answer r = refl
+
+  first_denies : (b : Binding) (f : PolicyFinding) (rest : List PolicyFinding) → b.actions ≡ Deny ∷ []
+      → list_any is_against (findings_events policy b (f ∷ rest) ++ []) ≡ true
+  first_denies b f rest actions =
+      ap (λ (l : List Event). list_any is_against (l ++ [])) (flat_map-cons (finding_events policy b) f rest)
+      ∙ ap (λ (l : List Action). list_any is_against ((map (action_event policy b f) l ++ findings_events policy b rest) ++ [])) actions
+
+  -- the events of findings under Deny alone
+  denied_events : (b : Binding) (fs : List PolicyFinding) → b.actions ≡ Deny ∷ [] → (allowed : Bool) → NoneExactlyIf allowed fs
+      → allowed_in (answer_tree q uid (summary_of (findings_events policy b fs ++ []))) ≡ Some (json.boolean allowed)
+  denied_events b fs actions true none =
+      subst (λ (l : List PolicyFinding). allowed_in (answer_tree q uid (summary_of (findings_events policy b l ++ []))) ≡ Some (json.boolean true)) (sym (none.none refl)) ((exactly q uid []).allowed refl refl)
+  denied_events b fs actions false none =
+      let some = none.some refl in
+      (exactly q uid (findings_events policy b fs ++ [])).denied
+      (ap (λ (l : List PolicyFinding). list_any is_against (findings_events policy b l ++ [])) some.are ∙ first_denies b some.head some.rest actions)
+
+-- ---- steps
+
+-- what one evaluation does
+data EvaluatesOne (policy : List ℕ) (finds : FindsWith) (b : Binding) (params namespace : Option json.Data) : List Event → Type 0 where
+  it_finds : {fs : List PolicyFinding} → finds params namespace (Ok fs) → EvaluatesOne policy finds b params namespace (findings_events policy b fs ++ [])
+  it_refuses : {e : RunError} {r : ClusterRefusal} → finds params namespace (Err e) → error_refusal e ≡ Some r
+      → EvaluatesOne policy finds b params namespace (undecided_event policy r ∷ [])
+
+one_evaluation : (policy : List ℕ) (finds : FindsWith) (b : Binding) (params namespace : Option json.Data) (es : List Event) (ended : Bool)
+    → RunsSteps policy finds (plan.evaluates b params namespace ∷ []) es ended → EvaluatesOne policy finds b params namespace es
+one_evaluation policy finds b params namespace _ _ (found f no_steps) = it_finds f
+one_evaluation policy finds b params namespace _ _ (refused f is) = it_refuses f is
+
+one_block : (policy : List ℕ) (finds : FindsWith) (k : plan.PolicyBlock) (es : List Event) (ended : Bool) → RunsSteps policy finds (plan.is_blocked k ∷ []) es ended
+    → es ≡ undecided_event policy (block_refusal k) ∷ []
+one_block policy finds k _ _ blocked = refl
+
+itself : (t : List ℕ) → bytes_eq t t ≡ true
+itself t = (bytes_eq-Decides t t).1 refl
+
+-- an evaluation with the namespace that is found
+evaluated_with : (b : Binding) (o : NamespaceObject) → o ≢ missing → evaluations b o (None ∷ []) ≡ plan.evaluates b None (namespace_seen o) ∷ []
+evaluated_with b no_object there = refl
+evaluated_with b (object d) there = refl
+evaluated_with b missing there = absurd (there refl)
+
+module _ (s : ClusterState) (q : Request) (p : BoundPolicy) (b : Binding) (has : HasOnePolicy s q p b) where
+  abbrev Namespace : NamespaceObject
+  Namespace = namespace_object s.objects q.kind q.attributes.namespace
+
+  no_kind : kind_of s p ≡ None
+  no_kind = ap (option_and_then (λ k. known_kind k s.items s.objects)) has.no_params
+
+  matched : (block : Option plan.PolicyBlock) → policy_steps s (asked_policy s p) block q ≡ by_block s (asked_policy s p) q block
+  matched block = ap (policy_answered s (asked_policy s p) block q) has.policy_matches
+
+  the_binding : bindings_of p.name s.bindings ≡ b ∷ []
+  the_binding =
+      ap (bindings_of p.name) has.bindings
+      ∙ ap (λ (t : Bool). cond t (b ∷ []) []) (ap (λ (t : List ℕ). bytes_eq t p.name) has.bound ∙ itself p.name)
+
+  its_steps : binding_steps s (asked_policy s p) q b ≡ plan.evaluates b None (namespace_seen Namespace) ∷ []
+  its_steps =
+      ap (binding_answered s (asked_policy s p) q b) has.binding_matches
+      ∙ (ap (λ (k : Option KnownKind). params_steps (fails_closed p.document) b Namespace (params_for s.objects k b.param_ref q.attributes.namespace)) no_kind
+      ∙ evaluated_with b Namespace has.found)
+
+  the_steps : policy_steps s (asked_policy s p) None q ≡ plan.evaluates b None (namespace_seen Namespace) ∷ []
+  the_steps =
+      matched None
+      ∙ (ap (flat_map (binding_steps s (asked_policy s p) q)) the_binding
+      ∙ (flat_map-cons (binding_steps s (asked_policy s p) q) b [] ∙ (append-nil (binding_steps s (asked_policy s p) q b) ∙ its_steps)))
+
+  asked_one : policies_asked s q ≡ p ∷ []
+  asked_one = ap (λ (x : Bool). if x then [] else s.policies) has.not_exempt ∙ has.policies
+
+-- ---- the answer
+
+seen_shallow : (o : NamespaceObject) → IsShallowNamespace o → IsShallowIf (namespace_seen o)
+seen_shallow no_object is = is
+seen_shallow (object d) is = is
+seen_shallow missing is = is
+
+no_failure : (e : RunError) (r : ClusterRefusal) → error_refusal e ≡ Some r → ◌≢◌ {A = Result Reply RunError} (Err e) (Err run_error.Memory)
+no_failure e r is failed =
+    let same : e ≡ run_error.Memory = cc in
+    let none : None ≡ Some r = subst (λ (x : RunError). error_refusal x ≡ Some r) same is in absurd (cc)
+
+-- the run agrees with a refusal of any kind of result alike
+agrees_alike : (A B : Type 0) (d : Documents) (n : ℕ) (e : RunError) → RunAgrees {A = A} OneImage d n (Err e) → RunAgrees {A = B} OneImage d n (Err e)
+agrees_alike A B d n (run_error.PolicyRefused x) runs = runs
+agrees_alike A B d n run_error.ReviewRefused runs = runs
+agrees_alike A B d n run_error.NamespaceOrParamsRefused runs = runs
+agrees_alike A B d n run_error.OutOfSteps runs = runs
+agrees_alike A B d n run_error.OverLimit runs = runs
+agrees_alike A B d n run_error.Memory runs = runs
+
+module _ (compiles : CompileHasOneResult) (reviews : ReviewHasOneResult) (exactly : AllowedExactly) (s : ClusterState) (review : List ℕ) (n : ℕ) (q : Request)
+    (p : BoundPolicy) (b : Binding) (d : Documents) (result : Result Reply RunError) (shallow : HasShallowDocuments s) (has : HasOnePolicy s q p b)
+    (of : AreDocumentsOf s review q p d) (some : result ≢ Err run_error.Memory) (is : IsAnswerTo d n result) where
+  -- the answer by these events is the decision of the review
+  abbrev Same : List Event → Type 0
+  Same es = IsSameDecision p.name (uid_in review) result (answer_tree q (uid_in review) (summary_of es))
+
+  deep : IsShallow p.document
+  deep = All-head (λ (x : BoundPolicy). IsShallow x.document) p [] (subst (All (λ (x : BoundPolicy). IsShallow x.document)) has.policies shallow.policies)
+
+  seen_deep : IsShallowIf (namespace_seen (namespace_object s.objects q.kind q.attributes.namespace))
+  seen_deep = seen_shallow (namespace_object s.objects q.kind q.attributes.namespace) (namespace_is s shallow.objects (asked_policy s p) q)
+
+  same_reading : (r : Result (List PolicyFinding) RunError) (x : EvaluatesPolicy OneImage review n p None (namespace_seen (namespace_object s.objects q.kind q.attributes.namespace)) r)
+      → SameReading x.documents d
+  same_reading r x = record {
+    policy = one_reading compiles p deep x.documents.policy d.policy x.policy of.policy;
+    values = same_contents x.documents.review d.review x.documents.namespace d.namespace x.documents.params d.params
+        (x.review_is ∙ sym of.review_is)
+        (same_text_if (namespace_seen (namespace_object s.objects q.kind q.attributes.namespace)) x.documents.namespace d.namespace seen_deep x.namespace_text of.namespace)
+        (same_text_if None x.documents.params d.params tt x.params_text (subst (λ (o : Option (List ℕ)). IsJsonTextIf None o) (sym of.no_params) tt));
+  }
+
+  by_evaluation : (es : List Event) → EvaluatesOne p.name (EvaluatesPolicy OneImage review n p) b None (namespace_seen (namespace_object s.objects q.kind q.attributes.namespace)) es → Same es
+  by_evaluation _ (it_finds {fs = fs} x) =
+      let same = same_reading (Ok fs) x in
+      let told = reply_by d n fs (findings_moved x.documents d same n (Ok fs) x.finds) (runs_moved x.documents d same OneImage n (Ok fs) x.runs) in
+      let reply : result ≡ Ok told.reply = reviews d n result (Ok told.reply) some (λ e. absurd (cc)) is told.answers in
+      subst (λ (r : Result Reply RunError). IsSameDecision p.name (uid_in review) r (answer_tree q (uid_in review) (summary_of (findings_events p.name b fs ++ [])))) (sym reply)
+      (denied_events exactly q (uid_in review) p.name b fs has.actions told.reply.allowed told.exactly)
+  by_evaluation _ (it_refuses {e = e} {r = r} x why) =
+      let same = same_reading (Err e) x in
+      let answers : IsAnswerTo d n (Err e) = record {
+        reviews = findings_moved x.documents d same n (Err e) x.finds;
+        runs = agrees_alike (List PolicyFinding) Reply d n e (runs_moved x.documents d same {A = List PolicyFinding} OneImage n (Err e) x.runs);
+      } in
+      let refused : result ≡ Err e = reviews d n result (Err e) some (no_failure e r why) is answers in
+      subst (λ (y : Result Reply RunError). IsSameDecision p.name (uid_in review) y (answer_tree q (uid_in review) (summary_of (undecided_event p.name r ∷ [])))) (sym refused)
+      (r, why, refl)
+
+  by_refusal : (e : PolicyRefusal) → IsRefusedPolicy p e → (es : List Event) → es ≡ undecided_event p.name refusal.PolicyRefused ∷ [] → Same es
+  by_refusal e refuses es are =
+      let answers : IsAnswerTo d n (Err (run_error.PolicyRefused e)) = record {
+        reviews = refused_moved refuses.text d.policy (one_reading compiles p deep refuses.text d.policy refuses.has_text of.policy) e refuses.refused;
+        runs = tt;
+      } in
+      let refused : result ≡ Err (run_error.PolicyRefused e) = reviews d n result (Err (run_error.PolicyRefused e)) some (λ x. absurd (cc)) is answers in
+      subst Same (sym are)
+      (subst (λ (y : Result Reply RunError). IsSameDecision p.name (uid_in review) y (answer_tree q (uid_in review) (summary_of (undecided_event p.name refusal.PolicyRefused ∷ [])))) (sym refused)
+      (refusal.PolicyRefused, refl, refl))
+
+  by_cause : (cause : Option BlockCause) → IsJudged s p cause → (es : List Event) (ended : Bool)
+      → RunsSteps p.name (EvaluatesPolicy OneImage review n p) (policy_steps s (asked_policy s p) (option_map block_of cause) q) es ended → Same es
+  by_cause None judged es ended runs =
+      by_evaluation es (one_evaluation p.name (EvaluatesPolicy OneImage review n p) b None (namespace_seen (namespace_object s.objects q.kind q.attributes.namespace)) es ended
+      (subst (λ (l : List PlannedStep). RunsSteps p.name (EvaluatesPolicy OneImage review n p) l es ended) (the_steps s q p b has) runs))
+  by_cause (Some (Refused e)) judged es ended runs =
+      by_refusal e judged es (one_block p.name (EvaluatesPolicy OneImage review n p) plan.policy_refused es ended
+      (subst (λ (l : List PlannedStep). RunsSteps p.name (EvaluatesPolicy OneImage review n p) l es ended) (matched s q p b has (Some plan.policy_refused)) runs))
+  by_cause (Some NamesNamespace) judged es ended runs = absurd (has.unnamed judged)
+  by_cause (Some UnknownParamKind) judged es ended runs =
+      let lacks = ap (λ (k : Option ParamKind). is_some k && is_none (kind_of s p)) has.no_params in
+      let both = sym judged.1 ∙ lacks in absurd (cc)
+
+  one_dispatched : (es : List Event) → Dispatches OneImage s review n q (p ∷ []) es → Same es
+  one_dispatched _ (next {es = es} a no_policies) = subst Same (sym (append-nil es)) (by_cause a.cause a.judged es false a.runs)
+  one_dispatched _ (last {es = es} a) = by_cause a.cause a.judged es true a.runs
+
+  pub as_review : (es : List Event) → Dispatches OneImage s review n q (policies_asked s q) es → Same es
+  as_review es dispatches = one_dispatched es (subst (λ (ps : List BoundPolicy). Dispatches OneImage s review n q ps es) (asked_one s q p b has) dispatches)
+
+written : (q : Request) (uid : List ℕ) (es : List Event) → cluster_response q uid es ≡ compact_text (answer_tree q uid (summary_of es))
+unfolding cluster_response
+written q uid es = refl
+
+pub one_policy_is_review : CompileHasOneResult → ReviewHasOneResult → AllowedExactly → OnePolicyIsReview
+one_policy_is_review compiles reviews exactly s review n q p b d result _ shallow given has of some is (decided {q = r} {es = es} also dispatches) =
+    let both : Some r ≡ Some q = sym also ∙ given in
+    let same : r ≡ q = cc in
+    let ours = subst (λ (x : Request). Dispatches OneImage s review n x (policies_asked s x) es) same dispatches in
+    (
+      answer_tree q (uid_in review) (summary_of es),
+      ap (λ (x : Request). cluster_response x (uid_in review) es) same ∙ written q (uid_in review) es,
+      as_review compiles reviews exactly s review n q p b d result shallow has of some is es ours,
+    )
