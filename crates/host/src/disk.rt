@@ -5,8 +5,9 @@ ghost use Rattle.std.specs.IoError.{error_kind};
 use crate::file_error::FileError;
 use crate::files::Files;
 use std::alloc::Global;
-use std::io::{self, Error, ErrorKind};
-use std::{fs, rt};
+use std::fs::{self, OpenFile};
+use std::io::{self, Error, ErrorKind, Write};
+use std::rt;
 
 /// The files of the operating system. Nothing is known about them before they are read.
 #[derive(Drop)]
@@ -30,7 +31,26 @@ impl<'a, R: rt::Files + AllocGlobal> Files for Disk<'a, R> {
     }
 
     fn write(&mut self, name: &str, bytes: &[u8]) -> Result<(), FileError> {
-        answered(fs::write(self.rt, name, bytes))
+        answered(written(self.rt, name, bytes))
+    }
+}
+
+/// Replaces the contents of a file. If not all bytes are written, for example because the disk is full, a
+/// regular file is removed, so that nobody takes it for the whole. A file that cannot be opened stays.
+fn written<R: rt::Files>(rt: &R, name: &str, bytes: &[u8]) -> io::Result<()> {
+    let mut file = fs::create(rt, name)?;
+    let answer = file.write_all(bytes);
+    if answer.is_err() && is_regular(&file) {
+        let _ = fs::remove_file(rt, name);
+    }
+    answer
+}
+
+/// Whether an open file is a regular one. A device or a pipe is not.
+fn is_regular<F: OpenFile>(file: &F) -> bool {
+    match file.metadata() {
+        Ok(metadata) => metadata.is_file(),
+        Err(_) => false,
     }
 }
 

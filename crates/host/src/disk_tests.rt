@@ -46,3 +46,10 @@ fn a_file_in_a_missing_folder_is_not_written(rt: HostRuntime) {
     let written = Disk::new(&rt).write("missing/kept", b"a").err();
     assert!(rt; written == Some(FileError::Failed));
 }
+
+#[test]
+fn a_device_that_takes_nothing_stays(rt: HostRuntime) {
+    let written = Disk::new(&rt).write("/dev/full", b"a").err();
+    assert!(rt; written == Some(FileError::Failed));
+    assert!(rt; std::fs::metadata(&rt, "/dev/full").is_ok());
+}
