@@ -1,5 +1,8 @@
 -- A decision does not depend on the order of policies and of bindings.
-use Rattle.cluster_gate.proofs.Prelude.{◌≡◌, ◌∙◌, ◌∷◌, ℕ, List, [], Bool, true, false, Some, refl, subst, sym, Event, Request, policies_asked}
+use Rattle.cluster_gate.specs.Laws.{HasShallowDocuments}
+use Rattle.cluster_response.specs.Response.{cluster_response}
+use Rattle.cluster_gate.specs.Dispatch.{no_review, decided}
+use Rattle.cluster_gate.proofs.Prelude.{OneImage, ◌≡◌, ◌∙◌, ◌∷◌, ℕ, List, [], Bool, true, false, Some, refl, subst, sym, Event, Request, policies_asked, Dispatches, ClusterState}
 use Rattle.std.proofs.lemmas.List.Sorted.{list_any-IsPermutation}
 use Rattle.std.specs.List.{list_any}
 use Rattle.serde_json.specs.Data as json
@@ -14,7 +17,7 @@ use Rattle.cluster_gate.proofs.Each.{to_permutation}
 use Rattle.cluster_gate.proofs.OneAnswer.{asked_shallow, dispatches_once}
 use Rattle.cluster_gate.proofs.OtherOrder.{also_shallow, differ_back, other_events}
 use Rattle.cluster_gate.proofs.ToldSteps.{GoOn}
-use Rattle.cluster_gate.specs.Orders.{InAnyOrder, OrderIsFree, answer}
+use Rattle.cluster_gate.specs.Orders.{InAnyOrder, OrderIsFree, answer, Agree, no_reviews, decisions, HaveInCommon, DifferInOrder}
 
 -- ---- ends
 
@@ -76,8 +79,10 @@ both_end es fs true true a b left right = a ∙ sym b
 both_end es fs false y a b left right = left a
 both_end es fs true false a b left right = right b
 
-pub order_is_free : CompileHasOneResult → FindingsHaveOneResult → AllowedExactly → WarningsAreThoseOfEvents → OrderIsFree
-order_is_free compiles findings exactly warn s t review n q es fs shallow differ one other =
+in_common : CompileHasOneResult → FindingsHaveOneResult → AllowedExactly → WarningsAreThoseOfEvents
+    → (s t : ClusterState) (review : List ℕ) (n : ℕ) (q : Request) (es fs : List Event) → HasShallowDocuments s → DifferInOrder s t
+    → Dispatches OneImage s review n q (policies_asked s q) es → Dispatches OneImage t review n q (policies_asked t q) fs → HaveInCommon q (uid_in review) es fs
+in_common compiles findings exactly warn s t review n q es fs shallow differ one other =
     let also = also_shallow s t differ review n q shallow in
     let same : GoOn es → InAnyOrder es fs = λ on.
         let events = other_events s t differ review n q es one on in
@@ -97,3 +102,16 @@ order_is_free compiles findings exactly warn s t review n q es fs shallow differ
       events = λ a no. to_permutation es fs (same (record { decide = a; no_end = no }));
       warnings = λ a no text. warn text es ∙ (list_any-IsPermutation (warns_by text) es fs (to_permutation es fs (same (record { decide = a; no_end = no }))) ∙ sym (warn text fs));
     }
+
+pub order_is_free : CompileHasOneResult → FindingsHaveOneResult → AllowedExactly → WarningsAreThoseOfEvents → OrderIsFree
+order_is_free compiles findings exactly warn s t review n _ _ shallow differ (no_review none) (no_review other) = no_reviews
+order_is_free compiles findings exactly warn s t review n _ _ shallow differ (no_review none) (decided given dispatches) =
+    let both = sym none ∙ given in absurd (cc)
+order_is_free compiles findings exactly warn s t review n _ _ shallow differ (decided given dispatches) (no_review none) =
+    let both = sym none ∙ given in absurd (cc)
+order_is_free compiles findings exactly warn s t review n _ _ shallow differ (decided {q = q} {es = es} given one) (decided {q = r} {es = fs} also other) =
+    let both : Some q ≡ Some r = sym given ∙ also in
+    let same : r ≡ q = cc in
+    let moved = subst (λ (x : Request). Dispatches OneImage t review n x (policies_asked t x) fs) same other in
+    subst (λ (x : Request). Agree review (Some (cluster_response q (uid_in review) es)) (Some (cluster_response x (uid_in review) fs))) (sym same)
+    (decisions (in_common compiles findings exactly warn s t review n q es fs shallow differ one moved))

@@ -1,5 +1,5 @@
 -- The order of policies and of bindings, which API servers leave open: what does not depend on it.
-use Rattle.std.specs.Prelude.{◌≡◌, ℕ, false, true, List, [], ◌∷◌, Some, IsPermutation, bytes_eq}
+use Rattle.std.specs.Prelude.{◌≡◌, ℕ, false, true, List, [], ◌∷◌, Option, Some, None, IsPermutation, bytes_eq}
 use Rattle.std.specs.List.{list_any}
 use Rattle.serde_json.specs.Data as json
 use Rattle.value_store.specs.Reviews.{uid_in}
@@ -10,8 +10,8 @@ use Rattle.cluster_state.specs.Policies.{ParamKind}
 use Rattle.cluster_state.specs.State.{AreObjects, ClusterState}
 use Rattle.cluster_response.specs.Events.{Event, has_end, summary_of}
 use Rattle.cluster_response.specs.Laws.{allowed_in, is_refusal}
-use Rattle.cluster_response.specs.Response.{answer_tree}
-use Rattle.cluster_gate.specs.Dispatch.{Dispatches, policies_asked}
+use Rattle.cluster_response.specs.Response.{answer_tree, cluster_response}
+use Rattle.cluster_gate.specs.Dispatch.{DecidesInCluster}
 use Rattle.cluster_gate.specs.Laws.{HasShallowDocuments}
 
 -- the same elements, in any order
@@ -46,8 +46,13 @@ pub record HaveInCommon (q : Request) (uid : List ℕ) (es fs : List Event) : Ty
   pub warnings : EachDecides es → has_end es ≡ false
       → (t : List ℕ) → list_any (bytes_eq t) (summary_of es).warnings ≡ list_any (bytes_eq t) (summary_of fs).warnings
 
--- a decision does not depend on the order of policies and of bindings
+-- the answers in two orders: none to what is no review, and else two with these in common
+pub data Agree (review : List ℕ) : Option (List ℕ) → Option (List ℕ) → Type 0 where
+  no_reviews : Agree review None None
+  decisions : {q : Request} {es fs : List Event} → HaveInCommon q (uid_in review) es fs
+      → Agree review (Some (cluster_response q (uid_in review) es)) (Some (cluster_response q (uid_in review) fs))
+
+-- an answer does not depend on the order of policies and of bindings, but for this
 abbrev pub OrderIsFree : Type 0
-OrderIsFree = (s t : ClusterState) (review : List ℕ) (n : ℕ) (q : Request) (es fs : List Event) → HasShallowDocuments s → DifferInOrder s t
-    → Dispatches OneImage s review n q (policies_asked s q) es → Dispatches OneImage t review n q (policies_asked t q) fs
-    → HaveInCommon q (uid_in review) es fs
+OrderIsFree = (s t : ClusterState) (review : List ℕ) (n : ℕ) (a b : Option (List ℕ)) → HasShallowDocuments s → DifferInOrder s t
+    → DecidesInCluster OneImage s review n a → DecidesInCluster OneImage t review n b → Agree review a b
