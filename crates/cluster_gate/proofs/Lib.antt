@@ -21,3 +21,4 @@ pub mod FoundOrAllowed
 pub mod ServedSteps
 pub mod ServedOnce
 pub mod OnePolicy
+pub mod FailurePolicies

@@ -1,11 +1,12 @@
 -- Laws of what a cluster decides.
-use Rattle.std.specs.Prelude.{◌≡◌, ℕ, ◌≤◌, true, List, [], ◌∷◌, Option, Some, None}
+use Rattle.std.specs.Prelude.{◌≡◌, ℕ, ◌≤◌, Bool, true, false, List, [], ◌∷◌, Option, Some, None}
 use Rattle.std.specs.List.{All}
 use Rattle.serde_json.specs.Data as json
 use Rattle.serde_json.specs.Read.{max_depth}
 use Rattle.value_store.specs.Reviews.{uid_in}
 use Rattle.policy_glue.specs.OneImage.{OneImage}
 use Rattle.policy_glue.specs.Rejections.{response_text}
+use Rattle.policy_glue.specs.declared.failure_policy.FailurePolicy.{FailurePolicy, TheVariants.Fail, TheVariants.Ignore}
 use Rattle.admission_match.specs.Matching.{match_answer}
 use Rattle.admission_match.specs.Requests.{is_exempt}
 use Rattle.admission_match.specs.declared.answer.Answer.TheVariants.{No}
@@ -14,7 +15,9 @@ use Rattle.cluster_state.specs.Items.{Collection}
 use Rattle.cluster_state.specs.Params.{namespace_labels}
 use Rattle.cluster_state.specs.Policies.{BoundPolicy}
 use Rattle.cluster_state.specs.State.{ClusterState}
+use Rattle.cluster_plan.specs.Steps.{fails_closed}
 use Rattle.cluster_gate.specs.Dispatch.{DecidesInCluster, request_given}
+use Rattle.cluster_gate.specs.Gates.{IsCompiledPolicy}
 
 -- ---- requests that are allowed
 
@@ -48,3 +51,15 @@ pub record HasShallowDocuments (s : ClusterState) : Type 0 where
 abbrev pub OneAnswer : Type 0
 OneAnswer = (s : ClusterState) (review : List ℕ) (n : ℕ) (a b : Option (List ℕ)) → HasShallowDocuments s
     → DecidesInCluster OneImage s review n a → DecidesInCluster OneImage s review n b → a ≡ b
+
+-- ---- the failure policy
+
+-- whether an error denies under this failure policy
+abbrev pub denies_errors : FailurePolicy → Bool
+denies_errors Fail = true
+denies_errors Ignore = false
+
+-- the failure policy that the steps of a compiled policy go by is the compiled policy's
+abbrev pub FailsClosedAsCompiled : Type 0
+FailsClosedAsCompiled = (p : BoundPolicy) (names : Bool) (c : IsCompiledPolicy p names) → IsShallow p.document
+    → fails_closed p.document ≡ denies_errors c.is_policy.parsed.failure_policy

@@ -1,5 +1,5 @@
 //! Laws of the definitions, each the clause of a function that does nothing.
-ghost use Rattle.cluster_gate.specs.Laws.{ExemptIsAllowed, OneAnswer, UnmatchedIsAllowed};
+ghost use Rattle.cluster_gate.specs.Laws.{ExemptIsAllowed, FailsClosedAsCompiled, OneAnswer, UnmatchedIsAllowed};
 ghost use Rattle.cluster_gate.specs.OnePolicy.{OnePolicyIsReview};
 ghost use Rattle.cluster_gate.specs.Orders.{OrderIsFree};
 ghost use Rattle.cluster_gate.specs.Servers.{EquivalentsAreFree, ServersHaveAnswers};
@@ -66,3 +66,8 @@ pub fn one_policy_is_review()
     reviews_once();
     allowed_exactly();
 }
+
+/// An error of a compiled policy denies in its steps exactly if its failure policy is `Fail`.
+pub fn fails_closed_as_compiled()
+    ensures { FailsClosedAsCompiled }
+{}
