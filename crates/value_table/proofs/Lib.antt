@@ -34,3 +34,4 @@ pub mod ReviewReading
 pub mod RootKinds
 pub mod RootsInOrder
 pub mod ReviewTables
+pub mod Pools

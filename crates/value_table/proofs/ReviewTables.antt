@@ -45,7 +45,7 @@ parts_there : (o : Option json.Data) → option_and_then parts_in o ≡ option_m
 parts_there None = refl
 parts_there (Some d) = refl
 
-parts_are : (o : Option json.Data) (ms : json.Members) → option_and_then request_of o ≡ Some ms → option_and_then parts_in o ≡ Some (parts_of ms)
+pub parts_are : (o : Option json.Data) (ms : json.Members) → option_and_then request_of o ≡ Some ms → option_and_then parts_in o ≡ Some (parts_of ms)
 parts_are o ms e = parts_there o ∙ ap (option_map parts_of) e
 
 no_parts : (o : Option json.Data) → option_and_then request_of o ≡ None → option_and_then parts_in o ≡ None
@@ -143,7 +143,7 @@ no_others parts None params s e = (s, inl refl)
 no_others parts (Some n) None s e = (s, inr refl)
 no_others parts (Some n) (Some p) s e = absurd (cc)
 
-all_there : (o : Option ReviewRoots) (namespace params : Option json.Data) (parts : ReviewRoots) (n p : json.Data) → o ≡ Some parts → namespace ≡ Some n → params ≡ Some p
+pub all_there : (o : Option ReviewRoots) (namespace params : Option json.Data) (parts : ReviewRoots) (n p : json.Data) → o ≡ Some parts → namespace ≡ Some n → params ≡ Some p
     → root_documents o namespace params ≡ Some (parts.object ∷ parts.old_object ∷ p ∷ n ∷ parts.request ∷ [])
 all_there o namespace params parts n p e f g = rw (e, f, g) refl
 

@@ -24,3 +24,4 @@ pub mod RootKind
 pub mod RootPlaces
 pub mod OtherRoots
 pub mod ReviewTable
+pub mod DocumentPool

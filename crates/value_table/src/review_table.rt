@@ -154,7 +154,7 @@ fn other_roots(
 
 // Reads a review and returns where the values of its request are.
 #[tactic(auto, using(crate::proofs::ReviewTables::review_is_read, crate::proofs::ReviewTables::no_review, crate::proofs::ReviewTables::no_document))]
-fn review_values(
+pub(crate) fn review_values(
     heap: &mut Heap,
     scratch: &mut Scratch,
     bytes: &[u8],
@@ -189,7 +189,7 @@ fn optional_value(
 }
 
 #[tactic(auto, using(crate::proofs::ReviewTables::document_is_read))]
-fn document_value(
+pub(crate) fn document_value(
     heap: &mut Heap,
     scratch: &mut Scratch,
     bytes: &[u8],

@@ -1,0 +1,92 @@
+//! Documents that are read once, for any number of reviews.
+
+ghost use Rattle.std.specs.Prelude.{◌≡◌, [], IfOk};
+ghost use Rattle.value_store.specs.Documents.{document_of};
+ghost use Rattle.value_table.specs.DocumentPool.{HoldsReview, OpenReturns, PoolReturns};
+ghost use Rattle.value_table.specs.Heap.{heap_values};
+
+use crate::heap::Heap;
+use crate::open_review::OpenReview;
+use crate::pooled_document::PooledDocument;
+use crate::reading::add_null;
+use crate::review_error::ReviewError;
+use crate::review_table::{document_value, review_values};
+use json::Scratch;
+use std::alloc::{AllocError, Global};
+use std::marker::Model;
+
+/// The values of documents. Copies share them.
+#[derive(Drop)]
+pub struct DocumentPool {
+    heap: Heap,
+}
+
+impl Model for DocumentPool {
+    ghost use Rattle.std.specs.Coded.{codes};
+    ghost use Rattle.value_table.specs.DocumentPool.{coded_value};
+    ghost use Rattle.std.specs.Prelude.{List};
+    ghost use Rattle.value_store.specs.Value as kind;
+    ghost use Rattle.value_table.specs.Heap.{heap_values, IsHeap};
+
+    ghost Value = { List kind.Value };
+
+    ghost coded = { Prim.hlevel (codes, coded_value) };
+
+    ghost view = { λ p. heap_values p.heap };
+
+    ghost invariant = { λ p. IsHeap p.heap };
+}
+
+impl DocumentPool {
+    /// A pool without documents.
+    pub fn new(alloc: Global) -> Result<DocumentPool, AllocError>
+        ensures { IfOk result (λ p. p ≡ []) }
+    {
+        Ok(DocumentPool {
+            heap: Heap::new(alloc)?,
+        })
+    }
+
+    /// A copy that shares the values.
+    pub fn copy(&self) -> Result<DocumentPool, AllocError>
+        ensures { IfOk result (λ p. p ≡ self.now) }
+    {
+        Ok(DocumentPool {
+            heap: self.heap.copy()?,
+        })
+    }
+
+    /// Reads a document. The documents that were read before keep their places.
+    ///
+    /// # Errors
+    ///
+    /// `InvalidDocument` if it is not JSON. `Memory` if an allocation failed.
+    pub fn with_document(self, text: &[u8]) -> Result<(DocumentPool, PooledDocument), ReviewError>
+        ensures { PoolReturns self result (document_of text.now) }
+    {
+        let mut heap = self.heap;
+        let mut scratch = Scratch::new(heap.cells.alloc());
+        let placed = document_value(&mut heap, &mut scratch, text)?;
+        Ok((DocumentPool { heap }, PooledDocument { placed }))
+    }
+
+    /// Reads a review (AdmissionReview, `admission.k8s.io/v1`) beside the documents.
+    ///
+    /// # Errors
+    ///
+    /// `InvalidReview` if it is no review. `Memory` if an allocation failed.
+    pub fn open<'r>(self, review: &'r [u8]) -> Result<OpenReview<'r>, ReviewError>
+        ensures { OpenReturns self result review.now }
+    {
+        let mut heap = self.heap;
+        let mut scratch = Scratch::new(heap.cells.alloc());
+        let request = review_values(&mut heap, &mut scratch, review)?;
+        let null = add_null(&mut heap)?;
+        Ok(OpenReview {
+            review,
+            heap,
+            request,
+            null,
+        })
+    }
+}
