@@ -6,6 +6,7 @@ pub mod Backed
 pub mod Chunked
 pub mod Adding
 pub mod Listed
+pub mod Counted
 pub mod Named
 pub mod Gathered
 pub mod Growing

@@ -8,6 +8,7 @@ use crate::lengths::quoted_length;
 use crate::lists::Lists;
 use crate::part::Part;
 use crate::room::repeat;
+use crate::small::small;
 use std::alloc::{AllocError, Global};
 
 /// The storage that the cells of texts, lists and maps refer to.
@@ -53,10 +54,9 @@ impl Backings {
         ensures part { IfOk result (λ p. IsText self.new.bytes p × (part_of self.new.bytes p ≡ text.now)) }
         ensures kept { OnErr result (self.new ≡ self.old) }
     {
-        let json = quoted_length(text);
-        let from = self.bytes.len() as u64;
+        let json = small(quoted_length(text) as usize)?;
+        let (from, to) = range(self.bytes.len(), text.len())?;
         self.bytes.extend(text)?;
-        let to = self.bytes.len() as u64;
         Ok(Part { from, to, json })
     }
 
@@ -68,34 +68,33 @@ impl Backings {
         ensures part { IfOk result (λ p. IsText self.new.bytes p × (part_of self.new.bytes p ≡ part_of self.old.bytes first ++ part_of self.old.bytes second)) }
         ensures kept { OnErr result (self.new ≡ self.old) }
     {
-        let from = self.bytes.len() as u64;
-        let more = (first.to - first.from) + (second.to - second.from);
-        let bytes = self.bytes.room(more as usize)?;
+        let json = small(first.json as usize + second.json as usize - 2)?;
+        let more = (first.to - first.from) as usize + (second.to - second.from) as usize;
+        let (from, to) = range(self.bytes.len(), more)?;
+        let bytes = self.bytes.room(more)?;
         repeat(bytes, first.from as usize, first.to as usize);
         repeat(bytes, second.from as usize, second.to as usize);
-        let to = self.bytes.len() as u64;
-        let json = quoted_length(&self.bytes.items()[from as usize..to as usize]);
         Ok(Part { from, to, json })
     }
 
     /// Adds a backing with these items.
-    pub(crate) fn add_items(&mut self, items: Backing<u64>) -> Result<u64, AllocError>
+    pub(crate) fn add_items(&mut self, items: Backing<u32>) -> Result<u32, AllocError>
         ensures grown { ExtendsBackings self.old self.new }
         ensures items { IfOk result (λ b. HoldsItems self.new.lists b (length items) items) }
         ensures kept { OnErr result (self.new ≡ self.old) }
     {
-        let place = self.lists.len() as u64;
+        let place = small(self.lists.len())?;
         self.lists.push(items)?;
         Ok(place)
     }
 
     /// Adds a backing with these items, stored in the pool.
-    pub(crate) fn pool_items(&mut self, items: &[u64]) -> Result<u64, AllocError>
+    pub(crate) fn pool_items(&mut self, items: &[u32]) -> Result<u32, AllocError>
         ensures grown { ExtendsBackings self.old self.new }
         ensures items { IfOk result (λ b. HoldsItems self.new.lists b (length items.now) items.now) }
         ensures kept { OnErr result (self.new ≡ self.old) }
     {
-        let place = self.lists.len() as u64;
+        let place = small(self.lists.len())?;
         self.lists.add(items)?;
         Ok(place)
     }
@@ -104,19 +103,18 @@ impl Backings {
     /// that has no further items, else a new one.
     pub(crate) fn push_item(
         &mut self,
-        backing: u64,
-        count: u64,
-        item: u64,
-    ) -> Result<u64, AllocError>
+        backing: u32,
+        count: u32,
+        item: u32,
+    ) -> Result<u32, AllocError>
         requires inside { backing < length self.old.lists }
         requires long { count ≤ length (slice_index_or self.old.lists backing []) }
         ensures grown { ExtendsBackings self.old self.new }
-        ensures short { count < 2 ^ 63 }
         ensures items { IfOk result (λ b. HoldsItems self.new.lists b (count + 1) (refs_at self.old.lists backing count ++ item ∷ [])) }
         ensures shared { count ≡ length (slice_index_or self.old.lists backing []) → IfOk result (λ b. (b ≡ backing) × (length self.new.lists ≡ length self.old.lists)) }
         ensures kept { OnErr result (self.new ≡ self.old) }
     {
-        let held = self.lists.items(backing);
+        let held = self.lists.items(backing as u64);
         if held.len() == count as usize {
             self.lists.push_item(backing as usize, item)?;
             return Ok(backing);
@@ -129,23 +127,22 @@ impl Backings {
     /// of them if that has no further items, else a new one.
     pub(crate) fn join_items(
         &mut self,
-        first: (u64, u64),
-        second: (u64, u64),
-    ) -> Result<u64, AllocError>
+        first: (u32, u32),
+        second: (u32, u32),
+    ) -> Result<u32, AllocError>
         requires first_inside { first.0 < length self.old.lists }
         requires first_long { first.1 ≤ length (slice_index_or self.old.lists first.0 []) }
         requires second_inside { second.0 < length self.old.lists }
         requires second_long { second.1 ≤ length (slice_index_or self.old.lists second.0 []) }
         ensures grown { ExtendsBackings self.old self.new }
-        ensures short { OnOk result (first.1 + second.1 < 2 ^ 64) }
         ensures items { IfOk result (λ b. HoldsItems self.new.lists b (first.1 + second.1) (refs_at self.old.lists first.0 first.1 ++ refs_at self.old.lists second.0 second.1)) }
         ensures kept { OnErr result (self.new ≡ self.old) }
     {
         let (backing, count) = first;
         let (other, more) = second;
-        let others = self.lists.shared(other)?;
+        let others = self.lists.shared(other as u64)?;
         let others = &others.items()[..more as usize];
-        let items = self.lists.items(backing);
+        let items = self.lists.items(backing as u64);
         if items.len() == count as usize {
             self.lists.push_items(backing as usize, others)?;
             return Ok(backing);
@@ -153,4 +150,13 @@ impl Backings {
         let both = Backing::joined(self.keys.alloc(), &items[..count as usize], others)?;
         self.add_items(both)
     }
+}
+
+// The bounds of `count` items that follow the first `from`.
+fn range(from: usize, count: usize) -> Result<(u32, u32), AllocError>
+    ensures from { IfOk result (λ r. r.0 ≡ from) }
+    ensures to { IfOk result (λ r. r.1 ≡ from + count) }
+{
+    let to = from.checked_add(count).ok_or(AllocError)?;
+    Ok((small(from)?, small(to)?))
 }

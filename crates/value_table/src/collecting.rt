@@ -11,6 +11,7 @@ use crate::part::Part;
 use crate::pending_list::PendingList;
 use crate::pending_map::PendingMap;
 use crate::placed::Placed;
+use crate::small::small;
 use std::alloc::AllocError;
 use std::collections::BTreeMap;
 use std::mem::replace;
@@ -53,7 +54,7 @@ fn collect(
     heap: &mut Heap,
     found: &BTreeMap<&str, Option<Placed>>,
     keys: &mut Vec<Part>,
-    places: &mut Vec<u64>,
+    places: &mut Vec<u32>,
 ) -> Result<Option<Placed>, AllocError>
     requires heap { IsHeap heap.old }
     requires sound { AreSoundEntries (heap_values heap.old) found.now.entries }
@@ -67,8 +68,9 @@ fn collect(
             return Ok(None);
         };
         size = entry_size(size, key, member);
+        let at = small(member.place as usize)?;
         keys.push(heap.add_key(key)?)?;
-        places.push(member.place)?;
+        places.push(at)?;
     }
     let place = heap.add_map(&keys[..], &places[..])?;
     Ok(Some(Placed { place, size }))

@@ -10,8 +10,8 @@ pub(crate) enum Content {
     Int(i64),
     Text(Part),
     /// The backing, and the number of its first items that are the list's.
-    List(u64, u64),
+    List(u32, u32),
     /// The place of the first key, the backing, and the number of entries. The values are the first
     /// items of the backing.
-    Map(u64, u64, u64),
+    Map(u32, u32, u32),
 }

@@ -12,6 +12,7 @@ ghost use Rattle.value_table.specs.Heap.{heap_values, IsHeap};
 ghost use Rattle.value_table.specs.Heaps.{AreBelow};
 
 use crate::heap::Heap;
+use crate::small::small;
 use serde_json::{Map, Value};
 use std::alloc::AllocError;
 
@@ -45,7 +46,9 @@ fn add_items(heap: &mut Heap, items: Vec<Value>) -> Result<u64, AllocError>
 {
     let mut places = Vec::with_capacity(heap.cells.alloc(), items.len())?;
     for item in items {
-        places.push(add_document(heap, item)?)?;
+        let place = add_document(heap, item)?;
+        let at = small(place as usize)?;
+        places.push(at)?;
     }
     heap.add_list(&places)
 }
@@ -61,14 +64,16 @@ fn add_members(heap: &mut Heap, members: Map<String, Value>) -> Result<u64, Allo
     let mut keys = Vec::with_capacity(heap.cells.alloc(), members.len())?;
     let mut places = Vec::with_capacity(heap.cells.alloc(), members.len())?;
     for (key, member) in members {
-        places.push(add_document(heap, member)?)?;
+        let place = add_document(heap, member)?;
+        let at = small(place as usize)?;
+        places.push(at)?;
         keys.push(key)?;
     }
     add_entries(heap, &keys, &places)
 }
 
 // Adds the map with these keys and the values at these places.
-fn add_entries(heap: &mut Heap, keys: &[String], places: &[u64]) -> Result<u64, AllocError>
+fn add_entries(heap: &mut Heap, keys: &[String], places: &[u32]) -> Result<u64, AllocError>
     requires heap { IsHeap heap.old }
     requires values { AreBelow (length (heap_values heap.old)) places.now }
     requires pairs { length keys.now ≡ length places.now }

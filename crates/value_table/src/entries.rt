@@ -16,6 +16,7 @@ use crate::lengths::put_length;
 use crate::part::Part;
 use crate::room::fill;
 use crate::search::search;
+use crate::small::small;
 use crate::text::{keys, text};
 use std::alloc::AllocError;
 
@@ -57,17 +58,21 @@ impl Heap {
         let bytes = self.backings.bytes.items();
         let Err(gap) = search(
             bytes,
-            keys(self.backings.keys.items(), row, count),
+            keys(self.backings.keys.items(), row as u64, count as u64),
             text(bytes, key),
         ) else {
             unreachable!();
         };
-        let json = put_length(map.json, count, name.json, value.json);
+        let json = put_length(map.json, count as u64, name.json, value.json);
+        let larger = small(count as usize + 1)?;
+        let place = small(x as usize)?;
         let depth = map.depth.max(value.depth.saturating_add(1));
         let cells = room_for_cell(&mut self.cells, &mut self.same)?;
-        let entry = self.backings.put_entry((row, backing, count), gap, key, x)?;
+        let entry = self
+            .backings
+            .put_entry((row, backing, count), gap, key, place)?;
         Ok(cells.append(Cell {
-            content: Content::Map(entry.0, entry.1, count + 1),
+            content: Content::Map(entry.0, entry.1, larger),
             depth,
             json,
         }))
@@ -79,17 +84,17 @@ impl Backings {
     pub(crate) fn add_entries(
         &mut self,
         keys: &[Part],
-        values: &[u64],
-    ) -> Result<(u64, u64), AllocError>
+        values: &[u32],
+    ) -> Result<(u32, u32), AllocError>
         ensures grown { ExtendsBackings self.old self.new }
         ensures bytes { self.new.bytes ≡ self.old.bytes }
         ensures keys { IfOk result (λ r. HoldsKeys self.new.keys r.0 (length keys.now) keys.now) }
         ensures values { IfOk result (λ r. HoldsItems self.new.lists r.1 (length values.now) values.now) }
         ensures kept { OnErr result (self.new ≡ self.old) }
     {
-        let row = self.keys.len() as u64;
+        let row = small(self.keys.len())?;
         let room = self.keys.room(keys.len())?;
-        let backing = self.lists.len() as u64;
+        let backing = small(self.lists.len())?;
         self.lists.add(values)?;
         fill(room, keys);
         Ok((row, backing))
@@ -100,31 +105,31 @@ impl Backings {
     // the end.
     fn put_entry(
         &mut self,
-        map: (u64, u64, u64),
+        map: (u32, u32, u32),
         place: usize,
         key: Part,
-        item: u64,
-    ) -> Result<(u64, u64), AllocError>
+        item: u32,
+    ) -> Result<(u32, u32), AllocError>
         requires row { map.0 + map.2 ≤ length self.old.keys }
         requires inside { map.1 < length self.old.lists }
         requires long { map.2 ≤ length (slice_index_or self.old.lists map.1 []) }
         requires place { place ≤ map.2 }
         ensures grown { ExtendsBackings self.old self.new }
         ensures bytes { self.new.bytes ≡ self.old.bytes }
-        ensures short { map.2 < 2 ^ 63 }
         ensures keys { IfOk result (λ r. HoldsKeys self.new.keys r.0 (map.2 + 1) (with_one place key (keys_at self.old.keys map.0 map.2))) }
         ensures items { IfOk result (λ r. HoldsItems self.new.lists r.1 (map.2 + 1) (with_one place item (refs_at self.old.lists map.1 map.2))) }
         ensures kept { OnErr result (self.new ≡ self.old) }
     {
         let (row, backing, count) = map;
-        let end = self.keys.len() as u64;
-        if place as u64 == count && row + count == end {
+        let end = self.keys.len();
+        if place == count as usize && row as usize + place == end {
             let keys = self.keys.room(1)?;
             let items = self.lists.put_item(backing, count, place, item)?;
             keys.push_reserved(key);
             return Ok((row, items));
         }
-        let here = keys(self.keys.items(), row, count);
+        let end = small(end)?;
+        let here = keys(self.keys.items(), row as u64, count as u64);
         let more = Backing::with_item(self.keys.alloc(), here, place, key)?;
         let keys = self.keys.room(more.len())?;
         let items = self.lists.put_item(backing, count, place, item)?;

@@ -66,7 +66,7 @@ impl Heap {
     {
         self.complete_words();
         match self.cell(c).content {
-            Content::List(backing, count) => self.has_item(x, backing, count),
+            Content::List(backing, count) => self.has_item(x, backing as u64, count as u64),
             _ => self.has_key(c, x),
         }
     }

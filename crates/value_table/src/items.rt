@@ -11,6 +11,7 @@ use crate::cell::Cell;
 use crate::content::Content;
 use crate::heap::{Heap, room_for_cell};
 use crate::lengths::{joined_length, pushed_length};
+use crate::small::small;
 use std::alloc::AllocError;
 
 impl Heap {
@@ -44,11 +45,13 @@ impl Heap {
             unreachable!();
         };
         let depth = list.depth.max(item.depth.saturating_add(1));
-        let json = pushed_length(list.json, count, item.json);
+        let json = pushed_length(list.json, count as u64, item.json);
+        let longer = small(count as usize + 1)?;
+        let place = small(x as usize)?;
         let cells = room_for_cell(&mut self.cells, &mut self.same)?;
-        let pushed = self.backings.push_item(backing, count, x)?;
+        let pushed = self.backings.push_item(backing, count, place)?;
         let cell = Cell {
-            content: Content::List(pushed, count + 1),
+            content: Content::List(pushed, longer),
             depth,
             json,
         };
@@ -71,11 +74,12 @@ impl Heap {
         let Content::List(other, more) = second.content else {
             unreachable!();
         };
-        let json = joined_length(first.json, count, second.json, more);
+        let json = joined_length(first.json, count as u64, second.json, more as u64);
+        let both = small(count as usize + more as usize)?;
         let cells = room_for_cell(&mut self.cells, &mut self.same)?;
         let joined = self.backings.join_items((backing, count), (other, more))?;
         Ok(cells.append(Cell {
-            content: Content::List(joined, count + more),
+            content: Content::List(joined, both),
             depth: first.depth.max(second.depth),
             json,
         }))

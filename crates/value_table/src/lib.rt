@@ -51,6 +51,7 @@ mod search;
 mod seeing;
 mod sequence;
 mod shared_documents;
+mod small;
 mod table;
 mod text;
 mod texts;

@@ -10,6 +10,7 @@ ghost use Rattle.value_table.specs.declared.backings.Backings.{Backings};
 use crate::backing::Backing;
 use crate::room::fill;
 use crate::row::{Row, extend, items, shared};
+use crate::small::small;
 use std::alloc::{AllocError, Global};
 use std::marker::Model;
 use std::rc::Rc;
@@ -19,7 +20,7 @@ use std::rc::Rc;
 pub(crate) struct Lists {
     rows: Rc<Vec<Row>>,
     /// The items of the rows without a vector: those that came from documents.
-    pool: Backing<u64>,
+    pool: Backing<u32>,
 }
 
 impl Model for Lists {
@@ -55,7 +56,7 @@ impl Lists {
 
     /// The items of a row, if there is one.
     #[inline(always)]
-    pub(crate) fn items(&self, row: u64) -> &[u64]
+    pub(crate) fn items(&self, row: u64) -> &[u32]
         ensures value { result.now ≡ slice_index_or self.now row [] }
         ensures short { length result.now < 2 ^ 63 }
     {
@@ -63,7 +64,7 @@ impl Lists {
     }
 
     /// The items of a row as a vector.
-    pub(crate) fn shared(&self, row: u64) -> Result<Backing<u64>, AllocError>
+    pub(crate) fn shared(&self, row: u64) -> Result<Backing<u32>, AllocError>
         requires { row < length self.now }
         ensures { IfOk result (λ b. b ≡ slice_index_or self.now row []) }
     {
@@ -72,7 +73,7 @@ impl Lists {
     }
 
     /// Adds a row with a vector.
-    pub(crate) fn push(&mut self, backing: Backing<u64>) -> Result<(), AllocError>
+    pub(crate) fn push(&mut self, backing: Backing<u32>) -> Result<(), AllocError>
         ensures ok { OnOk result (self.new ≡ self.old ++ backing ∷ []) }
         ensures err { OnErr result (self.new ≡ self.old) }
     {
@@ -80,7 +81,7 @@ impl Lists {
     }
 
     /// Adds a row whose items are appended to the pool.
-    pub(crate) fn add(&mut self, items: &[u64]) -> Result<(), AllocError>
+    pub(crate) fn add(&mut self, items: &[u32]) -> Result<(), AllocError>
         ensures ok { OnOk result (self.new ≡ self.old ++ items.now ∷ []) }
         ensures err { OnErr result (self.new ≡ self.old) }
     {
@@ -88,7 +89,7 @@ impl Lists {
     }
 
     /// Appends an item to a row.
-    pub(crate) fn push_item(&mut self, row: usize, item: u64) -> Result<(), AllocError>
+    pub(crate) fn push_item(&mut self, row: usize, item: u32) -> Result<(), AllocError>
         requires { row < length self.old }
         ensures ok { OnOk result (self.new ≡ slice_set self.old row (slice_index_or self.old row [] ++ item ∷ [])) }
         ensures err { OnErr result (self.new ≡ self.old) }
@@ -97,7 +98,7 @@ impl Lists {
     }
 
     /// Appends items to a row.
-    pub(crate) fn push_items(&mut self, row: usize, items: &[u64]) -> Result<(), AllocError>
+    pub(crate) fn push_items(&mut self, row: usize, items: &[u32]) -> Result<(), AllocError>
         requires { row < length self.old }
         ensures ok { OnOk result (self.new ≡ slice_set self.old row (slice_index_or self.old row [] ++ items.now)) }
         ensures err { OnErr result (self.new ≡ self.old) }
@@ -110,11 +111,11 @@ impl Lists {
     /// that has no further items, else a new one.
     pub(crate) fn put_item(
         &mut self,
-        row: u64,
-        count: u64,
+        row: u32,
+        count: u32,
         place: usize,
-        item: u64,
-    ) -> Result<u64, AllocError>
+        item: u32,
+    ) -> Result<u32, AllocError>
         requires inside { row < length self.old }
         requires long { count ≤ length (slice_index_or self.old row []) }
         requires place { place ≤ count }
@@ -122,21 +123,21 @@ impl Lists {
         ensures items { IfOk result (λ b. HoldsItems self.new b (count + 1) (with_one place item (refs_at self.old row count))) }
         ensures kept { OnErr result (self.new ≡ self.old) }
     {
-        let items = self.items(row);
+        let items = self.items(row as u64);
         if place == count as usize && items.len() == place {
             self.push_item(row as usize, item)?;
             return Ok(row);
         }
         let items = &items[..count as usize];
         let more = Backing::with_item(self.alloc(), items, place, item)?;
-        let new = self.len() as u64;
+        let new = small(self.len())?;
         self.push(more)?;
         Ok(new)
     }
 }
 
 #[inline(always)]
-fn items_at<'a>(pool: &'a [u64], rows: &'a [Row], place: usize) -> &'a [u64]
+fn items_at<'a>(pool: &'a [u32], rows: &'a [Row], place: usize) -> &'a [u32]
     requires { AreRows pool.now rows.now }
     ensures { result.now ≡ slice_index_or (rows_items pool.now rows.now) place [] }
 {
@@ -148,10 +149,10 @@ fn items_at<'a>(pool: &'a [u64], rows: &'a [Row], place: usize) -> &'a [u64]
 
 fn shared_at(
     alloc: Global,
-    pool: &[u64],
+    pool: &[u32],
     rows: &[Row],
     place: usize,
-) -> Result<Backing<u64>, AllocError>
+) -> Result<Backing<u32>, AllocError>
     requires rows { AreRows pool.now rows.now }
     requires inside { place < length rows.now }
     ensures { IfOk result (λ b. b ≡ slice_index_or (rows_items pool.now rows.now) place []) }
@@ -160,15 +161,16 @@ fn shared_at(
 }
 
 // Appends items to the pool, and adds the row that holds them.
-fn put(pool: &mut Backing<u64>, rows: &mut Rc<Vec<Row>>, items: &[u64]) -> Result<(), AllocError>
+fn put(pool: &mut Backing<u32>, rows: &mut Rc<Vec<Row>>, items: &[u32]) -> Result<(), AllocError>
     requires { AreRows pool.old rows.old.value.items }
     ensures rows { AreRows pool.new rows.new.value.items }
     ensures ok { OnOk result (rows_items pool.new rows.new.value.items ≡ rows_items pool.old rows.old.value.items ++ items.now ∷ []) }
     ensures err { OnErr result (rows_items pool.new rows.new.value.items ≡ rows_items pool.old rows.old.value.items) }
 {
-    let from = pool.len() as u64;
+    let from = small(pool.len())?;
+    let count = small(items.len())?;
     let room = pool.room(items.len())?;
-    add_row(rows, Row::Pooled(from, items.len() as u64))?;
+    add_row(rows, Row::Pooled(from, count))?;
     fill(room, items);
     Ok(())
 }
@@ -184,10 +186,10 @@ fn add_row(rows: &mut Rc<Vec<Row>>, row: Row) -> Result<(), AllocError>
 
 fn extend_at(
     alloc: Global,
-    pool: &[u64],
+    pool: &[u32],
     rows: &mut Rc<Vec<Row>>,
     place: usize,
-    items: &[u64],
+    items: &[u32],
 ) -> Result<(), AllocError>
     requires rows { AreRows pool.now rows.old.value.items }
     requires inside { place < length rows.old.value.items }
@@ -201,10 +203,10 @@ fn extend_at(
 
 fn extend_in(
     alloc: Global,
-    pool: &[u64],
+    pool: &[u32],
     rows: &mut Vec<Row>,
     place: usize,
-    items: &[u64],
+    items: &[u32],
 ) -> Result<(), AllocError>
     requires rows { AreRows pool.now rows.old.items }
     requires inside { place < length rows.old.items }

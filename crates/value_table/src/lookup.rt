@@ -26,7 +26,7 @@ impl Heap {
     {
         match self.cell(map).content {
             Content::Map(first, _, count) => {
-                let keys = keys(self.backings.keys.items(), first, count);
+                let keys = keys(self.backings.keys.items(), first as u64, count as u64);
                 place(self.backings.bytes.items(), keys, key)
             }
             _ => None,

@@ -3,8 +3,8 @@
 /// A range of the bytes of all texts, and its measure.
 #[derive(Clone, Copy, Debug, PartialEq, Eq)]
 pub(crate) struct Part {
-    pub(crate) from: u64,
-    pub(crate) to: u64,
-    /// The length of its JSON text in bytes, capped at 2^64 - 1.
-    pub(crate) json: u64,
+    pub(crate) from: u32,
+    pub(crate) to: u32,
+    /// The length of its JSON text in bytes.
+    pub(crate) json: u32,
 }

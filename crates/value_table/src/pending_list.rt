@@ -4,12 +4,13 @@ ghost use Rattle.std.specs.Prelude.{OnOk};
 ghost use Rattle.value_table.specs.Reading.{AddsItem};
 
 use crate::placed::Placed;
+use crate::small::small;
 use std::alloc::AllocError;
 
 /// The items so far, and the size of the list. The list has no value if one of the items has none.
 #[derive(Drop)]
 pub(crate) struct PendingList {
-    pub(crate) places: Vec<u64>,
+    pub(crate) places: Vec<u32>,
     pub(crate) size: u64,
     pub(crate) whole: bool,
 }
@@ -20,7 +21,7 @@ pub(crate) fn add_item(pending: &mut PendingList, item: Option<Placed>) -> Resul
 {
     match item {
         Some(item) => {
-            pending.places.push(item.place)?;
+            pending.places.push(small(item.place as usize)?)?;
             pending.size = pending.size.saturating_add(item.size);
         }
         None => pending.whole = false,

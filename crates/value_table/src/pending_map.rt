@@ -7,7 +7,7 @@ use std::alloc::Global;
 #[derive(Drop)]
 pub(crate) struct PendingMap {
     pub(crate) keys: Vec<Part>,
-    pub(crate) places: Vec<u64>,
+    pub(crate) places: Vec<u32>,
 }
 
 impl PendingMap {

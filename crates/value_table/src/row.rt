@@ -10,25 +10,25 @@ use std::alloc::{AllocError, Global};
 #[derive(Drop)]
 pub(crate) enum Row {
     /// They are in their own vector, which can grow.
-    Own(Backing<u64>),
+    Own(Backing<u32>),
     /// They are a range of the pool: the first place, and the number.
-    Pooled(u64, u64),
+    Pooled(u32, u32),
 }
 
 /// The items of a row.
 #[inline(always)]
-pub(crate) fn items<'a>(pool: &'a [u64], row: &'a Row) -> &'a [u64]
+pub(crate) fn items<'a>(pool: &'a [u32], row: &'a Row) -> &'a [u32]
     requires { IsPoolRow pool.now row.now }
     ensures { result.now ≡ row_items pool.now row.now }
 {
     match row {
         Row::Own(items) => items.items(),
-        Row::Pooled(from, count) => &pool[*from as usize..(*from + *count) as usize],
+        Row::Pooled(from, count) => &pool[*from as usize..*from as usize + *count as usize],
     }
 }
 
 /// The items of a row as a vector: its own one, shared, or a copy of its range of the pool.
-pub(crate) fn shared(alloc: Global, pool: &[u64], row: &Row) -> Result<Backing<u64>, AllocError>
+pub(crate) fn shared(alloc: Global, pool: &[u32], row: &Row) -> Result<Backing<u32>, AllocError>
     requires { IsPoolRow pool.now row.now }
     ensures { IfOk result (λ b. b ≡ row_items pool.now row.now) }
 {
@@ -41,9 +41,9 @@ pub(crate) fn shared(alloc: Global, pool: &[u64], row: &Row) -> Result<Backing<u
 /// Appends items to a row. A row in the pool gets its own vector first.
 pub(crate) fn extend(
     alloc: Global,
-    pool: &[u64],
+    pool: &[u32],
     row: &mut Row,
-    more: &[u64],
+    more: &[u32],
 ) -> Result<(), AllocError>
     requires { IsPoolRow pool.now row.old }
     ensures row { IsPoolRow pool.now row.new }
@@ -53,7 +53,7 @@ pub(crate) fn extend(
     match row {
         Row::Own(items) => items.extend(more),
         Row::Pooled(from, count) => {
-            let items = &pool[*from as usize..(*from + *count) as usize];
+            let items = &pool[*from as usize..*from as usize + *count as usize];
             *row = Row::Own(Backing::joined(alloc, items, more)?);
             Ok(())
         }

@@ -30,8 +30,10 @@ impl Heap {
             Content::Bool(truth) => Shape::Bool(truth),
             Content::Int(n) => Shape::Int(n),
             Content::Text(part) => Shape::Text(self.lend(part)),
-            Content::List(backing, count) => Shape::List(self.count(backing, count)),
-            Content::Map(_, backing, count) => Shape::Map(self.count(backing, count)),
+            Content::List(backing, count) => Shape::List(self.count(backing as u64, count as u64)),
+            Content::Map(_, backing, count) => {
+                Shape::Map(self.count(backing as u64, count as u64))
+            }
         }
     }
 
@@ -78,7 +80,7 @@ impl Heap {
         ensures value { slice_get (value_parts (value_in (heap_values self.now) place)) i ≡ Some (value_in (heap_values self.now) result) }
     {
         let content = self.cell(place).content;
-        parts_of(&self.backings, content)[i as usize]
+        parts_of(&self.backings, content)[i as usize] as u64
     }
 
     /// Where the i-th key of a map is stored.
@@ -91,7 +93,7 @@ impl Heap {
         ensures value { key_in (value_in (heap_values self.now) place) i ≡ Some (part_of self.now.backings.bytes result) }
     {
         match self.cell(place).content {
-            Content::Map(keys, _, count) => self.keys(keys, count)[i as usize],
+            Content::Map(keys, _, count) => self.keys(keys as u64, count as u64)[i as usize],
             _ => unreachable!(),
         }
     }

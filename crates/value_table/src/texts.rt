@@ -86,6 +86,6 @@ fn text_cell(part: Part) -> Cell
     Cell {
         content: Content::Text(part),
         depth: 0,
-        json: part.json,
+        json: part.json as u64,
     }
 }

@@ -77,7 +77,7 @@ fn write(
     let parts = parts_of(backings, content);
     for i in 0..parts.len() {
         write_name(backings, writer, names, i)?;
-        write(cells, backings, writer, parts[i])?;
+        write(cells, backings, writer, parts[i] as u64)?;
     }
     close(backings, writer, content)?;
     Ok(())
@@ -133,7 +133,7 @@ fn names(backings: &Backings, content: Content) -> &[Part]
     ensures keys { texts_of backings.now.bytes result.now ≡ head_keys (head backings.now content) }
 {
     match content {
-        Content::Map(row, _, count) => keys(backings.keys.items(), row, count),
+        Content::Map(row, _, count) => keys(backings.keys.items(), row as u64, count as u64),
         _ => &[],
     }
 }

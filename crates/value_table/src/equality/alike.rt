@@ -29,7 +29,8 @@ pub(crate) fn alike(backings: &Backings, hints: &mut Hints, left: Content, right
         (Content::List(_, m), Content::List(_, n)) => m == n,
         (Content::Map(k, _, m), Content::Map(l, _, n)) => {
             let all = backings.keys.items();
-            let (left, right) = (keys(all, k, m), keys(all, l, n));
+            let left = keys(all, k as u64, m as u64);
+            let right = keys(all, l as u64, n as u64);
             same_keys(backings.bytes.items(), hints, left, right)
         }
         _ => false,
@@ -62,12 +63,13 @@ fn same_texts(bytes: &[u8], hints: &mut Hints, left: Part, right: Part) -> bool
 {
     let (a, b) = (text(bytes, left), text(bytes, right));
     let are_long = a.len() >= LONG && a.len() == b.len();
-    if are_long && differ_at(a, b, hints.start(left.from, right.from)) {
+    let (p, q) = (left.from as u64, right.from as u64);
+    if are_long && differ_at(a, b, hints.start(p, q)) {
         return false;
     }
     let same = same_text(bytes, left, right);
     if are_long && !same {
-        hints.note(left.from, right.from, first_difference(a, b));
+        hints.note(p, q, first_difference(a, b));
     }
     same
 }

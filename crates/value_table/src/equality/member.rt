@@ -21,7 +21,7 @@ pub(crate) fn is_among(
     same: &mut [u64],
     hints: &mut Hints,
     x: u64,
-    places: &[u64],
+    places: &[u32],
 ) -> bool
     requires contents { AreContents backings.now cells.now }
     requires value { x < length cells.now }
@@ -29,7 +29,7 @@ pub(crate) fn is_among(
     ensures { (vs : List Value) → AreMeanings backings.now vs cells.now → AreSame vs same.old → AreSame vs same.new × (result ≡ has_item (value_in vs x) (items_at vs places.now)) }
 {
     for i in 0..places.len() {
-        if equal(cells, backings, same, hints, x, places[i]) {
+        if equal(cells, backings, same, hints, x, places[i] as u64) {
             return true;
         }
     }

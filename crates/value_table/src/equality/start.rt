@@ -51,7 +51,8 @@ fn enter(
 {
     let items = first(backings, backing, count);
     while index.count < count {
-        let text = text_of(cells, backings, items[index.count as usize])?;
+        let place = items[index.count as usize] as u64;
+        let text = text_of(cells, backings, place)?;
         index.add(text)?;
     }
     Ok(())

@@ -45,11 +45,20 @@ pub(crate) fn equal(
     let xs = parts_of(backings, left.content);
     let ys = parts_of(backings, right.content);
     let start = hints.start(x, y);
-    if start < xs.len() && !equal(cells, backings, same, hints, xs[start], ys[start]) {
+    if start < xs.len()
+        && !equal(
+            cells,
+            backings,
+            same,
+            hints,
+            xs[start] as u64,
+            ys[start] as u64,
+        )
+    {
         return false;
     }
     for i in 0..xs.len() {
-        if !equal(cells, backings, same, hints, xs[i], ys[i]) {
+        if !equal(cells, backings, same, hints, xs[i] as u64, ys[i] as u64) {
             hints.note(x, y, i);
             return false;
         }
@@ -58,24 +67,24 @@ pub(crate) fn equal(
     true
 }
 
-pub(crate) fn parts_of(backings: &Backings, content: Content) -> &[u64]
+pub(crate) fn parts_of(backings: &Backings, content: Content) -> &[u32]
     ensures { result.now ≡ parts backings.now content }
 {
     match content {
-        Content::List(backing, count) => first(backings, backing, count),
-        Content::Map(_, backing, count) => first(backings, backing, count),
+        Content::List(backing, count) => first(backings, backing as u64, count as u64),
+        Content::Map(_, backing, count) => first(backings, backing as u64, count as u64),
         _ => &[],
     }
 }
 
 /// The first items of a backing.
-pub(crate) fn first(backings: &Backings, backing: u64, count: u64) -> &[u64]
+pub(crate) fn first(backings: &Backings, backing: u64, count: u64) -> &[u32]
     ensures { result.now ≡ refs_at backings.now.lists backing count }
 {
     front(backings.lists.items(backing), count as usize)
 }
 
-fn front(items: &[u64], count: usize) -> &[u64]
+fn front(items: &[u32], count: usize) -> &[u32]
     ensures { result.now ≡ take count items.now }
 {
     if count < items.len() {

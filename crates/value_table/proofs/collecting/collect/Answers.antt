@@ -20,7 +20,8 @@ loop-key-preserved c =
     let go = subst (λ es. Collects all vs l.heap.backings.bytes l.keys.items l.places.items l.size es) first l.invariant.members in
     let part = c.in_ok-add_key.ensures.part in
     let more : c.push.new.self.items ≡ l.keys.items ++ c.in_ok-add_key.field-0 ∷ [] = search rules in
-    let pushed : c.push-in-loop-key.new.self.items ≡ l.places.items ++ c.in-Some-member.member.place ∷ [] = search rules in
+    let added : c.push-in-loop-key.new.self.items ≡ l.places.items ++ c.in_ok-at.at ∷ [] = search rules in
+    let pushed = added ∙ ap (λ p. l.places.items ++ p ∷ []) c.in_ok-at.ensures in
     record {
       heap = c.add_key.ensures.heap;
       values = c.add_key.ensures.values ∙ l.invariant.values;

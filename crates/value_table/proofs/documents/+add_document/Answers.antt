@@ -11,11 +11,12 @@ add_items-loop-item-preserved t c =
     let all = plain_items (items_view (into_iter_items c.into_iter-item-iterator.result)) in
     let step = c.in-Some.ensures.steps in
     let go = subst (λ ys. ItemsStand all (heap_values l.heap) l.places.items (items_view ys)) step.0 l.invariant.items in
-    let pushed : c.push.new.self.items ≡ l.places.items ++ c.in_ok-add_document.field-0 ∷ [] = search rules in
+    let added : c.push.new.self.items ≡ l.places.items ++ c.in_ok-at.at ∷ [] = search rules in
+    let pushed = added ∙ ap (λ p. l.places.items ++ p ∷ []) c.in_ok-at.ensures in
     record {
       heap = c.add_document.ensures.heap;
       grown = grown_more _ _ _ l.invariant.grown c.add_document.ensures.grown;
-      items = rw pushed (items_step all _ _ l.places.items c.in_ok-add_document.field-0 (view c.in-Some.item) (items_view (into_iter_items c.next.new.self)) c.add_document.ensures.grown c.in_ok-add_document.ensures.value go);
+      items = rw pushed (items_step all _ _ l.places.items c.in_ok-place.place (view c.in-Some.item) (items_view (into_iter_items c.next.new.self)) c.add_document.ensures.grown c.in_ok-place.ensures.value go);
       long = omega (arith, l.invariant.long, ap length step.0, step.1);
     }
 
@@ -35,12 +36,13 @@ add_members-loop-key-preserved t c =
     let go = subst (λ ys. MembersStand all (heap_values l.heap) (map string_bytes l.keys.items) l.places.items (members_view ys)) c.in-Some.ensures.steps l.invariant.members in
     let key = c.in-Some.key in
     let named : map string_bytes c.push-in-loop-key.new.self.items ≡ map string_bytes l.keys.items ++ string_bytes key ∷ [] = ap (map string_bytes) c.in_ok-push-2.ensures.items ∙ map-append string_bytes l.keys.items (key ∷ []) in
-    let pushed : c.push.new.self.items ≡ l.places.items ++ c.in_ok-add_document.field-0 ∷ [] = search rules in
+    let added : c.push.new.self.items ≡ l.places.items ++ c.in_ok-at.at ∷ [] = search rules in
+    let pushed = added ∙ ap (λ p. l.places.items ++ p ∷ []) c.in_ok-at.ensures in
     record {
       heap = c.add_document.ensures.heap;
       grown = grown_more _ _ _ l.invariant.grown c.add_document.ensures.grown;
-      members = rw (named, pushed) (members_step all _ _ (map string_bytes l.keys.items) l.places.items c.in_ok-add_document.field-0 (string_bytes key) (view c.in-Some.member) (members_view c.next.new.self)
-          (record { grown = c.add_document.ensures.grown; value = c.in_ok-add_document.ensures.value }) go);
+      members = rw (named, pushed) (members_step all _ _ (map string_bytes l.keys.items) l.places.items c.in_ok-place.place (string_bytes key) (view c.in-Some.member) (members_view c.next.new.self)
+          (record { grown = c.add_document.ensures.grown; value = c.in_ok-place.ensures.value }) go);
     }
 
 pub add_members-returns : goal.add_members-returns
@@ -65,4 +67,12 @@ add_members-returns-in_err-push t c =
 
 pub add_members-returns-in_err-push-2 : goal.add_members-returns-in_err-push-2
 add_members-returns-in_err-push-2 t c =
+    record { heap = c.add_document.ensures.heap; grown = grown_more _ _ _ c.loop-key.invariant.grown c.add_document.ensures.grown; value = search rules }
+
+pub add_items-returns-in_err-at : goal.add_items-returns-in_err-at
+add_items-returns-in_err-at t c =
+    record { heap = c.add_document.ensures.heap; grown = grown_more _ _ _ c.loop-item.invariant.grown c.add_document.ensures.grown; value = search rules }
+
+pub add_members-returns-in_err-at : goal.add_members-returns-in_err-at
+add_members-returns-in_err-at t c =
     record { heap = c.add_document.ensures.heap; grown = grown_more _ _ _ c.loop-key.invariant.grown c.add_document.ensures.grown; value = search rules }

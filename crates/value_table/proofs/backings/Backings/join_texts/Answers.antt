@@ -1,6 +1,6 @@
 -- Proofs of `backings::Backings::join_texts`: the result meets the contract.
 
-use Rattle.value_table.proofs.Prelude.{◌∙◌, ◌++◌, ap, append_assoc, slice_range, length, quoted, saturated, part_of}
+use Rattle.value_table.proofs.Prelude.{◌∙◌, ◌+◌, ◌-◌, ◌++◌, ap, append_assoc, arith, part_of}
 use Rattle.value_table.proofs.Backed.{bytes_more, texts_joined}
 use Rattle.value_table.proofs.backings.Backings.join_texts.Goals as goal
 
@@ -14,6 +14,6 @@ returns-clause-grown c =
 pub returns-clause-part : goal.returns-clause-part
 returns-clause-part c =
     let first = c.repeat.ensures.items ∙ ap (λ bytes. bytes ++ part_of bytes c.args.first) c.in_ok-bytes.ensures.items in
-    let json = c.quoted_length-json.ensures ∙ ap (λ bytes. saturated (length (quoted (slice_range bytes c.len-from.result c.len-to.result)))) c.items.ensures.value in
+    let more = (c.args.first.to - c.args.first.from) + (c.args.second.to - c.args.second.from) in
     texts_joined _ _ _ c.args.first c.args.second _ c.requires.first c.requires.second first c.repeat-2.ensures.items
-    (record { from = c.len-from.ensures.count; to = c.len-to.ensures.count; json = json })
+    (record { from = c.in_ok-from.ensures.from ∙ c.len.ensures.count; to = c.in_ok-from.ensures.to ∙ ap (λ n. n + more) c.len.ensures.count; json = c.in_ok-json.ensures; short = (omega arith, omega arith) })

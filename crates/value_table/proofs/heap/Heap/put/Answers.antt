@@ -1,10 +1,12 @@
 -- Proofs of `heap::Heap::put`: the result meets the contract; its calls meet their requirements.
 
-use Rattle.value_table.proofs.Prelude.{rules, refl, ◌≡◌, ◌+◌, ◌∙◌, sym, ap, ap₂, subst, arith, max, IsSome, keys_of, Ascend, part_of, value_in, keys_at, meaning, IsContent, heap_values, texts_of, IsKeyAt, IsInsertionPlace, put_values}
+use Rattle.value_table.proofs.Prelude.{rules, refl, ◌≡◌, ◌+◌, ◌∙◌, sym, ap, ap₂, subst, arith, max, IsSome, keys_of, Ascend, part_of, value_in, keys_at, refs_at, meaning, IsContent, HoldsItems, with_one, heap_values, texts_of, IsKeyAt, IsInsertionPlace, put_values}
 use Rattle.value_store.specs.Value as kind
+use Rattle.value_table.specs.declared.content.Content.TheVariants as cell
 use Rattle.value_table.proofs.Adding.{heap_before, gained}
 use Rattle.value_table.proofs.Heads.{map_long}
 use Rattle.value_table.proofs.Lookups.{map_here}
+use Rattle.value_table.proofs.Counted.{counted}
 use Rattle.value_table.proofs.Listed.{made_by}
 use Rattle.value_table.proofs.Mapped.{IsPut, map_put, taken}
 use Rattle.value_table.proofs.heap.Heap.put.Goals as goal
@@ -63,9 +65,11 @@ returns c =
       pairs = long;
       gap = gap;
     } in
-    let made = made_by deep c.put_length-json.ensures
+    let rs = refs_at bs.lists c.in-Map.backing c.in-Map.count in
+    let holds = subst (λ p. HoldsItems c.put_entry.new.self.lists c.in_ok-entry.entry.1 (c.in-Map.count + 1) (with_one c.in-Err.gap p rs)) c.in_ok-place.ensures c.in_ok-entry.ensures.items in
+    let made = counted (ap (cell.Map c.in_ok-entry.entry.0 c.in_ok-entry.entry.1) c.in_ok-larger.ensures) (made_by deep c.put_length-json.ensures
     (map_put bs (heap_values heap) c.args.m c.args.k c.args.x c.put_entry.new.self c.in-Map.row c.in-Map.backing c.in-Map.count c.in_ok-entry.entry.0 c.in_ok-entry.entry.1 c.in-Err.gap c.in-Text.key put
-    (record { bytes = c.put_entry.ensures.bytes; values = c.in_ok-entry.ensures.items; keys = c.in_ok-entry.ensures.keys })) in
+    (record { bytes = c.put_entry.ensures.bytes; values = holds; keys = c.in_ok-entry.ensures.keys }))) in
     gained heap _ _ _ _ _ c.requires.heap c.put_entry.ensures.grown
     (record { words = c.room_for_cell.ensures.words; fits = c.in_ok-cells.ensures.word; same = c.in_ok-cells.ensures.cells; cells = c.append.ensures.items; at = c.append.ensures.place; indexes = refl })
     made
