@@ -1,5 +1,5 @@
 -- Requests that are allowed because no policy does anything.
-use Rattle.cluster_gate.proofs.Prelude.{◌≡◌, ◌∙◌, ◌∷◌, ℕ, List, [], Bool, true, false, Option, Some, None, ap, refl, subst, sym, BoundPolicy, ClusterState, Dispatches, Event, OneImage, PlannedStep, Request, RunsSteps, asked_policy, policies_asked, policy_steps}
+use Rattle.cluster_gate.proofs.Prelude.{◌≡◌, ◌∙◌, ℕ, List, [], Bool, true, false, Option, Some, None, ap, refl, subst, sym, BoundPolicy, ClusterState, Dispatches, Event, OneImage, PlannedStep, Request, RunsSteps, asked_policy, policies_asked, policy_steps}
 use Rattle.value_store.specs.Reviews.{uid_in}
 use Rattle.policy_glue.specs.Rejections.{response_text}
 use Rattle.policy_glue.specs.Response.{review_tree}
@@ -9,7 +9,7 @@ use Rattle.admission_match.specs.declared.answer.Answer.TheVariants.{No}
 use Rattle.cluster_plan.specs.Steps.{PolicyBlock}
 use Rattle.cluster_state.specs.Params.{namespace_labels}
 use Rattle.cluster_response.specs.Response.{cluster_response}
-use Rattle.cluster_gate.specs.Dispatch.{DecidesInCluster, EvaluatesPolicy, FindsWith, no_review, decided, no_policies, next, last, no_steps, denied, not_known, blocked, found, refused, at_end, request_given}
+use Rattle.cluster_gate.specs.Dispatch.{DecidesInCluster, FindsWith, no_review, decided, no_policies, next, last, no_steps, denied, not_known, blocked, found, refused, at_end, request_given}
 use Rattle.cluster_gate.specs.Laws.{ExemptIsAllowed, NoneMatches, UnmatchedIsAllowed}
 
 -- no events allow

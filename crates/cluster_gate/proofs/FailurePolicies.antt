@@ -1,5 +1,5 @@
 -- The failure policy in a policy's document is that of the compiled policy.
-use Rattle.cluster_gate.proofs.Prelude.{◌≡◌, ◌∙◌, ℕ, List, Bool, true, false, Option, Some, None, Result, Ok, Err, ap, refl, subst, sym, BoundPolicy}
+use Rattle.cluster_gate.proofs.Prelude.{◌≡◌, ◌∙◌, ℕ, List, Bool, true, false, Option, Some, None, Result, Ok, Err, ap, refl, subst, sym}
 use Rattle.std.proofs.Common.{arith}
 use Rattle.std.proofs.lemmas.Map.Text.{is_eq-slice_cmp}
 use Rattle.std.proofs.lemmas.Slice.Eq.{bytes_eq-Decides}
@@ -11,14 +11,13 @@ use Rattle.serde_json.specs.Find.{get, get_member}
 use Rattle.value_store.specs.Documents.{equals_string}
 use Rattle.value_store.specs.Reviews.{without}
 use Rattle.policy_glue.specs.Policy.{NamedExpression, Policy, Validation}
-use Rattle.policy_glue.specs.Reading.{failure_in, has_head, has_spec_form, has_top_form, judged, judged_form, policy_from, policy_in, policy_of, policy_parts_in, policy_read, spec_in, spec_parts}
+use Rattle.policy_glue.specs.Reading.{failure_in, has_head, has_spec_form, has_top_form, judged_form, policy_from, policy_in, policy_of, policy_parts_in, policy_read, spec_in, spec_parts}
 use Rattle.policy_glue.specs.declared.failure_policy.FailurePolicy.{FailurePolicy, TheVariants.Fail, TheVariants.Ignore}
-use Rattle.policy_glue.specs.declared.policy_error.PolicyError.{PolicyError, TheVariants.InvalidField, TheVariants.MessageWithLineBreak, TheVariants.NoValidations, TheVariants.NotAPolicy, TheVariants.TooManyParts}
+use Rattle.policy_glue.specs.declared.policy_error.PolicyError.{PolicyError, TheVariants.MessageWithLineBreak, TheVariants.NoValidations, TheVariants.NotAPolicy, TheVariants.TooManyParts}
 use Rattle.admission_documents.specs.Documents.{field, field_of, present}
 use Rattle.cluster_plan.specs.Steps.{fails_closed}
 use Rattle.cluster_gate.proofs.SameReading.{without_status_shallow}
-use Rattle.cluster_gate.specs.Gates.{IsCompiledPolicy}
-use Rattle.cluster_gate.specs.Laws.{FailsClosedAsCompiled, IsShallow, denies_errors}
+use Rattle.cluster_gate.specs.Laws.{FailsClosedAsCompiled, denies_errors}
 use Rattle.cluster_gate.specs.Texts.{without_status}
 
 -- ---- members
