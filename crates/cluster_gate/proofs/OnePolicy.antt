@@ -238,8 +238,7 @@ pub one_policy_is_review : CompileHasOneResult → ReviewHasOneResult → Allowe
 one_policy_is_review compiles reviews exactly s review n q p b d result _ shallow given has of some is (decided {q = r} {es = es} also dispatches) =
     let both : Some r ≡ Some q = sym also ∙ given in
     let same : r ≡ q = cc in
-    let ours = subst (λ (x : Request). Dispatches OneImage s review n x (policies_asked s x) es) same dispatches in
-    (
+    let ours = subst (λ (x : Request). Dispatches OneImage s review n x (policies_asked s x) es) same dispatches in (
       answer_tree q (uid_in review) (summary_of es),
       ap (λ (x : Request). cluster_response x (uid_in review) es) same ∙ written q (uid_in review) es,
       as_review compiles reviews exactly s review n q p b d result shallow has of some is es ours,

@@ -85,15 +85,15 @@ in_common : CompileHasOneResult → FindingsHaveOneResult → AllowedExactly →
 in_common compiles findings exactly warn s t review n q es fs shallow differ one other =
     let also = also_shallow s t differ review n q shallow in
     let same : GoOn es → InAnyOrder es fs = λ on.
-        let events = other_events s t differ review n q es one on in
-        subst (λ (l : List Event). InAnyOrder es l)
-        (dispatches_once compiles findings review n t q also (policies_asked t q) events.0 fs (asked_shallow compiles findings review n t (is_exempt q.attributes.resource) also) events.1 other)
-        events.2 in
+    let events = other_events s t differ review n q es one on in
+    subst (λ (l : List Event). InAnyOrder es l)
+    (dispatches_once compiles findings review n t q also (policies_asked t q) events.0 fs (asked_shallow compiles findings review n t (is_exempt q.attributes.resource) also) events.1 other)
+    events.2 in
     let reverse : GoOn fs → InAnyOrder fs es = λ on.
-        let events = other_events t s (differ_back s t differ) review n q fs other on in
-        subst (λ (l : List Event). InAnyOrder fs l)
-        (dispatches_once compiles findings review n s q shallow (policies_asked s q) events.0 es (asked_shallow compiles findings review n s (is_exempt q.attributes.resource) shallow) events.1 one)
-        events.2 in
+    let events = other_events t s (differ_back s t differ) review n q fs other on in
+    subst (λ (l : List Event). InAnyOrder fs l)
+    (dispatches_once compiles findings review n s q shallow (policies_asked s q) events.0 es (asked_shallow compiles findings review n s (is_exempt q.attributes.resource) shallow) events.1 one)
+    events.2 in
     record {
       allowed = same_allowed exactly q (uid_in review) es fs same;
       not_found = λ a b. both_end es fs _ _ refl refl

@@ -77,11 +77,10 @@ module _ (s t : ClusterState) (differ : DifferInOrder s t) (review : List ℕ) (
         let steps = binding_steps s (asked_policy s p) q in
         let each = of_flat (StepTells p.name (EvaluatesPolicy OneImage review n p)) steps (bindings_of p.name s.bindings) es told in
         let order = filtered (λ (b : Binding). bytes_eq b.policy_name p.name) s.bindings t.bindings differ.bindings in
-        let other = each_reordered (λ (b : Binding) (l : List Event). Tells (steps b) l) (bindings_of p.name s.bindings) (bindings_of p.name t.bindings) es order each in
-        (
+        let other = each_reordered (λ (b : Binding) (l : List Event). Tells (steps b) l) (bindings_of p.name s.bindings) (bindings_of p.name t.bindings) es order each in (
           other.now,
           subst (λ (f : Binding → List PlannedStep). Tells (flat_map f (bindings_of p.name t.bindings)) other.now) (sym (same_steps p))
-          (to_flat (StepTells p.name (EvaluatesPolicy OneImage review n p)) steps (bindings_of p.name t.bindings) other.now other.each),
+              (to_flat (StepTells p.name (EvaluatesPolicy OneImage review n p)) steps (bindings_of p.name t.bindings) other.now other.each),
           other.same,
         )
 
@@ -95,11 +94,13 @@ module _ (s t : ClusterState) (differ : DifferInOrder s t) (review : List ℕ) (
 
   policy_alike : (p : BoundPolicy) (es : List Event) → PolicyTells s review n q p es → (fs : List Event) × PolicyTells t review n q p fs × InAnyOrder es fs
   policy_alike p es (cause, judged, told) =
-      let other = by_answer p (option_map block_of cause) (match_answer p.constraints (namespace_labels s.objects) q.attributes) es told in
-      (
+      let other = by_answer p (option_map block_of cause) (match_answer p.constraints (namespace_labels s.objects) q.attributes) es told in (
         other.0,
-        (cause, judged_alike p cause judged,
-        subst (λ (a : Answer). Tells p (policy_answered t (asked_policy t p) (option_map block_of cause) q a) other.0) (sym (same_answer p)) other.1),
+        (
+          cause,
+          judged_alike p cause judged,
+          subst (λ (a : Answer). Tells p (policy_answered t (asked_policy t p) (option_map block_of cause) q a) other.0) (sym (same_answer p)) other.1,
+        ),
         other.2,
       )
 

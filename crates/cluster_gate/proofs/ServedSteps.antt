@@ -118,7 +118,7 @@ module _ (agrees : EveryServerAgrees) (served : List GroupVersionResource) (s : 
     (all : All (λ c. is_candidate q.attributes.resource c ≡ true) served) (a : AskedPolicy) where
   same_binding : (b : Binding) → (binding_steps s a q b ≡ plan.unknown_match ∷ []) ⊎ (binding_steps_by (server_answers served s q) s a q b ≡ binding_steps s a q b)
   same_binding b = elim (is_known (match_answer b.resources (namespace_labels s.objects) q.attributes)) [
-    inl is ↦ inl (ap (binding_answered s a q b) is)
+    | inl is ↦ inl (ap (binding_answered s a q b) is)
     | inr known ↦ inr (ap (binding_answered s a q b) (agrees served b.resources (namespace_labels s.objects) q.attributes all known))
   ]
 

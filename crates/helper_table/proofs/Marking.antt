@@ -16,7 +16,7 @@ pub mark_same : (words : List ℕ) (p : ℕ) → p / 64 < length words
 mark_same words p h =
     let small : p % 64 < 64 = omega arith in
     rw (get_or-set_same words (p / 64) (marked (get_or words (p / 64) 0) (p % 64)) 0 h) (bit_at_set_same w64 (get_or words
-        (p / 64) 0) (p % 64) small)
+    (p / 64) 0) (p % 64) small)
 
 same_or_not : (i j : ℕ) → (i ≡ j) ⊎ (i ≢ j)
 same_or_not i j = grind arith
@@ -32,7 +32,7 @@ pub mark_bit : (words : List ℕ) (j i m k : ℕ) → j < length words → m < 6
     → bit_at (get_or (set words j (marked (get_or words j 0) m)) i 0) k ≡ 1
 mark_bit words j i m k h small is = ⊎_elim
     (λ (same : i ≡ j). let e : get_or (set words j (marked (get_or words j 0) m)) i 0 ≡ marked (get_or words j 0) m = ap
-        (λ n. get_or (set words j (marked (get_or words j 0) m)) n 0) same ∙ get_or-set_same words j _ 0 h in
+    (λ n. get_or (set words j (marked (get_or words j 0) m)) n 0) same ∙ get_or-set_same words j _ 0 h in
     let was : bit_at (get_or words j 0) k ≡ 1 = subst (λ n. bit_at (get_or words n 0) k ≡ 1) same is in
     subst (λ n. bit_at n k ≡ 1) (sym e) (one_more (get_or words j 0) m k small was))
     (λ (other : i ≢ j). subst (λ n. bit_at n k ≡ 1) (sym (get_or-set_other words j i _ 0 other)) is) (same_or_not i j)
@@ -48,7 +48,7 @@ window_within s part k i size at h =
     let n = length part - i in
     let whole : take (i + n) (drop k s) ≡ part = ap (λ m. take m (drop k s)) (omega arith) ∙ OccursAt-part s part k at in
     let rest : drop i part ≡ take n (drop (k + i) s) = ap (drop i) (sym whole) ∙ drop-take i n (drop k s)
-        ∙ ap (take n) (drop-drop i k s) in
+    ∙ ap (take n) (drop-drop i k s) in
     ap (take size) rest ∙ take-take size n (drop (k + i) s) (omega arith)
 
 -- a part with a window that has no bit does not occur
@@ -57,7 +57,7 @@ pub lacking : (words s part : List ℕ) (i size : ℕ) → i + size ≤ length p
 lacking words s part i size h free has =
     ⊎_elim (λ yes. let found = stands s part yes in let fits = found.at.fits in
     absurd (free (subst (λ w. IsMarked words (window_place w)) (sym (window_within s part found.place i size found.at h)) (has
-        (found.place + i) (omega arith)))))
+    (found.place + i) (omega arith)))))
     (λ none. none) (cases_Bool (contains s part))
 
 -- as a test finds it
@@ -77,10 +77,10 @@ unfolding number_from
 number_step n m b i w h e f =
     let d : drop i w ≡ get_or w i 0 ∷ drop (suc i) w = drop-cons w i 0 h in
     let g : m ≡ (n * 11400714819323198485 % 2 ^ 64 + get_or w i 0) % 2 ^ 64 = f
-        ∙ ap (λ (x : ℕ). (n * 11400714819323198485 % 2 ^ 64 + x) % 2 ^ 64) e in
+    ∙ ap (λ (x : ℕ). (n * 11400714819323198485 % 2 ^ 64 + x) % 2 ^ 64) e in
     ap (λ (x : ℕ). number_from x (drop (i + 1) w)) g
-        ∙ ap (λ (k : ℕ). number_from ((n * 11400714819323198485 % 2 ^ 64 + get_or w i 0) % 2 ^ 64) (drop k w)) (add-one i)
-            ∙ sym (ap (number_from n) d)
+    ∙ ap (λ (k : ℕ). number_from ((n * 11400714819323198485 % 2 ^ 64 + get_or w i 0) % 2 ^ 64) (drop k w)) (add-one i)
+    ∙ sym (ap (number_from n) d)
 
 pub number_done : (n i : ℕ) (w : List ℕ) → length w ≤ i → number_from n (drop i w) ≡ number_from 1 w → n ≡ number_from 1 w
 unfolding number_from

@@ -8,4 +8,4 @@ pub returns-then-exclude-clause-means : goal.returns-then-exclude-clause-means
 returns-then-exclude-clause-means g c =
     let same : c.args.question.helper ≡ helper.Contains = search rules in
     outside_means _ _ _ c.args.question _ same c.requires.question
-        (c.exclude.ensures.answer c.if-exclude.true) c.truth.ensures.placement c.truth.ensures.added
+    (c.exclude.ensures.answer c.if-exclude.true) c.truth.ensures.placement c.truth.ensures.added

@@ -13,9 +13,9 @@ returns-in-Some-found-clause-means g c = recalled_means _ _ _ _ _ _ c.in-Some.en
 pub returns-clause-kept : goal.returns-clause-kept
 returns-clause-kept g c =
     let asks = subst (λ (h : Helper). IsQuestionOf h c.args.args c.in-Some.question)
-        (sym c.in-Some.ensures.helper) c.in-Some.ensures in
+    (sym c.in-Some.ensures.helper) c.in-Some.ensures in
     let searched = subst (λ
-        (vs : List ValueOrError). AreSearched vs c.new_effect.new.searches) c.found.ensures.values c.in_ok-effect.ensures.searches in
+    (vs : List ValueOrError). AreSearched vs c.new_effect.new.searches) c.found.ensures.values c.in_ok-effect.ensures.searches in
     elim c.match-lasting.branch [
       | in-Some-lasting w ↦ rw w.kept-is (record {
         answers = w.keep.ensures _ c.requires.answers
