@@ -13,7 +13,7 @@ import sys
 import tempfile
 
 from ..home import EXAMPLES, built
-from ..measures import policies, steps, values, worst
+from ..measures import policies, steps, texts, values, worst
 from ..measures.runs import Runs
 
 PARTS = {
@@ -21,6 +21,7 @@ PARTS = {
     "values": values.measure,
     "policies": lambda runs: policies.measure(runs, f"{EXAMPLES}/replicas"),
     "worst": worst.measure,
+    "texts": texts.measure,
 }
 
 

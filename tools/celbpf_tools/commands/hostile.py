@@ -1,0 +1,127 @@
+"""Feeds a gatekeeper reviews that are made to stall it, and prints the costliest.
+
+usage: tools/hostile [--seed N] [--count N] [--keep FOLDER] [--program PROGRAM]
+
+Each review is one of `examples/policies` or of a policy from a seed, of up to three mebibytes, with texts, lists or
+maps that are made large. A gatekeeper is started for it, with the policy and the default number of steps. It has to
+answer with one line, within 1 s of processor time and 200 MB. It prints the ten that took most time and the ten that
+took most memory, and ends with status 1 if one took more than that, or was not answered. With `--keep` the
+documents of those are written to a folder. An interrupt ends it early, with what it found so far. It builds nothing.
+"""
+
+import argparse
+import json
+import tempfile
+from pathlib import Path
+from typing import Any, Iterator
+
+from ..entry import usage_of
+from ..home import built
+from ..hostile.costs import cost_of, worst
+from ..hostile.reviews import hostile
+from ..seeded.cases import case_of, wanted
+from ..seeded.examples import examples
+from ..seeded.numbers import Numbers
+
+# policies from the seed, beside those of the examples
+SEEDED = 40
+NAMES = ("policy", "namespace", "params")
+
+
+def words() -> argparse.Namespace:
+    parser = argparse.ArgumentParser(usage=usage_of(__doc__))
+    parser.add_argument("--seed", type=int, default=1)
+    parser.add_argument("--count", type=int, default=5_000)
+    parser.add_argument("--keep", type=Path)
+    parser.add_argument("--program", default=built("gatekeeper"))
+    return parser.parse_args()
+
+
+def is_review(review: bytes) -> bool:
+    """Whether these bytes are a document that a large part can be put in."""
+    try:
+        document = json.loads(review)
+    except ValueError:
+        return False
+    return isinstance(document, dict) and isinstance(document.get("request"), dict)
+
+
+def seeded(numbers: Any) -> Iterator[tuple]:
+    """Cases from a seed whose documents are accepted."""
+    place = 0
+    while True:
+        case = case_of(numbers)
+        given, _ = wanted(case)
+        if given is not None and is_review(case.review):
+            yield f"seed/{place}", case
+        place += 1
+
+
+def cases(numbers: Any) -> list:
+    """The cases of the examples, and some from the seed."""
+    found = [(name, case) for name, case, _ in examples() if is_review(case.review)]
+    more = seeded(numbers)
+    return found + [next(more) for _ in range(SEEDED)]
+
+
+def hold(folder: Path, case: Any) -> list:
+    """Writes the documents of a case but for its review; the gatekeeper's words."""
+    arguments: list = []
+    for name in NAMES:
+        held = getattr(case, name)
+        if held is not None:
+            (folder / f"{name}.json").write_bytes(held)
+            arguments += [f"--{name}", str(folder / f"{name}.json")]
+    return arguments
+
+
+def tell(title: str, found: list) -> None:
+    print(title)
+    for (name, length), cost in found:
+        print(f"  {name:48} {length:9,} bytes {cost.seconds:6.2f} s {cost.megabytes:7.1f} MB {cost.answer[:40]!r}")
+
+
+class Attack:
+    """Reviews that are given to a gatekeeper, and what each took."""
+
+    def __init__(self, asked: argparse.Namespace):
+        self.asked = asked
+        self.numbers = Numbers(asked.seed)
+        self.costs: list = []
+        self.bad = 0
+
+    def give(self, folder: Path, name: str, case: Any) -> None:
+        """Gives a gatekeeper a review that is made from a case's."""
+        place = len(self.costs)
+        line = hostile(self.numbers, json.loads(case.review))
+        cost = cost_of(self.asked.program, hold(folder, case), line)
+        self.costs.append(((f"{place} {name}", len(line)), cost))
+        if cost.is_within() and cost.is_answered():
+            return
+        self.bad += 1
+        tell("exceeds the bounds:", self.costs[-1:])
+        if self.asked.keep:
+            kept = self.asked.keep / str(place)
+            kept.mkdir(parents=True, exist_ok=True)
+            hold(kept, case)
+            (kept / "line.jsonl").write_bytes(line)
+
+    def run(self) -> None:
+        """All of them, or those until an interrupt."""
+        found = cases(self.numbers)
+        with tempfile.TemporaryDirectory() as folder:
+            try:
+                for _ in range(self.asked.count):
+                    self.give(Path(folder), *self.numbers.pick(found))
+            except KeyboardInterrupt:
+                pass
+
+
+def main() -> int:
+    attack = Attack(words())
+    attack.run()
+    tell("most time:", worst(attack.costs, lambda cost: cost.seconds))
+    tell("most memory:", worst(attack.costs, lambda cost: cost.megabytes))
+    count = len(attack.costs)
+    print(f"{count - attack.bad} of {count} reviews were answered within the bounds")
+    return 1 if attack.bad else 0
