@@ -96,6 +96,7 @@ in_common compiles findings exactly warn s t review n q es fs shallow differ one
     events.2 in
     record {
       allowed = same_allowed exactly q (uid_in review) es fs same;
+      allowed_back = same_allowed exactly q (uid_in review) fs es reverse;
       not_found = λ a b. both_end es fs _ _ refl refl
           (λ no. same_end es fs (same (record { decide = a; no_end = no })))
           (λ no. sym (same_end fs es (reverse (record { decide = b; no_end = no }))));

@@ -32,15 +32,20 @@ pub record DifferInOrder (s t : ClusterState) : Type 0 where
 abbrev pub answer : Request → List ℕ → List Event → json.Data
 answer q uid es = answer_tree q uid (summary_of es)
 
+-- the answer allows the request
+abbrev pub IsAllowed : json.Data → Type 0
+IsAllowed d = allowed_in d ≡ Some (json.boolean true)
+
 -- each policy decides
 abbrev pub EachDecides : List Event → Type 0
 EachDecides es = list_any is_refusal es ≡ false
 
--- What two orders have in common. A request that is allowed in one is allowed in the other. If each policy decides in
+-- What two orders have in common. A request is allowed in both or in neither. If each policy decides in
 -- both, both end because the namespace is not found, or neither. If each policy decides in one, which does not end so,
 -- then the other has the same events, in any order, and so the same warnings.
 pub record HaveInCommon (q : Request) (uid : List ℕ) (es fs : List Event) : Type 0 where
-  pub allowed : allowed_in (answer q uid es) ≡ Some (json.boolean true) → allowed_in (answer q uid fs) ≡ Some (json.boolean true)
+  pub allowed : IsAllowed (answer q uid es) → IsAllowed (answer q uid fs)
+  pub allowed_back : IsAllowed (answer q uid fs) → IsAllowed (answer q uid es)
   pub not_found : EachDecides es → EachDecides fs → has_end es ≡ has_end fs
   pub events : EachDecides es → has_end es ≡ false → IsPermutation es fs
   pub warnings : EachDecides es → has_end es ≡ false
