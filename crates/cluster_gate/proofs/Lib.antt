@@ -22,3 +22,4 @@ pub mod ServedSteps
 pub mod ServedOnce
 pub mod OnePolicy
 pub mod FailurePolicies
+pub mod ShallowStates

@@ -1,5 +1,5 @@
 -- Laws of what a cluster decides.
-use Rattle.std.specs.Prelude.{◌≡◌, ℕ, ◌≤◌, Bool, true, false, List, [], ◌∷◌, Option, Some, None}
+use Rattle.std.specs.Prelude.{◌≡◌, ℕ, ◌≤◌, Bool, true, false, List, [], ◌∷◌, Option, Some, None, Ok}
 use Rattle.std.specs.List.{All}
 use Rattle.serde_json.specs.Data as json
 use Rattle.serde_json.specs.Read.{max_depth}
@@ -14,7 +14,7 @@ use Rattle.admission_documents.specs.Requests.{Request}
 use Rattle.cluster_state.specs.Items.{Collection}
 use Rattle.cluster_state.specs.Params.{namespace_labels}
 use Rattle.cluster_state.specs.Policies.{BoundPolicy}
-use Rattle.cluster_state.specs.State.{ClusterState}
+use Rattle.cluster_state.specs.State.{ClusterState, state_of}
 use Rattle.cluster_plan.specs.Steps.{fails_closed}
 use Rattle.cluster_gate.specs.Dispatch.{DecidesInCluster, request_given}
 use Rattle.cluster_gate.specs.Gates.{IsCompiledPolicy}
@@ -46,6 +46,10 @@ IsShallow d = json.depth d ≤ max_depth
 pub record HasShallowDocuments (s : ClusterState) : Type 0 where
   pub policies : All (λ p. IsShallow p.document) s.policies
   pub objects : (c : Collection) → All (λ o. IsShallow o.1) (s.objects c)
+
+-- the state in lists that are nested no deeper has such documents
+abbrev pub StatesAreShallow : Type 0
+StatesAreShallow = (lists : List json.Data) (s : ClusterState) → All IsShallow lists → state_of lists ≡ Ok s → HasShallowDocuments s
 
 -- a review has one answer in a cluster, if no document is nested deeper than JSON texts that are read
 abbrev pub OneAnswer : Type 0

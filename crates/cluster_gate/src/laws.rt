@@ -1,5 +1,5 @@
 //! Laws of the definitions, each the clause of a function that does nothing.
-ghost use Rattle.cluster_gate.specs.Laws.{ExemptIsAllowed, FailsClosedAsCompiled, OneAnswer, UnmatchedIsAllowed};
+ghost use Rattle.cluster_gate.specs.Laws.{ExemptIsAllowed, FailsClosedAsCompiled, OneAnswer, StatesAreShallow, UnmatchedIsAllowed};
 ghost use Rattle.cluster_gate.specs.OnePolicy.{OnePolicyIsReview};
 ghost use Rattle.cluster_gate.specs.Orders.{OrderIsFree};
 ghost use Rattle.cluster_gate.specs.Servers.{EquivalentsAreFree, ServersHaveAnswers};
@@ -18,6 +18,11 @@ pub fn exempt_is_allowed()
 /// A request that the constraints of no policy match is allowed.
 pub fn unmatched_is_allowed()
     ensures { UnmatchedIsAllowed }
+{}
+
+/// No document of a state is nested deeper than JSON texts that are read, if the lists are not.
+pub fn states_are_shallow()
+    ensures { StatesAreShallow }
 {}
 
 /// A review has one answer in a cluster, if no document of the state is nested deeper than JSON
