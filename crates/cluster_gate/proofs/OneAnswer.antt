@@ -19,7 +19,7 @@ use Rattle.cluster_gate.proofs.JudgedOnce.{judged_once}
 use Rattle.cluster_gate.proofs.SameReading.{IsShallowIf, SameReading, findings_moved, runs_moved, same_contents, same_policy, same_text, same_text_if, without_status_shallow}
 use Rattle.cluster_gate.proofs.ShallowSteps.{IsShallowStep, steps_are_shallow}
 use Rattle.cluster_gate.specs.Dispatch.{DecidesInCluster, EvaluatesPolicy, FindsWith, error_refusal, undecided_event, no_review, decided, no_policies, next, last, no_steps, denied, not_known, blocked, found, refused, at_end}
-use Rattle.cluster_gate.specs.Laws.{HasShallowDocuments, IsShallow, OneAnswer}
+use Rattle.cluster_gate.specs.Laws.{HasShallowDocuments, IsShallow, ReviewsHaveOneAnswer}
 use Rattle.cluster_gate.specs.Texts.{without_status}
 
 -- ---- steps
@@ -163,5 +163,5 @@ module _ (compiles : CompileHasOneResult) (findings : FindingsHaveOneResult) (re
       let events = dispatches_once s q shallow (policies_asked s q) es fs (asked_shallow s (is_exempt q.attributes.resource) shallow) first moved in
       ap (λ (l : List Event). Some (cluster_response q (uid_in review) l)) events ∙ ap (λ (x : Request). Some (cluster_response x (uid_in review) fs)) (sym same)
 
-pub one_answer : CompileHasOneResult → FindingsHaveOneResult → OneAnswer
+pub one_answer : CompileHasOneResult → FindingsHaveOneResult → ReviewsHaveOneAnswer
 one_answer compiles findings s review n a b shallow first second = decides_once compiles findings review n s a b shallow first second

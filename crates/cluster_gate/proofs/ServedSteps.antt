@@ -19,13 +19,10 @@ use Rattle.cluster_plan.specs.Steps as plan
 use Rattle.cluster_plan.specs.Steps.{AskedPolicy, PolicyBlock, binding_answered, binding_steps, bindings_of, policy_answered, policy_steps}
 use Rattle.cluster_response.specs.Events.{configuration_event, findings_events}
 use Rattle.cluster_response.specs.Laws.{is_refusal}
+use Rattle.cluster_gate.proofs.ToldSteps.{or_parts}
 use Rattle.cluster_gate.specs.Dispatch as dispatch
 use Rattle.cluster_gate.specs.Dispatch.{EvaluatesPolicy, FindsWith, no_steps, denied, not_known, blocked, found, refused, at_end}
 use Rattle.cluster_gate.specs.Servers.{ServerDispatches, ServersHaveAnswers, answered_steps_by, binding_steps_by, no_policies, next, last, policy_steps_by, server_answers}
-
-or_parts : (a b : Bool) → (a || b) ≡ false → (a ≡ false) × (b ≡ false)
-or_parts true b e = absurd (cc)
-or_parts false b e = (refl, e)
 
 -- each policy decides
 abbrev Decide : List Event → Type 0

@@ -1,5 +1,5 @@
 -- The params and the namespace of each evaluation are documents of the state.
-use Rattle.cluster_gate.specs.Servers.{Answers, answered_steps_by, binding_steps_by, block_steps_by, policy_steps_by}
+use Rattle.cluster_gate.specs.Servers.{MatchAnswers, answered_steps_by, binding_steps_by, block_steps_by, policy_steps_by}
 use Rattle.cluster_gate.proofs.Prelude.{◌∷◌, ℕ, List, [], Bool, true, false, Option, Some, None, Result, Ok, Err, map, subst, sym, ClusterState, PlannedStep, Request, by_block, policy_steps}
 use Rattle.std.proofs.lemmas.List.Elements.{All-append, All-cons, All-filter, All-head, All-map, All-nil, All-tail, All-weaker}
 use Rattle.std.proofs.lemmas.List.Concat.{flat_map-cons}
@@ -149,16 +149,16 @@ module _ (s : ClusterState) (shallow : (c : Collection) → Shallow (s.objects c
 
   -- ---- steps by other answers
 
-  blocked_by : (answers : Answers) (block : Option PolicyBlock) → All IsShallowStep (block_steps_by answers s p q block)
+  blocked_by : (answers : MatchAnswers) (block : Option PolicyBlock) → All IsShallowStep (block_steps_by answers s p q block)
   blocked_by answers (Some b) = one (plan.is_blocked b) tt
   blocked_by answers None = each (binding_steps_by answers s p q) (bindings_of p.policy.name s.bindings) (λ b. by_binding b (answers b.resources))
 
-  answered_by : (answers : Answers) (block : Option PolicyBlock) (answer : Answer) → All IsShallowStep (answered_steps_by answers s p block q answer)
+  answered_by : (answers : MatchAnswers) (block : Option PolicyBlock) (answer : Answer) → All IsShallowStep (answered_steps_by answers s p block q answer)
   answered_by answers block matching.No = All-nil IsShallowStep
   answered_by answers block matching.Unknown = one plan.unknown_match tt
   answered_by answers block (matching.Trouble t) = an_error (fails_closed p.policy.document) None (trouble_text t q.attributes.namespace)
   answered_by answers block matching.Yes = blocked_by answers block
 
   -- so it is by the answers of a server
-  pub steps_by_are_shallow : (answers : Answers) (block : Option PolicyBlock) → All IsShallowStep (policy_steps_by answers s p block q)
+  pub steps_by_are_shallow : (answers : MatchAnswers) (block : Option PolicyBlock) → All IsShallowStep (policy_steps_by answers s p block q)
   steps_by_are_shallow answers block = answered_by answers block (answers p.policy.constraints)

@@ -16,7 +16,7 @@ use Rattle.cluster_gate.specs.declared.block_cause.BlockCause.{BlockCause}
 
 -- ---- events
 
-or_parts : (a b : Bool) → (a || b) ≡ false → (a ≡ false) × (b ≡ false)
+pub or_parts : (a b : Bool) → (a || b) ≡ false → (a ≡ false) × (b ≡ false)
 or_parts true b e = absurd (cc)
 or_parts false b e = (refl, e)
 

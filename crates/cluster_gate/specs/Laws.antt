@@ -52,8 +52,8 @@ abbrev pub StatesAreShallow : Type 0
 StatesAreShallow = (lists : List json.Data) (s : ClusterState) → All IsShallow lists → state_of lists ≡ Ok s → HasShallowDocuments s
 
 -- a review has one answer in a cluster, if no document is nested deeper than JSON texts that are read
-abbrev pub OneAnswer : Type 0
-OneAnswer = (s : ClusterState) (review : List ℕ) (n : ℕ) (a b : Option (List ℕ)) → HasShallowDocuments s
+abbrev pub ReviewsHaveOneAnswer : Type 0
+ReviewsHaveOneAnswer = (s : ClusterState) (review : List ℕ) (n : ℕ) (a b : Option (List ℕ)) → HasShallowDocuments s
     → DecidesInCluster OneImage s review n a → DecidesInCluster OneImage s review n b → a ≡ b
 
 -- ---- the failure policy

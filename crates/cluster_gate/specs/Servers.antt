@@ -26,30 +26,30 @@ use Rattle.cluster_gate.specs.declared.block_cause.BlockCause.{BlockCause}
 -- ---- the steps of a policy, by the answers of its constraints and of its bindings
 
 -- the answer of match resources
-abbrev pub Answers : Type 0
-Answers = MatchResources → Answer
+abbrev pub MatchAnswers : Type 0
+MatchAnswers = MatchResources → Answer
 
-abbrev pub binding_steps_by : Answers → ClusterState → AskedPolicy → Request → Binding → List PlannedStep
+abbrev pub binding_steps_by : MatchAnswers → ClusterState → AskedPolicy → Request → Binding → List PlannedStep
 binding_steps_by answers s p q b = binding_answered s p q b (answers b.resources)
 
-abbrev pub block_steps_by : Answers → ClusterState → AskedPolicy → Request → Option PolicyBlock → List PlannedStep
+abbrev pub block_steps_by : MatchAnswers → ClusterState → AskedPolicy → Request → Option PolicyBlock → List PlannedStep
 block_steps_by answers s p q (Some b) = plan.is_blocked b ∷ []
 block_steps_by answers s p q None = flat_map (binding_steps_by answers s p q) (bindings_of p.policy.name s.bindings)
 
-abbrev pub answered_steps_by : Answers → ClusterState → AskedPolicy → Option PolicyBlock → Request → Answer → List PlannedStep
+abbrev pub answered_steps_by : MatchAnswers → ClusterState → AskedPolicy → Option PolicyBlock → Request → Answer → List PlannedStep
 answered_steps_by answers s p block q matching.No = []
 answered_steps_by answers s p block q matching.Unknown = plan.unknown_match ∷ []
 answered_steps_by answers s p block q (matching.Trouble t) =
     error_steps (fails_closed p.policy.document) None (trouble_text t q.attributes.namespace)
 answered_steps_by answers s p block q matching.Yes = block_steps_by answers s p q block
 
-abbrev pub policy_steps_by : Answers → ClusterState → AskedPolicy → Option PolicyBlock → Request → List PlannedStep
+abbrev pub policy_steps_by : MatchAnswers → ClusterState → AskedPolicy → Option PolicyBlock → Request → List PlannedStep
 policy_steps_by answers s p block q = answered_steps_by answers s p block q (answers p.policy.constraints)
 
 -- ---- a server
 
 -- the answers of a server that stores the resources `served` in the same place as the request's
-abbrev pub server_answers : List GroupVersionResource → ClusterState → Request → Answers
+abbrev pub server_answers : List GroupVersionResource → ClusterState → Request → MatchAnswers
 server_answers served s q m = server_answer served m (namespace_labels s.objects) q.attributes
 
 -- the events of one policy on that server, and whether they end the dispatch

@@ -42,7 +42,7 @@ an_error = denies None (codes "e")
 abbrev pub its_event : Event
 its_event = configuration_event (codes "p") None (codes "e")
 
-pub record StepRowsHold : Type 0 where
+pub record EventRowsHold : Type 0 where
   pub no_steps : Runs [] [] false
   pub two_params : Runs (evaluation (codes "m") ∷ evaluation (codes "n") ∷ []) (denial (codes "m") ∷ denial (codes "n") ∷ []) false
   pub denial_then_refusal : Runs (evaluation (codes "m") ∷ unknown_match ∷ []) (denial (codes "m") ∷ undecided_event (codes "p") refusal.UnknownMatch ∷ []) false

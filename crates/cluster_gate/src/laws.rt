@@ -1,9 +1,9 @@
 //! Laws of the definitions, each the clause of a function that does nothing.
-ghost use Rattle.cluster_gate.specs.Laws.{ExemptIsAllowed, FailsClosedAsCompiled, OneAnswer, StatesAreShallow, UnmatchedIsAllowed};
+ghost use Rattle.cluster_gate.specs.Laws.{ExemptIsAllowed, FailsClosedAsCompiled, ReviewsHaveOneAnswer, StatesAreShallow, UnmatchedIsAllowed};
 ghost use Rattle.cluster_gate.specs.OnePolicy.{OnePolicyIsReview};
 ghost use Rattle.cluster_gate.specs.Orders.{OrderIsFree};
 ghost use Rattle.cluster_gate.specs.Servers.{EquivalentsAreFree, ServersHaveAnswers};
-ghost use Rattle.cluster_gate.specs.StepRows.{EventAnswersHold, StepRowsHold};
+ghost use Rattle.cluster_gate.specs.StepRows.{EventAnswersHold, EventRowsHold};
 
 use admission::laws::{findings_once, reviews_once};
 use admission_match::laws::every_server_agrees;
@@ -28,7 +28,7 @@ pub fn states_are_shallow()
 /// A review has one answer in a cluster, if no document of the state is nested deeper than JSON
 /// texts that are read.
 pub fn one_answer()
-    ensures { OneAnswer }
+    ensures { ReviewsHaveOneAnswer }
 {
     compiles_once();
     findings_once();
@@ -47,7 +47,7 @@ pub fn order_is_free()
 
 /// The events of some steps, and the answers by them, worked by hand.
 pub fn step_rows_hold()
-    ensures steps { StepRowsHold }
+    ensures steps { EventRowsHold }
     ensures answers { EventAnswersHold }
 {}
 
