@@ -1,5 +1,5 @@
 -- Loads and stores of words of the frame, of memos and of the verdict region.
-use Rattle.expression_code.proofs.Prelude.{◌≡◌, ℕ, ◌+◌, ◌*◌, ◌%◌, ◌^◌, ◌<◌, Result, Ok, ap, ◌∙◌, arith, false, pos, w64, cast_unsigned, read_of, write_of, Memory, Region, Stack, Constants, IsMemory, base_of, bytes_in, with_bytes, HasWord, put_word, word_in, read_word, write_word, Reg, Register, R10, Dw, Image, load_row, loaded, store_row, stored, is_frame_pointer, CpuState, at, set_register, stack_index, word_offset, word_at, set_word, Framed, frame_words, memo_limit}
+use Rattle.expression_code.proofs.Prelude.{◌≡◌, ℕ, ◌+◌, ◌*◌, ◌%◌, ◌^◌, ◌<◌, Result, Ok, ap, ◌∙◌, arith, false, pos, w64, cast_unsigned, read_of, write_of, Memory, Region, Stack, Constants, IsMemory, base_of, bytes_in, with_bytes, HasWord, put_word, word_in, read_word, write_word, Reg, Register, R10, Dw, Image, load_row, loaded, store_row, stored, is_frame_pointer, CpuState, at, set_register, stack_index, word_offset, word_at, set_word, Framed, frame_words, memo_limit, Imm, ℤ}
 use Rattle.guest_memory.specs.declared.fault.Fault.{Fault}
 use Rattle.guest_memory.specs.declared.size.Size.TheVariants as bytes
 use Rattle.expression_code.proofs.Effects.{operand_is, register_set}
@@ -34,6 +34,15 @@ module _ (image : Image) (p : ℕ) (b : CpuState) where
       let write : write_of b.memory ((b.registers R10 + cast_unsigned w64 (word_offset k)) % 2 ^ 64) bytes.Dw (b.registers src) ≡ Ok (set_word depth k (b.registers src) b).memory = write_word b.memory Stack (stack_index depth k) _ (b.registers src) f.memory (λ (e : Stack ≡ Constants). absurd (cc)) (has_word depth k b f below) place in
       ap (λ (w : ℕ). stored (write_of b.memory ((b.registers R10 + cast_unsigned w64 (word_offset k)) % 2 ^ 64) bytes.Dw w) (at image p b)) (operand_is image p b (Reg src))
       ∙ ap (λ (r : Result Memory Fault). stored r (at image p b)) write
+
+  -- a number is stored in a word of the frame
+  pub put_does : (depth k : ℕ) (n : ℤ) → Framed depth b → k < frame_words
+      → store_row Dw R10 (word_offset k) (Imm n) (at image p b) ≡ at image (p + 1) (set_word depth k (cast_unsigned w64 n) b)
+  unfolding store_row
+  put_does depth k n f below =
+      let place = ap (λ (w : ℕ). (w + cast_unsigned w64 (word_offset k)) % 2 ^ 64) f.pointer_is ∙ (omega arith) in
+      let write : write_of b.memory ((b.registers R10 + cast_unsigned w64 (word_offset k)) % 2 ^ 64) bytes.Dw (cast_unsigned w64 n) ≡ Ok (set_word depth k (cast_unsigned w64 n) b).memory = write_word b.memory Stack (stack_index depth k) _ (cast_unsigned w64 n) f.memory (λ (e : Stack ≡ Constants). absurd (cc)) (has_word depth k b f below) place in
+      ap (λ (r : Result Memory Fault). stored r (at image p b)) write
 
   -- a word of a region is loaded through a register that holds its address
   pub load_word_does : (r : Region) (i : ℕ) (dst src : Register) → IsMemory b.memory → HasWord (bytes_in r b.memory) i → b.registers src ≡ base_of r + 8 * i → b.registers src < 2 ^ 64 → is_frame_pointer dst ≡ false → load_row Dw dst src (pos 0) (at image p b) ≡ at image (p + 1) (set_register b dst (word_in (bytes_in r b.memory) i))

@@ -1,5 +1,5 @@
 -- What is preserved when registers, words of the frame, memos and values change.
-use Rattle.expression_code.proofs.Prelude.{◌≡◌, ℕ, ◌+◌, ◌^◌, ◌<◌, ◌≤◌, List, Some, refl, arith, inr, ◌⊎◌, slice_get, ℤ, Stack, Scratch, Verdict, IsMemory, Memory, put_word-other, put_word-same, with_word, same, ExtendsValues, Names, IsTable, Register, R0, R10, ValueOrError, Roots, CpuState, HelperPlaces, Tells, answered, Context, IsWellFormedState, HasValues, IsMemo, Preserves, LeavesValue, variable_count, Framed, memo_at, set_memo, set_verdict, set_word, stack_index, word_at, charge_limit, frame_words, memo_limit}
+use Rattle.expression_code.proofs.Prelude.{◌≡◌, ℕ, ◌+◌, ◌^◌, ◌<◌, ◌≤◌, List, Some, refl, arith, inr, ◌⊎◌, slice_get, ℤ, Stack, Scratch, Verdict, IsMemory, Memory, put_word-other, put_word-same, with_word, same, ExtendsValues, Names, IsTable, Register, R0, R10, ValueOrError, Roots, CpuState, HelperPlaces, Tells, answered, Context, IsWellFormedState, HasValues, IsMemo, Preserves, LeavesValue, variable_count, Framed, memo_at, set_memo, set_verdict, set_word, stack_index, word_at, charge_limit, frame_words, memo_limit, word_limit, subst, sym, HoldsLists, IsEmptyOr, list_value, list_word, cases_eq, inl, Cores}
 use Rattle.expression_code.proofs.Sites.{StackFrame, in_frame}
 use Rattle.expression_code.proofs.Accesses.{has_memo, has_verdict, has_word}
 
@@ -10,14 +10,16 @@ pub fits_on : (frame : StackFrame) (base1 : ℕ) (old new : CpuState) → frame.
     → HasValues frame.context.environment.roots new.values → new.memory.constants ≡ frame.context.constants
     → ((k : ℕ) (u : ValueOrError) → k < frame.base → Names old.values.values (word_at frame.depth k old) u → Names new.values.values (word_at frame.depth k new) u)
     → ((i : ℕ) (x : List ℕ × ValueOrError) → slice_get frame.context.environment.variables i ≡ Some x → IsMemo new.values.values (memo_at i new) x.1)
+    → HoldsLists frame.context.words.lists frame.depth new
     → IsWellFormedState frame.context frame.depth base1 new
-fits_on frame base1 old new le fits framed values constants names memos = record {
+fits_on frame base1 old new le fits framed values constants names memos lists = record {
   frame = framed;
   values = values;
   holds = record {
     names = λ n. grind arith;
     path = λ x at. let here = fits.holds.path x at in let below = here.0 in (omega arith, names 0 _ below here.1);
     memos = memos;
+    lists = lists;
   };
   constants = constants;
 }
@@ -48,17 +50,39 @@ pub record Stored (c : Context) (depth base k w : ℕ) (b : CpuState) : Type 0 w
   pub here : word_at depth k (set_word depth k w b) ≡ w
   pub other : (j : ℕ) → j < frame_words → (j ≡ k → ⊥) → word_at depth j (set_word depth k w b) ≡ word_at depth j b
 
-pub stored : (c : Context) (depth base k w : ℕ) (b : CpuState) → IsWellFormedState c depth base b → base ≤ k → k < frame_words → w < 2 ^ 64 → Stored c depth base k w b
-stored c depth base k w b fits le below small =
+pub stored : (c : Context) (depth base k w : ℕ) (b : CpuState) → IsWellFormedState c depth base b → base ≤ k → k < word_limit → w < 2 ^ 64 → Stored c depth base k w b
+stored c depth base k w b fits le low small =
+    let below : k < frame_words = omega arith in
     let other : (j : ℕ) → j < frame_words → (j ≡ k → ⊥) → word_at depth j (set_word depth k w b) ≡ word_at depth j b =
     λ j inside ne. word_kept depth k w b fits.frame below depth j inside (inr (refl, ne)) in
     record {
       fits = fits_on (in_frame c depth base) base b _ (omega arith) fits (frame_stored depth k w b fits.frame below) fits.values fits.constants
-          (λ j u inside named. rw (other j (omega arith) (λ e. omega arith)) named) fits.holds.memos;
+          (λ j u inside named. rw (other j (omega arith) (λ e. omega arith)) named) fits.holds.memos
+          (λ i items is. let held = fits.holds.lists i items is in (held.0, subst (λ (v : ℕ). IsEmptyOr b.values.values v (list_value items)) (sym (other (list_word i) held.0 (λ e. omega arith))) held.1));
       keeps = keeps_stored depth k w b fits.frame below (variable_count c) base le;
       here = word_stored depth k w b fits.frame below small;
       other = other;
     }
+
+-- ---- the effect of a store into the word of a list
+
+module _ (c : Context) (depth base i w : ℕ) (b : CpuState) (fits : IsWellFormedState c depth base b) (inside : list_word i < frame_words) (named : (items : Cores) → slice_get c.words.lists i ≡ Some items → IsEmptyOr b.values.values w (list_value items)) (small : w < 2 ^ 64) where
+  abbrev b1 : CpuState
+  b1 = set_word depth (list_word i) w b
+
+  -- the word of each list is 0 or holds its value, if w does
+  lists_stored : HoldsLists c.words.lists depth b1
+  lists_stored j items is =
+      let held = fits.holds.lists j items is in
+      elim (cases_eq j i) [
+        | inl same ↦ (held.0, (grind (arith, word_stored)))
+        | inr other ↦ (held.0, subst (λ (v : ℕ). IsEmptyOr b.values.values v (list_value items)) (sym (word_kept depth (list_word i) w b fits.frame inside depth (list_word j) held.0 (inr (refl, λ e. other (omega arith))))) held.1)
+      ]
+
+  pub list_stored : base ≤ word_limit → IsWellFormedState c depth base b1
+  list_stored low =
+      fits_on (in_frame c depth base) base b b1 (omega arith) fits (frame_stored depth (list_word i) w b fits.frame inside) fits.values fits.constants
+      (λ j u below u_named. rw (word_kept depth (list_word i) w b fits.frame inside depth j (omega arith) (inr (refl, λ e. omega arith))) u_named) fits.holds.memos lists_stored
 
 -- ---- a memo is stored
 
@@ -79,12 +103,12 @@ pub fits_verdict : (depth i w : ℕ) (b : CpuState) → Framed depth b → i < 2
 fits_verdict depth i w b f below c base fits =
     fits_on (in_frame c depth base) base b _ (omega arith) fits (frame_with depth b _ f
     (with_word b.memory Verdict i w (has_verdict i b.memory f.memory below) f.memory)) fits.values fits.constants
-    (λ k u inside named. named) fits.holds.memos
+    (λ k u inside named. named) fits.holds.memos fits.holds.lists
 
 -- ---- more or fewer words in use
 
 pub fits_above : (c : Context) (depth base k : ℕ) (b : CpuState) → base ≤ k → IsWellFormedState c depth base b → IsWellFormedState c depth k b
-fits_above c depth base k b le fits = fits_on (in_frame c depth base) k b b le fits fits.frame fits.values fits.constants (λ j u inside named. named) fits.holds.memos
+fits_above c depth base k b le fits = fits_on (in_frame c depth base) k b b le fits fits.frame fits.values fits.constants (λ j u inside named. named) fits.holds.memos fits.holds.lists
 
 -- a word in use keeps its value
 pub kept_word : {count depth base : ℕ} {a b : CpuState} (k : ℕ) (x : ValueOrError) → k < base → k < frame_words → Preserves count depth base a b
@@ -96,7 +120,7 @@ pub fits_below : (c : Context) (depth base k : ℕ) (old new : CpuState) → bas
     → IsWellFormedState c depth k new → IsWellFormedState c depth base new
 fits_below c depth base k old new le low first kept fits =
     fits_on (in_frame c depth base) base old new (omega arith) first fits.frame fits.values fits.constants
-    (λ j u inside named. kept_word j u (omega arith) (omega arith) kept named) fits.holds.memos
+    (λ j u inside named. kept_word j u (omega arith) (omega arith) kept named) fits.holds.memos fits.holds.lists
 
 -- ---- what is preserved from one CPU state to the next
 
@@ -134,6 +158,7 @@ module _ (depth base w charge : ℕ) (list : List ValueOrError) (b : CpuState) (
       fits_on (in_frame c depth base) base b _ (omega arith) fits (frame_with depth b b.memory fits.frame fits.frame.memory)
       (values_answered c.environment.roots table fits.values) fits.constants
       (λ k u inside named. extends.kept _ u named) (λ i x is. (grind arith))
+      (λ i items is. let held = fits.holds.lists i items is in (held.0, elim held.1 [ inl empty ↦ inl empty | inr named ↦ inr (extends.kept _ (list_value items) named) ]))
 
 module _ {c : Context} {depth base k : ℕ} {x : ValueOrError} {a b d : CpuState} where
   -- what follows a state that was preserved

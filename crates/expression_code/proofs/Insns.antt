@@ -1,6 +1,7 @@
 -- The numbers of the instructions are in range: code can be encoded if the code of its parts can and is short.
-use Rattle.expression_code.proofs.Prelude.{◌≡◌, ℕ, ◌+◌, ◌^◌, ◌<◌, ◌≤◌, List, [], ◌∷◌, ◌++◌, Option, Some, None, refl, arith, ℤ, Bool, pos, bytes_eq, FitsSigned, if◌then◌else◌, AllByRecursion, w32, ints, AluOp, Insn, Call, Register, R0, R1, R2, R6, R7, lookup, Macro, Exists, ExistsOne, Filter, Map, TextTest, entry_code, entry_tail, item_code, list_code, list_head, map_code, map_head, push_tail, difference_code, divided_code, divided_tail, int_operands, negation_tail, product_code, product_tail, sum_code, sum_tail, difference_tail, operand_code, operands_code, equal_tail, less_tail, member_tail, not_less_tail, unequal_tail, leaf_insn, absorbing_code, false_ref, not_tail, ternary_code, true_ref, field_tail, has_tail, index_tail, size_tail, string_tail, test_tail, absorbing_turn, exists_one_end, exists_one_turn, filter_turn, first_empty, first_false, first_true, macro_code, map_turn, map_where_code, held_leaf, name_code, name_leaf, reference_or_error, root_reference, root_references, mov_reg, ja, fold_code, loop_code, loop_head, loop_tail, AreInsns, size, memo_tail, SimpleOperand, Reference, Word, branch_limit, frame_words, fold_limit, memo_limit}
+use Rattle.expression_code.proofs.Prelude.{◌≡◌, ℕ, ◌+◌, ◌^◌, ◌<◌, ◌≤◌, List, [], ◌∷◌, ◌++◌, Option, Some, None, refl, arith, ℤ, Bool, pos, bytes_eq, FitsSigned, if◌then◌else◌, AllByRecursion, w32, ints, AluOp, Insn, Call, Register, R0, R1, R2, R6, R7, lookup, Macro, Exists, ExistsOne, Filter, Map, TextTest, entry_code, entry_tail, item_code, list_code, list_head, map_code, map_head, push_tail, difference_code, divided_code, divided_tail, int_operands, negation_tail, product_code, product_tail, sum_code, sum_tail, difference_tail, operand_code, operands_code, equal_tail, less_tail, member_tail, not_less_tail, unequal_tail, leaf_insn, absorbing_code, false_ref, not_tail, ternary_code, true_ref, field_tail, has_tail, index_tail, size_tail, string_tail, test_tail, absorbing_turn, exists_one_end, exists_one_turn, filter_turn, first_empty, first_false, first_true, macro_code, map_turn, map_where_code, held_leaf, name_code, name_leaf, reference_or_error, root_reference, root_references, mov_reg, ja, fold_code, loop_code, loop_head, loop_tail, AreInsns, size, memo_tail, SimpleOperand, Reference, Word, branch_limit, frame_words, fold_limit, memo_limit, zero, suc, clear_code, kept_list_code, list_word}
 use Rattle.cel_macros.specs.declared.macros.Macro.TheVariants.{All}
+use Rattle.expression_code.specs.Instructions as insn
 use Rattle.expression_code.proofs.Loops.{loop_size}
 use Rattle.expression_code.proofs.Pieces.{size-append}
 
@@ -106,6 +107,13 @@ item_insns item k below first = insns_append item (push_tail k) first (omega ari
 
 pub list_insns : (items : List Insn) (k : ℕ) → k < frame_words → AreInsns items → AreInsns (list_code items k)
 list_insns items k below first = insns_append (list_head k) items (omega arith) first
+
+pub kept_list_insns : (k : ℕ) (made : List Insn) → k < frame_words → size made ≤ branch_limit → AreInsns made → AreInsns (kept_list_code k made)
+kept_list_insns k made below short insns = (omega arith, ((omega arith, omega arith), insns_append made (insn.store k R0 ∷ []) insns (omega arith)))
+
+pub clear_insns : (i n : ℕ) → list_word (i + n) ≤ frame_words → AreInsns (clear_code i n)
+clear_insns i zero inside = tt
+clear_insns i (suc n) inside = (omega arith, clear_insns (suc i) n (omega arith))
 
 pub entry_insns : (key entry : List Insn) (k : ℕ) → k < 63 → AreInsns key → AreInsns entry → AreInsns (entry_code key entry k)
 entry_insns key entry k below first second = insns_append key _ first (omega arith, insns_append entry (entry_tail k) second (omega arith))

@@ -18,7 +18,7 @@ module _ (image : Image) (deep : Bool) (roots : Roots) (constants : List ℕ) (s
   fits_before b fits = record {
     frame = fits.frame;
     values = fits.values;
-    holds = record { names = fits.holds.names; path = fits.holds.path; memos = λ i x at. fits.holds.memos i x (ap (λ (vs : List (List ℕ × ValueOrError)). slice_get vs i) bindings_are ∙ get_before (bindings scope) (bindings later) i x at) };
+    holds = record { names = fits.holds.names; path = fits.holds.path; memos = λ i x at. fits.holds.memos i x (ap (λ (vs : List (List ℕ × ValueOrError)). slice_get vs i) bindings_are ∙ get_before (bindings scope) (bindings later) i x at); lists = fits.holds.lists };
     constants = fits.constants;
   }
 

@@ -22,6 +22,7 @@ pub mod Loops
 pub mod Loaded
 pub mod Operators
 pub mod Paths
+pub mod KeptLists
 pub mod Logic
 pub mod Insertions
 pub mod Lists

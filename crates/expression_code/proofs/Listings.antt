@@ -1,9 +1,9 @@
 -- The laws of instructions for a literal piece, in which places are numerals.
-use Rattle.expression_code.proofs.Prelude.{◌≡◌, ℕ, suc, ◌+◌, ◌-◌, ◌^◌, ◌<◌, ◌≤◌, ◌∙◌, ap, refl, Bool, Some, List, arith, true, false, ℤ, pos, slice_get, if◌then◌else◌, ints, AluOp, Mov, Comparison, Insn, Alu, Jump, Branch, Call, Load, Store, LoadWide, Operand, Register, R10, Dw, Width, W64, is_frame_pointer, alu_result, compares, charge_limit, ValueOrError, CpuState, at, set_register, operand_in, HelperReturns, Refuses, answered, Frame, RunContext, RunsToWith, StayFilled, put_length as length_insn, slots, IsCodeAt, Framed, memo_address, memo_at, set_memo, set_word, word_at, word_offset, Scratch, Constants, executed, jumped, frame_words, memo_limit}
+use Rattle.expression_code.proofs.Prelude.{◌≡◌, ℕ, suc, ◌+◌, ◌-◌, ◌^◌, ◌<◌, ◌≤◌, ◌∙◌, ap, refl, Bool, Some, List, arith, true, false, ℤ, pos, slice_get, if◌then◌else◌, ints, AluOp, Mov, Comparison, Insn, Alu, Jump, Branch, Call, Load, Store, LoadWide, Operand, Register, R10, Dw, Width, W64, is_frame_pointer, alu_result, compares, charge_limit, ValueOrError, CpuState, at, set_register, operand_in, HelperReturns, Refuses, answered, Frame, RunContext, RunsToWith, StayFilled, put_length as length_insn, slots, IsCodeAt, Framed, memo_address, memo_at, set_memo, set_word, word_at, word_offset, Scratch, Constants, executed, jumped, frame_words, memo_limit, StoreImm, Imm, w64, cast_unsigned}
 use Rattle.expression_code.proofs.Effects.{alu_does, branch_does, does, load_wide_does, mov_is}
 use Rattle.expression_code.proofs.Runs.{either, from_place, looser, one_filled}
 use Rattle.expression_code.proofs.Steps as step
-use Rattle.expression_code.proofs.Accesses.{has_memo, load_does, load_word_does, store_does, store_word_does}
+use Rattle.expression_code.proofs.Accesses.{has_memo, load_does, load_word_does, put_does, store_does, store_word_does}
 
 module _ {s : RunContext} {o : ℕ} {piece : List Insn} {n x p' : ℕ} {b : CpuState} {r : List Frame} {Q : CpuState → Type 0} (has : IsCodeAt s.image.code o piece) where
   pub begins : RunsToWith s n x (o + 0) b r p' Q → RunsToWith s n x o b r p' Q
@@ -41,6 +41,10 @@ module _ {s : RunContext} {o : ℕ} {piece : List Insn} {n x p' : ℕ} {b : CpuS
   pub store : {src : Register} {depth : ℕ} (k i : ℕ) → slice_get (slots piece) k ≡ Some (Some (Store Dw R10 (word_offset i) src)) → Framed depth b → i < frame_words
       → RunsToWith s n x (o + (k + 1)) (set_word depth i (b.registers src) b) r p' Q → RunsToWith s (suc n) x (o + k) b r p' Q
   store {src} {depth} k i h f below c = goes k _ h (store_does s.image (o + k) b depth i src f below) refl (λ i h. h) refl (omega arith) c
+
+  pub put : {m : ℤ} {depth : ℕ} (k i : ℕ) → slice_get (slots piece) k ≡ Some (Some (StoreImm Dw R10 (word_offset i) m)) → Framed depth b → i < frame_words
+      → RunsToWith s n x (o + (k + 1)) (set_word depth i (cast_unsigned w64 m) b) r p' Q → RunsToWith s (suc n) x (o + k) b r p' Q
+  put {m} {depth} k i h f below c = goes k _ h (put_does s.image (o + k) b depth i m f below) refl (λ i h. h) refl (omega arith) c
 
   pub load_memo : {dst src : Register} {depth : ℕ} (k i : ℕ) → slice_get (slots piece) k ≡ Some (Some (Load Dw dst src (pos 0))) → Framed depth b → i < memo_limit
       → b.registers src ≡ memo_address i → is_frame_pointer dst ≡ false → RunsToWith s n x (o + (k + 1)) (set_register b dst (memo_at i b)) r p' Q

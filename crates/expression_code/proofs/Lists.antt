@@ -15,7 +15,7 @@ use Rattle.expression_code.specs.Instructions as insn
 -- ---- values that are built part by part
 
 -- R0 is stored in the word
-pub made_stored : (c : Context) (depth k : ℕ) (x : ValueOrError) (a b : CpuState) → k < frame_words → result_depth x ≤ depth_limit → LeavesValue c depth k x a b
+pub made_stored : (c : Context) (depth k : ℕ) (x : ValueOrError) (a b : CpuState) → k < word_limit → result_depth x ≤ depth_limit → LeavesValue c depth k x a b
     → MadeInR0 c depth k x a (set_word depth k (b.registers R0) b)
 made_stored c depth k x a b low within shown =
     let r = b.registers R0 in
@@ -54,7 +54,7 @@ builds_then site first second f g t u before after = record {
 
 -- ---- a literal: an empty list or map, and its parts
 
-module _ (s : RunContext) (p k : ℕ) (helper : ℤ) (empty : ValueOrError) (low : k < frame_words) (flat : result_depth empty ≤ depth_limit) (c : Context) (depth : ℕ) where
+module _ (s : RunContext) (p k : ℕ) (helper : ℤ) (empty : ValueOrError) (low : k < word_limit) (flat : result_depth empty ≤ depth_limit) (c : Context) (depth : ℕ) where
   abbrev head : List Insn
   head = Call helper ∷ insn.store k R0 ∷ []
 
@@ -64,7 +64,7 @@ module _ (s : RunContext) (p k : ℕ) (helper : ℤ) (empty : ValueOrError) (low
       (begins has
       (ask has 0 refl a.answers (λ paid.
       let shown = shows_placed (in_frame c depth k) helper empty 1 b b.registers (omega arith) refl fits a paid in
-      store has 1 k refl shown.fits.frame low
+      store has 1 k refl shown.fits.frame (omega arith)
       (done s (p + 2) _ _ (made_stored c depth k empty b (answered b a.word a.list (b.values.charge + 1)) low flat shown)))))
 
   pub literal_runs : (parts : List Insn) (f : ValueOrError → ValueOrError) (n x : ℕ) → ((b : CpuState) → IsWellFormedState c depth k b → HelperPlaces helper b empty 1)

@@ -57,6 +57,7 @@ pub use Rattle.cel_macros.specs.Arithmetic.{difference, difference_of, fits, int
 pub use Rattle.cel_macros.specs.Arithmetic.{product, product_of, quotient, quotient_of, remainder, remainder_of}
 pub use Rattle.cel_macros.specs.Arithmetic.{sum_of}
 pub use Rattle.cel_macros.specs.Comparison.{equal_of, less_of, member_of, truth_or_error}
+pub use Rattle.cel_macros.specs.CoreTree.{Cores}
 pub use Rattle.cel_macros.specs.Environment.{Environment, Roots, item_or_root, lookup, root_bindings, value_or_error}
 pub use Rattle.cel_macros.specs.FoldMeaning.{end_of, folded, is_error, map_step, one_more, pushed, start_of, step_of}
 pub use Rattle.cel_macros.specs.FoldMeaning.{when_true}
@@ -111,9 +112,9 @@ pub use Rattle.insn_codec.specs.declared.comparison.Comparison.{Comparison}
 pub use Rattle.insn_codec.specs.declared.comparison.Comparison.TheVariants.{Eq, Ne, Sge, Sgt, Sle, Slt}
 pub use Rattle.insn_codec.specs.declared.insn.Insn.{Insn}
 pub use Rattle.insn_codec.specs.declared.insn.Insn.TheVariants.{Alu, Branch, Call, CallLocal, Exit, Jump, Load}
-pub use Rattle.insn_codec.specs.declared.insn.Insn.TheVariants.{LoadWide, Neg, Store}
+pub use Rattle.insn_codec.specs.declared.insn.Insn.TheVariants.{LoadWide, Neg, Store, StoreImm}
 pub use Rattle.insn_codec.specs.declared.operand.Operand.{Operand}
-pub use Rattle.insn_codec.specs.declared.operand.Operand.TheVariants.{Reg}
+pub use Rattle.insn_codec.specs.declared.operand.Operand.TheVariants.{Imm, Reg}
 pub use Rattle.insn_codec.specs.declared.register.Register.{Register}
 pub use Rattle.insn_codec.specs.declared.register.Register.TheVariants.{R0, R1, R10, R2, R3, R6, R7}
 pub use Rattle.insn_codec.specs.declared.size.Size.TheVariants.{Dw}
@@ -146,13 +147,15 @@ pub use Rattle.expression_code.specs.Code.Comparison.{equal_tail, less_tail, mem
 pub use Rattle.expression_code.specs.Code.Comparison.{unequal_tail}
 pub use Rattle.expression_code.specs.Code.Folds.{absorbing_turn, exists_one_end, first_empty, first_false, first_true}
 pub use Rattle.expression_code.specs.Code.Folds.{macro_code, map_turn, map_where_code, map_where_turn}
+pub use Rattle.expression_code.specs.Code.KeptLists.{clear, clear_code, kept_list_code}
 pub use Rattle.expression_code.specs.Code.Leaves.{leaf_code, leaf_insn}
 pub use Rattle.expression_code.specs.Code.Literals.{int_code, null_leaf, text_code, truth_leaf}
 pub use Rattle.expression_code.specs.Code.Logic.{absorbing_code, absorbing_tail, false_ref, not_tail, ternary_code, true_ref}
 pub use Rattle.expression_code.specs.Code.Names.{held_leaf, name_code, name_leaf, reference_or_error, root_references}
 pub use Rattle.expression_code.specs.Code.Selection.{call_with_text, field_tail, has_tail, index_tail, size_tail}
 pub use Rattle.expression_code.specs.Code.Selection.{string_tail, test_tail}
-pub use Rattle.expression_code.specs.Contexts.{Context, IsWellFormedState, Evaluates, HasValues, IsHeld, IsMemo}
+pub use Rattle.expression_code.specs.Contexts.{Context, IsWellFormedState, Evaluates, HasValues, HoldsLists, IsEmptyOr}
+pub use Rattle.expression_code.specs.Contexts.{IsHeld, IsMemo}
 pub use Rattle.expression_code.specs.Contexts.{Preserves, LeavesValue, variable_count}
 pub use Rattle.expression_code.specs.Engine.{Arrived, RunsTo, RunsToExit, RunEnds, ExitsOrRunsOut, IsSpent, LeavesByExit}
 pub use Rattle.expression_code.specs.Engine.{OutOfBudget, OwnBudgets, RunsToWith, RunContext, Faulted, charge_to}
@@ -167,6 +170,7 @@ pub use Rattle.expression_code.specs.Gives.Logic.{AbsorbingGives, LogicGives}
 pub use Rattle.expression_code.specs.Gives.Folds.{IsItem, MacroGives, MapWhereGives, charge_budget, each_spent}
 pub use Rattle.expression_code.specs.Gives.Folds.{each_visits, holds_too_deep, is_too_deep, items_spent, items_visits}
 pub use Rattle.expression_code.specs.Gives.Folds.{step_budget}
+pub use Rattle.expression_code.specs.Gives.KeptLists.{KeptListsGive, keeping}
 pub use Rattle.expression_code.specs.Gives.Paths.{PathsGive, kept_path_code, outside, path_in}
 pub use Rattle.expression_code.specs.Gives.Selection.{HasText, KeyedGives, SelectionGives, text_length}
 pub use Rattle.expression_code.specs.Helpers.{HelpersAnswer, Holding, KeyHelper, Lends, UnaryHelper, join_of, joined_length}
@@ -179,7 +183,7 @@ pub use Rattle.expression_code.specs.Loops.{range_tail, with_item}
 pub use Rattle.expression_code.specs.MacroRows.{MacroRowsStand}
 pub use Rattle.expression_code.specs.Operators.{AreApart, CallsGive, Combines, CombinesThen, Converts, ConvertsThen}
 pub use Rattle.expression_code.specs.Operators.{IsLeafIn, IsLeafOf, OneGives, TwoGives}
-pub use Rattle.expression_code.specs.Paths.{FrameUse, RootField, nothing_kept, with_path}
+pub use Rattle.expression_code.specs.Paths.{FrameUse, RootField, list_value, list_word, nothing_kept, with_lists, with_path}
 pub use Rattle.expression_code.specs.Pieces.{AreInsns, SpelledStands, IsCodeAt, insn_slots, size, slots, spellings}
 pub use Rattle.expression_code.specs.Programs.{ProgramExits, start_body, total}
 pub use Rattle.expression_code.specs.Rows.{RunEndRowsHold}

@@ -43,7 +43,7 @@ unfolding start_memory
 start_fits image values roots variables bytes has = record {
   frame = record { shallow = omega arith; pointer_is = refl; records_are = refl; memory = start_laws.memory image.constants bytes };
   values = has;
-  holds = record { names = λ n. tt; path = λ x at. absurd (cc); memos = λ i x is. inl (word_in-zeros 4096 i) };
+  holds = record { names = λ n. tt; path = λ x at. absurd (cc); memos = λ i x is. inl (word_in-zeros 4096 i); lists = λ i items is. absurd (cc) };
   constants = refl;
 }
 

@@ -1,5 +1,5 @@
 -- The routine of a variable returns to its caller with the value, and the memo is filled.
-use Rattle.expression_code.proofs.Prelude.{◌≡◌, ℕ, ◌+◌, ◌<◌, ◌≤◌, List, [], ◌∷◌, ◌++◌, length, length-append, Some, Bool, refl, sym, ap, ◌∙◌, subst, arith, inl, inr, slice_get, cases_eq, cases_lt, length-map, Insn, R0, R1, R2, Image, Value, ValueOrError, Roots, Names, CpuState, set_register, entered, resumed, Context, IsWellFormedState, Evaluates, IsMemo, LeavesValue, RunsToWith, RunContext, FirstUse, FrameUse, IsCodeAt, size, RoutineReturns, Variable, bindings, memo_tail, routine_context, used_context, with_variables, Framed, memo_address, memo_at, set_memo, same, word_limit, record_limit, memo_limit}
+use Rattle.expression_code.proofs.Prelude.{◌≡◌, ℕ, ◌+◌, ◌<◌, ◌≤◌, List, [], ◌∷◌, ◌++◌, length, length-append, Some, Bool, refl, sym, ap, ◌∙◌, subst, arith, inl, inr, slice_get, cases_eq, cases_lt, length-map, Insn, R0, R1, R2, Image, Value, ValueOrError, Roots, Names, CpuState, set_register, entered, resumed, Context, IsWellFormedState, Evaluates, IsMemo, LeavesValue, RunsToWith, RunContext, FirstUse, FrameUse, IsCodeAt, size, RoutineReturns, Variable, bindings, memo_tail, routine_context, used_context, with_variables, Framed, memo_address, memo_at, set_memo, same, word_limit, record_limit, memo_limit, HoldsLists, IsEmptyOr, list_value, list_word, Cores}
 use Rattle.expression_code.proofs.Sites.{in_frame}
 use Rattle.expression_code.proofs.Effects.{add_is}
 use Rattle.expression_code.proofs.Frames.{fits_on, frame_with, frame_memo, memo_kept, memo_stored}
@@ -33,7 +33,7 @@ module _ (image : Image) (deep : Bool) (paid : List FirstUse) (constants : List 
     fits_entered = record {
       frame = grind (arith, length-append);
       values = fits.values;
-      holds = record { names = λ m. tt; path = λ y at. absurd (cc); memos = λ j y is. fits.holds.memos j y (get_before variables ((name, v) ∷ later) j y is) };
+      holds = record { names = λ m. tt; path = λ y at. absurd (cc); memos = λ j y is. fits.holds.memos j y (get_before variables ((name, v) ∷ later) j y is); lists = λ j items is. absurd (cc) };
       constants = fits.constants;
     }
 
@@ -62,6 +62,14 @@ module _ (image : Image) (deep : Bool) (paid : List FirstUse) (constants : List 
       holds_memo : (j : ℕ) (y : List ℕ × ValueOrError) → slice_get (variables ++ (name, v) ∷ later) j ≡ Some y → IsMemo b3.values.values (memo_at j last) y.1
       holds_memo j y is = grind (arith, cases_lt, other_memo, get_front, later_memo, get_at, this_memo)
 
+      -- the words of the caller's frame are unchanged
+      held_lists : HoldsLists words.lists depth last
+      held_lists i items is =
+          let held = fits.holds.lists i items is in
+          let unchanged = g3.keeps.words depth (list_word i) held.0 (inl (omega arith)) in
+          (held.0, subst (λ (w : ℕ). IsEmptyOr b3.values.values w (list_value items)) (sym unchanged)
+          (elim held.1 [ inl empty ↦ inl empty | inr named ↦ inr (g3.keeps.values _ (list_value items) named) ]))
+
       back : Back caller last
       back = record {
         shown = record {
@@ -70,7 +78,7 @@ module _ (image : Image) (deep : Bool) (paid : List FirstUse) (constants : List 
               let frame : Framed depth last = frame_with depth caller _ fits.frame (frame_memo (depth + 1) index (r + 1) b3 g3.fits.frame below).memory in
               fits_on (in_frame c depth base) base caller last (omega arith) fits frame g3.fits.values (g3.keeps.constants ∙ fits.constants)
               (λ k u inside named. subst (λ (w : ℕ). Names b3.values.values w u) (sym (g3.keeps.words depth k (omega arith) (inl (omega arith))))
-              (g3.keeps.values _ u named)) holds_memo;
+              (g3.keeps.values _ u named)) holds_memo held_lists;
           keeps = record {
             words = λ d k inside h. g3.keeps.words d k inside (inl (elim h [ inl lower ↦ omega arith | inr same ↦ (let level = same.0 in omega arith) ]));
             values = g3.keeps.values;

@@ -9,4 +9,5 @@ pub mod Logic
 pub mod Arithmetic
 pub mod Comparison
 pub mod Aggregates
+pub mod KeptLists
 pub mod Folds

@@ -10,7 +10,8 @@ use Rattle.cel_macros.specs.Environment.{Environment, Roots, lookup}
 use Rattle.expression_code.specs.Limits.{frame_words}
 use Rattle.expression_code.specs.CpuState.{CpuState}
 use Rattle.expression_code.specs.Engine.{RunContext, RunsTo}
-use Rattle.expression_code.specs.Paths.{FrameUse, RootField, path_value}
+use Rattle.cel_macros.specs.CoreTree.{Cores}
+use Rattle.expression_code.specs.Paths.{FrameUse, RootField, list_value, list_word, path_value}
 use Rattle.expression_code.specs.Pieces.{IsCodeAt, size}
 use Rattle.expression_code.specs.Words.{Framed, memo_at, word_at}
 
@@ -50,12 +51,22 @@ abbrev pub HoldsPath : Option RootField → Roots → List (List ℕ × Value) �
 HoldsPath path roots items depth base b = (x : RootField) → path ≡ Some x
     → (0 < base) × Names b.values.values (word_at depth 0 b) (path_value x roots items)
 
--- the word of each iteration name holds its item, word 0 the value of a kept path, and the memo of each variable is
--- empty or filled
+-- a word is 0, or a reference of this value or error
+abbrev pub IsEmptyOr : List ValueOrError → ℕ → ValueOrError → Type 0
+IsEmptyOr list word x = (word ≡ 0) ⊎ Names list word x
+
+-- the word of each kept list is 0, or holds the list's value
+abbrev pub HoldsLists : List Cores → ℕ → CpuState → Type 0
+HoldsLists lists depth b = (i : ℕ) (items : Cores) → slice_get lists i ≡ Some items
+    → (list_word i < frame_words) × IsEmptyOr b.values.values (word_at depth (list_word i) b) (list_value items)
+
+-- the word of each iteration name holds its item, word 0 the value of a kept path, the memo of each variable is empty
+-- or filled, and so is the word of each kept list
 pub record HoldsEnvironment (c : Context) (depth base : ℕ) (b : CpuState) : Type 0 where
   pub names : (n : List ℕ) → IsHeld depth base b (lookup n c.words.items) (lookup n c.environment.items)
   pub path : HoldsPath c.words.path c.environment.roots c.environment.items depth base b
   pub memos : (i : ℕ) (x : List ℕ × ValueOrError) → slice_get c.environment.variables i ≡ Some x → IsMemo b.values.values (memo_at i b) x.1
+  pub lists : HoldsLists c.words.lists depth b
 
 -- a CPU state in which code for an expression may run; the words of its frame below base are in use
 pub record IsWellFormedState (c : Context) (depth base : ℕ) (b : CpuState) : Type 0 where

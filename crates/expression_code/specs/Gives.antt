@@ -7,3 +7,4 @@ pub mod Comparison
 pub mod Folds
 pub mod Arithmetic
 pub mod Paths
+pub mod KeptLists

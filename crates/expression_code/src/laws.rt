@@ -3,6 +3,7 @@ ghost use Rattle.expression_code.specs.Engine.{OwnBudgets};
 ghost use Rattle.expression_code.specs.Gives.Aggregates.{ListGives, MapGives};
 ghost use Rattle.expression_code.specs.Gives.Arithmetic.{AdditionsGive, NegationGives, ProductsGive};
 ghost use Rattle.expression_code.specs.Gives.Comparison.{ComparisonGives};
+ghost use Rattle.expression_code.specs.Gives.KeptLists.{KeptListsGive};
 ghost use Rattle.expression_code.specs.Gives.Leaves.{LeavesGive, LeavesName};
 ghost use Rattle.expression_code.specs.Gives.Logic.{LogicGives};
 ghost use Rattle.expression_code.specs.Gives.Folds.{MacroGives, MapWhereGives};
@@ -107,6 +108,13 @@ pub fn leaves_give()
 #[tactic(auto, using(crate::proofs::Paths::paths_give))]
 pub fn paths_give()
     ensures { PathsGive }
+{}
+
+/// The code of a list of literals can be composed to code that keeps the list's value in a word of
+/// the frame, or uses the value that it keeps. Before code that keeps lists, their words are emptied.
+#[tactic(auto, using(crate::proofs::KeptLists::kept_lists_give))]
+pub fn kept_lists_give()
+    ensures { KeptListsGive }
 {}
 
 /// The code after one operand gives a field, whether it exists, a size or a text; the code after
