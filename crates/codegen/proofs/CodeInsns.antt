@@ -1,15 +1,17 @@
 -- The code of an expression that fits an image can be encoded: the numbers in its instructions are in range.
-use Rattle.codegen.proofs.Prelude.{◌≡◌, ℕ, ◌+◌, ◌*◌, ◌^◌, ◌<◌, ◌≤◌, List, [], ◌∷◌, ◌++◌, length, Option, Some, arith, unwrap_or, option_map, AllByRecursion, Insn, Register, R1, IsWellFormedLiteral, BinaryOperator, UnaryOperator, Core, Cores, CoreEntries, no_cores, more_cores, no_core_entries, more_core_entries, plain_entries, plain_tree, plain_trees, lookup, Function, TextTest, nodes, nodes_of, entries_nodes, need, needs, entries_need, saturated, Declaration, AreInsns, size, kept_size, operand_code, operands_code, FrameUse, RootField, with_name, SimpleOperand, MayBeNear, absorbing_insns, difference_insns, divided_insns, entry_insns, equal_insns, field_insns, has_insns, index_insns, insns_append, item_insns, less_insns, list_insns, macro_insns, map_insns, map_where_insns, member_insns, name_insns, name_near, negation_insns, not_insns, not_less_insns, operand_insns, operands_insns, product_insns, size_insns, string_insns, sum_insns, ternary_insns, test_insns, unequal_insns, binary_code, binary_tail, code_of, entries_code, function_code, items_code, leaf_of, left_size, method_function_code, no_code, routine_named, test_code, unary_code, variable_code, field_leaf, kept_or, address_of, literal_code, literal_leaf, place_of, EntriesHaveLiterals, HasLiterals, HaveLiterals, routines_of, frame_words, word_limit, branch_limit, slot_reach, memo_limit, call_reach, part_slots_per_node, node_limit, function_in}
+use Rattle.codegen.proofs.Prelude.{◌≡◌, ℕ, ◌+◌, ◌*◌, ◌^◌, ◌<◌, ◌≤◌, List, [], ◌∷◌, ◌++◌, length, Option, Some, arith, unwrap_or, option_map, AllByRecursion, Insn, Register, R1, IsWellFormedLiteral, BinaryOperator, UnaryOperator, Core, Cores, CoreEntries, no_cores, more_cores, no_core_entries, more_core_entries, plain_entries, plain_tree, plain_trees, lookup, Function, TextTest, nodes, nodes_of, entries_nodes, need, needs, entries_need, saturated, Declaration, AreInsns, size, kept_size, operand_code, operands_code, FrameUse, RootField, with_name, SimpleOperand, MayBeNear, absorbing_insns, difference_insns, divided_insns, entry_insns, equal_insns, field_insns, has_insns, index_insns, insns_append, item_insns, less_insns, list_insns, macro_insns, map_insns, map_where_insns, member_insns, name_insns, name_near, negation_insns, not_insns, not_less_insns, operand_insns, operands_insns, product_insns, size_insns, string_insns, sum_insns, ternary_insns, test_insns, unequal_insns, binary_code, binary_tail, code_of, entries_code, function_code, items_code, leaf_of, left_size, method_function_code, no_code, routine_named, test_code, unary_code, variable_code, field_leaf, kept_or, address_of, literal_code, literal_leaf, place_of, EntriesHaveLiterals, HasLiterals, HaveLiterals, routines_of, frame_words, word_limit, branch_limit, slot_reach, memo_limit, call_reach, part_slots_per_node, node_limit, function_in, kept_list_insns, kept_or_made, kept_place, list_front, list_word, None, refl}
 use Rattle.cel_reader.specs.Tree as tree
 use Rattle.cel_macros.specs.CoreTree as core
-use Rattle.codegen.proofs.Lengths.{short_code}
+use Rattle.codegen.proofs.KeptLists.{kept_is}
+use Rattle.codegen.proofs.Lengths.{short_code, short_list}
 
--- the words of iteration names are in the frame
-abbrev pub AreWithin : FrameUse → Type 0
-AreWithin words = (n : List ℕ) (k : ℕ) → lookup n words.items ≡ Some k → k < frame_words
+-- the words of iteration names and of lists are in the frame
+pub record AreWithin (words : FrameUse) : Type 0 where
+  pub items : (n : List ℕ) (k : ℕ) → lookup n words.items ≡ Some k → k < frame_words
+  pub lists : list_word (length words.lists) ≤ frame_words
 
 within_more : (n : List ℕ) (j : ℕ) (words : FrameUse) → j < frame_words → AreWithin words → AreWithin (with_name n j words)
-within_more n j words low rest m i e = grind (arith, rest m i)
+within_more n j words low rest = record { items = λ m i e. grind (arith, rest.items m i); lists = rest.lists }
 
 pub address_small : (texts : List (List ℕ)) (t : List ℕ) → address_of texts t < 2 ^ 64
 address_small texts t = let most = unwrap_or (option_map saturated (place_of t texts)) 0 in omega arith
@@ -27,10 +29,22 @@ field_near : (path : Option RootField) (a : Core) (f : List ℕ) → MayBeNear (
 field_near path a f = grind arith
 
 leaf_near : (e : Core) (ws : FrameUse) → AreWithin ws → MayBeNear (leaf_of e ws)
-leaf_near e ws words = grind (arith, literal_near, name_near, field_near)
+leaf_near e ws words = grind (arith, literal_near, name_near, field_near, words.items)
 
 kept_insns : (l : Option SimpleOperand) (code : List Insn) → MayBeNear l → AreInsns code → AreInsns (kept_or l code)
 kept_insns l code near insns = grind arith
+
+pub front_small : (kept : Option ℕ) → list_front kept ≤ 2
+front_small kept = grind arith
+
+-- a list that is kept, if its number is one of a kept list's
+list_kept_insns : (items : Cores) (ws : FrameUse) (o : Option ℕ) (made : List Insn) → AreWithin ws → kept_place items ws.lists ≡ o → size made ≤ branch_limit
+    → AreInsns made → AreInsns (kept_or_made o made)
+list_kept_insns items ws None made words is short insns = insns
+list_kept_insns items ws (Some i) made words is short insns =
+    let inside = (kept_is items ws.lists i is).within in
+    let within = words.lists in
+    kept_list_insns (list_word i) made (omega arith) short insns
 
 -- ---- one operand
 
@@ -99,7 +113,7 @@ module _ (ts : List (List ℕ)) (rs : List (List ℕ × ℕ)) (near : AreNear rs
     pub code_insns : (e : Core) (ws : FrameUse) (k p : ℕ) → AreWithin ws → k + need e ≤ word_limit → nodes e ≤ node_limit → p + part_slots_per_node * nodes e ≤ call_reach
         → HasLiterals (plain_tree e) → AreInsns (code_of e ts rs ws k p)
     code_insns (core.literal l) ws k p words room few inside h = literal_insns ts l h
-    code_insns (core.name n) ws k p words room few inside h = name_insns n ws.items (words n)
+    code_insns (core.name n) ws k p words room few inside h = name_insns n ws.items (words.items n)
     code_insns (core.variable v) ws k p words room few inside h = variable_insns (routine_named v rs) p (omega arith) (near v)
     code_insns (core.select a f) ws k p words room few inside h =
         kept_insns (leaf_of (core.select a f) ws) _ (leaf_near (core.select a f) ws words) (one_insns (leaf_of a ws) (code a ws k p) (leaf_near a ws words) (code_insns a ws k p words room (omega arith) (omega arith) h) R1 _ (field_insns (address_of ts f) (length f) (address_small ts f)))
@@ -116,7 +130,12 @@ module _ (ts : List (List ℕ)) (rs : List (List ℕ × ℕ)) (near : AreNear rs
     code_insns (core.binary op a b) ws k p words room few inside h = grind (arith, parts, binary_insns, code_insns a ws k p, code_insns b ws (k + 1))
     code_insns (core.ternary c a b) ws k p words room few inside h = grind (arith, short_code, ternary_insns, code_insns c ws k p, code_insns a ws k, code_insns b ws k)
     code_insns (core.list items) ws k p words room few inside h =
-        list_insns (items_code items ts rs ws k (p + 2)) k (omega arith) (items_insns items ws k (p + 2) words (omega arith) (omega arith) (omega arith) h)
+        let kept = kept_place items ws.lists in
+        let q = p + list_front kept in
+        let near = front_small kept in
+        let short = short_list items ts rs ws k q in
+        list_kept_insns items ws kept _ words refl (omega arith)
+        (list_insns (items_code items ts rs ws k (q + 2)) k (omega arith) (items_insns items ws k (q + 2) words (omega arith) (omega arith) (omega arith) h))
     code_insns (core.map es) ws k p words room few inside h =
         map_insns (entries_code es ts rs ws k (p + 2)) k (omega arith) (entries_insns es ws k (p + 2) words (omega arith) (omega arith) (omega arith) h)
     code_insns (core.fold m n r e) ws k p words room few inside h =

@@ -1,11 +1,12 @@
 -- The code of an expression gives its value within its budget, by induction on its tree.
-use Rattle.codegen.proofs.Prelude.{append-nil, ◌≡◌, ℕ, ◌+◌, ◌<◌, ◌≤◌, Bool, true, false, List, [], Option, Some, None, IfSome, refl, arith, suc, ◌||◌, ◌∷◌, length, ap, ◌∙◌, ◌++◌, IsSome, slice_get, bytes_eq, ◌&&◌, if◌then◌else◌, Insn, ValueOrError, Value, Core, call_or_has, no_cores, one_core, selection, expanded, expanded_entries, expanded_operand, expanded_trees, plain_tree, variable_value, Roots, lookup, name_value, Environment, bind, Function, Size, TextTest, function_named, function_of, method_of, test_named, text_test_of, called, selected, entry_meanings, meaning, meanings, operand_meaning, deepest, need, depth_or_none, kept_size, Context, Evaluates, RunContext, IsLeafOf, IsLeafIn, Variable, IsScope, place_named, scope_setting, SimpleOperand, code_of, function_code, leaf_of, method_function_code, test_code, texts_of, routine_named, field_leaf, ComputesPart, names, nestings, routines, scope_context, Computes, Ready, environment_in, Cost, ◌and◌, call_cost, node, nothing, selection_cost, cost, costs, entry_costs, operand_cost, IsAccepted, ints, list_any, Image, FrameUse, RootField, with_name, scope_gives, bytes_decides, field_of, CpuState, Word, leaves_name, paths_give, Tree, Trees, TreeEntries, no_trees, more_trees, no_entries, more_entries, field_name, is_has, is_map, is_variables, macro_named, name_of, later_gives, EntriesHaveLiterals, HasLiterals, HaveLiterals, gives_within, CodeGives, word_limit, record_limit, memo_limit, frame_words, Callee, callee_named, function_in, function_stays, test_in, test_stays, subst}
+use Rattle.codegen.proofs.Prelude.{append-nil, ◌≡◌, ℕ, ◌+◌, ◌<◌, ◌≤◌, Bool, true, false, List, [], Option, Some, None, IfSome, refl, arith, suc, ◌||◌, ◌∷◌, length, ap, ◌∙◌, ◌++◌, IsSome, slice_get, bytes_eq, ◌&&◌, if◌then◌else◌, Insn, ValueOrError, Value, Core, call_or_has, no_cores, one_core, selection, expanded, expanded_entries, expanded_operand, expanded_trees, plain_tree, variable_value, Roots, lookup, name_value, Environment, bind, Function, Size, TextTest, function_named, function_of, method_of, test_named, text_test_of, called, selected, entry_meanings, meaning, meanings, operand_meaning, deepest, need, depth_or_none, kept_size, Context, Evaluates, RunContext, IsLeafOf, IsLeafIn, Variable, IsScope, place_named, scope_setting, SimpleOperand, code_of, function_code, leaf_of, method_function_code, test_code, texts_of, routine_named, field_leaf, ComputesPart, names, nestings, routines, scope_context, Computes, Ready, environment_in, Cost, ◌and◌, call_cost, node, nothing, selection_cost, cost, costs, entry_costs, operand_cost, IsAccepted, ints, list_any, Image, FrameUse, RootField, with_name, scope_gives, bytes_decides, field_of, CpuState, Word, leaves_name, paths_give, Tree, Trees, TreeEntries, no_trees, more_trees, no_entries, more_entries, field_name, is_has, is_map, is_variables, macro_named, name_of, later_gives, EntriesHaveLiterals, HasLiterals, HaveLiterals, gives_within, CodeGives, word_limit, record_limit, memo_limit, frame_words, Callee, callee_named, function_in, function_stays, test_in, test_stays, subst, Cores, kept_place, list_literal, list_value, literal_values}
 use Rattle.codegen.proofs.Subexpressions.{Subexpression, subexpression, in_macro}
 use Rattle.cel_macros.specs.CoreTree as core
 use Rattle.codegen.proofs.Parts.{leaf, LeafPart, Part, function_part, has_part, or_left, or_right, select_part, test_part, texts_back, texts_front, EntriesPart, ItemsPart, entries_more, entries_none, items_more, items_none, list_part, map_part, binary_part, unary_part, index_part, literal_part, name_part, ternary_part}
 use Rattle.cel_reader.specs.Tree as tree
 use Rattle.codegen.proofs.Accepted.{expanded_again}
 use Rattle.codegen.proofs.Folds.{fold_map_part, fold_part}
+use Rattle.codegen.proofs.KeptLists.{items_mean, kept_is}
 
 -- ---- selections, calls and methods of the grammar, given that the code of their parts gives their values within
 -- their budgets
@@ -166,6 +167,13 @@ module _ (image : Image) (deep : Bool) (roots : Roots) (constants : List ℕ) (s
   leaf_named (tree.method a n (more_trees x (more_trees p (more_trees t no_trees)))) xs ws k low = grind arith
   leaf_named _ xs ws k low = tt
 
+  -- a kept list with the same literals has the value of the list
+  kept_means : (items : Trees) (xs : List (List ℕ × Value)) (ws : FrameUse) (i : ℕ) → kept_place (expanded_trees items) ws.lists ≡ Some i
+      → (list : Cores) × (slice_get ws.lists i ≡ Some list) × (list_value list ≡ list_literal (meanings items (around xs)))
+  kept_means items xs ws i is =
+      let found = kept_is (expanded_trees items) ws.lists i is in
+      (found.list, found.stands, ap list_literal (items_mean found.list items (around xs) found.same))
+
   mutual
     unfolding expanded meaning cost IsAccepted
 
@@ -184,7 +192,7 @@ module _ (image : Image) (deep : Bool) (roots : Roots) (constants : List ℕ) (s
     computes (tree.ternary t a b) xs ws k h =
         ternary_part s scope rs texts depth (here xs ws) k (subexpression (expanded t) (meaning t (around xs)) (cost t (around xs))) (subexpression (expanded a) (meaning a (around xs)) (cost a (around xs))) (subexpression (expanded b) (meaning b (around xs)) (cost b (around xs))) (computes t xs ws k h.0) (computes a xs ws k h.1) (computes b xs ws k h.2)
     computes (tree.list items) xs ws k h =
-        list_part s scope rs texts depth (here xs ws) k (expanded_trees items) (meanings items (around xs)) (costs items (around xs)) (items_compute items xs ws k h)
+        list_part s scope rs texts depth (here xs ws) k (expanded_trees items) (meanings items (around xs)) (costs items (around xs)) (kept_means items xs ws) (items_compute items xs ws k h)
     computes (tree.map es) xs ws k h =
         map_part s scope rs texts depth (here xs ws) k (expanded_entries es) (entry_meanings es (around xs)) (entry_costs es (around xs)) (entries_compute es xs ws k h)
     computes (tree.call n no_trees) xs ws k h = λ ready p. absurd ready.accepted

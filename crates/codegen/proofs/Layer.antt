@@ -170,7 +170,7 @@ module _ (old : Emitted) (ds : List Declaration) (e : Core) (few : 2 * length ol
   near : old.nodes ≤ node_limit → AreNear table
   near most name found is = grind (arith, near_named)
 
-  piece_spells : (p : ℕ) → p + 6 + part_slots_per_node * nodes e ≤ call_reach → nodes e ≤ node_limit → old.nodes ≤ node_limit → AreInsns (whole_code e known table p)
+  piece_spells : (p : ℕ) → p + 10 + part_slots_per_node * nodes e ≤ call_reach → nodes e ≤ node_limit → old.nodes ≤ node_limit → AreInsns (whole_code e known table p)
   piece_spells p here short most = whole_insns known table (near most) e p fits short here literals
 
   -- the code with all declarations, if the type checker accepts the expression with the first ones

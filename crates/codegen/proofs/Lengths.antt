@@ -1,5 +1,5 @@
 -- Code has at most 63 slots for each node, less 8.
-use Rattle.codegen.proofs.Prelude.{◌≡◌, ℕ, ◌+◌, ◌*◌, ◌≤◌, List, [], ◌∷◌, ◌++◌, length, arith, Option, Some, None, append_assoc, to_z-of_z, slot_count, Insn, size, size-append, size-cons, map_where_turn, macro_code, exists_one_turn, filter_turn, map_where_code, Register, R0, R1, R2, R6, ℤ, BinaryOperator, UnaryOperator, Core, Cores, CoreEntries, no_cores, more_cores, no_core_entries, more_core_entries, Macro, Function, Size, String, TextTest, nodes, nodes_of, entries_nodes, FrameUse, with_name, product_tail, negation_tail, kept_size, operand_code, operands_code, leaf_code, code_of, items_code, entries_code, binary_code, binary_tail, leaf_of, unary_code, function_code, method_function_code, routine_named, test_code, variable_code, kept_or, fold_code, SimpleOperand, leaf_size, fold_size, loop_size, address_of, literal_code, false_ref, not_tail, true_ref, absorbing_code, name_leaf, field_tail, has_tail, index_tail, size_tail, string_tail, test_tail, turn_slot_limit, part_slots_per_node, function_in, test_in}
+use Rattle.codegen.proofs.Prelude.{◌≡◌, ℕ, ◌+◌, ◌*◌, ◌≤◌, List, [], ◌∷◌, ◌++◌, length, arith, Option, Some, None, append_assoc, to_z-of_z, slot_count, Insn, size, size-append, size-cons, map_where_turn, macro_code, exists_one_turn, filter_turn, map_where_code, Register, R0, R1, R2, R6, ℤ, BinaryOperator, UnaryOperator, Core, Cores, CoreEntries, no_cores, more_cores, no_core_entries, more_core_entries, Macro, Function, Size, String, TextTest, nodes, nodes_of, entries_nodes, FrameUse, with_name, product_tail, negation_tail, kept_size, operand_code, operands_code, leaf_code, code_of, items_code, entries_code, binary_code, binary_tail, leaf_of, unary_code, function_code, method_function_code, routine_named, test_code, variable_code, kept_or, fold_code, SimpleOperand, leaf_size, fold_size, loop_size, address_of, literal_code, false_ref, not_tail, true_ref, absorbing_code, name_leaf, field_tail, has_tail, index_tail, size_tail, string_tail, test_tail, turn_slot_limit, part_slots_per_node, function_in, test_in, list_code, kept_or_made, kept_place, list_front, clear_code, zero, suc, refl}
 use Rattle.cel_reader.specs.Tree as tree
 use Rattle.cel_reader.specs.declared.operator.BinaryOperator.TheVariants as binary
 use Rattle.cel_reader.specs.declared.operator.UnaryOperator.TheVariants as unary
@@ -101,6 +101,14 @@ literal_short ts l = grind arith
 variable_short : (found : Option (ℕ × ℕ)) (p : ℕ) → size (variable_code found p) + 8 ≤ part_slots_per_node
 variable_short found p = grind arith
 
+kept_or_short : (o : Option ℕ) (made : List Insn) (n : ℕ) → size made + 11 ≤ part_slots_per_node * (1 + n) → size (kept_or_made o made) + 8 ≤ part_slots_per_node * (1 + n)
+kept_or_short None made n h = omega (arith, h)
+kept_or_short (Some i) made n h = grind (arith, size_append, size_cons)
+
+pub clear_size : (i n : ℕ) → size (clear_code i n) ≡ n
+clear_size i zero = refl
+clear_size i (suc n) = grind (arith, size_cons, clear_size (suc i) n)
+
 module _ (ts : List (List ℕ)) (rs : List (List ℕ × ℕ)) where
   mutual
     unfolding code_of nodes
@@ -121,7 +129,10 @@ module _ (ts : List (List ℕ)) (rs : List (List ℕ × ℕ)) where
     code_short (core.unary op a) ws k p = unary_code_short op (leaf_of a ws) _ (nodes a) (code_short a ws k p)
     code_short (core.binary op a b) ws k p = binary_code_short op (leaf_of a ws) _ (leaf_of b ws) _ k (nodes a) (nodes b) (code_short a ws k p) (code_short b ws (k + 1) _)
     code_short (core.ternary c a b) ws k p = grind (arith, size-append, size-cons, code_short c ws k p, code_short a ws k, code_short b ws k)
-    code_short (core.list items) ws k p = omega (arith, items_short items ws k (p + 2))
+    code_short (core.list items) ws k p =
+        let h = items_short items ws k (p + list_front (kept_place items ws.lists) + 2) in
+        kept_or_short (kept_place items ws.lists) (list_code (items_code items ts rs ws k (p + list_front (kept_place items ws.lists) + 2)) k) (nodes_of items)
+        (omega (arith, h))
     code_short (core.map es) ws k p = omega (arith, entries_short es ws k (p + 2))
     code_short (core.fold m n r e) ws k p = macro_short m k _ _ (nodes r) (nodes e) (code_short r ws k p) (code_short e (with_name n (k + 4) ws) (k + 5) _)
     code_short (core.fold_map n r e t) ws k p =
@@ -136,6 +147,10 @@ module _ (ts : List (List ℕ)) (rs : List (List ℕ × ℕ)) where
     entries_short no_core_entries ws k p = omega arith
     entries_short (more_core_entries key v more) ws k p =
         grind (arith, size-append, size-cons, code_short key ws (k + 1) p, code_short v ws (k + 2), entries_short more ws k)
+
+-- the code of a list, however it is made
+pub short_list : (es : Cores) (ts : List (List ℕ)) (rs : List (List ℕ × ℕ)) (ws : FrameUse) (k p : ℕ) → size (list_code (items_code es ts rs ws k (p + 2)) k) + 11 ≤ part_slots_per_node * (1 + nodes_of es)
+short_list es ts rs ws k p = let h = items_short ts rs es ws k (p + 2) in omega (arith, h)
 
 -- the code of an expression that fits an image is short enough for jumps
 pub short_code : (e : Core) (ts : List (List ℕ)) (rs : List (List ℕ × ℕ)) (ws : FrameUse) (k p : ℕ) → size (code_of e ts rs ws k p) + 8 ≤ part_slots_per_node * nodes e

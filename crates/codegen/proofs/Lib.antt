@@ -2,6 +2,7 @@
 
 pub mod Behind
 pub mod Lengths
+pub mod KeptLists
 pub mod Lent
 pub mod Walks
 pub mod Accepted

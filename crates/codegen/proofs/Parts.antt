@@ -1,5 +1,5 @@
 -- The code of each construct, given that the code of its parts gives their values within their budgets.
-use Rattle.codegen.proofs.Prelude.{◌≡◌, ℕ, ◌+◌, ◌-◌, ◌*◌, ◌<◌, ◌≤◌, false, List, ◌++◌, Option, arith, Bool, true, ◌||◌, [], ◌∷◌, length, Some, None, refl, ℤ, Insn, Register, is_frame_pointer, result_size, items_size, size_of as value_size, ValueOrError, value, null, Value, boolean, int, text, Items, no_items, item, list_of, Truth, Yes, No, chosen, truth, ternary_of, and_of, not_of, or_of, ComputesPart, Ready, TextsStand, nestings, names, Cost, ◌and◌, node, nothing, spent_by, literal_cost, name_or_text, kept, kept_size, operand_code, operands_code, absorbing_code, ternary_code, false_ref, true_ref, Context, Evaluates, RunContext, AbsorbingGives, text_length, HasText, AreApart, Combines, Converts, IsLeafOf, size, SimpleOperand, logic_gives, one_gives, two_gives, gives_within, is_utf8-from_IsUtf8, IsWellFormedLiteral, R1, R2, R6, R7, sum_of, difference_of, negation_of, product_of, quotient_of, remainder_of, Core, Cores, CoreEntries, more_cores, no_cores, more_core_entries, no_core_entries, name_value, Function, Size, String, Dyn, TextTest, function_of, string_of, text_test_of, literal_of, list_literal, map_literal, field_of, has_of, index_of, deepest, need, deepest_of, entries_deepest, entries_need, needs, joined_length, Variable, leaf_gives, leaves_give, selection_gives, code_of, function_code, leaf_of, test_code, texts_of, kept_or, binary_tail, entries_code, items_code, texts_of_each, texts_of_entries, address_of, IsAccepted, AreAccepted, AreEntriesAccepted, BinaryOperator, UnaryOperator, equal_of, greater_equal_of, greater_of, less_equal_of, less_of, member_of, unequal_of, binary_of, unary_of, difference_gives, sum_gives, comparison_gives, products_give, negation_gives, Builds, EntriesGive, ItemsGive, list_gives, map_gives, looser, part_charge_per_unit, word_limit, frame_words, record_limit, part_steps_per_visit}
+use Rattle.codegen.proofs.Prelude.{◌≡◌, ℕ, ◌+◌, ◌-◌, ◌*◌, ◌<◌, ◌≤◌, false, List, ◌++◌, Option, arith, Bool, true, ◌||◌, [], ◌∷◌, length, Some, None, refl, ℤ, Insn, Register, is_frame_pointer, result_size, items_size, size_of as value_size, ValueOrError, value, null, Value, boolean, int, text, Items, no_items, item, list_of, Truth, Yes, No, chosen, truth, ternary_of, and_of, not_of, or_of, ComputesPart, Ready, TextsStand, nestings, names, Cost, ◌and◌, node, nothing, spent_by, literal_cost, name_or_text, kept, kept_size, operand_code, operands_code, absorbing_code, ternary_code, false_ref, true_ref, Context, Evaluates, RunContext, AbsorbingGives, text_length, HasText, AreApart, Combines, Converts, IsLeafOf, size, SimpleOperand, logic_gives, one_gives, two_gives, gives_within, is_utf8-from_IsUtf8, IsWellFormedLiteral, R1, R2, R6, R7, sum_of, difference_of, negation_of, product_of, quotient_of, remainder_of, Core, Cores, CoreEntries, more_cores, no_cores, more_core_entries, no_core_entries, name_value, Function, Size, String, Dyn, TextTest, function_of, string_of, text_test_of, literal_of, list_literal, map_literal, field_of, has_of, index_of, deepest, need, deepest_of, entries_deepest, entries_need, needs, joined_length, Variable, leaf_gives, leaves_give, selection_gives, code_of, function_code, leaf_of, test_code, texts_of, kept_or, binary_tail, entries_code, items_code, texts_of_each, texts_of_entries, address_of, IsAccepted, AreAccepted, AreEntriesAccepted, BinaryOperator, UnaryOperator, equal_of, greater_equal_of, greater_of, less_equal_of, less_of, member_of, unequal_of, binary_of, unary_of, difference_gives, sum_gives, comparison_gives, products_give, negation_gives, Builds, EntriesGive, ItemsGive, list_gives, map_gives, looser, part_charge_per_unit, word_limit, frame_words, record_limit, part_steps_per_visit, kept_lists_give, kept_or_made, kept_place, list_front, list_value, slice_get, subst, sym, list_code}
 use Rattle.codegen.proofs.Subexpressions.{Subexpression, Valued, valued}
 use Rattle.expression_code.proofs.Sites.{Site, Budget, site_at, in_frame, budget, BuildsAt}
 use Rattle.cel_reader.specs.Tree as tree
@@ -278,10 +278,41 @@ module _ (s : RunContext) (scope : List Variable) (rs : List (List ℕ × ℕ)) 
       (list_gives.more s p k (code a (k + 1) p) (items_code more texts rs c.words k (p + size (code a (k + 1) p) + 4)) c depth x xs _ _ _ _ ready.low
       (λ h. ready.may (grind (arith, or_left, or_right))) (first (grind (arith, texts_front, or_left)) p) (rest (grind (arith, texts_back, or_right)) _))
 
-  pub list_part : (es : Cores) (xs : List ValueOrError) (t : Cost) → ItemsPart s scope rs texts depth c k es xs t
+  -- if the list is kept under a number, that list has this value
+  abbrev pub KeptMeans : Cores → ValueOrError → Type 0
+  KeptMeans es v = (i : ℕ) → kept_place es c.words.lists ≡ Some i → (list : Cores) × (slice_get c.words.lists i ≡ Some list) × (list_value list ≡ v)
+
+  -- the value of a list, which is kept or not
+  kept_or_made_gives : (es : Cores) (o : Option ℕ) (made : List Insn) (v : ValueOrError) (n m p : ℕ) → kept_place es c.words.lists ≡ o → KeptMeans es v → k ≤ word_limit
+      → Evaluates s (p + list_front o) made c depth k v n m → Evaluates s p (kept_or_made o made) c depth k v (3 + n) m
+  kept_or_made_gives es None made v n m p is means low gives =
+      let same : p + list_front None ≡ p = omega arith in
+      gives_within s p made c depth k v n m (3 + n) m (omega arith) (omega arith) (subst (λ (q : ℕ). Evaluates s q made c depth k v n m) same gives)
+  kept_or_made_gives es (Some i) made v n m p is means low gives =
+      let f = means i is in
+      subst (λ (u : ValueOrError). Evaluates s p (kept_or_made (Some i) made) c depth k u (3 + n) m) f.2
+      (kept_lists_give.kept s p c depth k i f.0 made n m low f.1
+      (subst (λ (u : ValueOrError). Evaluates s (p + 2) made c depth k u n m) (sym f.2) gives))
+
+  list_ready : (es : Cores) (v : ValueOrError) (t : Cost) → Ready s scope texts c depth k (core.list es) (node v and t).is_deep
+      → AllReady s texts c depth k (AreAccepted es (names scope)) (deepest_of es (nestings scope)) (1 + needs es) (texts_of_each es) t.is_deep
+  unfolding need deepest texts_of IsAccepted
+  list_ready es v t ready =
+      let room = ready.room in
+      record { accepted = ready.accepted; frames = ready.frames; low = omega arith; room = ready.room; texts_stand = ready.texts_stand; may = ready.may }
+
+  pub list_part : (es : Cores) (xs : List ValueOrError) (t : Cost) → KeptMeans es (list_literal xs) → ItemsPart s scope rs texts depth c k es xs t
       → Part s scope rs texts depth c k (core.list es) (list_literal xs) (node (list_literal xs) and t)
-  unfolding code_of need deepest texts_of IsAccepted
-  list_part es xs t items ready p = grind (arith, result_size_least, gives_within, list_gives)
+  unfolding code_of
+  list_part es xs t means items ready p =
+      let kept = kept_place es c.words.lists in
+      let q = p + list_front kept in
+      let least = result_size_least (list_literal xs) in
+      let all = list_ready es (list_literal xs) t ready in
+      let low = all.low in
+      gives_within s p (code (core.list es) k p) c depth k (list_literal xs) _ _ _ _ (omega arith) (omega arith)
+      (kept_or_made_gives es kept _ (list_literal xs) _ _ p refl means (omega arith)
+      (list_gives.whole s q k (items_code es texts rs c.words k (q + 2)) c depth xs _ _ low (items all (q + 2))))
 
   pub entries_none : EntriesPart s scope rs texts depth c k no_core_entries [] nothing
   unfolding code_of

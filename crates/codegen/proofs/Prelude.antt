@@ -1,11 +1,11 @@
 -- The names of the library, of the crates below and of the definitions that these proofs use. Declares nothing.
 pub use Rattle.std.proofs.Common.{All, Bool, IfOk, IfSome, IsSome, List, None, Option, Result, Some, le-leb, nat_le}
 pub use Rattle.std.proofs.Common.{ℕ, ℤ, [], add-one, ap, append-nil, append_assoc, arith, bytes_eq, codes, drop}
-pub use Rattle.std.proofs.Common.{drop-cons, false, get_or, if◌then◌else◌, leb-false, leb-true, length, length-append}
+pub use Rattle.std.proofs.Common.{drop-cons, false, get_or, if◌then◌else◌, leb-false, leb-true, length, length-append, negsuc}
 pub use Rattle.std.proofs.Common.{map, min, option_map, pos, refl, rules, slice_get, string_bytes, string_eq, subst}
 pub use Rattle.std.proofs.Common.{suc, sym, take, true, unwrap_or, zero, ◌&&◌, ◌*◌, ◌++◌, ◌+◌, ◌-◌, ◌<◌, ◌^◌, ◌||◌}
 pub use Rattle.std.proofs.Common.{◌∙◌, ◌∷◌, ◌≡◌, ◌≤◌}
-pub use Rattle.std.proofs.lemmas.Bool.{and_from}
+pub use Rattle.std.proofs.lemmas.Bool.{and_from, eqb-true}
 pub use Rattle.std.proofs.lemmas.Int.{ints, to_z-of_z}
 pub use Rattle.std.proofs.lemmas.List.{drop-drop, drop_at, length-map, map-append, take-map, take_all, take_at}
 pub use Rattle.std.proofs.lemmas.List.Folds.{list_any-append}
@@ -72,12 +72,13 @@ unfoldable pub use Rattle.cel_types.specs.CoreTyping.{core_entry_typings, core_t
 unfoldable pub use Rattle.cel_types.specs.Scope.{name_type, variable_type}
 pub use Rattle.expression_code.proofs.Additions.{difference_gives, sum_gives}
 pub use Rattle.expression_code.proofs.Comparison.{comparison_gives}
-pub use Rattle.expression_code.proofs.Insns.{MayBeNear, absorbing_insns, difference_insns, divided_insns, entry_insns}
+pub use Rattle.expression_code.proofs.Insns.{MayBeNear, absorbing_insns, clear_insns, difference_insns, divided_insns, entry_insns, kept_list_insns}
 pub use Rattle.expression_code.proofs.Insns.{equal_insns, field_insns, has_insns, index_insns, insns_append, item_insns}
 pub use Rattle.expression_code.proofs.Insns.{leaf_insns, less_insns, list_insns, macro_insns, map_insns, map_where_insns}
 pub use Rattle.expression_code.proofs.Insns.{member_insns, memo_insns, name_insns, name_near, negation_insns, not_insns}
 pub use Rattle.expression_code.proofs.Insns.{not_less_insns, operand_insns, operands_insns, product_insns, size_insns}
 pub use Rattle.expression_code.proofs.Insns.{string_insns, sum_insns, ternary_insns, test_insns, unequal_insns}
+pub use Rattle.expression_code.proofs.KeptLists.{kept_lists_give}
 pub use Rattle.expression_code.proofs.Later.{later_gives, wider_gives}
 pub use Rattle.expression_code.proofs.Leaves.{leaf_gives, leaves_give, leaves_name}
 pub use Rattle.expression_code.proofs.Lists.{list_gives}
@@ -99,9 +100,10 @@ pub use Rattle.expression_code.proofs.Scopes.{scope_begins, scope_gives, scope_g
 pub use Rattle.expression_code.proofs.Selection.{selection_gives}
 pub use Rattle.expression_code.proofs.Steps.{jump}
 pub use Rattle.expression_code.specs.CpuState.{CpuState}
-pub use Rattle.expression_code.specs.Code.Aggregates.{entry_code, item_code}
+pub use Rattle.expression_code.specs.Code.Aggregates.{entry_code, item_code, list_code}
 pub use Rattle.expression_code.specs.Code.Calls.{kept_size, operand_code, operands_code}
 pub use Rattle.expression_code.specs.Code.Folds.{macro_code, map_where_code, map_where_turn}
+pub use Rattle.expression_code.specs.Code.KeptLists.{clear, clear_code, kept_list_code}
 pub use Rattle.expression_code.specs.Code.Leaves.{leaf_code}
 pub use Rattle.expression_code.specs.Code.Logic.{absorbing_code, false_ref, not_tail, ternary_code, true_ref}
 pub use Rattle.expression_code.specs.Code.Names.{name_leaf}
@@ -111,14 +113,16 @@ pub use Rattle.expression_code.specs.Engine.{RunContext}
 pub use Rattle.expression_code.specs.Gives.Aggregates.{Builds, EntriesGive, ItemsGive}
 pub use Rattle.expression_code.specs.Gives.Logic.{AbsorbingGives}
 pub use Rattle.expression_code.specs.Gives.Folds.{IsItem, each_spent, each_visits, items_spent, items_visits}
+pub use Rattle.expression_code.specs.Gives.KeptLists.{keeping}
 pub use Rattle.expression_code.specs.Gives.Paths.{kept_path_code}
 pub use Rattle.expression_code.specs.Gives.Selection.{HasText, text_length}
 pub use Rattle.expression_code.specs.Helpers.{joined_length}
 pub use Rattle.expression_code.specs.Instructions.{ja, store}
-pub use Rattle.expression_code.specs.Limits.{call_reach, charge_per_unit, code_limit, fold_limit, frame_words, memo_limit, node_limit, part_charge_per_unit, part_slots_per_node, part_steps_per_visit, branch_limit, slot_reach, steps_per_visit, turn_slot_limit, variable_depth_limit, word_limit}
+pub use Rattle.expression_code.specs.Limits.{call_reach, charge_per_unit, jump_limit, code_limit, fold_limit, frame_words, memo_limit, node_limit, part_charge_per_unit, part_slots_per_node, part_steps_per_visit, branch_limit, slot_reach, steps_per_visit, turn_slot_limit, variable_depth_limit, word_limit}
 pub use Rattle.expression_code.specs.Loops.{fold_code, loop_code, range_tail, with_item}
 pub use Rattle.expression_code.specs.Operators.{AreApart, Combines, Converts, IsLeafIn, IsLeafOf}
-pub use Rattle.expression_code.specs.Paths.{FrameUse, RootField, nothing_kept, with_name, with_path}
+pub use Rattle.expression_code.specs.Paths.{FrameUse, RootField, list_value, list_word, literal_values, nothing_kept, with_lists}
+pub use Rattle.expression_code.specs.Paths.{with_name, with_path}
 pub use Rattle.expression_code.specs.Pieces.{AreInsns, IsCodeAt, insn_slots, size, slots, spellings}
 pub use Rattle.expression_code.specs.Scopes.{IsScope, Returns, Variable, first_use, place_named, scope_setting}
 pub use Rattle.expression_code.specs.Variables.{memo_tail}
@@ -137,6 +141,7 @@ pub use Rattle.insn_codec.specs.declared.register.Register.{Register}
 pub use Rattle.insn_codec.specs.declared.register.Register.TheVariants.{R0, R1, R2, R6, R7}
 pub use Rattle.loader.specs.Contents.{Image}
 pub use Rattle.loader.specs.Limits.{constants_limit}
+pub use Rattle.value_store.specs.Equality.{int_equal, truth_equal}
 pub use Rattle.value_store.specs.Size.{items_size, result_size, size_of}
 pub use Rattle.value_store.specs.Value.{Items, Value, ValueOrError, boolean, int, item, list_of, no_items, null, text}
 pub use Rattle.value_store.specs.Value.{value}
@@ -144,8 +149,11 @@ pub use Rattle.codegen.specs.Added.{code_at, has_room, passed, with_counted, wit
 pub use Rattle.codegen.specs.Code.Expressions.{binary_code, field_leaf, function_code, kept_or, leaf_of, left_size}
 pub use Rattle.codegen.specs.Code.Expressions.{method_function_code, no_code, routine_named, test_code, unary_code}
 pub use Rattle.codegen.specs.Code.Expressions.{variable_code}
+pub use Rattle.codegen.specs.Code.KeptLists.{are_literals, is_literal, kept_lists, kept_or_made, kept_place, limit_with_path, list_front, list_limit}
+pub use Rattle.codegen.specs.Code.KeptLists.{same_item, same_items, same_literal}
+unfoldable pub use Rattle.codegen.specs.Code.KeptLists.{with_lists_of, with_lists_of_each, with_lists_of_entries}
 pub use Rattle.codegen.specs.Code.Literals.{address_of, literal_code, literal_leaf}
-pub use Rattle.codegen.specs.Code.Whole.{code_with, front_of, keeping_code, path_or, plain_code, routine_code}
+pub use Rattle.codegen.specs.Code.Whole.{code_keeping, code_with, front_of, keeping_code, path_or, plain_code, routine_code}
 pub use Rattle.codegen.specs.Code.Whole.{shorter}
 pub use Rattle.codegen.specs.Computes.{Computes, ComputesPart, Ready, TextsStand, environment_in, names, nestings}
 pub use Rattle.codegen.specs.Computes.{routines, scope_context, variable_of}
@@ -156,7 +164,7 @@ pub use Rattle.codegen.specs.Cost.{spent_by, ◌and◌}
 pub use Rattle.codegen.specs.Emission.{EmitsExpression, EmitsVariable, HasRoutines, Running, Suits, caller_context}
 pub use Rattle.codegen.specs.Emission.{context, cost_in, meaning_in, next_routine, next_variable, setting}
 pub use Rattle.codegen.specs.Emitted.{Emitted, slot_spellings, with_piece}
-pub use Rattle.codegen.specs.FrameWords.{path_view, words_of, words_step}
+pub use Rattle.codegen.specs.FrameWords.{lists_view, path_view, words_of, words_step}
 pub use Rattle.codegen.specs.HasLiterals.{EntriesHaveLiterals, HasLiterals, HaveLiterals}
 pub use Rattle.codegen.specs.Laws.{CodeGives, RoutineGives, RoutineIsPassed, TextsStay, TypedIsAccepted}
 pub use Rattle.codegen.specs.Layer.{AreShallow, AreTaken, EmitsRoutine, ExpressionGives, FramesAreEnough}
@@ -164,7 +172,7 @@ pub use Rattle.codegen.specs.Layer.{HasConstants, IsEmittable, VariableIsTaken, 
 pub use Rattle.codegen.specs.NameTable.{routines_of, routines_within, texts_within}
 pub use Rattle.codegen.specs.declared.frame_words.FrameWords.{FrameWords}
 pub use Rattle.codegen.specs.declared.frame_words.FrameWords.TheFolds.{fold-roll-FrameWords}
-pub use Rattle.codegen.specs.declared.frame_words.FrameWords.TheVariants.{rolls-Within}
+pub use Rattle.codegen.specs.declared.frame_words.FrameWords.TheVariants.{rolls-Keeping, rolls-Outside, rolls-Within}
 unfoldable pub use Rattle.codegen.specs.Accepted.{AreAccepted, AreEntriesAccepted, IsAccepted}
 unfoldable pub use Rattle.codegen.specs.Code.Expressions.{binary_tail, code_of, entries_code, items_code, texts_of}
 unfoldable pub use Rattle.codegen.specs.Code.Expressions.{texts_of_each, texts_of_entries}

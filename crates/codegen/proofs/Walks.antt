@@ -1,7 +1,8 @@
 -- The code of an expression, from the code of its parts, as the recursion finds them.
-use Rattle.codegen.proofs.Prelude.{◌≡◌, ℕ, suc, ◌+◌, ◌*◌, ◌<◌, ◌≤◌, List, [], ◌∷◌, ◌++◌, length, map, drop, get_or, Result, IfOk, refl, sym, ap, ◌∙◌, append_assoc, add-one, drop-cons, arith, zero, min, true, false, Option, Some, None, option_map, string_bytes, bytes_eq, Bor, AllocError, Global, Vec, Insn, Core, core_view, cores, core_entries, core_pair, CodeCore, nodes, item_code, entry_code, kept_size, map_where_code, FrameUse, with_name, size, code_of, items_code, entries_code, function_code, leaf_of, method_function_code, test_code, no_code, routine_named, words_of, words_step, FrameWords, fold-roll-FrameWords, rolls-Within, declaration, routines_of, part_slots_per_node, Callee, function_in, test_in}
+use Rattle.codegen.proofs.Prelude.{◌≡◌, ℕ, suc, ◌+◌, ◌*◌, ◌<◌, ◌≤◌, List, [], ◌∷◌, ◌++◌, length, map, drop, get_or, Result, IfOk, refl, sym, ap, ◌∙◌, append_assoc, add-one, drop-cons, arith, zero, min, true, false, Option, Some, None, option_map, string_bytes, bytes_eq, Bor, AllocError, Global, Vec, Insn, Core, core_view, cores, core_entries, core_pair, CodeCore, nodes, item_code, entry_code, kept_size, map_where_code, FrameUse, with_name, size, code_of, items_code, entries_code, function_code, leaf_of, method_function_code, test_code, no_code, routine_named, words_of, words_step, FrameWords, fold-roll-FrameWords, rolls-Within, declaration, routines_of, part_slots_per_node, Callee, function_in, test_in, lists_view, nothing_kept, path_view, rolls-Keeping, rolls-Outside, with_lists, with_path, append-nil}
 use Rattle.cel_macros.specs.CoreTree as core
 use Rattle.codegen.specs.declared.frame_words.FrameWords as frame
+use Rattle.codegen.specs.declared.path.Path.{Path}
 use Rattle.codegen.proofs.Lengths.{short_code}
 use Rattle.cel_types.specs.declared.variable.Variable.{Variable}
 
@@ -16,6 +17,13 @@ same_code r a b e h = grind arith
 -- the words inside one more macro
 pub words_within : (name : Bor (List ℕ)) (k : ℕ) (outer : Bor FrameWords) → words_of (frame.Within name k outer) ≡ with_name name.now k (words_of outer.now)
 words_within name k outer = ap words_of (sym (rolls-Within name k outer)) ∙ fold-roll-FrameWords FrameUse words_step _
+
+-- the words outside all macros
+pub words_outside : (lists : Bor (List (Bor (List CodeCore)))) → words_of (frame.Outside lists) ≡ with_lists (lists_view lists.now) nothing_kept
+words_outside lists = ap words_of (sym (rolls-Outside lists)) ∙ fold-roll-FrameWords FrameUse words_step _
+
+pub words_keeping : (path : Path) (lists : Bor (List (Bor (List CodeCore)))) → words_of (frame.Keeping path lists) ≡ with_lists (lists_view lists.now) (with_path (path_view path))
+words_keeping path lists = ap words_of (sym (rolls-Keeping path lists)) ∙ fold-roll-FrameWords FrameUse words_step _
 
 -- the rest of a list from a place on
 pub here : {A : Type 0} (xs : List A) (i : ℕ) (x : A) → i < length xs → x ≡ get_or xs i x → drop i xs ≡ x ∷ drop (i + 1) xs
@@ -53,6 +61,18 @@ module _ (ts : List (List ℕ)) (rs : List (List ℕ × ℕ)) (ws : FrameUse) (k
   pub fold_map_of : (n : List ℕ) (r e t : Core) (range predicate transform : List Insn) (i j : ℕ) → range ≡ code_of r ts rs ws k p → i ≡ size range → predicate ≡ code_of e ts rs (with_name n (k + 4) ws) (k + 5) (p + i + 17) → j ≡ size predicate → transform ≡ code_of t ts rs (with_name n (k + 4) ws) (k + 5) (p + i + 17 + j + 2) → map_where_code k range predicate transform ≡ code_of (core.fold_map n r e t) ts rs ws k p
   unfolding code_of
   fold_map_of n r e t range predicate transform i j hr hi he hj ht = grind arith
+
+  drop_end : (parts : List CodeCore) (i : ℕ) → length parts ≤ i → drop i parts ≡ []
+  drop_end [] zero over = refl
+  drop_end [] (suc i) over = refl
+  drop_end (x ∷ parts) zero over = absurd (omega arith)
+  drop_end (x ∷ parts) (suc i) over = drop_end parts i (omega arith)
+
+  -- no item of a list is left
+  pub items_end : (parts : List CodeCore) (i : ℕ) (items whole : List Insn) → length parts ≤ i → items ++ items_code (cores (map core_view (drop i parts))) ts rs ws k p ≡ whole → items ≡ whole
+  unfolding code_of
+  items_end parts i items whole over so_far =
+      sym (append-nil items) ∙ ap (λ (l : List CodeCore). items ++ items_code (cores (map core_view l)) ts rs ws k p) (sym (drop_end parts i over)) ∙ so_far
 
   -- one more item of a list
   pub item_more : (parts : List CodeCore) (i : ℕ) (x : CodeCore) (before after item whole : List Insn) (n : ℕ) → i < length parts → x ≡ get_or parts i x → item ≡ code_of (core_view x) ts rs ws (k + 1) p → n ≡ size item → after ≡ before ++ item_code item k → before ++ items_code (cores (map core_view (drop i parts))) ts rs ws k p ≡ whole → after ++ items_code (cores (map core_view (drop (i + 1) parts))) ts rs ws k (p + (n + 4)) ≡ whole

@@ -5,6 +5,7 @@ pub(crate) mod aggregates;
 pub(crate) mod arithmetic;
 pub(crate) mod calls;
 pub(crate) mod folds;
+pub(crate) mod kept_lists;
 pub(crate) mod literals;
 pub(crate) mod logic;
 pub(crate) mod names;

@@ -181,7 +181,7 @@ impl Emitter {
         requires slot { slot ≤ 0x7fff_0001 }
         requires routines { length self.now.routines ≤ memo_limit }
         ensures code { IfOk result (λ code. code.items ≡ code_at self.now (map declaration scope.now) (core_view core.now) slot) }
-        ensures short { IfOk result (λ code. size code.items + 8 ≤ part_slots_per_node * nodes (core_view core.now)) }
+        ensures short { IfOk result (λ code. size code.items + 4 ≤ part_slots_per_node * nodes (core_view core.now)) }
     {
         let around = NameTable {
             texts: self.constants.as_slice(),

@@ -17,12 +17,14 @@ ghost use Rattle.expression_code.specs.Limits.{part_slots_per_node};
 
 use crate::code::calls::{kept_size, operands as operands_code};
 use crate::code::{
-    Code, aggregates, folds, literals, logic, names, operators, paths, selection, variables,
+    Code, aggregates, folds, kept_lists, literals, logic, names, operators, paths, selection,
+    variables,
 };
 use crate::emit_position::EmitPosition;
 use crate::frame_words::FrameWords;
 use crate::instructions::size;
 use crate::iteration::Iteration;
+use crate::kept_lists::kept_place;
 use crate::part::Part;
 use cel_macros::{Callee, Core, Macro};
 use cel_reader::BinaryOperator;
@@ -156,14 +158,15 @@ fn binary(
     operators::binary(alloc, op, &first, &second, position.word)
 }
 
-/// A list.
+/// A list. Its value may be kept.
 #[cycle(code)]
 fn list(alloc: Global, parts: &[Core], position: EmitPosition) -> Code
     requires { HasFrameRoom (core.list (cores (list.map core_view parts.now))) position }
     ensures { IfOk result (λ code. code.items ≡ piece_of (core.list (cores (list.map core_view parts.now))) position.entry) }
 {
+    let kept = kept_place(parts, position.words);
     let mut items = Vec::new(alloc);
-    let mut slot = position.slot + aggregates::HEAD_SLOTS;
+    let mut slot = position.slot + kept_lists::list_front(kept) + aggregates::HEAD_SLOTS;
     for item in parts {
         let place = EmitPosition {
             word: position.word + 1,
@@ -174,7 +177,8 @@ fn list(alloc: Global, parts: &[Core], position: EmitPosition) -> Code
         aggregates::add_item(&mut items, &code, position.word)?;
         slot += slots + aggregates::PUSH_SLOTS;
     }
-    aggregates::list(alloc, &items, position.word)
+    let made = aggregates::list(alloc, &items, position.word)?;
+    kept_lists::kept_or_made(alloc, kept, made)
 }
 
 /// A map.

@@ -1,6 +1,7 @@
 //! Short names for instructions.
 
 ghost use Rattle.std.specs.Prelude.{◌≡◌, ◌<◌, ◌≤◌, ◌+◌};
+ghost use Rattle.expression_code.specs.Code.KeptLists.{clear as clear_insn};
 ghost use Rattle.expression_code.specs.Instructions as specs;
 ghost use Rattle.expression_code.specs.Words.{word_offset as offset_of_word};
 ghost use Rattle.expression_code.specs.Pieces.{size as size_of_piece};
@@ -67,6 +68,19 @@ pub(crate) fn store(k: usize, register: Register) -> Insn
         dst: Register::R10,
         offset: word_offset(k),
         src: register,
+    }
+}
+
+/// Stores 0 in word k of the frame.
+pub(crate) fn clear(k: usize) -> Insn
+    requires { k < frame_words }
+    ensures { result ≡ clear_insn k }
+{
+    Insn::StoreImm {
+        size: Size::Dw,
+        dst: Register::R10,
+        offset: word_offset(k),
+        imm: 0,
     }
 }
 

@@ -11,6 +11,7 @@ mod expressions;
 mod frame_words;
 mod instructions;
 mod iteration;
+mod kept_lists;
 mod laws;
 mod name_table;
 mod part;

@@ -100,6 +100,7 @@ pub use Rattle.codegen.specs.HasLiterals.{EntriesHaveLiterals, HasLiterals, Have
 pub use Rattle.codegen.specs.Layer.{AreShallow, HasConstants, IsEmittable}
 pub use Rattle.codegen.specs.NameTable.{routines_of}
 unfoldable pub use Rattle.codegen.specs.Code.Expressions.{code_of, texts_of}
+unfoldable pub use Rattle.codegen.specs.Code.KeptLists.{with_lists_of}
 unfoldable pub use Rattle.codegen.specs.Code.Whole.{first_path, whole_code}
 unfoldable pub use Rattle.codegen.specs.Cost.{cost}
 pub use Rattle.expression_code.proofs.Accesses.{has_verdict}

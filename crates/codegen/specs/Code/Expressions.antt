@@ -21,6 +21,7 @@ use Rattle.expression_code.specs.Code.Calls.{kept_size, operand_code, operands_c
 use Rattle.expression_code.specs.Code.Logic.{and_code, branch_slots, ternary_jump_slots, left_slots, not_tail, or_code, ternary_code}
 use Rattle.expression_code.specs.Code.Arithmetic.{sum_code, difference_code, product_code, divided_code, negation_tail}
 use Rattle.expression_code.specs.Code.Comparison.{equal_tail, unequal_tail, less_tail, not_less_tail, member_tail}
+use Rattle.codegen.specs.Code.KeptLists.{kept_or_made, kept_place, list_front}
 use Rattle.codegen.specs.Code.Literals.{address_of, literal_code, literal_leaf}
 use Rattle.expression_code.specs.Code.Aggregates.{item_code, list_code, entry_code, map_code, head_slots, key_slots, push_slots, put_slots}
 use Rattle.expression_code.specs.Code.Names.{name_code, name_leaf}
@@ -130,8 +131,8 @@ left_size binary.And l left = size left + left_slots
 left_size _ l left = kept_size l left
 
 -- The code of an expression at slot p. Its texts are among ts, the routines of its variables are rs, in order of
--- declaration, and ws are the words of its iteration names and path. It does not change the words below k of its
--- frame.
+-- declaration, and ws are the words of its iteration names, path and lists. It does not change the words below k of
+-- its frame.
 unfoldable mutual
   pub code_of : Core → List (List ℕ) → List (List ℕ × ℕ) → FrameUse → ℕ → ℕ → List Insn
   code_of (core.literal l) ts rs ws k p = literal_code ts l
@@ -161,7 +162,9 @@ unfoldable mutual
       let condition = code_of c ts rs ws k p in
       let if_true = code_of a ts rs ws k (p + size condition + ternary_jump_slots) in
       ternary_code condition if_true (code_of b ts rs ws k (p + size condition + ternary_jump_slots + size if_true + branch_slots))
-  code_of (core.list items) ts rs ws k p = list_code (items_code items ts rs ws k (p + head_slots)) k
+  code_of (core.list items) ts rs ws k p =
+      let kept = kept_place items ws.lists in
+      kept_or_made kept (list_code (items_code items ts rs ws k (p + list_front kept + head_slots)) k)
   code_of (core.map es) ts rs ws k p = map_code (entries_code es ts rs ws k (p + head_slots)) k
   code_of (core.fold m n r e) ts rs ws k p =
       let range = code_of r ts rs ws k p in

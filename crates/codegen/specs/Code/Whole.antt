@@ -1,16 +1,18 @@
--- The code of a whole expression. It keeps the value of the root's field that it evaluates first, if that makes the
--- code shorter.
-use Rattle.std.specs.Prelude.{ℕ, ◌+◌, List, ◌++◌, Option, Some, None, nat_le, if◌then◌else◌}
+-- The code of a whole expression. It keeps the values of lists of literals in macros, and that of the root's field that
+-- it evaluates first, if that makes the code shorter.
+use Rattle.std.specs.Prelude.{ℕ, ◌+◌, ◌&&◌, List, ◌++◌, length, Option, Some, None, nat_le, if◌then◌else◌}
 use Rattle.expression_code.specs.Limits.{word_limit}
 use Rattle.insn_codec.specs.declared.insn.Insn.{Insn}
 use Rattle.cel_macros.specs.CoreTree as core
-use Rattle.cel_macros.specs.CoreTree.{Core}
+use Rattle.cel_macros.specs.CoreTree.{Core, Cores}
 use Rattle.cel_measures.specs.Measures.{need}
+use Rattle.expression_code.specs.Code.KeptLists.{clear_code}
 use Rattle.expression_code.specs.Gives.Paths.{kept_path_code}
-use Rattle.expression_code.specs.Paths.{RootField, nothing_kept, with_path}
+use Rattle.expression_code.specs.Paths.{FrameUse, RootField, nothing_kept, with_lists, with_path}
 use Rattle.expression_code.specs.Pieces.{size}
 use Rattle.expression_code.specs.Variables.{memo_tail}
 use Rattle.codegen.specs.Code.Expressions.{code_of}
+use Rattle.codegen.specs.Code.KeptLists.{kept_lists, limit_with_path}
 use Rattle.codegen.specs.Code.Literals.{address_of}
 
 -- a field of a root, or else the other path
@@ -32,22 +34,26 @@ first_path (core.fold m n r e) = first_path r
 first_path (core.fold_map n r e t) = first_path r
 first_path _ = None
 
--- the path, if this number of words fits a frame
-abbrev pub path_within : ℕ → Option RootField → Option RootField
-path_within words None = None
-path_within words (Some path) = if nat_le words word_limit then Some path else None
+-- the path, if this number of words fits a frame, and few lists are kept
+abbrev pub path_within : ℕ → ℕ → Option RootField → Option RootField
+path_within words lists None = None
+path_within words lists (Some path) = if nat_le words word_limit && nat_le lists limit_with_path then Some path else None
 
--- the path that an expression may keep: the frame has a further word for it
+-- the path that an expression may keep: the frame has a further word for it, and few lists are kept
 abbrev pub front_of : Core → Option RootField
-front_of e = path_within (1 + need e) (first_path e)
+front_of e = path_within (1 + need e) (length (kept_lists e)) (first_path e)
 
 -- the shorter of two pieces; the first one if they have the same length
 abbrev pub shorter : List Insn → List Insn → List Insn
 shorter a b = if nat_le (size a) (size b) then a else b
 
+-- the code that keeps these lists, after their words are emptied
+abbrev pub code_keeping : List Cores → Core → List (List ℕ) → List (List ℕ × ℕ) → FrameUse → ℕ → ℕ → List Insn
+code_keeping lists e ts rs words k p = clear_code 0 (length lists) ++ code_of e ts rs (with_lists lists words) k (p + length lists)
+
 -- the code without a kept path
 abbrev pub plain_code : Core → List (List ℕ) → List (List ℕ × ℕ) → ℕ → List Insn
-plain_code e ts rs p = code_of e ts rs nothing_kept 0 p
+plain_code e ts rs p = code_keeping (kept_lists e) e ts rs nothing_kept 0 p
 
 -- the number of slots of the code of a path and of the store that keeps it
 abbrev pub kept_path_slots : ℕ
@@ -55,7 +61,7 @@ kept_path_slots = 6
 
 -- the code that keeps the path in word 0: after the path's code and a store, the expression uses the words from 1 on
 abbrev pub keeping_code : RootField → Core → List (List ℕ) → List (List ℕ × ℕ) → ℕ → List Insn
-keeping_code path e ts rs p = kept_path_code path (address_of ts path.field) (code_of e ts rs (with_path path) 1 (p + kept_path_slots))
+keeping_code path e ts rs p = kept_path_code path (address_of ts path.field) (code_keeping (kept_lists e) e ts rs (with_path path) 1 (p + kept_path_slots))
 
 -- the code that keeps the path if that is shorter
 abbrev pub code_with : Option RootField → Core → List (List ℕ) → List (List ℕ × ℕ) → ℕ → List Insn

@@ -34,7 +34,7 @@ fn word_named(name: &str, words: &FrameWords) -> Option<usize>
     ensures word { IfSome result (λ k. k < word_limit) }
 {
     match words {
-        FrameWords::Outside | FrameWords::Keeping(_) => None,
+        FrameWords::Outside(_) | FrameWords::Keeping(..) => None,
         FrameWords::Within(own, k, outer) => {
             if *own == name {
                 Some(*k)

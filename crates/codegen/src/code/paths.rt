@@ -25,13 +25,13 @@ pub(crate) fn field_leaf(of: &Core, field: &str, words: &FrameWords) -> Option<S
     ensures word { IfSome result IsFrameWord }
 {
     match words {
-        FrameWords::Keeping(path) => match of {
+        FrameWords::Keeping(path, _) => match of {
             Core::Name(name) if name.as_str() == path.root && field == path.field => Some(
                 SimpleOperand::Word(0),
             ),
             _ => None,
         },
-        FrameWords::Outside | FrameWords::Within(..) => None,
+        FrameWords::Outside(_) | FrameWords::Within(..) => None,
     }
 }
 

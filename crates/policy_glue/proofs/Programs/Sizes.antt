@@ -5,10 +5,10 @@ use Rattle.policy_glue.proofs.Programs.Conditions.{condition_size}
 
 -- ---- expressions
 
-pub tree_short : (scope : List Declaration) (l : Laid) (a : Tree) → size (tree_code scope l a) + 8 ≤ part_slots_per_node * nodes (expanded a)
+pub tree_short : (scope : List Declaration) (l : Laid) (a : Tree) → size (tree_code scope l a) + 4 ≤ part_slots_per_node * nodes (expanded a)
 tree_short scope l a = whole_short (expanded a) (texts_with l a) (routines_of scope l.routines) l.place
 
-pub routine_short : (scope : List Declaration) (l : Laid) (v : VariableTree) → size (variable_code scope l v) + 2 ≤ part_slots_per_node * nodes (expanded v.expression)
+pub routine_short : (scope : List Declaration) (l : Laid) (v : VariableTree) → size (variable_code scope l v) ≤ part_slots_per_node * nodes (expanded v.expression) + 2
 routine_short scope l v = grind (arith, whole_short, size-append)
 
 -- ---- variables, conditions and validations

@@ -1,8 +1,9 @@
 -- Proofs of `expressions::code`: the result meets the contract; each turn of the loop keeps the invariant; its calls
 -- meet their requirements.
 
-use Rattle.codegen.proofs.Prelude.{◌++◌, map, ap, ◌∙◌, arith, core_view, cores, core_entries, core_pair, need, needs, entries_need, nodes, nodes_of, entries_nodes, view_map, item_code, entry_code}
-use Rattle.codegen.proofs.Walks.{same_code, words_within, call_of_one, call_of_others, method_of_none, method_of_one, method_of_others, fold_map_of, item_more, entry_more, here}
+use Rattle.codegen.proofs.Prelude.{◌++◌, map, ap, ◌∙◌, arith, core_view, cores, core_entries, core_pair, need, needs, entries_need, nodes, nodes_of, entries_nodes, view_map, item_code, entry_code, ◌+◌, List, Insn, list_code, list_front, routines_within, texts_within, words_of}
+use Rattle.codegen.proofs.KeptLists.{near_list, word_inside}
+use Rattle.codegen.proofs.Walks.{items_end, same_code, words_within, call_of_one, call_of_others, method_of_none, method_of_one, method_of_others, fold_map_of, item_more, entry_more, here}
 use Rattle.codegen.proofs.expressions.+code.Goals as goal
 use Rattle.codegen.proofs.expressions.+code.Goals.{call-in_default-via-then-arguments-lt1, call-in_default-via-else-arguments-lt1+else-arguments-lt2}
 
@@ -42,6 +43,21 @@ list-loop-item-preserved t c =
       fewer = omega arith;
       near = omega (arith, c.in_ok-code.ensures.short);
     }
+
+pub list-kept_or_made-requires-clause-word : goal.list-kept_or_made-requires-clause-word
+list-kept_or_made-requires-clause-word t c =
+    word_inside (cores (map core_view c.args.parts.now)) (words_of c.args.position.words.now).lists c.kept_place-kept.result c.kept_place-kept.ensures c.requires.held.1
+
+pub list-kept_or_made-requires-clause-short : goal.list-kept_or_made-requires-clause-short
+unfolding nodes
+list-kept_or_made-requires-clause-short t c =
+    let ts = texts_within c.args.position.around.now in
+    let rs = routines_within c.args.position.around.now in
+    let ws = words_of c.args.position.words.now in
+    let k = c.args.position.word in
+    let over = c.loop-item-test.false in
+    let code = items_end ts rs ws k c.loop-item.slot c.args.parts.now c.loop-item.item-index c.loop-item.items.items _ (omega arith) c.loop-item.invariant.so_far in
+    near_list (cores (map core_view c.args.parts.now)) ts rs ws k (c.args.position.slot + list_front c.kept_place-kept.result) c.loop-item.items.items c.in_ok-made.made.items (c.in_ok-made.ensures ∙ ap (λ (l : List Insn). list_code l k) c.deref-2.ensures.value) code c.requires.short
 
 pub map-loop-key-preserved : goal.map-loop-key-preserved
 unfolding nodes need

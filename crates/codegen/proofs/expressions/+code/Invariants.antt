@@ -1,6 +1,6 @@
 -- Loop invariants and the termination measures of `expressions::code`.
 
-use Rattle.codegen.proofs.Prelude.{◌≡◌, ◌+◌, ◌*◌, ◌≤◌, ◌++◌, drop, core_view, cores, core_entries, core_pair, needs, entries_need, nodes, nodes_of, entries_nodes, items_code, entries_code, words_of, texts_within, routines_within, word_limit, slot_reach, part_slots_per_node, callee_view}
+use Rattle.codegen.proofs.Prelude.{◌≡◌, ◌+◌, ◌*◌, ◌≤◌, ◌++◌, drop, core_view, cores, core_entries, core_pair, needs, entries_need, nodes, nodes_of, entries_nodes, items_code, entries_code, list_front, words_of, texts_within, routines_within, word_limit, slot_reach, part_slots_per_node, callee_view}
 use Rattle.std.specs.Prelude as list
 use Rattle.cel_macros.specs.CoreTree as core
 use Rattle.codegen.proofs.expressions.+code.Given as goal
@@ -55,7 +55,7 @@ invariant-list-loop-item l =
     let all = cores (list.map core_view l.parts) in
     let rest = cores (list.map core_view (drop l.item-index l.parts)) in
     record {
-      so_far : l.items.items ++ items_code rest ts rs ws l.position.word l.slot ≡ items_code all ts rs ws l.position.word (l.position.slot + 2);
+      so_far : l.items.items ++ items_code rest ts rs ws l.position.word l.slot ≡ items_code all ts rs ws l.position.word (l.position.slot + list_front l.kept + 2);
       room : l.position.word + 1 + needs rest ≤ word_limit;
       fewer : nodes_of rest ≤ nodes_of all;
       near : l.slot + part_slots_per_node * nodes_of rest ≤ slot_reach;
