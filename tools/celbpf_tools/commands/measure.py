@@ -1,6 +1,6 @@
 """Runs the built program on images and documents that it makes, and prints how long each run takes.
 
-usage: tools/measure [PROGRAM [PART..]]
+usage: tools/measure [PROGRAM [PART..]]   (steps, values, policies, worst, shapes, seeded)
 
 It builds nothing and proves nothing. Each row is the best of some runs, the program's start included:
 steps or calls a second where the row is of one long run, else milliseconds, of a whole run or of one of
@@ -13,7 +13,7 @@ import sys
 import tempfile
 
 from ..home import EXAMPLES, built
-from ..measures import policies, steps, texts, values, worst
+from ..measures import policies, shapes, steps, texts, values, worst
 from ..measures.runs import Runs
 
 PARTS = {
@@ -22,6 +22,8 @@ PARTS = {
     "policies": lambda runs: policies.measure(runs, f"{EXAMPLES}/replicas"),
     "worst": worst.measure,
     "texts": texts.measure,
+    "shapes": shapes.measure,
+    "seeded": shapes.seeded,
 }
 
 
