@@ -11,6 +11,7 @@ documents of those are written to a folder. An interrupt ends it early, with wha
 
 import argparse
 import json
+import signal
 import tempfile
 from pathlib import Path
 from typing import Any, Iterator
@@ -107,7 +108,8 @@ class Attack:
             (kept / "line.jsonl").write_bytes(line)
 
     def run(self) -> None:
-        """All of them, or those until an interrupt."""
+        """All of them, or those until an interrupt, which a shell lets its background jobs ignore."""
+        signal.signal(signal.SIGINT, signal.default_int_handler)
         found = cases(self.numbers)
         with tempfile.TemporaryDirectory() as folder:
             try:

@@ -1,7 +1,7 @@
 """Runs of a gatekeeper on one line, with what each takes."""
 
-import os
 import subprocess
+import tempfile
 from dataclasses import dataclass
 from typing import Any
 
@@ -27,18 +27,12 @@ class Cost:
 
 
 def cost_of(program: Any, words: list, line: bytes) -> Cost:
-    """The processor time and the greatest memory of a gatekeeper that is given one line."""
-    with subprocess.Popen([program, *words], stdin=subprocess.PIPE, stdout=subprocess.PIPE) as process:
-        assert process.stdin and process.stdout
-        try:
-            process.stdin.write(line)
-            process.stdin.close()
-        except BrokenPipeError:
-            pass
-        answer = process.stdout.read()
-        _, status, used = os.wait4(process.pid, 0)
-        process.returncode = os.waitstatus_to_exitcode(status)
-    return Cost(used.ru_utime + used.ru_stime, used.ru_maxrss / 1024, process.returncode, answer)
+    """The processor time and the greatest memory, by GNU time, of a gatekeeper that is given one line."""
+    with tempfile.NamedTemporaryFile("r") as report:
+        watched = ["env", "time", "-q", "-f", "%U %S %M", "-o", report.name, program, *words]
+        ended = subprocess.run(watched, input=line, stdout=subprocess.PIPE, stderr=subprocess.DEVNULL)
+        user, system, kilobytes = report.read().split()[-3:]
+    return Cost(float(user) + float(system), int(kilobytes) / 1024, ended.returncode, ended.stdout)
 
 
 def worst(costs: list, key: Any, count: int = 10) -> list:
