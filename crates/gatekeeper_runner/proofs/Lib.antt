@@ -7,6 +7,7 @@ mod Programs
 mod Shape
 mod SaidOnce
 mod LineOnce
+mod ClusterLineOnce
 mod Choices
 mod ClusterOnce
 mod Ends
