@@ -1,7 +1,9 @@
 -- Sessions without a reply `? memory`.
-use Rattle.debugger.proofs.Prelude.{◌≡◌, ℕ, Bool, true, false, List, [], ◌∷◌, ◌++◌, map, fold, refl, sym, ap, ◌∙◌, append_assoc, append-nil, codes, Option, Some, Result, arith, nat_tests, OnOk, list_any, bytes_eq, or_parts, or_right, list_any-append, append_cancel_left, State, Line, answer_to, is_refused, Dialogue, dialogue_after, granted, cut, says_memory, session_text, lines_of, SessionByResult, TellsAll, SessionError, fold-append}
+use Rattle.debugger.proofs.Prelude.{◌≡◌, ℕ, Bool, true, false, List, [], ◌∷◌, ◌++◌, map, fold, refl, sym, ap, ◌∙◌, append_assoc, append-nil, codes, Option, Some, Result, Ok, Err, arith, nat_tests, OnOk, list_any, bytes_eq, or_parts, or_right, list_any-append, append_cancel_left, State, Line, answer_to, is_refused, Dialogue, dialogue_after, granted, cut, says_memory, session_text, lines_of, Transcript, ReadsAndWrites, dialogue_of, TellsAll, SessionError, fold-append}
 use Rattle.streams.proofs.Cut.{Whole, lines-append, whole-append, cut_behind}
 use Rattle.debugger.proofs.Going.{hear-on, hear-off}
+use Rattle.debugger.specs.Session.{start_dialogue}
+use Rattle.debugger.specs.Transcript.{all}
 use Rattle.debugger.proofs.Whole.{answers_in_lines}
 
 -- a text with such a line in a prefix has one
@@ -52,7 +54,20 @@ pub tells_all : TellsAll
 unfolding cut
 tells_all = grind (arith, nat_tests, talk_granted)
 
+same_end : (before a b : List ℕ) → Some (before ++ a) ≡ Some (before ++ b) → a ≡ b
+same_end before a b is = grind (arith, append_cancel_left)
+
 -- the text of a session that wrote no `? memory`
-pub says_text : (s : State) (input before written : List ℕ) (left after : Option (List ℕ)) (result : Result (Unit {0}) SessionError) → SessionByResult s input before left after result → after ≡ Some (before ++ written) → says_memory written ≡ false → OnOk result (written ≡ session_text s input)
+says_all : (s : State) (input text written : List ℕ) (read : ℕ) (result : Result (Unit {0}) SessionError) → Transcript s input read text result → text ≡ written
+    → says_memory written ≡ false → OnOk result (written ≡ session_text s input)
 unfolding cut
-says_text s input before written left after result told is none = grind (arith, append_cancel_left, nat_tests, talk_granted)
+says_all s input text written read (Ok u) (all lines quiet ends are) same none =
+    sym same
+    ∙ ap (λ (t : Dialogue). t.text) (talk_granted s start_dialogue lines refl (ap says_memory same ∙ none))
+    ∙ ap (λ (ls : List (List ℕ)). (dialogue_of s (map granted ls)).text) are
+says_all s input text written read (Err e) t same none = tt
+
+pub says_text : (s : State) (input before written : List ℕ) (left after : Option (List ℕ)) (result : Result (Unit {0}) SessionError)
+    → ReadsAndWrites s input before left after result → after ≡ Some (before ++ written) → says_memory written ≡ false → OnOk result (written ≡ session_text s input)
+says_text s input before written left after result told is none =
+    says_all s input told.text written told.read result told.transcript (same_end before told.text written (sym told.written_is ∙ is)) none

@@ -89,10 +89,10 @@ pub use Rattle.streams.specs.Lines.{input_lines}
 pub use Rattle.debugger.specs.Session.{session_text, dialogue_of, with_answer}
 pub use Rattle.streams.specs.Hearing.{HasNoFeed, HeardByResult, ReadsSome, ReadsToEnd}
 pub use Rattle.streams.specs.Streams.{AddsBytes, stream}
-pub use Rattle.debugger.specs.Transcript.{AnswersLine, SessionByResult, TranscriptSoFar, IsDialogue}
+pub use Rattle.debugger.specs.Transcript.{AnswersLine, ReadsAndWrites, Transcript, TranscriptSoFar, IsDialogue}
 pub use Rattle.debugger.specs.Transcript.{SessionGoesOn, TranscriptToQuit, TranscriptToEnd, TranscriptCut, TranscriptEnds, TranscriptBreaks}
-pub use Rattle.debugger.specs.Transcript.{WritesAnswer, WritesPartOfAnswer, IsSession, TranscriptAll, TranscriptPart}
-pub use Rattle.debugger.specs.Transcript.{TranscriptSome, lines_of}
+pub use Rattle.debugger.specs.Transcript.{WritesAnswer, WritesPartOfAnswer, IsSession}
+pub use Rattle.debugger.specs.Transcript.{lines_of}
 pub use Rattle.debugger.specs.Verdict.{message_lines, verdict_word}
 pub use Rattle.debugger.specs.declared.command.Command.{Command}
 pub use Rattle.debugger.specs.declared.command.Command.TheVariants.{MemoryAt, Unknown, ValueAt}

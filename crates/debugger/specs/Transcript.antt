@@ -12,73 +12,46 @@ use Rattle.streams.specs.Failures.{FailsByResult}
 abbrev pub lines_of : List Line → List (List ℕ)
 lines_of marked = map (λ (l : Line). l.0) marked
 
+-- the number of bytes of the input that a session in the run from s read, and the text that it wrote, by its result
+pub data Transcript (s : State) (input : List ℕ) : ℕ → List ℕ → Result (Unit {0}) SessionError → Type 0 where
+  -- all lines of the input were answered, and nothing was read after the line feed of the first that ends a session
+  all : {read : ℕ} (lines : List Line) → ((n : ℕ) → n < read → has_quit (cut (take n input)).0 ≡ false)
+      → (has_quit (cut (take read input)).0 ≡ true) ⊎ (read ≡ length (readable input)) → lines_of lines ≡ input_lines (readable input)
+      → Transcript s input read (dialogue_of s lines).text (Ok tt)
+  -- the lines that ended were answered, and none of them ends a session
+  some : {read : ℕ} (lines : List Line) → has_quit (cut (take read input)).0 ≡ false → lines_of lines ≡ (cut (take read input)).0
+      → Transcript s input read (dialogue_of s lines).text (Err ReadFailed)
+  -- the reply to the last line that was read was written only in part
+  part : {read : ℕ} (lines : List Line) (last : Line) (part rest : List ℕ)
+      → ((cut (take read input)).1 ≡ []) ⊎ (read ≡ length (readable input)) → lines_of (lines ++ last ∷ []) ≡ input_lines (take read input)
+      → (dialogue_of s (lines ++ last ∷ [])).text ≡ (dialogue_of s lines).text ++ (part ++ rest) → 0 < length rest
+      → Transcript s input read ((dialogue_of s lines).text ++ part) (Err WriteFailed)
+  none : Transcript s input 0 [] (Err Memory)
+
+-- what a session read from its input, and what it wrote after the bytes before it
+pub record ReadsAndWrites (s : State) (input before : List ℕ) (left written : Option (List ℕ)) (result : Result (Unit {0}) SessionError) : Type 0 where
+  pub read : ℕ
+  pub text : List ℕ
+  pub within : read ≤ length (readable input)
+  pub left_is : left ≡ Some (drop read input)
+  pub written_is : written ≡ Some (before ++ text)
+  pub transcript : Transcript s input read text result
+
+-- the effect of a session in the run from s on a reader and a writer, by its result
+pub record IsSession (s : State) (r r_after w w_after : Stream) (result : Result (Unit {0}) SessionError) : Type 0 where
+  pub told : (input before : List ℕ) → r.bytes ≡ Some input → w.bytes ≡ Some before → ReadsAndWrites s input before r_after.bytes w_after.bytes result
+  -- if no line that it wrote is `? memory`, it wrote the session's text
+  pub text : (input before written : List ℕ) → r.bytes ≡ Some input → w.bytes ≡ Some before → w_after.bytes ≡ Some (before ++ written)
+      → says_memory written ≡ false → OnOk result (written ≡ session_text s input)
+  pub fails : FailsByResult r.failed r_after.failed w.failed w_after.failed result
+
+-- ---- parts
+
 -- the dialogue for these lines, with failed allocations at some of them
 pub record IsDialogue (s : State) (lines : List (List ℕ)) (t : Dialogue) : Type 0 where
   pub marked : List Line
   pub lines_are : lines_of marked ≡ lines
   pub talk_is : dialogue_of s marked ≡ t
-
--- `read` bytes of the input were read: up to the line feed of the first line that ends a session, or to the end
-pub record ReadsAll (input : List ℕ) (read : ℕ) : Type 0 where
-  pub within : read ≤ length (readable input)
-  pub goes_on : (n : ℕ) → n < read → has_quit (cut (take n input)).0 ≡ false
-  pub ends : (has_quit (cut (take read input)).0 ≡ true) ⊎ (read ≡ length (readable input))
-
--- all lines of the input were answered, and nothing was read after the one that ends a session
-pub record TranscriptAll (s : State) (input before : List ℕ) (left written : Option (List ℕ)) : Type 0 where
-  pub read : ℕ
-  pub all_read : ReadsAll input read
-  pub all_left : left ≡ Some (drop read input)
-  pub talk : Dialogue
-  pub all_lines : IsDialogue s (input_lines (readable input)) talk
-  pub all_written : written ≡ Some (before ++ talk.text)
-
--- some bytes were read, and the lines that ended among them were answered; none of them ends a session
-pub record TranscriptSome (s : State) (input before : List ℕ) (left written : Option (List ℕ)) : Type 0 where
-  pub read : ℕ
-  pub some_within : read ≤ length (readable input)
-  pub goes_on : has_quit (cut (take read input)).0 ≡ false
-  pub some_left : left ≡ Some (drop read input)
-  pub talk : Dialogue
-  pub some_lines : IsDialogue s (cut (take read input)).0 talk
-  pub some_written : written ≡ Some (before ++ talk.text)
-
--- some bytes were read, up to a line's end: the replies to the lines before it were
--- written completely, and its own only in part
-pub record TranscriptPart (s : State) (input before : List ℕ) (left written : Option (List ℕ)) : Type 0 where
-  pub read : ℕ
-  pub part_within : read ≤ length (readable input)
-  pub line_read : ((cut (take read input)).1 ≡ []) ⊎ (read ≡ length (readable input))
-  pub part_left : left ≡ Some (drop read input)
-  pub answered : List Line
-  pub last : Line
-  pub lines_are : lines_of (answered ++ last ∷ []) ≡ input_lines (take read input)
-  pub part : List ℕ
-  pub rest : List ℕ
-  pub part_is : (dialogue_of s (answered ++ last ∷ [])).text ≡ (dialogue_of s answered).text ++ (part ++ rest)
-  pub is_cut : 0 < length rest
-  pub part_written : written ≡ Some (before ++ ((dialogue_of s answered).text ++ part))
-
--- nothing was read or written
-pub record TranscriptNone (input before : List ℕ) (left written : Option (List ℕ)) : Type 0 where
-  pub none_left : left ≡ Some input
-  pub none_written : written ≡ Some before
-
--- what a session in the run from s read and wrote after the bytes before it, by its result
-abbrev pub SessionByResult : State → List ℕ → List ℕ → Option (List ℕ) → Option (List ℕ) → Result (Unit {0}) SessionError → Type 0
-SessionByResult s input before left written (Ok u) = TranscriptAll s input before left written
-SessionByResult s input before left written (Err ReadFailed) = TranscriptSome s input before left written
-SessionByResult s input before left written (Err WriteFailed) = TranscriptPart s input before left written
-SessionByResult s input before left written (Err Memory) = TranscriptNone input before left written
-
--- the effect of a session in the run from s on a reader and a writer, by its result
-pub record IsSession (s : State) (r r_after w w_after : Stream) (result : Result (Unit {0}) SessionError) : Type 0 where
-  pub told : (input before : List ℕ) → r.bytes ≡ Some input → w.bytes ≡ Some before
-      → SessionByResult s input before r_after.bytes w_after.bytes result
-  -- if no line that it wrote is `? memory`, it wrote the session's text
-  pub text : (input before written : List ℕ) → r.bytes ≡ Some input → w.bytes ≡ Some before → w_after.bytes ≡ Some (before ++ written)
-      → says_memory written ≡ false → OnOk result (written ≡ session_text s input)
-  pub fails : FailsByResult r.failed r_after.failed w.failed w_after.failed result
 
 -- a line's reply in a session state, and the session state after it; a mark tells whether an allocation failed
 pub record AnswersLine (s : State) (w : SessionState) (line : List ℕ) (next : SessionState) (text : List ℕ) : Type 0 where

@@ -1,5 +1,5 @@
 -- Proof obligations of `session_over` (src/sessions.rt).
-use Rattle.debugger.proofs.Prelude.{◌≡◌, ◌<◌, ◌∙◌, ℕ, List, Some, State, SessionByResult, ap, arith, length, refl, subst}
+use Rattle.debugger.proofs.Prelude.{◌≡◌, ◌<◌, ◌∙◌, ℕ, List, Some, State, ReadsAndWrites, ap, arith, length, refl, subst}
 use Rattle.streams.proofs.Heard.{alone}
 use Rattle.debugger.proofs.Ending.{session_told}
 use Rattle.debugger.proofs.Going.{going_start}
@@ -16,9 +16,9 @@ returns-clause-session g c =
     let size = ap length c.new-buffer.ensures in
     let short : length c.new-buffer.result < 1 = omega (arith, size) in
     let told : (input before : List ℕ) → g.R.Source.left c.args.r.now ≡ Some input → g.W.Sink.taken c.args.w.now ≡ Some before
-    → SessionByResult (g.H.History.origin c.args.history) input before (g.R.Source.left c.hear_input.new.r) (g.W.Sink.taken c.hear_input.new.w) c.hear_input.result =
+    → ReadsAndWrites (g.H.History.origin c.args.history) input before (g.R.Source.left c.hear_input.new.r) (g.W.Sink.taken c.hear_input.new.w) c.hear_input.result =
     λ input before e f.
-    subst (λ (s : State). SessionByResult s input before (g.R.Source.left c.hear_input.new.r) (g.W.Sink.taken c.hear_input.new.w) c.hear_input.result)
+    subst (λ (s : State). ReadsAndWrites s input before (g.R.Source.left c.hear_input.new.r) (g.W.Sink.taken c.hear_input.new.w) c.hear_input.result)
     (ap g.H.History.origin c.new-conversation.ensures.history)
     (session_told _ input before _ _ _ _ _ _ c.hear_input.result
     (rw (alone c.hear_input.new.buffer (g.R.Source.left c.hear_input.new.r) (c.hear_input.ensures.room short))
