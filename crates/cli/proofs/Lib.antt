@@ -2,4 +2,5 @@
 
 pub mod Number
 pub mod Endings
+pub mod Texts
 pub mod Prelude

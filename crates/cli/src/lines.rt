@@ -1,6 +1,6 @@
 //! The line on standard error for a refusal.
 ghost use Rattle.std.specs.Prelude.{◌≡◌, ◌≤◌, ◌+◌, ◌++◌, [], length, decimal, vec_capacity, vec_len};
-ghost use Rattle.cli.specs.Refusals.{longest_line, policy_text, refusal_line, refusal_text, run_text, text_refusal};
+ghost use Rattle.cli.specs.Refusals.{longest_line, policy_text, program_text, refusal_line, refusal_text, run_text};
 ghost use Rattle.policy_glue.specs.CompileErrors.{compile_text, part_text, with_number};
 
 use crate::refusal::Refusal;
@@ -99,9 +99,10 @@ impl RefusalLine {
     }
 
     /// Appends the code of a text's refusal, and the line number.
+    #[tactic(auto, using(crate::proofs::Texts::program_said))]
     fn push_program(&mut self, error: AsmError)
         requires { length self.old ≤ 8 }
-        ensures text { self.new ≡ self.old ++ text_refusal error }
+        ensures text { self.new ≡ self.old ++ program_text error }
         ensures length { length self.new ≤ 76 }
     {
         self.push_code(error.code(), " line ", error.line());
@@ -121,6 +122,7 @@ impl RefusalLine {
     }
 
     /// Appends the refusal of a policy.
+    #[tactic(auto, using(crate::proofs::Texts::compile_said))]
     fn push_policy(&mut self, refusal: PolicyRefusal)
         requires { length self.old ≤ 11 }
         ensures text { self.new ≡ self.old ++ policy_text refusal }
