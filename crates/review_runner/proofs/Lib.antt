@@ -1,6 +1,9 @@
 -- The proofs of `review_runner`.
 
 pub mod Assembled
+pub mod EffectFiles
+pub mod EffectWords
+pub mod Effects
 pub mod HeldFiles
 pub mod Kept
 pub mod MadeFiles
@@ -9,6 +12,7 @@ pub mod Performed
 pub mod Programs
 pub mod Readings
 pub mod Shape
+pub mod SourceLines
 pub mod PolicyFiles
 mod ImageKept
 mod ToldLines

@@ -1,6 +1,9 @@
 -- An order whose words are accepted has at most 1,000,000,000 steps.
-use Rattle.review_runner.proofs.Prelude.{◌≡◌, ◌≤◌, List, [], ◌∷◌, ◌++◌, Option, Some, None, Result, IfOk, Bool, true, false, subst, arith, codes, if◌then◌else◌, find, unwrap_or, option_map, option_and_then, slice_get, digits_value, without_leading_plus, option_map_or, bytes_eq-Decides, is_unsigned_in, values_kinds, App, Shape, built, label_of, rows_at, read_as, Row, Rule, Text, answers_to, at_row, default_rows, nothing_held, one_of, reading_by, row_text, rows_after, walk, walk_from, with_default, with_values, entered_fault, level_fault, ErrorKind, ValueSource, CommandLine, file_rule, option_rule, required_option_rule, list_app, steps_rule, making_app, with_documents, review_app, deciding_app, running_app, run_image_app, debug_app, bare_app, celbpf_app, faults, entered, number_of, number_written, OrderReturns, IsWithinLimits, assemble_in, compile_in, debug_in, list_in, order_in, order_view, review_in, run_image_in, order_named, CodeOrder, OrderError, step_limit, default_steps}
+use Rattle.review_runner.proofs.Prelude.{◌≡◌, ◌≤◌, List, [], ◌∷◌, ◌++◌, Option, Some, None, Result, IfOk, Bool, true, false, subst, refl, ap, arith, codes, nat_lt, ◌&&◌, ℕ, if◌then◌else◌, find, unwrap_or, option_map, option_and_then, slice_get, digits_value, without_leading_plus, option_map_or, bytes_eq-Decides, is_unsigned_in, values_kinds, App, Shape, built, label_of, rows_at, read_as, Row, Rule, Text, answers_to, at_row, default_rows, nothing_held, one_of, reading_by, row_text, rows_after, walk, walk_from, with_default, with_values, entered_fault, level_fault, ErrorKind, ValueSource, CommandLine, file_rule, option_rule, required_option_rule, steps_rule, command, commands, with_commands, celbpf_app, faults, entered, number_of, number_written, OrderReturns, IsWithinLimits, assemble_in, compile_in, debug_in, list_in, order_in, order_view, review_in, run_image_in, order_named, CodeOrder, OrderError, step_limit, default_steps}
+use Rattle.std.specs.Char.{digit_value}
+use Rattle.std.specs.List.{list_all}
 use Rattle.std.specs.Str.{bytes_eq}
+use Rattle.cli.specs.Number.{are_digits}
 use Rattle.clap.specs.Simple.{entered as entered_of}
 use Rattle.clap.specs.Walk.{without}
 use Rattle.clap.specs.declared.builder.value_parser.Reading.{Reading}
@@ -88,7 +91,7 @@ level_keeps s words ok e =
     defaults_keep RowsOk s.rules _ (all_defaults_keep s.rules ok.1) (settle_keeps RowsOk s [] ok.0 end q.0 (walk_keeps RowsOk s [] ok.0 words (walk_from nothing_held) p.0 tt))
 
 shapes : Each ShapeOk (built celbpf_app).subs
-unfolding celbpf_app deciding_app running_app bare_app making_app with_documents review_app run_image_app list_app debug_app file_rule option_rule required_option_rule steps_rule
+unfolding celbpf_app with_commands commands command file_rule option_rule required_option_rule steps_rule
 shapes = grind (arith, with_keeps, set_keeps, values_within, nothing)
 
 -- ---- a command line
@@ -137,6 +140,43 @@ of_stop a (Some p) ok e = of_shape (find (λ s. answers_to p.0 (label_of s)) a.s
 of_words : (words : List Text) → faults words ≡ [] → AtOption (λ q. RowsOk q.1) (entered words)
 unfolding faults entered
 of_words words e = let p = nothing _ _ e in of_stop (built celbpf_app) _ shapes (nothing _ _ p.1).0
+
+-- the limit of steps is the number of its word
+digits_same : (t : List ℕ) → list_all (λ d. nat_lt (digit_value d) 10) t ≡ are_digits t
+digits_same [] = refl
+digits_same (c ∷ cs) = ap (λ (b : Bool). nat_lt (digit_value c) 10 && b) (digits_same cs)
+
+number_in_range : (v : Text) → Within v → unwrap_or (number_written (without_leading_plus v)) default_steps ≡ digits_value 10 (without_leading_plus v)
+number_in_range v w = grind (arith, digits_same)
+
+limit_of_values : (how : Reading) (vs : List Text) → Each Within vs → how ≡ reading.AsWritten
+    → unwrap_or (number_of (option_map (read_as how) (slice_get vs 0))) default_steps
+    ≡ option_map_or (λ t. digits_value 10 (without_leading_plus t)) (option_map (read_as how) (slice_get vs 0)) default_steps
+unfolding number_of
+limit_of_values how [] h is = refl
+limit_of_values how (v ∷ vs) h is = rw is (number_in_range v h.0)
+
+limit_of_row : (o : Option Row) → AtOption (λ r. RowOk r × (bytes_eq r.id (codes "steps") ≡ true)) o
+    → unwrap_or (number_of (option_and_then row_text o)) default_steps
+    ≡ option_map_or (λ t. digits_value 10 (without_leading_plus t)) (option_and_then row_text o) default_steps
+unfolding number_of
+limit_of_row None h = refl
+limit_of_row (Some r) h = limit_of_values r.reading r.values (h.0 h.1).0 (h.0 h.1).1
+
+limit_of_rows : (rows : List Row) → RowsOk rows
+    → unwrap_or (number_of (one_of (codes "steps") rows)) default_steps
+    ≡ option_map_or (λ t. digits_value 10 (without_leading_plus t)) (one_of (codes "steps") rows) default_steps
+limit_of_rows rows g = limit_of_row (find (λ r. bytes_eq r.id (codes "steps")) rows) (found_so RowOk (λ r. bytes_eq r.id (codes "steps")) rows g)
+
+limit_of_entered : (o : Option (Text × List Row)) (p : Text × List Row) → AtOption (λ q. RowsOk q.1) o → o ≡ Some p
+    → unwrap_or (number_of (one_of (codes "steps") p.1)) default_steps
+    ≡ option_map_or (λ t. digits_value 10 (without_leading_plus t)) (one_of (codes "steps") p.1) default_steps
+limit_of_entered o p h is = limit_of_rows p.1 (subst (AtOption (λ q. RowsOk q.1)) is h)
+
+pub limit_is_read : (words : List Text) (p : Text × List Row) → faults words ≡ [] → entered words ≡ Some p
+    → unwrap_or (number_of (one_of (codes "steps") p.1)) default_steps
+    ≡ option_map_or (λ t. digits_value 10 (without_leading_plus t)) (one_of (codes "steps") p.1) default_steps
+limit_is_read words p taken is = limit_of_entered (entered words) p (of_words words taken) is
 
 of_order : (o : Option (Text × List Row)) → AtOption (λ q. RowsOk q.1) o
     → AtOption IsWithinLimits (order_in o)

@@ -169,12 +169,11 @@ pub use Rattle.cli.specs.declared.refusal.Refusal.{Refusal}
 pub use Rattle.cli.specs.declared.refusal.Refusal.TheVariants.{File, Memory}
 pub use Rattle.cli.specs.Ending.{no_words}
 pub use Rattle.admission.specs.declared.run_error.RunError.{RunError}
-unfoldable pub use Rattle.review_runner.specs.Commands.{bare_app, celbpf_app, debug_app, deciding_app, entered}
-unfoldable pub use Rattle.review_runner.specs.Commands.{faults, file_rule, list_app, making_app}
+unfoldable pub use Rattle.review_runner.specs.Commands.{celbpf_app, command, commands, entered, faults, file_rule}
+unfoldable pub use Rattle.review_runner.specs.Commands.{with_commands}
 unfoldable pub use Rattle.cli.specs.Arguments.{option_rule}
 unfoldable pub use Rattle.cli.specs.Arguments.{required_option_rule}
-unfoldable pub use Rattle.review_runner.specs.Commands.{review_app, run_image_app, running_app}
-unfoldable pub use Rattle.cli.specs.Arguments.{steps_rule, with_documents}
+unfoldable pub use Rattle.cli.specs.Arguments.{steps_rule}
 unfoldable pub use Rattle.cli.specs.Number.{number_of}
 unfoldable pub use Rattle.review_runner.specs.Order.{assemble_in, compile_in, debug_in, list_in, review_in}
 unfoldable pub use Rattle.review_runner.specs.Order.{run_image_in}

@@ -11,4 +11,5 @@ pub mod PolicyFiles
 pub mod Telling
 pub mod Making
 pub mod Performing
+pub mod Effect
 pub mod Program

@@ -4,6 +4,7 @@ use Rattle.streams.specs.Streams.{Stream}
 use Rattle.streams.specs.declared.failed.Failed.{Failed}
 use Rattle.review_runner.specs.Commands.{entered, faults}
 use Rattle.review_runner.specs.Debugging.{DebugsByResult}
+use Rattle.review_runner.specs.Effect.{WordsEffect}
 use Rattle.host.specs.FileSystem.{FileSystem}
 use Rattle.review_runner.specs.Order.{DocumentFiles, Order, debug, order_in}
 use Rattle.review_runner.specs.Output.{OrderOutcome, Report}
@@ -56,9 +57,9 @@ pub data ProgramEffect (chosen : Images) (given : Given) (old new : System) : En
   does_order : {wanted : Order} {ending : Ending} → AsksOrder given wanted → DoesOrder chosen old new wanted ending
       → ProgramEffect chosen given old new ending
 
--- the program ends with this status
+-- the program ends with this status, after the effect of the words
 abbrev pub ProgramResult : Images → Given → System → System → Stream → Stream → ℕ → Type 0
-ProgramResult chosen given old new errors errors_after status = ProgramEnds (ProgramEffect chosen given old new) errors errors_after status
+ProgramResult chosen given old new errors errors_after status = ProgramEnds (WordsEffect chosen given old new) errors errors_after status
 
 -- ---- parts
 

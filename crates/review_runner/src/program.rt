@@ -14,6 +14,7 @@ use crate::images::debugging::debug;
 use crate::performing::perform;
 use cli::{Refusal, exit_with, texts_of};
 use host::{Files, OrderError};
+use policy_glue::laws::compiles_once;
 use std::alloc::Global;
 use std::process::ExitCode;
 use streams::{Failed, Sink, Source, write_all};
@@ -36,6 +37,7 @@ pub fn exit_code<F: Files, R: Source, W: Sink, E: Sink>(
         let told_after = stream (E.taken errors.new) (E.failed errors.new) in
         ProgramResult OneImage (given_of words) before after told told_after (exit_status result) }
 {
+    compiles_once();
     match ending(alloc, words, files, input, output) {
         Ok(done) => left(&done, errors),
         Err(refusal) => exit_with(alloc, Err(refusal), errors),

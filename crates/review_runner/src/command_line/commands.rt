@@ -1,9 +1,9 @@
 //! The commands of the program as they are declared to `clap`.
-ghost use Rattle.std.specs.Prelude.{◌≡◌, map, IfOk, false, true};
+ghost use Rattle.std.specs.Prelude.{◌≡◌, ◌∷◌, [], codes, map, take, IfOk, false, true};
 ghost use Rattle.clap.specs.Words.{app_of, has_subcommand, rule_of, subcommand_rows_of};
 ghost use Rattle.clap.specs.declared.builder.command.Command.TheViews.{out-Command as fields_of};
-ghost use Rattle.review_runner.specs.Commands.{celbpf_app, deciding_app, debug_app, file_rule, list_app, making_app, review_app, run_image_app, running_app};
-ghost use Rattle.cli.specs.Arguments.{with_documents};
+ghost use Rattle.review_runner.specs.Commands.{celbpf_app, command, commands, file_rule, with_commands};
+ghost use Rattle.cli.specs.Arguments.{option_rule, required_option_rule, steps_rule};
 ghost use Rattle.cli.specs.Parsing.{TakesWords};
 ghost use Rattle.review_runner.specs.Commands.{faults, entered};
 
@@ -21,9 +21,9 @@ fn file_argument<'a>(alloc: Global, name: &'a str) -> Arg<'a>
     Arg::new(alloc, name).required(true)
 }
 
-#[tactic(auto, unfolding(crate::specs::Commands::run_image_app))]
+#[tactic(auto, unfolding(crate::specs::Commands::command))]
 fn run_image_command<'a>(alloc: Global) -> Result<Command<'a>, AllocError>
-    ensures shape { IfOk result (λ c. app_of c ≡ run_image_app) }
+    ensures shape { IfOk result (λ c. app_of c ≡ command (codes "run-image") (file_rule (codes "IMAGE") ∷ steps_rule ∷ [])) }
     ensures local { IfOk result (λ c. (fields_of c).has_globals ≡ false) }
 {
     let command = Command::new(alloc, "run-image").arg(file_argument(alloc, "IMAGE"))?;
@@ -31,39 +31,41 @@ fn run_image_command<'a>(alloc: Global) -> Result<Command<'a>, AllocError>
 }
 
 // a command that makes the file of an image from another file
-#[tactic(auto, unfolding(crate::specs::Commands::making_app))]
+#[tactic(auto, unfolding(crate::specs::Commands::command))]
 fn making_command<'a>(
     alloc: Global,
     name: &'a str,
     source: &'a str,
 ) -> Result<Command<'a>, AllocError>
-    ensures shape { IfOk result (λ c. app_of c ≡ making_app name.entry.now source.entry.now) }
+    ensures shape { IfOk result (λ c. app_of c ≡ command name.entry.now (file_rule source.entry.now ∷ file_rule (codes "IMAGE") ∷ [])) }
     ensures local { IfOk result (λ c. (fields_of c).has_globals ≡ false) }
 {
     let command = Command::new(alloc, name).arg(file_argument(alloc, source))?;
     command.arg(file_argument(alloc, "IMAGE"))
 }
 
-#[tactic(auto, unfolding(crate::specs::Commands::list_app))]
+#[tactic(auto, unfolding(crate::specs::Commands::command))]
 fn list_command<'a>(alloc: Global) -> Result<Command<'a>, AllocError>
-    ensures shape { IfOk result (λ c. app_of c ≡ list_app) }
+    ensures shape { IfOk result (λ c. app_of c ≡ command (codes "list") (file_rule (codes "IMAGE") ∷ [])) }
     ensures local { IfOk result (λ c. (fields_of c).has_globals ≡ false) }
 {
     Command::new(alloc, "list").arg(file_argument(alloc, "IMAGE"))
 }
 
-#[tactic(auto, unfolding(crate::specs::Commands::debug_app))]
+#[tactic(auto, unfolding(crate::specs::Commands::command, cli::specs::Arguments::with_documents))]
 fn debug_command<'a>(alloc: Global) -> Result<Command<'a>, AllocError>
-    ensures shape { IfOk result (λ c. app_of c ≡ debug_app) }
+    ensures shape { let documents = option_rule (codes "review") ∷ option_rule (codes "namespace") ∷ option_rule (codes "params") ∷ [] in
+        IfOk result (λ c. app_of c ≡ command (codes "debug") (file_rule (codes "IMAGE") ∷ documents)) }
     ensures local { IfOk result (λ c. (fields_of c).has_globals ≡ false) }
 {
     let command = Command::new(alloc, "debug").arg(file_argument(alloc, "IMAGE"))?;
     with_documents(alloc, command.arg(option_argument(alloc, "review"))?)
 }
 
-#[tactic(auto, unfolding(crate::specs::Commands::review_app))]
+#[tactic(auto, unfolding(crate::specs::Commands::command, cli::specs::Arguments::with_documents))]
 fn review_command<'a>(alloc: Global) -> Result<Command<'a>, AllocError>
-    ensures shape { IfOk result (λ c. app_of c ≡ review_app) }
+    ensures shape { let further = option_rule (codes "namespace") ∷ option_rule (codes "params") ∷ steps_rule ∷ [] in
+        IfOk result (λ c. app_of c ≡ command (codes "review") (required_option_rule (codes "policy") ∷ required_option_rule (codes "review") ∷ further)) }
     ensures local { IfOk result (λ c. (fields_of c).has_globals ≡ false) }
 {
     let command = Command::new(alloc, "review").arg(required_option_argument(alloc, "policy"))?;
@@ -72,9 +74,9 @@ fn review_command<'a>(alloc: Global) -> Result<Command<'a>, AllocError>
 }
 
 // the program, with the commands that run an image
-#[tactic(auto, unfolding(crate::specs::Commands::running_app, crate::specs::Commands::bare_app))]
+#[tactic(auto, unfolding(crate::specs::Commands::with_commands, crate::specs::Commands::commands))]
 fn running_command<'a>(alloc: Global) -> Result<Command<'a>, AllocError>
-    ensures shape { IfOk result (λ c. app_of c ≡ running_app) }
+    ensures shape { IfOk result (λ c. app_of c ≡ with_commands (take 2 commands)) }
     ensures local { IfOk result (λ c. (fields_of c).has_globals ≡ false) }
 {
     let command = Command::new(alloc, "celbpf").subcommand_required(true);
@@ -83,9 +85,9 @@ fn running_command<'a>(alloc: Global) -> Result<Command<'a>, AllocError>
 }
 
 // these commands, and those for policies
-#[tactic(auto, unfolding(crate::specs::Commands::deciding_app))]
+#[tactic(auto, unfolding(crate::specs::Commands::with_commands, crate::specs::Commands::commands))]
 fn deciding_command<'a>(alloc: Global) -> Result<Command<'a>, AllocError>
-    ensures shape { IfOk result (λ c. app_of c ≡ deciding_app) }
+    ensures shape { IfOk result (λ c. app_of c ≡ with_commands (take 4 commands)) }
     ensures local { IfOk result (λ c. (fields_of c).has_globals ≡ false) }
 {
     let command = running_command(alloc)?;
@@ -94,7 +96,7 @@ fn deciding_command<'a>(alloc: Global) -> Result<Command<'a>, AllocError>
 }
 
 // the program, with all its commands
-#[tactic(auto, unfolding(crate::specs::Commands::celbpf_app))]
+#[tactic(auto, unfolding(crate::specs::Commands::celbpf_app, crate::specs::Commands::with_commands, crate::specs::Commands::commands))]
 fn celbpf_command<'a>(alloc: Global) -> Result<Command<'a>, AllocError>
     ensures shape { IfOk result (λ c. app_of c ≡ celbpf_app) }
     ensures local { IfOk result (λ c. (fields_of c).has_globals ≡ false) }

@@ -1,6 +1,6 @@
 -- Proofs of `command_line::commands::celbpf_matches`: the result meets the contract.
 
-use Rattle.review_runner.proofs.Prelude.{ap, ◌∙◌, map, List, subst, IfOk-weaker, fault_of, is_simple, is_simple_and_free, subcommand_of, subcommand_required, celbpf_app, bare_app, deciding_app, running_app, faults, entered}
+use Rattle.review_runner.proofs.Prelude.{ap, ◌∙◌, map, List, subst, IfOk-weaker, fault_of, is_simple, is_simple_and_free, subcommand_of, subcommand_required, celbpf_app, commands, with_commands, faults, entered}
 use Rattle.clap.specs.Words.{App, Text}
 use Rattle.cli.specs.Parsing.{TakesWords}
 use Rattle.review_runner.proofs.Shape.{simple, free}
@@ -25,7 +25,7 @@ returns-clause-taken c =
     (c.parse.ensures.taken (ap is_simple_and_free is ∙ free))
 
 pub returns-clause-named : goal.returns-clause-named
-unfolding celbpf_app deciding_app running_app bare_app
+unfolding celbpf_app with_commands commands
 returns-clause-named c =
     let local = c.in_ok-command.ensures.local in
     let wanted = ap (λ (a : App). a.top.subcommand_required) c.in_ok-command.ensures.shape in
