@@ -11,3 +11,4 @@ pub mod Whole
 pub mod OnLiterals
 pub mod Orders
 pub mod Reordered
+pub mod Named

@@ -9,3 +9,4 @@ pub mod Policies
 pub mod Refusals
 pub mod Rows
 pub mod State
+pub mod Names

@@ -1,9 +1,11 @@
 //! The namespaces of a cluster.
-ghost use Rattle.std.specs.Prelude.{◌≡◌, ◌==◌, ◌||◌, length, option_map};
+ghost use Rattle.std.specs.Prelude.{◌≡◌, ◌==◌, ◌||◌, [], length, option_map};
+ghost use Rattle.std.specs.Option.{option_map_or};
 ghost use Rattle.serde_json.specs.View.{view};
 ghost use Rattle.admission_documents.specs.Requests.{kind_view};
+ghost use Rattle.cluster_state.specs.Objects.{named_view};
 ghost use Rattle.cluster_state.specs.Params.{namespace_labels, namespace_named, namespace_object, namespace_object_view, object_or_missing};
-ghost use Rattle.cluster_state.specs.State.{state_view};
+ghost use Rattle.cluster_state.specs.State.{namespaces, state_view};
 
 use crate::namespace_object::NamespaceObject;
 use crate::objects::object;
@@ -12,8 +14,16 @@ use admission_documents::{GroupVersionKind, ObjectLabels};
 use admission_match::Namespaces;
 use label_selectors::LabelSelector;
 use serde_json::Value;
+use std::collections::BTreeMap;
 
 impl<'a> State<'a> {
+    /// All namespaces, by their names.
+    pub fn all_namespaces(&self) -> Option<&BTreeMap<&'a str, &'a Value>>
+        ensures { option_map_or (λ m. named_view m.now.entries) result [] ≡ (state_view self.now).objects namespaces }
+    {
+        self.objects.namespaces()
+    }
+
     /// The namespace with this name.
     pub fn namespace(&self, name: &str) -> Option<&'a Value>
         ensures { option_map (λ v. view v.now) result ≡ namespace_named name.now (state_view self.now).objects }

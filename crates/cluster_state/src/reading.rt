@@ -1,12 +1,13 @@
 //! Reads the parts of a state.
-ghost use Rattle.std.specs.Prelude.{◌≡◌, bytes_eq, map};
-ghost use Rattle.std.specs.List.{list_any};
+ghost use Rattle.std.specs.Prelude.{◌≡◌, List, map, IfOk};
 ghost use Rattle.serde_json.specs.View.{view};
 ghost use Rattle.cluster_state.specs.Bindings.{binding_view, bindings_in};
 ghost use Rattle.cluster_state.specs.Items.{item_view};
+ghost use Rattle.cluster_state.specs.Names.{HoldsPolicyNames};
 ghost use Rattle.cluster_state.specs.Objects.{no_objects, objects_view, named_view, with_items};
 ghost use Rattle.cluster_state.specs.Policies.{is_bound, policies_in, policy_view};
 ghost use Rattle.cluster_state.specs.Refusals.{ReadsDue};
+ghost use Rattle.cluster_state.specs.declared.binding.Binding.{Binding as CodeBinding};
 ghost use Rattle.cluster_state.specs.State as specs;
 ghost use Rattle.cluster_state.specs.State.{ObjectsRead, objects_of};
 
@@ -17,8 +18,8 @@ use crate::policy::Policy;
 use crate::state_error::StateError;
 use admission_documents::FieldError;
 use serde_json::Value;
-use std::alloc::Global;
-use std::collections::BTreeMap;
+use std::alloc::{AllocError, Global};
+use std::collections::{BTreeMap, BTreeSet};
 
 /// The objects of items.
 pub(crate) fn objects<'a>(alloc: Global, items: &[Item<'a>]) -> Result<Objects<'a>, StateError>
@@ -96,9 +97,10 @@ fn policies_in<'a>(
 ) -> Result<Vec<Policy<'a>>, StateError>
     ensures { ReadsDue (λ v. map policy_view v.items) (policies_in (map binding_view bindings.now) (named_view named.now.entries)) result }
 {
+    let names = policy_names(alloc, bindings)?;
     let mut policies = Vec::new(alloc);
     for (name, document) in named.iter() {
-        if is_bound(bindings, name) {
+        if is_bound(&names, name) {
             match Policy::read(alloc, name, document) {
                 Ok(policy) => policies.push(policy)?,
                 Err(FieldError::Memory) => return Err(StateError::Memory),
@@ -111,15 +113,23 @@ fn policies_in<'a>(
     Ok(policies)
 }
 
-/// Whether a binding refers to the policy with this name.
-fn is_bound(bindings: &[Binding<'_>], name: &str) -> bool
-    ensures { result ≡ is_bound (map binding_view bindings.now) name.now }
+/// The names of the policies that bindings refer to.
+fn policy_names<'a>(
+    alloc: Global,
+    bindings: &[Binding<'a>],
+) -> Result<BTreeSet<&'a str>, AllocError>
+    ensures { IfOk result (λ names. HoldsPolicyNames names bindings.now) }
 {
-    some_is_of(bindings, name)
+    let mut names = BTreeSet::new(alloc);
+    for binding in bindings {
+        let _is_new = names.insert(binding.policy_name)?;
+    }
+    Ok(names)
 }
 
-fn some_is_of(bindings: &[Binding<'_>], name: &str) -> bool
-    ensures { result ≡ list_any (λ b. bytes_eq b.policy_name.now name.now) bindings.now }
+/// Whether a binding refers to the policy with this name, by the names of all such policies.
+fn is_bound(names: &BTreeSet<&str>, name: &str) -> bool
+    ensures { (bs : List CodeBinding) → HoldsPolicyNames names.now bs → result ≡ is_bound (map binding_view bs) name.now }
 {
-    bindings.iter().any(|binding| binding.policy_name == name)
+    names.contains(name)
 }
