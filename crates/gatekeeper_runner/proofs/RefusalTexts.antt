@@ -7,7 +7,8 @@ use Rattle.serde_json.proofs.Texts.{print-outline}
 use Rattle.serde_json.specs.Written.{compact_text}
 use Rattle.admission.specs.ErrorCodes.{run_error_code}
 use Rattle.gatekeeper_runner.specs.Lines.{refusal_tree}
-use Rattle.gatekeeper_runner.specs.RefusalTokens.{AddsTokens, refusal_tokens}
+use Rattle.policy_glue.specs.ResponseTokens.{AddsTokens}
+use Rattle.gatekeeper_runner.specs.RefusalTokens.{refusal_tokens}
 
 pub adds_none : (w : Written) → AddsTokens w w []
 adds_none w = record { before = refl; added = sym (append-nil w.tokens) }

@@ -19,8 +19,3 @@ label_tokens (Some label) = text_tokens (codes "policy") label.name ++ text_toke
 abbrev pub refusal_tokens : List ℕ → Option (List ℕ) → Option RefusingPolicy → List Token
 refusal_tokens name uid label =
     begin_object ∷ ((text_tokens (codes "refused") name ++ (uid_tokens uid ++ label_tokens label)) ++ end_object ∷ [])
-
--- these tokens are written after the earlier ones
-pub record AddsTokens (old new : Written) (tokens : List Token) : Type 0 where
-  pub before : new.before ≡ old.before
-  pub added : new.tokens ≡ old.tokens ++ tokens

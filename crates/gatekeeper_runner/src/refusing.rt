@@ -1,9 +1,10 @@
 //! The texts of refusals.
 ghost use Rattle.std.specs.Prelude.{◌≡◌, option_map, IfOk, OnOk, Some};
 ghost use Rattle.policy_glue.specs.Documents.{document_of};
+ghost use Rattle.policy_glue.specs.ResponseTokens.{AddsTokens};
 ghost use Rattle.admission.specs.ErrorCodes.{run_error_code};
 ghost use Rattle.gatekeeper_runner.specs.Lines.{refusal_text, uid_shown};
-ghost use Rattle.gatekeeper_runner.specs.RefusalTokens.{label_tokens, refusal_tokens, text_tokens, uid_tokens, AddsTokens};
+ghost use Rattle.gatekeeper_runner.specs.RefusalTokens.{label_tokens, refusal_tokens, text_tokens, uid_tokens};
 ghost use Rattle.gatekeeper_runner.specs.Together.{label_view, refused_view};
 
 use crate::policy_label::PolicyLabel;

@@ -1,5 +1,5 @@
 -- Places at which a machine is available.
-use Rattle.history.proofs.Prelude.{◌≡◌, ◌≢◌, ◌%◌, ◌++◌, append-nil, drop, ℕ, zero, suc, ◌+◌, ◌-◌, ◌<◌, ◌≤◌, Bool, true, false, not, List, [], ◌∷◌, length, refl, sym, ap, ◌∙◌, arith, subst, map, Option, Some, None, option_map, get_or, inl, inr, ◌⊎◌, common_steps, nat_tests, cases_lt, drop-append-le, drop-drop, drop-map, get_or-map, get_or_default, length-append, length-drop, length-map, map-append, append_assoc, Contains-append_cases, Contains-append_left, Contains-append_right, All-append, All-drop, All-nil, All-push, All-same, keep_last, get_or_from_slice_get, slice_get_within, All, Contains, slice_get, State, is_running, next_state, state_after, state_after-add, state_after-more, state_after-zero, stays_stopped, IsDue, IsKept, IsNearest, IsReplay, IsSpared, KeepsPlaces, Checkpoints, Reaches, Past, places_of, with_place}
+use Rattle.history.proofs.Prelude.{◌≡◌, ◌≢◌, ◌%◌, ◌++◌, append-nil, drop, ℕ, zero, suc, ◌+◌, ◌-◌, ◌<◌, ◌≤◌, Bool, true, false, not, List, [], ◌∷◌, length, refl, sym, ap, ◌∙◌, arith, subst, map, Option, Some, None, option_map, get_or, inl, inr, ◌⊎◌, common_steps, nat_tests, cases_lt, drop-append-le, drop-drop, drop-map, get_or-map, get_or_default, length-append, length-drop, length-map, map-append, append_assoc, Contains-append_cases, Contains-append_left, Contains-append_right, All-append, All-drop, All-nil, All-push, All-same, keep_last, get_or_from_slice_get, slice_get_within, All, Contains, slice_get, State, is_running, next_state, state_after, state_after-add, state_after-more, state_after-zero, stays_stopped, IsDue, HasPlacesAdded, IsNearest, IsReplay, IsSpared, KeepsPlaces, Checkpoints, Reaches, Past, places_of, with_place}
 
 -- of the first n of these places, none at or before k is greater than p
 abbrev pub NoneNearer : List ℕ → ℕ → ℕ → ℕ → Type 0
@@ -225,10 +225,10 @@ spared_oldest a b x origin places told = record {
   told = λ none. let wrong : true ≡ false = sym told ∙ none in cc;
 }
 
-pub kept_spared : (a b : Checkpoints) → IsSpared a b → IsKept a b
+pub kept_spared : (a b : Checkpoints) → IsSpared a b → HasPlacesAdded a b
 kept_spared a b s = record { origin = s.origin; added = []; keeps = s.keeps; told = s.told }
 
-pub kept_all : (a b : Checkpoints) → b ≡ a → IsKept a b
+pub kept_all : (a b : Checkpoints) → b ≡ a → HasPlacesAdded a b
 kept_all a b same = kept_spared a b (spared_all a b same)
 
 -- one more place, of at most 64
@@ -267,7 +267,7 @@ spared_on a b c first second = record {
   told = λ none. first.told (second.told none);
 }
 
-pub kept_on : (a b c : Checkpoints) → IsKept a b → IsKept b c → IsKept a c
+pub kept_on : (a b c : Checkpoints) → HasPlacesAdded a b → HasPlacesAdded b c → HasPlacesAdded a c
 kept_on a b c first second = record {
   origin = second.origin ∙ first.origin;
   added = first.added ++ second.added;
@@ -276,7 +276,7 @@ kept_on a b c first second = record {
 }
 
 -- since these places were those of that run
-pub keeps_since : (ps : List ℕ) (a b : Checkpoints) → a.places ≡ ps → IsKept a b → (added : List ℕ) × KeepsPlaces b.dropped_checkpoint ps added b.places
+pub keeps_since : (ps : List ℕ) (a b : Checkpoints) → a.places ≡ ps → HasPlacesAdded a b → (added : List ℕ) × KeepsPlaces b.dropped_checkpoint ps added b.places
 keeps_since ps a b same kept = (kept.added, subst (λ (qs : List ℕ). KeepsPlaces b.dropped_checkpoint qs kept.added b.places) same kept.keeps)
 
 pub spares_since : (ps : List ℕ) (a b : Checkpoints) → a.places ≡ ps → IsSpared a b → KeepsPlaces b.dropped_checkpoint ps [] b.places
@@ -284,7 +284,7 @@ spares_since ps a b same spared = subst (λ (qs : List ℕ). KeepsPlaces b.dropp
 
 -- one more place, of at most 64
 pub kept_one : (a b c : Checkpoints) (k : ℕ) → length b.places ≤ 64 → k % 1024 ≡ 0 → IsSpared a b → c.origin ≡ b.origin → c.places ≡ with_place b.places k
-    → c.dropped_checkpoint ≡ b.dropped_checkpoint → IsKept a c
+    → c.dropped_checkpoint ≡ b.dropped_checkpoint → HasPlacesAdded a c
 kept_one a b c k room round spared origin places told =
     kept_on a b c (kept_spared a b spared) (record {
       origin = origin;

@@ -24,6 +24,6 @@ unfoldable pub use Rattle.bpf_machine.specs.Trace.{state_after}
 pub use Rattle.circular_buffer.specs.Buffer.{keep_last}
 pub use Rattle.history.specs.Unchanged.{IsUnchangedHistory}
 pub use Rattle.history.specs.Search.{FirstIsLeast, IsFirst, IsLast, LastIsGreatest}
-pub use Rattle.history.specs.Past.{IsCheckpoint, IsDue, IsKept, IsNearest, IsReplay, IsSpared, KeepsPlaces}
+pub use Rattle.history.specs.Past.{IsCheckpoint, IsDue, HasPlacesAdded, IsNearest, IsReplay, IsSpared, KeepsPlaces}
 pub use Rattle.history.specs.Past.{Checkpoints, Reaches, Past, places_of, with_place}
 unfoldable pub use Rattle.history.specs.Search.{first_stop, is_at, is_stop, last_stop}

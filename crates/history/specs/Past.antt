@@ -46,7 +46,7 @@ pub record KeepsPlaces (dropped_checkpoint : Bool) (old added new : List ℕ) : 
   pub room : dropped_checkpoint ≡ false → (gone ≤ length added) × (gone ≤ length (old ++ added) - checkpoint_limit)
 
 -- the same run, with places added
-pub record IsKept (old new : Checkpoints) : Type 0 where
+pub record HasPlacesAdded (old new : Checkpoints) : Type 0 where
   pub origin : new.origin ≡ old.origin
   pub added : List ℕ
   pub keeps : KeepsPlaces new.dropped_checkpoint old.places added new.places

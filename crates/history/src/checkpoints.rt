@@ -1,6 +1,6 @@
 //! The checkpoints of a run.
 ghost use Rattle.std.specs.Prelude.{◌≡◌, ◌∷◌, ◌+◌, ◌^◌, ◌<◌, [], false, IfNone, IfOk, IfSome, IsOk, OnErr, OnOk};
-ghost use Rattle.history.specs.Past.{HasPlace, IsCheckpoint, IsDue, IsKept, IsNearest, IsSpared};
+ghost use Rattle.history.specs.Past.{HasPlace, IsCheckpoint, IsDue, HasPlacesAdded, IsNearest, IsSpared};
 ghost use Rattle.bpf_machine.specs.Step.{next_state};
 
 use crate::checkpoint::{Checkpoint, nearer};
@@ -145,7 +145,7 @@ impl<E: Emulator> Checkpoints<E> {
     /// there. If an allocation fails, the oldest checkpoints are dropped to make room.
     pub(crate) fn keep(&mut self, machine: &Checkpoint<E>) -> Result<(), AllocError>
         requires { IsCheckpoint E.state self.old.origin machine.now }
-        ensures kept { IsKept self.old self.new }
+        ensures kept { HasPlacesAdded self.old self.new }
         ensures due { IsDue self.old.places machine.now.place → OnOk result (HasPlace self.old self.new machine.now.place) }
         ensures not_due { (IsDue self.old.places machine.now.place → ⊥) → IsOk result × (self.new ≡ self.old) }
         ensures memory { OnErr result (self.new.places ≡ []) }

@@ -1,6 +1,6 @@
 //! Replays a run from one place to a later one.
 ghost use Rattle.std.specs.Prelude.{◌≡◌, ◌≤◌, [], IfOk, OnErr};
-ghost use Rattle.history.specs.Past.{IsCheckpoint, IsKept, Reaches};
+ghost use Rattle.history.specs.Past.{IsCheckpoint, HasPlacesAdded, Reaches};
 
 use crate::checkpoint::Checkpoint;
 use crate::checkpoints::{CHECKPOINT_INTERVAL, Checkpoints};
@@ -17,7 +17,7 @@ pub(crate) fn replay<E: Emulator>(
 ) -> Result<Checkpoint<E>, AllocError>
     requires here { IsCheckpoint E.state checkpoints.old.origin from }
     requires order { from.place ≤ to }
-    ensures kept { IsKept checkpoints.old checkpoints.new }
+    ensures kept { HasPlacesAdded checkpoints.old checkpoints.new }
     ensures here { IfOk result (λ c. IsCheckpoint E.state checkpoints.old.origin c) }
     ensures order { IfOk result (λ c. (from.place ≤ c.place) × (c.place ≤ to)) }
     ensures reaches { IfOk result (λ c. Reaches checkpoints.old.origin c.place to) }
@@ -42,7 +42,7 @@ pub(crate) fn replay_sparing<E: Emulator>(
     to: u64,
 ) -> Result<Checkpoint<E>, AllocError>
     requires here { IsCheckpoint E.state checkpoints.old.origin shown.now }
-    ensures kept { IsKept checkpoints.old checkpoints.new }
+    ensures kept { HasPlacesAdded checkpoints.old checkpoints.new }
     ensures here { IfOk result (λ c. IsCheckpoint E.state checkpoints.old.origin c) }
     ensures order { IfOk result (λ c. c.place ≤ to) }
     ensures reaches { IfOk result (λ c. Reaches checkpoints.old.origin c.place to) }
@@ -69,7 +69,7 @@ pub(crate) fn reach<E: Emulator>(
     requires here { IsCheckpoint E.state checkpoints.old.origin from }
     requires order { from.place ≤ to }
     requires shown { IsCheckpoint E.state checkpoints.old.origin shown.now }
-    ensures kept { IsKept checkpoints.old checkpoints.new }
+    ensures kept { HasPlacesAdded checkpoints.old checkpoints.new }
     ensures here { IfOk result (λ c. IsCheckpoint E.state checkpoints.old.origin c) }
     ensures order { IfOk result (λ c. c.place ≤ to) }
     ensures reaches { IfOk result (λ c. Reaches checkpoints.old.origin c.place to) }

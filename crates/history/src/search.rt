@@ -1,7 +1,7 @@
 //! Searches of a run in both directions.
 ghost use Rattle.std.specs.Prelude.{◌≡◌, ◌-◌, ◌<◌, ◌+◌, ◌^◌, [], IfOk, IsOk, OnErr};
 ghost use Rattle.history.specs.Search.{first_stop, last_stop};
-ghost use Rattle.history.specs.Past.{IsCheckpoint, IsKept, IsSpared, Reaches};
+ghost use Rattle.history.specs.Past.{IsCheckpoint, HasPlacesAdded, IsSpared, Reaches};
 
 use crate::checkpoint::Checkpoint;
 use crate::checkpoints::Checkpoints;
@@ -21,7 +21,7 @@ pub(crate) fn first_after<E: Emulator>(
 ) -> Result<u64, AllocError>
     requires here { IsCheckpoint E.state checkpoints.old.origin shown.now }
     requires order { shown.now.place < to }
-    ensures kept { IsKept checkpoints.old checkpoints.new }
+    ensures kept { HasPlacesAdded checkpoints.old checkpoints.new }
     ensures found { IfOk result (λ j. j ≡ first_stop stops.now checkpoints.old.origin shown.now.place (to - shown.now.place)) }
     ensures no_memory { Reaches checkpoints.old.origin shown.now.place (to - 1) → IsOk result × (checkpoints.new ≡ checkpoints.old) }
     ensures memory { OnErr result (checkpoints.new.places ≡ []) }

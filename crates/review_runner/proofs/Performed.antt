@@ -3,7 +3,7 @@ use Rattle.review_runner.proofs.Prelude.{◌≡◌, ◌∙◌, ℕ, true, false,
 use Rattle.std.proofs.Common.{◌≢◌}
 use Rattle.review_runner.specs.Order.{assemble, compile, debug, list, review, run_image}
 use Rattle.review_runner.specs.Output.{Done}
-use Rattle.review_runner.specs.PolicyFiles.{HoldsReview}
+use Rattle.review_runner.specs.PolicyFiles.{HoldsReviewFiles}
 use Rattle.review_runner.specs.declared.report.Report.{Report as CodeReport}
 use Rattle.host.specs.declared.file_error.FileError.TheVariants as file_error
 use Rattle.review_runner.proofs.HeldFiles.{holds, unread as unread_file}
@@ -40,7 +40,7 @@ unread_source ProgramText known name = record { reading = Err file_error.Memory;
 unread_image : (known : Option FileSystem) (image : List ℕ) → OpensFile known image (Err Memory)
 unread_image known image = record { reading = Err file_error.Memory; is_reading = λ f is. tt; opens = λ r is. cc }
 
-unread_review : (known : Option FileSystem) (files : ReviewFiles) → HoldsReview known files (Err file_error.Memory)
+unread_review : (known : Option FileSystem) (files : ReviewFiles) → HoldsReviewFiles known files (Err file_error.Memory)
 unread_review known files =
     holds known files.policy (named_files files) (Err file_error.Memory) (λ f is. tt) (unread_file known (named_files files).review) (unread_file known (named_files files).namespace)
     (unread_file known (named_files files).params)

@@ -42,8 +42,8 @@ abbrev pub named_files : ReviewFiles → DocumentFiles
 named_files files = record { review = Some files.review; namespace = files.namespace; params = files.params }
 
 -- the files with these names hold these documents, or a read failed
-abbrev pub HoldsReview : Option FileSystem → ReviewFiles → Result Documents FileError → Type 0
-HoldsReview known files held = HoldsFiles known files.policy (named_files files) (held_of_review held)
+abbrev pub HoldsReviewFiles : Option FileSystem → ReviewFiles → Result Documents FileError → Type 0
+HoldsReviewFiles known files held = HoldsFiles known files.policy (named_files files) (held_of_review held)
 
 -- 0 if the response allows the request, 1 if it does not
 abbrev pub answer_status : Bool → ℕ
@@ -69,6 +69,6 @@ pub data ReviewsHeld (chosen : Images) (n : ℕ) : Result Documents FileError �
 pub record ReviewsFiles (chosen : Images) (old : Option FileSystem) (files : ReviewFiles) (n : ℕ) (new : Option FileSystem)
     (outcome : OrderOutcome) : Type 0 where
   pub held : Result Documents FileError
-  pub holds : HoldsReview old files held
+  pub holds : HoldsReviewFiles old files held
   pub stays : new ≡ old
   pub reviews : ReviewsHeld chosen n held outcome

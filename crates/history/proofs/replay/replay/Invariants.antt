@@ -1,10 +1,10 @@
 -- Loop invariants and measures of `replay` (src/replay.rt).
-use Rattle.history.proofs.Prelude.{◌≤◌, ◌-◌, IsCheckpoint, IsKept}
+use Rattle.history.proofs.Prelude.{◌≤◌, ◌-◌, IsCheckpoint, HasPlacesAdded}
 use Rattle.history.proofs.replay.replay.Given as goal
 
 abbrev pub invariant-loop-place : goal.invariant-loop-place
 invariant-loop-place g l = record {
-  kept : IsKept l.fn.checkpoints l.checkpoints;
+  kept : HasPlacesAdded l.fn.checkpoints l.checkpoints;
   here : IsCheckpoint g.E.Emulator.state l.fn.checkpoints.origin l.at;
   order : (l.fn.from.place ≤ l.at.place) × (l.at.place ≤ l.to);
 }
