@@ -4,7 +4,7 @@ use Rattle.std.proofs.lemmas.List.Concat.{flat_map-cons}
 use Rattle.std.proofs.lemmas.List.Folds.{list_any-append}
 use Rattle.std.specs.List.{All, flat_map, list_any}
 use Rattle.std.proofs.Common.{◌⊎◌, inl, inr}
-use Rattle.std.specs.Prelude.{◌≢◌, ◌||◌}
+use Rattle.std.specs.Prelude.{◌≢◌}
 use Rattle.serde_json.specs.Data as json
 use Rattle.policy_glue.specs.Findings.{PolicyFinding}
 use Rattle.admission_match.specs.Laws.{EveryServerAgrees}

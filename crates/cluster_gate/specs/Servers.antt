@@ -53,8 +53,8 @@ abbrev pub server_answers : List GroupVersionResource → ClusterState → Reque
 server_answers served s q m = server_answer served m (namespace_labels s.objects) q.attributes
 
 -- the events of one policy on that server, and whether they end the dispatch
-pub record ServerAsksPolicy (served : List GroupVersionResource) (chosen : Images) (s : ClusterState) (review : List ℕ) (n : ℕ) (q : Request)
-    (p : BoundPolicy) (es : List Event) (ended : Bool) : Type 0 where
+pub record ServerAsksPolicy (served : List GroupVersionResource) (chosen : Images) (s : ClusterState) (review : List ℕ) (n : ℕ)
+    (q : Request) (p : BoundPolicy) (es : List Event) (ended : Bool) : Type 0 where
   pub cause : Option BlockCause
   pub judged : IsJudged s p cause
   pub runs : RunsSteps p.name (EvaluatesPolicy chosen review n p)

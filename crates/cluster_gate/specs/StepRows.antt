@@ -45,7 +45,8 @@ its_event = configuration_event (codes "p") None (codes "e")
 pub record EventRowsHold : Type 0 where
   pub no_steps : Runs [] [] false
   pub two_params : Runs (evaluation (codes "m") ∷ evaluation (codes "n") ∷ []) (denial (codes "m") ∷ denial (codes "n") ∷ []) false
-  pub denial_then_refusal : Runs (evaluation (codes "m") ∷ unknown_match ∷ []) (denial (codes "m") ∷ undecided_event (codes "p") refusal.UnknownMatch ∷ []) false
+  pub denial_then_refusal : Runs (evaluation (codes "m") ∷ unknown_match ∷ [])
+      (denial (codes "m") ∷ undecided_event (codes "p") refusal.UnknownMatch ∷ []) false
   pub error_then_refusal : Runs (an_error ∷ endless ∷ []) (its_event ∷ undecided_event (codes "p") refusal.OutOfSteps ∷ []) false
   -- a refusal is the last step of its policy, and does not end the dispatch
   pub refusal_before_denial : Runs (endless ∷ evaluation (codes "m") ∷ []) (undecided_event (codes "p") refusal.OutOfSteps ∷ []) false
@@ -65,13 +66,17 @@ abbrev pub a_node : Request
 a_node = request_on (record { group = []; version = codes "v1"; resource = codes "nodes" }) (codes "n") None
 
 abbrev pub invalid : List ℕ → List ℕ
-invalid message = reviewed (codes "{\"allowed\":false,\"status\":{\"code\":422,\"message\":\"" ++ (message ++ codes "\",\"reason\":\"Invalid\"},\"uid\":\"u1\"}"))
+invalid message = reviewed
+    (codes "{\"allowed\":false,\"status\":{\"code\":422,\"message\":\"" ++ (message ++ codes "\",\"reason\":\"Invalid\"},\"uid\":\"u1\"}"))
 
 pub record EventAnswersHold : Type 0 where
   pub first_params : cluster_response web (codes "u1") (denial (codes "m") ∷ denial (codes "n") ∷ []) ≡ reviewed denied_by_m
-  pub denial_before_refusal : cluster_response web (codes "u1") (denial (codes "m") ∷ undecided_event (codes "p") refusal.UnknownMatch ∷ []) ≡ reviewed denied_by_m
-  pub refusal_before_denial_of_another : cluster_response web (codes "u1") (undecided_event (codes "a") refusal.UnknownMatch ∷ denial (codes "m") ∷ []) ≡ reviewed denied_by_m
+  pub denial_before_refusal :
+      cluster_response web (codes "u1") (denial (codes "m") ∷ undecided_event (codes "p") refusal.UnknownMatch ∷ []) ≡ reviewed denied_by_m
+  pub refusal_before_denial_of_another :
+      cluster_response web (codes "u1") (undecided_event (codes "a") refusal.UnknownMatch ∷ denial (codes "m") ∷ []) ≡ reviewed denied_by_m
   pub no_labels : cluster_response web_pod (codes "u1") (configuration_event (codes "p") None (absent_text (codes "gone")) ∷ [])
       ≡ invalid (codes "pods \\\"web\\\" is forbidden: ValidatingAdmissionPolicy 'p' denied request: failed to configure policy: namespaces \\\"gone\\\" not found")
-  pub params_of_a_node : cluster_response a_node (codes "u1") (configuration_event (codes "p") (Some (codes "b")) (param_error_text ClusterScopedRequest) ∷ [])
+  pub params_of_a_node : cluster_response a_node (codes "u1")
+      (configuration_event (codes "p") (Some (codes "b")) (param_error_text ClusterScopedRequest) ∷ [])
       ≡ invalid (codes "nodes \\\"n\\\" is forbidden: ValidatingAdmissionPolicy 'p' with binding 'b' denied request: failed to configure binding: cannot use namespaced paramRef in policy binding that matches cluster-scoped resources")
