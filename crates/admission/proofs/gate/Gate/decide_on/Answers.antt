@@ -13,6 +13,12 @@ returns-in_err-machine c =
       runs = λ d of given. refused_so Exit Reply (exactly c.args.self.now.image) d c.args.n c.in_err-machine.field-0.0 (c.in_err-machine.ensures.runs d c.args.uid.now of given);
     })
 
+pub returns-in_err-reply-clause-reviews : goal.returns-in_err-reply-clause-reviews
+returns-in_err-reply-clause-reviews c = rw (is_err c.from_residual-in_err-reply.ensures.1) (λ d of given. tt)
+
+pub returns-in_err-reply-clause-runs : goal.returns-in_err-reply-clause-runs
+returns-in_err-reply-clause-runs c = rw (is_err c.from_residual-in_err-reply.ensures.1) (λ d of given. tt)
+
 pub returns : goal.returns
 returns c =
     let exits = rw (← c.self.view_is) at c.in_ok-machine.ensures.exits in

@@ -13,6 +13,12 @@ returns-in_err-machine c =
       runs = λ d of given. refused_so Exit (List PolicyFinding) (exactly c.args.self.now.image) d c.args.n c.in_err-machine.field-0.0 (c.in_err-machine.ensures.runs d (uid_in d.review) of (record { contents = given; uid_is = refl }));
     })
 
+pub returns-in_err-findings_of_verdict-clause-finds : goal.returns-in_err-findings_of_verdict-clause-finds
+returns-in_err-findings_of_verdict-clause-finds c = rw (is_err c.from_residual-in_err-findings_of_verdict.ensures.1) (λ d of given. tt)
+
+pub returns-in_err-findings_of_verdict-clause-runs : goal.returns-in_err-findings_of_verdict-clause-runs
+returns-in_err-findings_of_verdict-clause-runs c = rw (is_err c.from_residual-in_err-findings_of_verdict.ensures.1) (λ d of given. tt)
+
 pub returns : goal.returns
 returns c =
     let exits = rw (← c.self.view_is) at c.in_ok-machine.ensures.exits in
