@@ -105,7 +105,7 @@ in_common compiles findings exactly warn s t review n q es fs shallow differ one
     }
 
 pub order_is_free : CompileHasOneResult → FindingsHaveOneResult → AllowedExactly → WarningsAreThoseOfEvents → OrderIsFree
-order_is_free compiles findings exactly warn s t review n _ _ shallow differ (no_review none) (no_review other) = no_reviews
+order_is_free compiles findings exactly warn s t review n _ _ shallow differ (no_review none) (no_review other) = no_reviews none
 order_is_free compiles findings exactly warn s t review n _ _ shallow differ (no_review none) (decided given dispatches) =
     let both = sym none ∙ given in absurd (cc)
 order_is_free compiles findings exactly warn s t review n _ _ shallow differ (decided given dispatches) (no_review none) =
@@ -114,5 +114,5 @@ order_is_free compiles findings exactly warn s t review n _ _ shallow differ (de
     let both : Some q ≡ Some r = sym given ∙ also in
     let same : r ≡ q = cc in
     let moved = subst (λ (x : Request). Dispatches OneImage t review n x (policies_asked t x) fs) same other in
-    subst (λ (x : Request). Agree review (Some (cluster_response q (uid_in review) es)) (Some (cluster_response x (uid_in review) fs))) (sym same)
-    (decisions (in_common compiles findings exactly warn s t review n q es fs shallow differ one moved))
+    subst (λ (x : Request). Agree s t review n (Some (cluster_response q (uid_in review) es)) (Some (cluster_response x (uid_in review) fs))) (sym same)
+    (decisions given one moved (in_common compiles findings exactly warn s t review n q es fs shallow differ one moved))

@@ -11,7 +11,7 @@ use Rattle.cluster_state.specs.State.{AreObjects, ClusterState}
 use Rattle.cluster_response.specs.Events.{Event, has_end, summary_of}
 use Rattle.cluster_response.specs.Laws.{allowed_in, is_refusal}
 use Rattle.cluster_response.specs.Response.{answer_tree, cluster_response}
-use Rattle.cluster_gate.specs.Dispatch.{DecidesInCluster}
+use Rattle.cluster_gate.specs.Dispatch.{DecidesInCluster, Dispatches, policies_asked, request_given}
 use Rattle.cluster_gate.specs.Laws.{HasShallowDocuments}
 
 -- the same elements, in any order
@@ -51,13 +51,14 @@ pub record HaveInCommon (q : Request) (uid : List ℕ) (es fs : List Event) : Ty
   pub warnings : EachDecides es → has_end es ≡ false
       → (t : List ℕ) → list_any (bytes_eq t) (summary_of es).warnings ≡ list_any (bytes_eq t) (summary_of fs).warnings
 
--- the answers in two orders: none to what is no review, and else two with these in common
-pub data Agree (review : List ℕ) : Option (List ℕ) → Option (List ℕ) → Type 0 where
-  no_reviews : Agree review None None
-  decisions : {q : Request} {es fs : List Event} → HaveInCommon q (uid_in review) es fs
-      → Agree review (Some (cluster_response q (uid_in review) es)) (Some (cluster_response q (uid_in review) fs))
+-- the answers in two orders: none to what is no review, and else those by the events of both, with these in common
+pub data Agree (s t : ClusterState) (review : List ℕ) (n : ℕ) : Option (List ℕ) → Option (List ℕ) → Type 0 where
+  no_reviews : request_given review ≡ None → Agree s t review n None None
+  decisions : {q : Request} {es fs : List Event} → request_given review ≡ Some q → Dispatches OneImage s review n q (policies_asked s q) es
+      → Dispatches OneImage t review n q (policies_asked t q) fs → HaveInCommon q (uid_in review) es fs
+      → Agree s t review n (Some (cluster_response q (uid_in review) es)) (Some (cluster_response q (uid_in review) fs))
 
--- an answer does not depend on the order of policies and of bindings, but for this
+-- the answers to a review in two orders of the policies and of the bindings agree
 abbrev pub OrderIsFree : Type 0
 OrderIsFree = (s t : ClusterState) (review : List ℕ) (n : ℕ) (a b : Option (List ℕ)) → HasShallowDocuments s → DifferInOrder s t
-    → DecidesInCluster OneImage s review n a → DecidesInCluster OneImage t review n b → Agree review a b
+    → DecidesInCluster OneImage s review n a → DecidesInCluster OneImage t review n b → Agree s t review n a b
