@@ -4,7 +4,9 @@ use Rattle.std.specs.Borrow.{Bor}
 use Rattle.serde_json.specs.Data as json
 use Rattle.policy_glue.specs.Findings.{PolicyFinding}
 use Rattle.policy_glue.specs.declared.finding.Finding.{Finding}
-use Rattle.admission.specs.Deciding.{IsPolicyOf}
+use Rattle.value_table.specs.Held.{Held}
+use Rattle.value_table.specs.declared.review_error.ReviewError.{ReviewError}
+use Rattle.admission.specs.Deciding.{Documents, IsPolicyOf}
 use Rattle.admission.specs.Findings.{FindsReview, findings_view}
 use Rattle.admission.specs.Lent.{documents_lent}
 use Rattle.admission.specs.Standing.{RunAgrees}
@@ -13,6 +15,7 @@ use Rattle.admission.specs.declared.run_error.RunError.{RunError}
 use Rattle.cluster_response.specs.declared.cluster_refusal.ClusterRefusal.{ClusterRefusal}
 use Rattle.cluster_gate.specs.Dispatch.{EvaluatesPolicy}
 use Rattle.cluster_gate.specs.Running.{FindsOrRefuses, HasFound}
+use Rattle.cluster_gate.specs.Tables.{GivesTable, IsTableOf}
 use Rattle.cluster_gate.specs.Texts.{IsJsonTextIf}
 
 module _ (p : BoundPolicy) (gate : PolicyAndImage) (review : List ℕ) (n : ℕ) (params namespace : Option json.Data) where
@@ -33,6 +36,23 @@ module _ (p : BoundPolicy) (gate : PolicyAndImage) (review : List ℕ) (n : ℕ)
     finds = finds asked.gate_of.text asked.gate_of.of_policy;
     runs = runs asked.gate_of.text asked.gate_of.of_policy asked.gate_of.image;
   }
+
+  -- what is found on a table of the documents is what the policy finds
+  pub evaluated_on : (table : Result Held ReviewError) (result : Result (Vec Finding Global) RunError) → GivesTable review params namespace table → IsAskedGate p gate
+      → ((d : Documents) → IsPolicyOf d.policy gate → IsTableOf d table → FindsReview d n (findings_view result))
+      → ((d : Documents) → IsPolicyOf d.policy gate → OneImage gate.policy gate.image → IsTableOf d table → RunAgrees OneImage d n (findings_view result))
+      → EvaluatesPolicy OneImage review n p params namespace (findings_view result)
+  evaluated_on table result gives asked finds runs =
+      let d : Documents = record { policy = asked.gate_of.text; review = review; namespace = gives.namespace_text; params = gives.params_text } in
+      record {
+        documents = d;
+        policy = asked.gate_of.has_text;
+        review_is = refl;
+        namespace_text = gives.namespace_is;
+        params_text = gives.params_is;
+        finds = finds d asked.gate_of.of_policy gives.returns;
+        runs = runs d asked.gate_of.of_policy asked.gate_of.image gives.returns;
+      }
 
   -- and what is told of it
   pub told : (due : Result (Vec Finding Global) RunError) (r : Result (Vec Finding Global) ClusterRefusal)

@@ -23,3 +23,5 @@ pub mod ServedOnce
 pub mod OnePolicy
 pub mod FailurePolicies
 pub mod ShallowStates
+pub mod Places
+pub mod Integers

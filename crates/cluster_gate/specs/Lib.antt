@@ -8,3 +8,5 @@ pub mod Orders
 pub mod OnePolicy
 pub mod StepRows
 pub mod Servers
+pub mod Opened
+pub mod Tables

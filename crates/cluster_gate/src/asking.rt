@@ -20,11 +20,11 @@ use std::alloc::{AllocError, Global};
 
 /// Adds the events of a policy. Returns whether the dispatch ends. The error is that an allocation
 /// failed.
-pub(crate) fn ask<'a, 'c>(
+pub(crate) fn ask<'a>(
     alloc: Global,
     state: &State<'a>,
     gate: &PolicyGate<'_, 'a>,
-    case: &'c Case<'c>,
+    case: &Case<'_, '_, '_>,
     events: &mut Events,
 ) -> Result<bool, AllocError>
     ensures { IfOk result (λ ended. (s : ClusterState) (p : BoundPolicy) → state_view state.now ≡ s → IsGateFor s p gate.now
@@ -50,7 +50,7 @@ pub(crate) fn ask<'a, 'c>(
 fn ask_in_trouble(
     alloc: Global,
     policy: &Policy<'_>,
-    case: &Case<'_>,
+    case: &Case<'_, '_, '_>,
     trouble: Trouble,
     events: &mut Events,
 ) -> Result<(), AllocError>
@@ -66,11 +66,11 @@ fn ask_in_trouble(
 }
 
 /// Adds the events of a policy whose constraints match.
-fn ask_matched<'a, 'c>(
+fn ask_matched<'a>(
     alloc: Global,
     state: &State<'a>,
     gate: &PolicyGate<'_, 'a>,
-    case: &'c Case<'c>,
+    case: &Case<'_, '_, '_>,
     events: &mut Events,
 ) -> Result<bool, AllocError>
     ensures { IfOk result (λ ended. (s : ClusterState) (p : BoundPolicy) → state_view state.now ≡ s → IsGateFor s p gate.now
@@ -94,7 +94,7 @@ fn ask_matched<'a, 'c>(
     }
 }
 
-impl PolicyRun<'_, '_, '_> {
+impl PolicyRun<'_, '_, '_, '_, '_> {
     /// Adds the events of the bindings of the policy, which is compiled.
     fn run_bindings<'a>(
         &self,

@@ -1,11 +1,18 @@
 //! Reviews as policies are asked about them.
 
+ghost use Rattle.std.specs.Prelude.{◌≡◌, IfSome};
+ghost use Rattle.std.proofs.Props.{props};
+
+use crate::opened_review::OpenedReview;
 use admission_documents::Request;
 
 /// A review, its request, and the most steps of an evaluation.
-#[derive(Clone, Copy, Debug, Drop)]
-pub(crate) struct Case<'a> {
-    pub(crate) review: &'a [u8],
-    pub(crate) request: &'a Request<'a>,
+#[derive(Drop)]
+pub(crate) struct Case<'c, 'x, 's> {
+    pub(crate) review: &'x [u8],
+    pub(crate) request: &'c Request<'x>,
     pub(crate) steps: u64,
+    /// The review, if it was read for all evaluations.
+    pub(crate) opened: Option<&'c OpenedReview<'s, 'x>>,
+    ghost same: { IfSome opened (λ o. o.now ≡ review.now) } by { Prim.hlevel props },
 }

@@ -25,10 +25,10 @@ use std::alloc::{AllocError, Global};
 /// The state of a cluster, and its bound policies, each compiled or blocked. No review changes it.
 #[derive(Drop)]
 pub struct Cluster<'s, 'a> {
-    alloc: Global,
-    state: &'s State<'a>,
+    pub(crate) alloc: Global,
+    pub(crate) state: &'s State<'a>,
     /// In the order of the policies' names.
-    gates: Vec<PolicyGate<'s, 'a>>,
+    pub(crate) gates: Vec<PolicyGate<'s, 'a>>,
 }
 
 impl<'s, 'a> Cluster<'s, 'a> {
@@ -88,10 +88,12 @@ impl<'s, 'a> Cluster<'s, 'a> {
             Some(found) => match Request::of(found.document) {
                 None => Ok(None),
                 Some(request) => {
+                    let opened = self.opened(review, &request)?;
                     let case = Case {
                         review,
                         request: &request,
                         steps: n,
+                        opened: opened.as_ref(),
                     };
                     Ok(Some(self.answer(&case, found.uid)?))
                 }
@@ -100,7 +102,7 @@ impl<'s, 'a> Cluster<'s, 'a> {
     }
 
     /// The answer to a request with this uid.
-    fn answer<'x>(&self, case: &'x Case<'x>, uid: &str) -> Result<Vec<u8>, AllocError>
+    fn answer(&self, case: &Case<'_, '_, '_>, uid: &str) -> Result<Vec<u8>, AllocError>
         ensures { IfOk result (λ b. (s : ClusterState) → IsClusterFor s self.now → AnswersCase OneImage s case.now.review.now case.now.steps (request_view case.now.request.now) uid.now b.items) }
     {
         let events = self.events(case)?;
@@ -109,7 +111,7 @@ impl<'s, 'a> Cluster<'s, 'a> {
     }
 
     /// The events of the dispatch of a request.
-    fn events<'x>(&self, case: &'x Case<'x>) -> Result<Events, AllocError>
+    fn events(&self, case: &Case<'_, '_, '_>) -> Result<Events, AllocError>
         ensures { IfOk result (λ e. (s : ClusterState) → IsClusterFor s self.now
             → GivesEvents OneImage s case.now.review.now case.now.steps (request_view case.now.request.now) (policies_asked s (request_view case.now.request.now)) e) }
     {
@@ -122,7 +124,7 @@ impl<'s, 'a> Cluster<'s, 'a> {
     }
 
     /// The events of all policies, up to the one that ends the dispatch.
-    fn dispatch<'x>(&self, case: &'x Case<'x>) -> Result<Events, AllocError>
+    fn dispatch(&self, case: &Case<'_, '_, '_>) -> Result<Events, AllocError>
         ensures { IfOk result (λ e. (s : ClusterState) → IsClusterFor s self.now
             → GivesEvents OneImage s case.now.review.now case.now.steps (request_view case.now.request.now) s.policies e) }
     {

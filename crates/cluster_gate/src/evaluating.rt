@@ -1,14 +1,16 @@
 //! Evaluations of policies.
-ghost use Rattle.std.specs.Prelude.{ℕ, List, option_map, IfOk};
+ghost use Rattle.std.specs.Prelude.{ℕ, List, Option, option_map, IfOk};
+ghost use Rattle.serde_json.specs.Data.{Data};
 ghost use Rattle.serde_json.specs.View.{view};
 ghost use Rattle.policy_glue.specs.OneImage.{OneImage};
-ghost use Rattle.admission.specs.Deciding.{IsPolicyOf};
+ghost use Rattle.admission.specs.Deciding.{Documents, IsPolicyOf};
 ghost use Rattle.admission.specs.Findings.{findings_view, FindsReview};
 ghost use Rattle.admission.specs.Lent.{documents_lent};
 ghost use Rattle.admission.specs.Standing.{RunAgrees};
 ghost use Rattle.cluster_state.specs.Policies.{BoundPolicy};
 ghost use Rattle.cluster_gate.specs.Gates.{IsAskedGate};
 ghost use Rattle.cluster_gate.specs.Running.{FindsOrRefuses, HasFound};
+ghost use Rattle.cluster_gate.specs.Tables.{GivesTable, IsTableOf};
 
 use crate::case::Case;
 use crate::texts::text_if;
@@ -16,7 +18,7 @@ use admission::{Finding, Gate, RunError};
 use cluster_response::ClusterRefusal;
 use serde_json::Value;
 use std::alloc::{AllocError, Global};
-use value_table::Table;
+use value_table::{ReviewError, Table};
 
 /// What the gate's policy finds against the request with these params and this namespace, each null
 /// if it is none, or why it does not decide.
@@ -27,7 +29,61 @@ use value_table::Table;
 pub(crate) fn evaluate(
     alloc: Global,
     gate: &Gate,
-    case: &Case<'_>,
+    case: &Case<'_, '_, '_>,
+    params: Option<&Value>,
+    namespace: Option<&Value>,
+) -> Result<Result<Vec<Finding>, ClusterRefusal>, AllocError>
+    ensures { IfOk result (λ r. (p : BoundPolicy) → IsAskedGate p gate.now
+        → FindsOrRefuses OneImage case.now.review.now case.now.steps p (option_map (λ v. view v.now) params.entry) (option_map (λ v. view v.now) namespace.entry) r) }
+{
+    let Some(opened) = case.opened else {
+        return evaluate_alone(alloc, gate, case, params, namespace);
+    };
+    match opened.table(alloc, params, namespace) {
+        Ok(table) => evaluate_on(gate, case, Ok(table)),
+        Err(ReviewError::RootRefused(place)) => {
+            evaluate_on(gate, case, Err(ReviewError::RootRefused(place)))
+        }
+        Err(ReviewError::ChargeTooLarge) => {
+            evaluate_on(gate, case, Err(ReviewError::ChargeTooLarge))
+        }
+        Err(ReviewError::Memory) => Err(AllocError),
+        Err(ReviewError::InvalidReview) => evaluate_alone(alloc, gate, case, params, namespace),
+        Err(ReviewError::InvalidDocument) => evaluate_alone(alloc, gate, case, params, namespace),
+    }
+}
+
+/// What the gate's policy finds on this table, or why it does not decide.
+fn evaluate_on(
+    gate: &Gate,
+    case: &Case<'_, '_, '_>,
+    table: Result<Table, ReviewError>,
+) -> Result<Result<Vec<Finding>, ClusterRefusal>, AllocError>
+    ensures { IfOk result (λ r. (p : BoundPolicy) (params namespace : Option Data) → IsAskedGate p gate.now → GivesTable case.now.review.now params namespace table
+        → FindsOrRefuses OneImage case.now.review.now case.now.steps p params namespace r) }
+{
+    found(findings_on(gate, case, table))
+}
+
+/// The findings on a table, or by why there is none.
+fn findings_on(
+    gate: &Gate,
+    case: &Case<'_, '_, '_>,
+    table: Result<Table, ReviewError>,
+) -> Result<Vec<Finding>, RunError>
+    ensures finds { (d : Documents) → IsPolicyOf d.policy gate.now → IsTableOf d table → FindsReview d case.now.steps (findings_view result) }
+    ensures runs { (d : Documents) → IsPolicyOf d.policy gate.now → OneImage gate.now.policy gate.now.image → IsTableOf d table
+        → RunAgrees OneImage d case.now.steps (findings_view result) }
+{
+    let table = table?;
+    gate.findings_on(table, case.steps)
+}
+
+/// The same, with the review read for this evaluation alone.
+fn evaluate_alone(
+    alloc: Global,
+    gate: &Gate,
+    case: &Case<'_, '_, '_>,
     params: Option<&Value>,
     namespace: Option<&Value>,
 ) -> Result<Result<Vec<Finding>, ClusterRefusal>, AllocError>
@@ -43,7 +99,7 @@ pub(crate) fn evaluate(
 fn findings_with(
     alloc: Global,
     gate: &Gate,
-    case: &Case<'_>,
+    case: &Case<'_, '_, '_>,
     params: Option<&[u8]>,
     namespace: Option<&[u8]>,
 ) -> Result<Vec<Finding>, RunError>

@@ -2,18 +2,25 @@
 #![tactic(auto)]
 
 mod asking;
+mod base;
+mod bases;
 mod block_cause;
 mod case;
 mod cluster;
 mod cluster_error;
 mod evaluating;
 pub mod laws;
+mod opened_review;
+mod opened_tables;
 mod opening;
 mod policy_gate;
 mod policy_run;
 mod progress;
+mod read_document;
+mod review_opening;
 mod review_request;
 mod running;
+mod same;
 mod standing;
 mod texts;
 

@@ -17,7 +17,7 @@ use cluster_state::Binding;
 use serde_json::Value;
 use std::alloc::AllocError;
 
-impl PolicyRun<'_, '_, '_> {
+impl PolicyRun<'_, '_, '_, '_, '_> {
     /// Adds the events of the steps, up to the first that is the last of the policy. Returns whether
     /// the dispatch ends.
     pub(crate) fn run(

@@ -25,7 +25,8 @@ pub(crate) fn text_if(alloc: Global, value: Option<&Value>) -> Result<Option<Vec
     }
 }
 
-fn text_of(alloc: Global, value: &Value) -> Result<Vec<u8>, AllocError>
+/// The text of a value.
+pub(crate) fn text_of(alloc: Global, value: &Value) -> Result<Vec<u8>, AllocError>
     ensures { IfOk result (λ b. IsJsonTextOf (view value.now) b.items) }
 {
     let text = value.to_vec(alloc)?;

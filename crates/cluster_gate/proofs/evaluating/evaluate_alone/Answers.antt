@@ -1,7 +1,7 @@
--- Proof obligations of `evaluating::evaluate`.
+-- Proof obligations of `evaluating::evaluate_alone`.
 use Rattle.cluster_gate.proofs.Prelude.{IfOk-weaker, option_map, view}
 use Rattle.cluster_gate.proofs.Evaluated.{evaluated, told}
-use Rattle.cluster_gate.proofs.evaluating.evaluate.Goals as goal
+use Rattle.cluster_gate.proofs.evaluating.evaluate_alone.Goals as goal
 
 pub returns : goal.returns
 returns c =

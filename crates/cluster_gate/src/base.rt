@@ -1,0 +1,22 @@
+//! Documents that are read before a review.
+
+use crate::read_document::ReadDocument;
+use std::marker::Model;
+use value_table::DocumentPool;
+
+/// Documents of the state that are read before the reviews that are to share them.
+#[derive(Drop)]
+pub(crate) struct Base<'a> {
+    pub(crate) pool: DocumentPool,
+    pub(crate) documents: Vec<ReadDocument<'a>>,
+}
+
+impl<'a> Model for Base<'a> {
+    ghost use Rattle.cluster_gate.specs.Opened.{AreReadHere};
+
+    ghost Value = { Unit {0} };
+
+    ghost view = { λ _. tt };
+
+    ghost invariant = { λ b. AreReadHere b.pool b.documents.items };
+}
