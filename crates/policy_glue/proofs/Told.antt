@@ -1,5 +1,6 @@
 -- The verdict that its words represent.
-use Rattle.policy_glue.proofs.Prelude.{◌≡◌, ◌<◌, ◌≤◌, ◌+◌, ◌*◌, ℕ, Bool, true, false, List, [], length, Option, None, nat_lt, arith, refl, sym, ap, ◌∙◌, zero, suc, ◌∷◌, ◌++◌, Some, ◌-◌, map, ltb-false, nat_tests, slice_get_past, slice_get, if◌then◌else◌, slice_index, Memory, IsMemory, base_of, word_in, read_word, ValueOrError, AreRead, IsLayout, Encodes, VerdictWords, finding_word, first_message, message_at, message_in, part_limit, ok_or_zero, result_at, text_named, verdict_word, outcome_of, outcome_word, truth_word, Finding, Verdict, CheckResult, Outcome, denies, FailurePolicy, IsAcceptedPolicy, Parts, denials_told, denies_word, lent, Validation, Policy, validation_view, policy_view, Rejection, rejection_tree, rejection_by, rejection_of, response_text, Denial, denials_of, response_of, tree_of}
+use Rattle.policy_glue.proofs.Prelude.{◌≡◌, ◌<◌, ◌≤◌, ◌+◌, ◌*◌, ℕ, Bool, true, false, List, [], length, Option, None, nat_lt, arith, refl, sym, ap, ◌∙◌, zero, suc, ◌∷◌, ◌++◌, Some, ◌-◌, map, subst, ltb-false, nat_tests, slice_get_past, slice_get, if◌then◌else◌, slice_index, Memory, IsMemory, base_of, word_in, read_word, ValueOrError, AreRead, IsLayout, Encodes, VerdictWords, finding_word, first_message, message_at, message_in, part_limit, ok_or_zero, result_at, text_named, verdict_word, outcome_of, outcome_word, truth_word, Finding, Verdict, CheckResult, Outcome, denies, FailurePolicy, IsAcceptedPolicy, Parts, denials_told, denies_word, lent, Validation, Policy, validation_view, policy_view, Rejection, rejection_tree, rejection_by, rejection_of, response_text, Denial, denials_of, response_of, tree_of, Admitted, Skipped}
+use Rattle.std.proofs.Common.{◌⊎◌}
 use Rattle.guest_memory.specs.Memory.{Verdict as VerdictRegion}
 
 word_is : (m : Memory) (i : ℕ) → IsMemory m → i < 256 → verdict_word m i ≡ word_in m.verdict i
@@ -74,6 +75,23 @@ denials_from f (r ∷ rs) (x ∷ xs) words i (suc n) short told =
 -- the word of an outcome gives back the outcome
 pub outcome_told : (o : Outcome) → outcome_of (outcome_word o) ≡ o
 outcome_told o = grind arith
+
+-- the outcome of the verdict in the layout
+outcome_is : (f : FailurePolicy) (v : Verdict) (values : List ValueOrError) (m : Memory) → IsMemory m → IsLayout f v values m.verdict
+    → outcome_of (verdict_word m 0) ≡ v.outcome
+outcome_is f v values m is layout = ap outcome_of (word_is m 0 is (omega arith) ∙ layout.outcome) ∙ outcome_told v.outcome
+
+none_by : (o : Outcome) (ds : List Denial) → (o ≡ Skipped) ⊎ (o ≡ Admitted) → None ≡ rejection_by o ds
+none_by o ds allows = grind arith
+
+-- an outcome that allows the request leaves no rejection
+pub allowed_left : (p : Policy) (v : Verdict) (values : List ValueOrError) (m : Memory)
+    → IsMemory m → IsLayout p.failure_policy v values m.verdict
+    → (outcome_of (verdict_word m 0) ≡ Skipped) ⊎ (outcome_of (verdict_word m 0) ≡ Admitted) → None ≡ rejection_of p v
+allowed_left p v values m is layout allows =
+    let denials = denials_of p.failure_policy p.validations v.findings in
+    subst (λ (o : Outcome). None ≡ rejection_by o denials) (outcome_is p.failure_policy v values m is layout)
+    (none_by (outcome_of (verdict_word m 0)) denials allows)
 
 pub from_zero : (f : FailurePolicy) (v : Verdict) (words : VerdictWords) → Encodes f v words → TellFrom v.findings words 0 part_limit
 from_zero f v words told = grind arith

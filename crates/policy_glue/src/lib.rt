@@ -51,7 +51,7 @@ pub use part_kind::PartKind;
 pub use policy::Policy;
 pub use policy_error::PolicyError;
 pub use reason::Reason;
-pub use rejecting::rejection_of;
+pub use rejecting::{rejection_left, rejection_of};
 pub use rejection::Rejection;
 pub use response::{respond, response_text};
 pub use verdict::Verdict;

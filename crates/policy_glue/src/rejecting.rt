@@ -1,9 +1,10 @@
 //! Rejections, computed from verdicts.
 
-ghost use Rattle.std.specs.Prelude.{◌≡◌, ◌≤◌, option_map, vec_len, IfOk};
+ghost use Rattle.std.specs.Prelude.{◌≡◌, ◌≤◌, length, option_map, vec_len, IfOk};
+ghost use Rattle.guest_memory.specs.Memory.{IsMemory};
 ghost use Rattle.policy_glue.specs.Verdict as decided;
 ghost use Rattle.policy_glue.specs.Denials.{denials_in};
-ghost use Rattle.policy_glue.specs.Layout.{outcome_of, words_view, Encodes};
+ghost use Rattle.policy_glue.specs.Layout.{outcome_of, words_view, Encodes, IsLayout};
 ghost use Rattle.policy_glue.specs.Rejections.{denied, rejection_by, rejection_of, rejection_view, undecided};
 ghost use Rattle.policy_glue.specs.Policy.{part_limit};
 
@@ -13,8 +14,44 @@ use crate::parts::Parts;
 use crate::policy::Policy;
 use crate::reason::Reason;
 use crate::rejection::Rejection;
-use crate::verdict::Verdict;
+use crate::verdict::{Verdict, word};
+use guest_memory::Regions;
 use std::alloc::{AllocError, Global};
+use value_store::ValueStore;
+
+/// Why the verdict that a program left for the policy in its verdict region rejects the request;
+/// `None` if it allows the request, and then only the outcome is read.
+pub fn rejection_left<M: Regions, V: ValueStore>(
+    alloc: Global,
+    policy: &Policy,
+    memory: &M,
+    values: &V,
+) -> Result<Option<Rejection>, AllocError>
+    ensures { (v : decided.Verdict) → IsMemory (M.bytes memory.now) → length v.findings ≤ length policy.now.validations
+        → IsLayout policy.now.failure_policy v (V.values values.now) (M.bytes memory.now).verdict
+        → IfOk result (λ said. option_map rejection_view said ≡ rejection_of policy.now v) }
+{
+    match Outcome::of_word(word(memory, 0)) {
+        Outcome::Skipped | Outcome::Admitted => Ok(None),
+        Outcome::Rejected | Outcome::Denied => rejection_read(alloc, policy, memory, values),
+    }
+}
+
+/// `rejection_left` by the whole verdict, which is large. It is kept out of the fast path.
+#[inline(never)]
+fn rejection_read<M: Regions, V: ValueStore>(
+    alloc: Global,
+    policy: &Policy,
+    memory: &M,
+    values: &V,
+) -> Result<Option<Rejection>, AllocError>
+    ensures { (v : decided.Verdict) → IsMemory (M.bytes memory.now) → length v.findings ≤ length policy.now.validations
+        → IsLayout policy.now.failure_policy v (V.values values.now) (M.bytes memory.now).verdict
+        → IfOk result (λ said. option_map rejection_view said ≡ rejection_of policy.now v) }
+{
+    let verdict = Verdict::of(memory, values, policy);
+    rejection_of(alloc, policy, &verdict)
+}
 
 /// Why the verdict of the policy rejects the request; `None` if it allows the request.
 pub fn rejection_of(

@@ -50,7 +50,7 @@ pub struct Verdict<'v> {
 
 /// Word i of the verdict, 0 if the memory has no such word.
 #[tactic(auto, unfolding(crate::specs::Layout::verdict_word))]
-fn word<M: Regions>(memory: &M, i: u64) -> u64
+pub(crate) fn word<M: Regions>(memory: &M, i: u64) -> u64
     requires { i < 256 }
     ensures { result ≡ verdict_word (M.bytes memory.now) i }
 {
@@ -60,25 +60,13 @@ fn word<M: Regions>(memory: &M, i: u64) -> u64
     }
 }
 
-/// The result word of validation i, 0 unless i < `count`.
-fn result_at<M: Regions>(memory: &M, count: usize, i: usize) -> u64
-    requires { i < part_limit }
-    ensures { result ≡ result_at (M.bytes memory.now) count i }
-{
-    if i < count {
-        word(memory, FIRST_RESULT + i as u64)
-    } else {
-        0
-    }
-}
-
 /// The result words of the first `count` validations; the others are 0.
 fn results<M: Regions>(memory: &M, count: usize) -> [u64; PART_LIMIT]
     ensures { (i : ℕ) → i < part_limit → slice_index result i ≡ result_at (M.bytes memory.now) count i }
 {
     let mut results = [0; PART_LIMIT];
-    for i in 0..PART_LIMIT {
-        results[i] = result_at(memory, count, i);
+    for i in 0..count.min(PART_LIMIT) {
+        results[i] = word(memory, FIRST_RESULT + i as u64);
     }
     results
 }
@@ -90,23 +78,6 @@ fn text_named<V: ValueStore>(values: &V, word: u64) -> Option<&str>
     if word == 0 { None } else { values.text(word) }
 }
 
-/// The message text of validation i; `None` unless i < `count`.
-fn message_at<'v, M: Regions, V: ValueStore>(
-    memory: &M,
-    values: &'v V,
-    count: usize,
-    i: usize,
-) -> Option<&'v str>
-    requires { i < part_limit }
-    ensures { option_map (λ t. t.now) result ≡ message_at (M.bytes memory.now) (V.values values.now) count i }
-{
-    if i < count {
-        text_named(values, word(memory, FIRST_MESSAGE + i as u64))
-    } else {
-        None
-    }
-}
-
 /// The message texts of the first `count` validations; the others are `None`.
 fn messages<'v, M: Regions, V: ValueStore>(
     memory: &M,
@@ -116,8 +87,8 @@ fn messages<'v, M: Regions, V: ValueStore>(
     ensures { (i : ℕ) → i < part_limit → slice_get (map (option_map (λ t. t.now)) result) i ≡ Some (message_at (M.bytes memory.now) (V.values values.now) count i) }
 {
     let mut messages = [None; PART_LIMIT];
-    for i in 0..PART_LIMIT {
-        messages[i] = message_at(memory, values, count, i);
+    for i in 0..count.min(PART_LIMIT) {
+        messages[i] = text_named(values, word(memory, FIRST_MESSAGE + i as u64));
     }
     messages
 }

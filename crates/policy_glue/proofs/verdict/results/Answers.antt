@@ -1,8 +1,8 @@
--- Proofs of `verdict::results`: each turn of the loop keeps the invariant.
+-- Proofs of `verdict::results`: the loop sets the results that count.
 
-use Rattle.policy_glue.proofs.Prelude.{part_limit, result_at}
-use Rattle.policy_glue.proofs.Lists.{filled_more}
+use Rattle.policy_glue.proofs.Prelude.{◌+◌, part_limit, first_result, verdict_word}
+use Rattle.policy_glue.proofs.Lists.{none_filled}
 use Rattle.policy_glue.proofs.verdict.results.Goals as goal
 
-pub loop-i-preserved : goal.loop-i-preserved
-loop-i-preserved g c = filled_more (result_at (g.M.Regions.bytes c.args.memory.now) c.args.count) part_limit c.loop-i.i c.loop-i.results c.result_at.result c.loop-i.invariant c.loop-i-test.true c.result_at.ensures
+pub loop-i-init : goal.loop-i-init
+loop-i-init g c = none_filled (λ k. verdict_word (g.M.Regions.bytes c.args.memory.now) (first_result + k)) 0 part_limit

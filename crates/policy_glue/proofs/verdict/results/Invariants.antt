@@ -5,4 +5,4 @@ use Rattle.policy_glue.proofs.Lists.{IsFilled}
 use Rattle.policy_glue.proofs.verdict.results.Given as goal
 
 abbrev pub invariant-loop-i : goal.invariant-loop-i
-invariant-loop-i g l = IsFilled (result_at (g.M.Regions.bytes l.memory) l.count) part_limit l.i l.results
+invariant-loop-i g l = IsFilled (result_at (g.M.Regions.bytes l.memory) l.i) part_limit l.results
