@@ -47,6 +47,15 @@ impl Backings {
         })
     }
 
+    /// Reserves capacity for this number of bytes of texts, and for these keys and items.
+    pub(crate) fn reserve(&mut self, bytes: usize, count: usize) -> Result<(), AllocError>
+        ensures { self.new ≡ self.old }
+    {
+        let _bytes = self.bytes.room(bytes)?;
+        let _keys = self.keys.room(count)?;
+        self.lists.reserve(count / 4, count)
+    }
+
     /// Appends a text.
     pub(crate) fn add_text(&mut self, text: &[u8]) -> Result<Part, AllocError>
         requires { IsUtf8 text.now }

@@ -14,6 +14,9 @@ const CHUNK: usize = 256;
 /// in one vector, which has its own limit.
 const MOST: usize = 1 << 50;
 
+/// The number of items for which a copy has capacity beyond its own.
+pub(crate) const SPARE: usize = 8;
+
 /// Items, with reserved capacity.
 #[derive(Drop)]
 pub(crate) struct Chunks<T: Copy> {
@@ -65,12 +68,12 @@ impl<T: Copy> Chunks<T> {
         item(&self.full[..], &self.last[..], place)
     }
 
-    /// A copy that shares the full chunks.
+    /// A copy that shares the full chunks, with capacity for a few further items.
     pub(crate) fn copy(&self) -> Result<Chunks<T>, AllocError>
         ensures { IfOk result (λ c. c.0 ≡ self.now.0) }
     {
         let full = self.full.clone()?;
-        let mut last = Vec::with_capacity(self.alloc(), self.last.len())?;
+        let mut last = Vec::with_capacity(self.alloc(), self.last.len().saturating_add(SPARE))?;
         last.extend_from_slice(&self.last)?;
         Ok(Chunks { full, last })
     }
@@ -85,6 +88,13 @@ impl<T: Copy> Chunks<T> {
         }
         self.last.reserve(1)?;
         Ok(())
+    }
+
+    /// Reserves capacity for these further items, at most for those of a chunk.
+    pub(crate) fn reserve_more(&mut self, more: usize) -> Result<(), AllocError>
+        ensures { self.new.0 ≡ self.old.0 }
+    {
+        self.last.reserve(more.min(CHUNK))
     }
 
     /// Appends an item. Needs reserved capacity.

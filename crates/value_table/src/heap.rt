@@ -9,7 +9,7 @@ ghost use Rattle.value_table.specs.Lending.{LendsCells};
 
 use crate::backings::Backings;
 use crate::cell::Cell;
-use crate::chunks::Chunks;
+use crate::chunks::{Chunks, SPARE};
 use crate::content::Content;
 use crate::hints::Hints;
 use crate::indexes::Indexes;
@@ -56,10 +56,11 @@ impl Heap {
         requires { IsHeap self.now }
         ensures { IfOk result (λ h. IsHeap h × (heap_values h ≡ heap_values self.now)) }
     {
+        let words = self.cells.len().saturating_add(SPARE);
         Ok(Heap {
             cells: self.cells.clone()?,
             backings: self.backings.copy()?,
-            same: Vec::with_capacity(self.cells.alloc(), self.cells.len())?,
+            same: Vec::with_capacity(self.cells.alloc(), words)?,
             indexes: Indexes::new(self.cells.alloc()),
             hints: Hints::new(self.cells.alloc()),
             pending: PendingMap::new(self.cells.alloc()),

@@ -72,6 +72,14 @@ impl Lists {
         shared_at(self.alloc(), self.pool.items(), &self.rows[..], place)
     }
 
+    /// Reserves capacity for this number of rows in the pool, and of their items.
+    pub(crate) fn reserve(&mut self, rows: usize, items: usize) -> Result<(), AllocError>
+        ensures { self.new ≡ self.old }
+    {
+        let _pool = self.pool.room(items)?;
+        reserve_rows(&mut self.rows, rows)
+    }
+
     /// Adds a row with a vector.
     pub(crate) fn push(&mut self, backing: Backing<u32>) -> Result<(), AllocError>
         ensures ok { OnOk result (self.new ≡ self.old ++ backing ∷ []) }
@@ -173,6 +181,13 @@ fn put(pool: &mut Backing<u32>, rows: &mut Rc<Vec<Row>>, items: &[u32]) -> Resul
     add_row(rows, Row::Pooled(from, count))?;
     fill(room, items);
     Ok(())
+}
+
+fn reserve_rows(rows: &mut Rc<Vec<Row>>, more: usize) -> Result<(), AllocError>
+    ensures { rows.new.value.items ≡ rows.old.value.items }
+{
+    let rows = Rc::make_mut(rows)?;
+    rows.reserve(more)
 }
 
 fn add_row(rows: &mut Rc<Vec<Row>>, row: Row) -> Result<(), AllocError>

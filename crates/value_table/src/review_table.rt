@@ -1,6 +1,6 @@
 //! Tables of reviews, read from the texts of their documents.
 
-ghost use Rattle.std.specs.Prelude.{◌≡◌, ◌<◌, ℕ, List, length, Option, Some, option_map, option_and_then, string_bytes, IfOk};
+ghost use Rattle.std.specs.Prelude.{◌≡◌, ◌<◌, ℕ, List, length, OnOk, Option, Some, option_map, option_and_then, string_bytes, IfOk};
 ghost use Rattle.serde_json.specs.Data.{null, Data};
 ghost use Rattle.serde_json.specs.Read.{read as read_text};
 ghost use Rattle.value_store.specs.Value as kind;
@@ -23,6 +23,12 @@ use crate::review_error::ReviewError;
 use crate::table::Table;
 use json::Scratch;
 use std::alloc::{AllocError, Global};
+
+/// The largest length of a document in bytes for which capacity is reserved.
+const RESERVED: usize = 4096;
+
+/// About as many bytes of a document as a value takes.
+const BYTES_OF_A_VALUE: usize = 12;
 
 impl Table {
     /// The table of the roots of a review (AdmissionReview, `admission.k8s.io/v1`), a namespace and
@@ -100,15 +106,33 @@ pub(crate) fn opened(
     Ok((table, uid))
 }
 
+// Reserves capacity for the values of a document of this length, so that the values of a short one
+// are not moved as they are added.
+fn reserve(heap: &mut Heap, length: usize) -> Result<(), AllocError>
+    requires { IsHeap heap.old }
+    ensures heap { OnOk result (IsHeap heap.new) }
+    ensures values { OnOk result (heap_values heap.new ≡ heap_values heap.old) }
+{
+    let length = length.min(RESERVED);
+    let count = length / BYTES_OF_A_VALUE;
+    heap.backings.reserve(length, count)?;
+    heap.cells.reserve(count)?;
+    heap.same.reserve(heap.cells.len().saturating_add(count))?;
+    Ok(())
+}
+
 impl PlacedOthers {
-    /// A copy that shares everything unchanged.
-    pub(crate) fn copy(&self) -> Result<PlacedOthers, AllocError>
+    /// A copy that shares everything unchanged, with capacity for the values of a document of this
+    /// length.
+    pub(crate) fn copy(&self, length: usize) -> Result<PlacedOthers, AllocError>
         requires { ArePlaced self.now }
         ensures placed { IfOk result (λ o. ArePlaced o) }
         ensures same { IfOk result (λ o. (namespace params : Option Data) → ArePlacedOthers self.now namespace params → ArePlacedOthers o namespace params) }
     {
+        let mut heap = self.heap.copy()?;
+        reserve(&mut heap, length)?;
         Ok(PlacedOthers {
-            heap: self.heap.copy()?,
+            heap,
             places: self.places,
         })
     }

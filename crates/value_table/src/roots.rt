@@ -16,6 +16,9 @@ use crate::sequence::Sequence;
 use serde_json::Value;
 use std::alloc::AllocError;
 
+/// The number of places of null, false, true and the roots.
+const FIRST_PLACES: usize = 8;
+
 /// The places of null, false, true and the roots. The roots are dropped as their values are added.
 pub(crate) fn start_places(heap: &mut Heap, roots: [Value; 5]) -> Result<Sequence<u64>, AllocError>
     requires heap { IsHeap heap.old }
@@ -51,6 +54,7 @@ pub(crate) fn first_places(heap: &mut Heap) -> Result<Sequence<u64>, AllocError>
     ensures grown { OnOk result (HasGrown (heap_values heap.old) (heap_values heap.new)) }
 {
     let mut places = Sequence::new(heap.cells.alloc())?;
+    places.reserve(FIRST_PLACES)?;
     places.push(heap.add_null()?)?;
     places.push(heap.add_bool(false)?)?;
     places.push(heap.add_bool(true)?)?;

@@ -72,6 +72,13 @@ impl<T: Copy> Sequence<T> {
         Ok(&mut self.chunks)
     }
 
+    /// Reserves capacity for these further items, at most for 256.
+    pub(crate) fn reserve(&mut self, more: usize) -> Result<(), AllocError>
+        ensures { self.new ≡ self.old }
+    {
+        self.chunks.reserve_more(more)
+    }
+
     pub(crate) fn push(&mut self, item: T) -> Result<(), AllocError>
         ensures ok { OnOk result (self.new ≡ self.old ++ item ∷ []) }
         ensures err { OnErr result (self.new ≡ self.old) }

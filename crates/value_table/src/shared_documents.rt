@@ -70,7 +70,7 @@ impl SharedDocuments {
         ensures uid { IfOk result (λ r. string_bytes r.1 ≡ uid_in review.now) }
     {
         match &self.values {
-            Some(values) => self.opened(values.copy()?, review),
+            Some(values) => self.opened(values.copy(review.len())?, review),
             None => Table::of_review(
                 self.alloc,
                 review,
