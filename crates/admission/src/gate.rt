@@ -27,7 +27,7 @@ use bpf_machine::laws::{starts_are_tables, states_are_kept};
 use bpf_machine::{Machine, Program, Status};
 use guest_memory::Guest;
 use policy_glue::{
-    Finding, Outcome, Policy, Verdict, conditions_name_namespace, findings_of, rejection_of,
+    Finding, Outcome, Policy, Verdict, conditions_name_namespace, findings_of, rejection_left,
     respond,
 };
 use std::alloc::{AllocError, Global};
@@ -232,8 +232,7 @@ fn decision_of_verdict(
 ) -> Result<Decision, AllocError>
     ensures { IfOk result (λ x. OfVerdict policy.now machine.now (λ v. decision_value x ≡ decision_from_verdict policy.now v uid.now)) }
 {
-    let verdict = Verdict::of(machine.memory(), machine.values(), policy);
-    let rejection = rejection_of(alloc, policy, &verdict)?;
+    let rejection = rejection_left(alloc, policy, machine.memory(), machine.values())?;
     let uid = String::from_str(alloc, uid)?;
     Ok(Decision { rejection, uid })
 }
