@@ -1,12 +1,19 @@
 -- Literal command lines.
-use Rattle.std.specs.Prelude.{◌≡◌, List, [], ◌∷◌, ◌++◌, Some, None, codes}
+use Rattle.std.specs.Prelude.{◌≡◌, ℕ, List, [], ◌∷◌, ◌++◌, Option, Some, None, codes, option_map}
 use Rattle.clap.specs.Words.{Text}
 use Rattle.review_runner.specs.Commands.{faults, entered}
+use Rattle.review_runner.specs.Effect.{command_of, files_read, steps_of}
 use Rattle.review_runner.specs.Order.{DocumentFiles, ReviewFiles, Order, order_in}
 
 -- the words are accepted, and give this order
 abbrev pub IsTakenAs : List Text → Order → Type 0
 IsTakenAs words wanted = (faults words ≡ []) × (order_in (entered words) ≡ Some wanted)
+
+-- the command that the words call, the files that it reads in order, and its limit of steps
+abbrev pub IsRead : List Text → Text → List (Option Text) → ℕ → Type 0
+IsRead words command files steps =
+    option_map {U = Text × List (Option Text) × ℕ} (λ p. (command_of p.0, files_read (command_of p.0) p.1, steps_of p.1)) (entered words)
+    ≡ Some (command, files, steps)
 
 -- clap refuses the words
 abbrev pub AreWordsRefused : List Text → Type 0

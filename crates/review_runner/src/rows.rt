@@ -1,9 +1,9 @@
 //! Literal command lines with the orders that the definitions give for them.
 #![tactic(auto, using(crate::proofs::Shape::words_on_literals), unfolding(crate::proofs::Shape::words_on_literals))]
 
-ghost use Rattle.review_runner.specs.Rows.{all_documents, asm_words, compile_words, debug_all_words, debug_words, four_files, list_words, no_documents, review_all_words, review_words, two_files, without_review, without_steps, with_steps, AreWordsRefused, IsTakenAs};
+ghost use Rattle.review_runner.specs.Rows.{all_documents, asm_words, compile_words, debug_all_words, debug_words, four_files, list_words, no_documents, review_all_words, review_words, two_files, without_review, without_steps, with_steps, AreWordsRefused, IsRead, IsTakenAs};
 ghost use Rattle.review_runner.specs.Order.{assemble, compile, debug, list, review, run_image};
-ghost use Rattle.std.specs.Prelude.{codes};
+ghost use Rattle.std.specs.Prelude.{◌∷◌, [], codes, None, Some};
 
 /// `celbpf run-image a.img --steps 5` runs `a.img` for at most 5 steps; without `--steps` the limit
 /// is 10,000,000. The largest limit is 1,000,000,000.
@@ -43,4 +43,21 @@ pub fn review_rows_stand()
 /// `celbpf list a.img` lists `a.img`.
 pub fn list_row_stands()
     ensures { IsTakenAs list_words (list (codes "a.img")) }
+{}
+
+/// Each command reads these files, in the order of the words, and has this limit of steps. `compile`
+/// and `asm` do not read the image, and options that are left out name no file.
+pub fn reading_rows_stand()
+    ensures compile { IsRead compile_words (codes "compile") (Some (codes "p.json") ∷ []) 10000000 }
+    ensures asm { IsRead asm_words (codes "asm") (Some (codes "a.txt") ∷ []) 10000000 }
+    ensures run_image { IsRead (with_steps (codes "5")) (codes "run-image") (Some (codes "a.img") ∷ []) 5 }
+    ensures zeros { IsRead (with_steps (codes "+007")) (codes "run-image") (Some (codes "a.img") ∷ []) 7 }
+    ensures list { IsRead list_words (codes "list") (Some (codes "a.img") ∷ []) 10000000 }
+    ensures debug { IsRead debug_words (codes "debug") (Some (codes "a.img") ∷ None ∷ None ∷ None ∷ []) 10000000 }
+    ensures debug_all { let documents = Some (codes "r.json") ∷ Some (codes "n.json") ∷ Some (codes "p.json") ∷ [] in
+        IsRead debug_all_words (codes "debug") (Some (codes "a.img") ∷ documents) 10000000 }
+    ensures review { let documents = Some (codes "r.json") ∷ None ∷ None ∷ [] in
+        IsRead review_words (codes "review") (Some (codes "p.json") ∷ documents) 10000000 }
+    ensures review_all { let documents = Some (codes "r.json") ∷ Some (codes "n.json") ∷ Some (codes "q.json") ∷ [] in
+        IsRead review_all_words (codes "review") (Some (codes "p.json") ∷ documents) 896 }
 {}
