@@ -51,12 +51,7 @@ fn front_of(core: &Core, lists: usize) -> Option<Path<'_>>
 
 /// The expression's code at the position, after the words of the lists that it keeps are emptied.
 #[tactic(auto, using(crate::proofs::Lengths::short_code, crate::proofs::Lengths::size_append, crate::proofs::Lengths::clear_size))]
-fn code_keeping(
-    alloc: Global,
-    core: &Core,
-    lists: &[&[Core]],
-    position: EmitPosition,
-) -> Code
+fn code_keeping(alloc: Global, core: &Core, lists: &[&[Core]], position: EmitPosition) -> Code
     requires lists { (words_of position.words.now).lists ≡ lists_view lists.now }
     requires few { length lists.now ≤ list_limit }
     requires held { AreWords (words_of position.words.now) }

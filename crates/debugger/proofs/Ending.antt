@@ -34,8 +34,8 @@ module _ (s : State) (input before : List ℕ) (left written : Option (List ℕ)
       let split : readable input ≡ take r.read input ++ drop r.read (readable input) = sym (take-append-drop r.read (readable input)) ∙ ap (λ (xs : List ℕ). xs ++ drop r.read (readable input)) front in
       all_told r.read t.talk r.within r.left_is
       (λ n low.
-        ap (λ (bytes : List ℕ). has_quit (cut bytes).0) (sym (take-take n r.read input (omega (arith, low))))
-        ∙ t.goes_on n (let size = ap length front in omega (arith, low, r.within, size, length-take r.read (readable input))))
+      ap (λ (bytes : List ℕ). has_quit (cut bytes).0) (sym (take-take n r.read input (omega (arith, low))))
+      ∙ t.goes_on n (let size = ap length front in omega (arith, low, r.within, size, length-take r.read (readable input))))
       (inl t.quits)
       (subst (λ (ls : List (List ℕ)). IsDialogue s ls t.talk) (sym (ap input_lines split ∙ rest.1))
       (heard-off s (cut (take r.read input)).0 rest.0 t.talk t.lines t.ended))
@@ -47,8 +47,8 @@ module _ (s : State) (input before : List ℕ) (left written : Option (List ℕ)
       let t = r.of_bytes in
       all_told (length (readable input)) t.talk (omega arith) r.left_is
       (λ n low.
-        ap (λ (bytes : List ℕ). has_quit (cut bytes).0) (sym (readable-front input n (omega (arith, low))))
-        ∙ quiet_front (readable input) n t.goes_on)
+      ap (λ (bytes : List ℕ). has_quit (cut bytes).0) (sym (readable-front input n (omega (arith, low))))
+      ∙ quiet_front (readable input) n t.goes_on)
       (inr refl) t.lines t.written_is
 
   -- a write that failed

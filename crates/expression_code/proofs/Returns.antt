@@ -66,9 +66,11 @@ module _ (image : Image) (deep : Bool) (paid : List FirstUse) (constants : List 
       held_lists : HoldsLists words.lists depth last
       held_lists i items is =
           let held = fits.holds.lists i items is in
-          let unchanged = g3.keeps.words depth (list_word i) held.0 (inl (omega arith)) in
-          (held.0, subst (λ (w : ℕ). IsEmptyOr b3.values.values w (list_value items)) (sym unchanged)
-          (elim held.1 [ inl empty ↦ inl empty | inr named ↦ inr (g3.keeps.values _ (list_value items) named) ]))
+          let unchanged = g3.keeps.words depth (list_word i) held.0 (inl (omega arith)) in (
+            held.0,
+            subst (λ (w : ℕ). IsEmptyOr b3.values.values w (list_value items)) (sym unchanged)
+                (elim held.1 [ inl empty ↦ inl empty | inr named ↦ inr (g3.keeps.values _ (list_value items) named) ]),
+          )
 
       back : Back caller last
       back = record {

@@ -19,10 +19,10 @@ unfoldable pub commands : List App
 commands =
     command (codes "run-image") (file_rule (codes "IMAGE") ∷ steps_rule ∷ [])
     ∷ command (codes "debug") (file_rule (codes "IMAGE") ∷ option_rule (codes "review") ∷ option_rule (codes "namespace")
-      ∷ option_rule (codes "params") ∷ [])
+    ∷ option_rule (codes "params") ∷ [])
     ∷ command (codes "compile") (file_rule (codes "POLICY") ∷ file_rule (codes "IMAGE") ∷ [])
     ∷ command (codes "review") (required_option_rule (codes "policy") ∷ required_option_rule (codes "review")
-      ∷ option_rule (codes "namespace") ∷ option_rule (codes "params") ∷ steps_rule ∷ [])
+    ∷ option_rule (codes "namespace") ∷ option_rule (codes "params") ∷ steps_rule ∷ [])
     ∷ command (codes "asm") (file_rule (codes "TEXT") ∷ file_rule (codes "IMAGE") ∷ [])
     ∷ command (codes "list") (file_rule (codes "IMAGE") ∷ []) ∷ []
 

@@ -73,9 +73,9 @@ files_read command rows =
     if bytes_eq command (codes "compile") then Some (value (codes "POLICY") rows) ∷ []
     else (if bytes_eq command (codes "asm") then Some (value (codes "TEXT") rows) ∷ []
     else (if bytes_eq command (codes "review") then Some (value (codes "policy") rows) ∷ Some (value (codes "review") rows)
-      ∷ first_of (codes "namespace") rows ∷ first_of (codes "params") rows ∷ []
+    ∷ first_of (codes "namespace") rows ∷ first_of (codes "params") rows ∷ []
     else (if bytes_eq command (codes "debug") then Some (value (codes "IMAGE") rows) ∷ first_of (codes "review") rows
-      ∷ first_of (codes "namespace") rows ∷ first_of (codes "params") rows ∷ []
+    ∷ first_of (codes "namespace") rows ∷ first_of (codes "params") rows ∷ []
     else Some (value (codes "IMAGE") rows) ∷ [])))
 
 -- ---- files
