@@ -96,7 +96,7 @@ def drawn_review(drawn: Any) -> str:
 
 def cost(runs: Any, text: str, expression: str) -> Any:
     """The seconds and the megabytes of a review of this text."""
-    path = f"{runs.folder}/shape.json"
+    path = f"{runs.folder}/shape-review.json"
     with open(path, "w", encoding="utf-8") as file:
         file.write(text)
     words = ["review", "--policy", policy(runs, "shape", [expression]), "--review", path, "--steps", "1000000000"]
