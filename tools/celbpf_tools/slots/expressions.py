@@ -10,12 +10,14 @@ from ..evaluator.trees import (
 )
 from ..evaluator.values import kind, length
 from . import folds, tails
-from .lines import CONSTANTS, SCRATCH, Piece, Use, code, ja, joined, jump, lddw, load, load_at, mov, store
+from .lines import CONSTANTS, SCRATCH, Piece, Use, clear, code, ja, joined, jump, lddw, load, load_at, mov, store
 from .nodes import Node
 
 FIRST_ROOT = 4
 # references of the literals that one instruction puts into a register
 REFERENCES = {None: 1, False: 2, True: 3}
+# the word of the first list that a frame keeps, the most of these, and the most beside a field of a root
+FIRST_LIST, MOST_LISTS, LISTS_WITH_PATH = 60, 4, 2
 # the nodes that begin with no field of a root
 NO_FRONT = (Call, ListLiteral, MapLiteral)
 
@@ -43,18 +45,21 @@ class Texts:
 
 @dataclass(frozen=True)
 class Frame:
-    """The first free word of the frame, the words of iteration names, and the field of a root that word 0 keeps."""
+    """The first free word of the frame, the words of iteration names, the field of a root that word 0 keeps, and the
+    lists of literals that the words from `FIRST_LIST` on keep."""
 
     word: int = 0
     items: tuple = ()
     path: Optional[tuple] = None
+    lists: tuple = ()
 
     def on(self, words: int) -> "Frame":
         return replace(self, word=self.word + words)
 
     def turn(self, name: str) -> "Frame":
         """The frame of a macro's turn; no path is kept in it."""
-        return Frame(self.word + folds.TURN, ((name, self.word + folds.ITEM), *self.items))
+        items = ((name, self.word + folds.ITEM), *self.items)
+        return Frame(self.word + folds.TURN, items, lists=self.lists)
 
 
 def named_text(node: Node) -> Optional[str]:
@@ -78,6 +83,30 @@ def front_of(node: Node) -> Optional[Node]:
             return None
         node = node.parts[0]
     return node
+
+
+def literals_of(node: Node) -> Optional[tuple]:
+    """The kinds and values of a list of literals; none for another node."""
+    trees = [part.tree for part in node.parts]
+    if not isinstance(node.tree, ListLiteral) or not all(isinstance(tree, Literal) for tree in trees):
+        return None
+    return tuple((kind(tree.value), tree.value) for tree in trees)
+
+
+def kept_lists(node: Node) -> tuple:
+    """The lists of literals inside macros that the frame of an expression keeps."""
+    found: list = []
+    find_lists(node, False, found)
+    return tuple(found)
+
+
+def find_lists(node: Node, inside: bool, found: list) -> None:
+    """Adds the lists in a node that are to be kept, each once, up to the most."""
+    literals = literals_of(node)
+    if inside and literals is not None and literals not in found and len(found) < MOST_LISTS:
+        found.append(literals)
+    for place, part in enumerate(node.parts):
+        find_lists(part, inside or (isinstance(node.tree, Macro) and place > 0), found)
 
 
 def simple(node: Node, frame: Frame, register: str) -> Optional[Piece]:
@@ -107,13 +136,16 @@ class Emitter:
 
     def whole(self, node: Node) -> Piece:
         """The code of a whole expression: the shorter of two, of which one keeps its first field of a root."""
-        plain = self.of(node, Frame())
+        lists = kept_lists(node)
+        cleared = code(*(clear(FIRST_LIST + number) for number in range(len(lists))))
+        plain = self.of(node, Frame(lists=lists))
+        plain = (cleared + plain).marked(node, "r0") if lists else plain
         front = front_of(node)
-        if front is None or 1 + measures.need(node.tree) > measures.MOST_NEED:
+        if front is None or len(lists) > LISTS_WITH_PATH or 1 + measures.need(node.tree) > measures.MOST_NEED:
             return plain
         path = path_of(front)
         kept = self.field(front, Frame()) + code(store(0, "r0"))
-        keeping = kept.marked(front, "r0", "kept") + self.of(node, Frame(1, (), path))
+        keeping = kept.marked(front, "r0", "kept") + cleared + self.of(node, Frame(1, (), path, lists))
         return plain if plain.size <= keeping.size else keeping.marked(node, "r0")
 
     def of(self, node: Node, frame: Frame) -> Piece:
@@ -131,13 +163,22 @@ class Emitter:
         if isinstance(tree, Ternary):
             return self.ternary(node, frame)
         if isinstance(tree, ListLiteral):
-            items = [self.of(part, frame.on(1)) + tails.push(frame.word) for part in node.parts]
-            return code("call 16", store(frame.word, "r0")) + joined(items)
+            return self.list(node, frame)
         if isinstance(tree, MapLiteral):
             return self.map(node, frame)
         if isinstance(tree, Macro):
             return self.macro(node, frame)
         return self.applied(node, frame)
+
+    def list(self, node: Node, frame: Frame) -> Piece:
+        """A list; one that a word keeps is made if the word is 0."""
+        items = [self.of(part, frame.on(1)) + tails.push(frame.word) for part in node.parts]
+        made = code("call 16", store(frame.word, "r0")) + joined(items)
+        literals = literals_of(node)
+        if literals not in frame.lists:
+            return made
+        word = FIRST_LIST + frame.lists.index(literals)
+        return code(load("r0", word), jump("ne", "r0", 0, made.size + 1)) + made + code(store(word, "r0"))
 
     def literal(self, tree: Literal) -> Piece:
         if kind(tree.value) == "int":

@@ -102,6 +102,10 @@ def store(word: int, register: str) -> str:
     return f"stxdw [r10{frame_offset(word):+d}], {register}"
 
 
+def clear(word: int) -> str:
+    return f"stdw [r10{frame_offset(word):+d}], 0"
+
+
 def load_at(register: str, base: str, offset: int) -> str:
     return f"ldxdw {register}, [{base}{offset:+d}]"
 
