@@ -2,6 +2,7 @@
 
 import json
 import unittest
+from typing import Any
 
 from ..hostile.costs import Cost, worst
 from ..hostile.reviews import MOST, hostile
@@ -12,6 +13,13 @@ REVIEW = {
     "kind": "AdmissionReview",
     "request": {"uid": "u", "object": {"metadata": {"name": "a", "labels": {"b": "c"}}, "spec": {"items": [1, "x"]}}},
 }
+
+
+def depth(value: Any) -> int:
+    """How many lists and maps are in one another."""
+    if isinstance(value, dict):
+        value = list(value.values())
+    return 1 + max(map(depth, value), default=0) if isinstance(value, list) else 0
 
 
 class Shapes(unittest.TestCase):
@@ -44,7 +52,8 @@ class Shapes(unittest.TestCase):
 
     def test_nested_parts_are_within_the_depth_of_readers(self) -> None:
         for seed in range(40):
-            self.assertLess(json.dumps(nested(Numbers(seed), 100)).count("[["), 2_000)
+            # a review has three more around it, and 127 may be read
+            self.assertLessEqual(depth(nested(Numbers(seed), 100)), 124)
 
     def test_other_values_stay(self) -> None:
         self.assertEqual([large(Numbers(seed), 7, 10) for seed in (2, 3)], [7, 7])
