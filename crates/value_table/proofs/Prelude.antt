@@ -77,7 +77,7 @@ pub use Rattle.value_table.specs.Heap.{Gains, IsUnchangedHeap, IsHeap, content_a
 pub use Rattle.value_table.specs.Heaps.{AddsValue, AreBelow, AreCells, AreKeys, AreSame, AreTexts, ExtendsBackings}
 pub use Rattle.value_table.specs.Heaps.{CellFound, HoldsItems, IsCell, IsContent, IsRange, IsText}
 pub use Rattle.value_table.specs.Held.{Held}
-pub use Rattle.value_table.specs.Index.{AreIndexes, AreKnown, Covers, IsIndex, IsIndexed, texts_at}
+pub use Rattle.value_table.specs.Index.{AreIndexes, AreKnown, Covers, IsIndex, IsIndexed, index_text_limit, is_any_text, texts_at}
 pub use Rattle.value_table.specs.Lengths.{commas, json_length}
 pub use Rattle.value_table.specs.Meaning.{entries_at, grown, items_at, key_in, keys_at, meaning, part_of}
 pub use Rattle.value_table.specs.Meaning.{reference_of, refs_at, value_in}

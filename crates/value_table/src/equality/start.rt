@@ -1,34 +1,44 @@
 //! Where a search among the items of a list begins.
 
-ghost use Rattle.std.specs.Prelude.{◌≡◌, ◌≤◌, ◌<◌, List, length, drop, slice_get, Some, option_map, IfOk, OnOk, string_bytes};
+ghost use Rattle.std.specs.Prelude.{◌≡◌, ◌≤◌, ◌<◌, ◌||◌, List, length, drop, nat_le, slice_get, Some, option_map, IfOk, OnOk, string_bytes};
 ghost use Rattle.value_store.specs.Value.{Value};
 ghost use Rattle.value_store.specs.Lookup.{has_item};
-ghost use Rattle.value_table.specs.Meaning.{value_in, items_at, refs_at};
+ghost use Rattle.value_table.specs.Meaning.{meaning, value_in, items_at, refs_at};
 ghost use Rattle.value_table.specs.Heaps.{IsRange};
 ghost use Rattle.value_table.specs.Equality.{AreContents};
-ghost use Rattle.value_table.specs.Index.{AreKnown, IsIndexed, AreIndexes, looked_up_by};
+ghost use Rattle.value_table.specs.Index.{AreKnown, IsIndexed, AreIndexes, index_text_limit, is_any_text, looked_up_by};
 
 use crate::backings::Backings;
 use crate::cell::Cell;
+use crate::content::Content;
 use crate::equality::walk::first;
 use crate::index::Index;
 use crate::sequence::Sequence;
 use crate::writing::json_at;
 use std::alloc::AllocError;
 
-/// The longest JSON text, in bytes, that is used to look up a value.
+/// The longest JSON text of a list or a map, in bytes, that is used to look it up.
 const INDEX_TEXT_LIMIT: u64 = 512;
 
-// The text by which a value is looked up: its JSON text, or the empty text if that is too long.
-#[tactic(auto, using(crate::proofs::Indexed::by_none, crate::proofs::Indexed::by_text))]
+// Whether a value is looked up by its JSON text. A text is, whatever its length, since a list of long
+// texts is searched as often as one of short texts. Lists and maps would be copied at each level.
+fn is_looked_up(cell: Cell) -> bool
+    ensures { (bs : Backings) (vs : List Value) → result ≡ is_any_text (meaning bs vs cell.content) || nat_le cell.json index_text_limit }
+{
+    match cell.content {
+        Content::Text(_) => true,
+        _ => cell.json <= INDEX_TEXT_LIMIT,
+    }
+}
+
+// The text by which a value is looked up: its JSON text, or the empty text.
 fn text_of(cells: &Sequence<Cell>, backings: &Backings, place: u64) -> Result<String, AllocError>
     requires contents { AreContents backings.now cells.now }
     requires inside { place < length cells.now }
     ensures { (vs : List Value) → AreKnown backings.now vs cells.now → IfOk result (λ s. string_bytes s ≡ looked_up_by (value_in vs place)) }
 {
     let alloc = backings.keys.alloc();
-    let cell = cells.at(place as usize);
-    if cell.json > INDEX_TEXT_LIMIT {
+    if !is_looked_up(cells.at(place as usize)) {
         return Ok(String::new(alloc));
     }
     json_at(alloc, cells, backings, place)
