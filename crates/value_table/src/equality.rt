@@ -13,6 +13,7 @@ mod alike;
 mod classes;
 mod member;
 mod start;
+mod unlike;
 mod walk;
 
 use crate::content::Content;

@@ -1,5 +1,6 @@
 //! Remembers where compared texts, lists and maps differ.
 
+use crate::content::Content;
 use std::alloc::Global;
 
 /// The number of hints that are kept.
@@ -19,8 +20,8 @@ impl Hints {
         }
     }
 
-    /// The place at which to begin comparing the values of two cells, or two texts, which are named by
-    /// their first byte's place.
+    /// The place at which to begin comparing two texts, lists or maps, or the keys of two maps, by their
+    /// names. A text's name is its first byte's place.
     pub(crate) fn start(&self, a: u64, b: u64) -> usize {
         match self.places.get(slot(a, b)) {
             Some(place) => *place as usize,
@@ -37,6 +38,19 @@ impl Hints {
             *kept = place as u64;
         }
     }
+}
+
+/// The name of the parts of a list or a map: its backing, which its copies share.
+pub(crate) fn parts_name(content: Content) -> u64 {
+    match content {
+        Content::List(backing, _) | Content::Map(_, backing, _) => 1 << 40 | backing as u64,
+        _ => 0,
+    }
+}
+
+/// The name of the keys of a map: the place of the first.
+pub(crate) fn keys_name(first: u32) -> u64 {
+    1 << 41 | first as u64
 }
 
 // The upper twelve bits of a product with the fraction of the golden ratio, which spreads well.

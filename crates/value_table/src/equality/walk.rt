@@ -12,7 +12,8 @@ use crate::cell::Cell;
 use crate::content::Content;
 use crate::equality::alike::alike;
 use crate::equality::classes::{representative, unite};
-use crate::hints::Hints;
+use crate::equality::unlike::are_seen_to_differ;
+use crate::hints::{Hints, parts_name};
 use crate::sequence::Sequence;
 
 /// Whether the values of two cells are equal. Each equal pair is remembered, so that values with
@@ -37,6 +38,9 @@ pub(crate) fn equal(
     if x == y {
         return true;
     }
+    if are_seen_to_differ(cells, backings, hints, x, y) {
+        return false;
+    }
     let left = cells.at(x as usize);
     let right = cells.at(y as usize);
     if !alike(backings, hints, left.content, right.content) {
@@ -44,27 +48,21 @@ pub(crate) fn equal(
     }
     let xs = parts_of(backings, left.content);
     let ys = parts_of(backings, right.content);
-    let start = hints.start(x, y);
-    if start < xs.len()
-        && !equal(
-            cells,
-            backings,
-            same,
-            hints,
-            xs[start] as u64,
-            ys[start] as u64,
-        )
-    {
-        return false;
-    }
     for i in 0..xs.len() {
         if !equal(cells, backings, same, hints, xs[i] as u64, ys[i] as u64) {
-            hints.note(x, y, i);
+            note_parts(hints, left.content, right.content, i);
             return false;
         }
     }
     unite(same, x, y);
     true
+}
+
+// Keeps the place at which two lists or maps differ, for the two and for the first with others.
+fn note_parts(hints: &mut Hints, left: Content, right: Content, place: usize) {
+    let (x, y) = (parts_name(left), parts_name(right));
+    hints.note(x, y, place);
+    hints.note(x, x, place);
 }
 
 pub(crate) fn parts_of(backings: &Backings, content: Content) -> &[u32]

@@ -6,7 +6,7 @@ use Rattle.value_table.proofs.Maps.{map_more, map_part}
 use Rattle.value_table.proofs.Classes.{Unites, both_found, root_stays, unites}
 use Rattle.value_table.proofs.Walks.{same_value, same_place, same_parts, same_cells, same_long, part_before}
 use Rattle.value_table.proofs.equality.walk.+equal.Goals as goal
-use Rattle.value_table.proofs.equality.walk.+equal.Goals.{After-parts_of-ys, else-start-xs-via-then-start-xs+else-not-equal, else-start-xs-via-else-start-xs}
+use Rattle.value_table.proofs.equality.walk.+equal.Goals.{After-parts_of-ys}
 
 -- two cells with the same head have the same number of parts
 parts_long : {t : ℕ} (c : After-parts_of-ys t) → length c.parts_of-xs.result.now ≡ length c.parts_of-ys.result.now
@@ -22,31 +22,8 @@ parts_low c k h = (
 
 pub equal-requires : goal.equal-requires
 equal-requires t c =
-    let low = parts_low (goal.at.equal-requires t c).After-parts_of-ys c.start-start.result (omega arith) in
+    let low = parts_low (goal.at.equal-requires t c).After-parts_of-ys c.loop-i.i (omega arith) in
     (omega arith, (c.requires.contents, (omega arith, omega arith)))
-
-pub equal-requires-in-loop-i : goal.equal-requires-in-loop-i
-equal-requires-in-loop-i t c =
-    let low = parts_low (goal.at.equal-requires-in-loop-i t c).After-parts_of-ys c.loop-i.i (omega arith) in
-    (omega arith, (c.requires.contents, (omega arith, omega arith)))
-
-pub returns-then-not-equal : goal.returns-then-not-equal
-returns-then-not-equal t c = λ vs m s.
-    let x = c.representative-x.ensures.value vs s in
-    let y = c.representative-y.ensures.value vs x.0 in
-    let first = c.representative-x.ensures.classes s.below in
-    let found = both_found c.args.same.now c.representative-x.new.same c.representative-y.new.same c.args.a c.args.b c.representative-x.result c.representative-y.result first (c.representative-y.ensures.classes first.shorter.down) in
-    let sub = c.equal.ensures vs m y.0 in
-    let low = parts_low (goal.at.returns-then-not-equal t c).After-parts_of-ys c.start-start.result (omega arith) in
-    let xs = c.parts_of-xs.result.now in
-    let ys = c.parts_of-ys.result.now in
-    record {
-      known = sub.known;
-      right = (λ h. absurd (true≢false (sym h)), λ e. sym c.if-not-equal.true ∙ sub.right.1 (same_place _ vs c.args.cells.now _ _ m (omega arith) (omega arith) (map_part (value_in vs) xs ys c.start-start.result 0 0 (omega arith) (same_parts _ vs c.args.cells.now _ _ _ _ _ _ c.parts_of-xs.ensures c.parts_of-ys.ensures c.requires.contents m c.at-left.ensures.value c.at-right.ensures.value (x.1 ∙ e ∙ sym y.1)))));
-      stay = λ ws t. found.stay ws (sub.stay ws t);
-      others = λ i d above behind. sub.others i d (omega arith) (omega arith) ∙ found.others i d above behind;
-      one = λ h. absurd (true≢false (sym h));
-    }
 
 pub loop-i-init : goal.loop-i-init
 loop-i-init t c = λ vs m s.
@@ -54,39 +31,20 @@ loop-i-init t c = λ vs m s.
     let y = c.representative-y.ensures.value vs x.0 in
     let first = c.representative-x.ensures.classes s.below in
     let found = both_found c.args.same.now c.representative-x.new.same c.representative-y.new.same c.args.a c.args.b c.representative-x.result c.representative-y.result first (c.representative-y.ensures.classes first.shorter.down) in
-    let long = c.representative-y.auto.same ∙ c.representative-x.auto.same in
-    let low_x = c.representative-x.ensures.not_above in
-    let low_y = c.representative-y.ensures.not_above in
-    elim c.else-start-xs.branch [
-      | else-start-xs-via-then-start-xs+else-not-equal w ↦
-          let low = parts_low (goal.at.loop-i-init t c).After-parts_of-ys c.start-start.result (omega (arith, w.if-start-xs.true)) in
-          let sub = w.equal.ensures vs m y.0 in
-          let is : c.else-start-xs.same ≡ w.equal.new.same = w.same-is in
-          rw is (record {
-            known = sub.known;
-            values = refl;
-            stay = λ ws t. found.stay ws (sub.stay ws t);
-            others = λ i d above behind. sub.others i d (omega (arith, above, behind, low.0, low.1, low_x, low_y)) (omega (arith, above, behind, low.0, low.1, low_x, low_y)) ∙ found.others i d above behind;
-            root = root_stays c.representative-y.new.same w.equal.new.same _ w.equal.auto.same (λ d. sub.others _ d (omega (arith, low.0, low.1)) (omega (arith, low.0, low.1))) found.root;
-            long = w.equal.auto.same ∙ long;
-          })
-      | else-start-xs-via-else-start-xs w ↦
-          let is : c.else-start-xs.same ≡ c.representative-y.new.same = w.same-is in
-          rw is (record { known = y.0; values = refl; stay = found.stay; others = found.others; root = found.root; long = long })
-    ]
+    record { known = y.0; values = refl; stay = found.stay; others = found.others; root = found.root; long = c.representative-y.auto.same ∙ c.representative-x.auto.same }
 
-pub returns-then-not-equal-2 : goal.returns-then-not-equal-2
-returns-then-not-equal-2 t c = λ vs m s.
+pub returns-then-not-equal : goal.returns-then-not-equal
+returns-then-not-equal t c = λ vs m s.
     let x = c.representative-x.ensures.value vs s in
     let y = c.representative-y.ensures.value vs x.0 in
     let inv = c.loop-i.invariant vs m s in
-    let sub = c.equal-in-loop-i.ensures vs m inv.known in
-    let low = parts_low (goal.at.returns-then-not-equal-2 t c).After-parts_of-ys c.loop-i.i (omega arith) in
+    let sub = c.equal.ensures vs m inv.known in
+    let low = parts_low (goal.at.returns-then-not-equal t c).After-parts_of-ys c.loop-i.i (omega arith) in
     let xs = c.parts_of-xs.result.now in
     let ys = c.parts_of-ys.result.now in
     record {
       known = sub.known;
-      right = (λ h. absurd (true≢false (sym h)), λ e. sym c.if-not-equal-2.true ∙ sub.right.1 (same_place _ vs c.args.cells.now _ _ m (omega arith) (omega arith) (map_part (value_in vs) xs ys c.loop-i.i 0 0 (omega arith) (same_parts _ vs c.args.cells.now _ _ _ _ _ _ c.parts_of-xs.ensures c.parts_of-ys.ensures c.requires.contents m c.at-left.ensures.value c.at-right.ensures.value (x.1 ∙ e ∙ sym y.1)))));
+      right = (λ h. absurd (true≢false (sym h)), λ e. sym c.if-not-equal.true ∙ sub.right.1 (same_place _ vs c.args.cells.now _ _ m (omega arith) (omega arith) (map_part (value_in vs) xs ys c.loop-i.i 0 0 (omega arith) (same_parts _ vs c.args.cells.now _ _ _ _ _ _ c.parts_of-xs.ensures c.parts_of-ys.ensures c.requires.contents m c.at-left.ensures.value c.at-right.ensures.value (x.1 ∙ e ∙ sym y.1)))));
       stay = λ ws t. inv.stay ws (sub.stay ws t);
       others = λ i d above behind. sub.others i d (omega arith) (omega arith) ∙ inv.others i d above behind;
       one = λ h. absurd (true≢false (sym h));
@@ -95,7 +53,7 @@ returns-then-not-equal-2 t c = λ vs m s.
 pub loop-i-preserved : goal.loop-i-preserved
 loop-i-preserved t c = λ vs m s.
     let inv = c.loop-i.invariant vs m s in
-    let sub = c.equal-in-loop-i.ensures vs m inv.known in
+    let sub = c.equal.ensures vs m inv.known in
     let l = parts_long (goal.at.loop-i-preserved t c).After-parts_of-ys in
     let xs = c.parts_of-xs.result.now in
     let ys = c.parts_of-ys.result.now in
@@ -103,11 +61,11 @@ loop-i-preserved t c = λ vs m s.
     let long = inv.long in
     record {
       known = sub.known;
-      values = map_more (value_in vs) xs ys c.loop-i.i 0 0 (omega arith) (omega arith) (same_value vs _ _ (sub.right.0 c.if-not-equal-2.false)) inv.values;
+      values = map_more (value_in vs) xs ys c.loop-i.i 0 0 (omega arith) (omega arith) (same_value vs _ _ (sub.right.0 c.if-not-equal.false)) inv.values;
       stay = λ ws t. inv.stay ws (sub.stay ws t);
       others = λ i d above behind. sub.others i d (omega arith) (omega arith) ∙ inv.others i d above behind;
-      root = root_stays c.loop-i.same c.equal-in-loop-i.new.same _ c.equal-in-loop-i.auto.same (λ d. sub.others _ d (omega arith) (omega arith)) inv.root;
-      long = c.equal-in-loop-i.auto.same ∙ long;
+      root = root_stays c.loop-i.same c.equal.new.same _ c.equal.auto.same (λ d. sub.others _ d (omega arith) (omega arith)) inv.root;
+      long = c.equal.auto.same ∙ long;
     }
 
 pub returns : goal.returns
