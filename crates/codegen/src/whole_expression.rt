@@ -58,7 +58,10 @@ fn code_keeping(alloc: Global, core: &Core, lists: &[&[Core]], position: EmitPos
     requires room { position.word + measures.need (core_view core.now) ≤ word_limit }
     requires nodes { measures.nodes (core_view core.now) ≤ node_limit }
     requires slot { position.slot ≤ 0x7fff_0007 }
-    ensures code { IfOk result (λ code. code.items ≡ specs.code_keeping (lists_view lists.now) (core_view core.now) (texts_within position.entry.around.now) (routines_within position.entry.around.now) (words_of position.entry.words.now) position.entry.word position.entry.slot) }
+    ensures code { let texts = texts_within position.entry.around.now in
+        let routines = routines_within position.entry.around.now in
+        let words = words_of position.entry.words.now in
+        IfOk result (λ code. code.items ≡ specs.code_keeping (lists_view lists.now) (core_view core.now) texts routines words position.entry.word position.entry.slot) }
     ensures short { IfOk result (λ code. size_of_piece code.items + 4 ≤ part_slots_per_node * measures.nodes (core_view core.now)) }
 {
     let mut code = clear_words(alloc, lists.len())?;
@@ -112,7 +115,11 @@ fn keeping_code(
     requires room { position.word + measures.need (core_view core.now) ≤ word_limit }
     requires nodes { measures.nodes (core_view core.now) ≤ node_limit }
     requires slot { position.slot ≤ 0x7fff_0007 }
-    ensures code { IfOk result (λ code. code.items ≡ kept_path_code (path_view path.entry) (address_of (texts_within position.entry.around.now) path.entry.field.now) (specs.code_keeping (lists_view lists.now) (core_view core.now) (texts_within position.entry.around.now) (routines_within position.entry.around.now) (words_of position.entry.words.now) position.entry.word position.entry.slot)) }
+    ensures code { let texts = texts_within position.entry.around.now in
+        let routines = routines_within position.entry.around.now in
+        let words = words_of position.entry.words.now in
+        let rest = specs.code_keeping (lists_view lists.now) (core_view core.now) texts routines words position.entry.word position.entry.slot in
+        IfOk result (λ code. code.items ≡ kept_path_code (path_view path.entry) (address_of texts path.entry.field.now) rest) }
     ensures short { IfOk result (λ code. size_of_piece code.items < slot_limit) }
 {
     let mut code = walk(alloc, position.around.texts, path)?;

@@ -91,7 +91,8 @@ fn finding_at(
     verdict: &Verdict,
 ) -> Result<Option<Finding>, AllocError>
     requires { i < part_limit }
-    ensures { IfOk result (λ found. option_map finding_view found ≡ finding_at failure_policy i (validation_view validation.now) (truth_in (slice_index (words_view verdict.now).results i)) (lent (slice_get (words_view verdict.now).messages i))) }
+    ensures { let words = words_view verdict.now in
+        IfOk result (λ found. option_map finding_view found ≡ finding_at failure_policy i (validation_view validation.now) (truth_in (slice_index words.results i)) (lent (slice_get words.messages i))) }
 {
     match verdict.result_at(i) {
         FAILS => {
