@@ -12,12 +12,13 @@ use Rattle.helper_table.proofs.Placing.{outcome_follows}
 use Rattle.helper_table.specs.Ends.{CallReturns}
 use Rattle.helper_table.specs.declared.helper_end.HelperEnd.{HelperEnd, TheVariants.Word, TheVariants.Stop}
 use Rattle.helper_table.specs.Answers.{reads_texts, IsQuestionOf, IsLasting, IsAnswer, IsKeptAnswer, AreAnswers}
-use Rattle.helper_table.proofs.Covering.{all_stay, outside_row}
+use Rattle.helper_table.proofs.Covering.{all_stay, answered_row}
 use Rattle.helper_table.proofs.Prelude.{text_at, contains}
 use Rattle.helper_table.proofs.Seeing.{worded}
 use Rattle.helper_table.specs.Comparisons.{on_texts}
 use Rattle.helper_table.specs.Effects.{CanDo}
 use Rattle.helper_table.specs.Kept.{IsKept}
+use Rattle.helper_table.specs.Outcome.{truth_word}
 use Rattle.helper_table.specs.declared.kept.Kept.{Kept}
 use Rattle.helper_table.specs.Laws.{ExtendsValues}
 use Rattle.helper_table.specs.declared.answer.Answer.{Answer}
@@ -205,7 +206,7 @@ answers_resized vs false k n xs are = are
 -- ---- what is kept after a call
 
 kept_stays : (vs us : List ValueOrError) (k : Kept) → ExtendsValues vs us → IsKept vs k → IsKept us k
-kept_stays vs us k more is = record { answers = answers_stay vs us _ more is.answers; searches = all_stay vs us k.searches.words.items _ more is.searches }
+kept_stays vs us k more is = record { answers = answers_stay vs us _ more is.answers; searches = all_stay vs us _ more is.searches }
 
 -- the values after a call are the old ones, and perhaps one more
 pub kept_after : (o : RowOutcome) (r : Result HelperEnd AllocError) (old new : Contents) (k : Kept)
@@ -216,9 +217,9 @@ kept_after o (Err e) old new k ends is = subst (λ (c : Contents). IsKept c.valu
 
 -- ---- an effect without a search
 
--- the effect of a text that is known not to contain another
-pub outside_means : (vs : List ValueOrError) (constants args : List ℕ) (q : Question) (e : HelperEffect) → q.helper ≡ helper.Contains → IsQuestionOf q.helper args q
-    → on_texts contains (text_at (slice_get vs q.a)) (text_at (slice_get vs q.b)) ≡ Some false → e.placement ≡ placement.Word 2 → e.added ≡ 0
+-- the effect of a text that is known to contain another, or not to
+pub answered_means : (vs : List ValueOrError) (constants args : List ℕ) (q : Question) (e : HelperEffect) (is_part : Bool) → q.helper ≡ helper.Contains → IsQuestionOf q.helper args q
+    → on_texts contains (text_at (slice_get vs q.a)) (text_at (slice_get vs q.b)) ≡ Some is_part → e.placement ≡ placement.Word (truth_word (Some is_part)) → e.added ≡ 0
     → outcome_by vs e.placement e.added ≡ row_of q.helper args vs constants
-outside_means vs constants args q e h asks out is free =
-    worded vs e.placement e.added 2 is free ∙ sym (outside_row q.helper vs q.a q.b h out) ∙ sym (asked_row q.helper args constants vs q asks)
+answered_means vs constants args q e is_part h asks known is free =
+    worded vs e.placement e.added (truth_word (Some is_part)) is free ∙ sym (answered_row q.helper vs q.a q.b is_part h known) ∙ sym (asked_row q.helper args constants vs q asks)

@@ -1,5 +1,6 @@
 -- A text contains another exactly if the search finds it.
 use Rattle.helper_table.proofs.Prelude.{◌≡◌, ℕ, suc, List, [], ◌∷◌, length, take, Option, Some, None, true, sym, ap, ⊎_elim, arith, length-take, cases_Bool, or_cases, or_left, or_right, starts_with, is_some, nat_eq, OccursAt, FindsNeedle, OccursAt-part, OccursAt-from_part, contains}
+use Rattle.std.proofs.Common.{drop, ◌≤◌, ◌+◌, ◌∙◌}
 use lib.Pointwise.{bytes_decides}
 
 starts_at : (hay needle : List ℕ) → starts_with nat_eq hay needle ≡ true → OccursAt hay needle 0
@@ -27,9 +28,13 @@ stands (b ∷ bs) needle e =
     (λ rest. let found = stands bs needle rest in record { place = suc found.place; at = later b bs needle found.place found.at })
     (or_cases (starts_with nat_eq (b ∷ bs) needle) (contains bs needle) e)
 
-contains_if : (hay needle : List ℕ) (k : ℕ) → OccursAt hay needle k → contains hay needle ≡ true
+pub contains_if : (hay needle : List ℕ) (k : ℕ) → OccursAt hay needle k → contains hay needle ≡ true
 contains_if (b ∷ bs) needle (suc k) at = or_right _ _ (contains_if bs needle k (earlier b bs needle k at))
 contains_if hay needle k at = grind (arith, starts_if, or_left)
+
+-- as a test of the bytes at a place finds it
+pub occurs_by : (hay needle : List ℕ) (k n : ℕ) → k + length needle ≤ length hay → n ≡ length needle → take n (drop k hay) ≡ needle → OccursAt hay needle k
+occurs_by hay needle k n fits size e = OccursAt-from_part hay needle k fits (ap (λ m. take m (drop k hay)) (sym size) ∙ e)
 
 pub finds_part : (hay needle : List ℕ) (r : Option ℕ) → FindsNeedle hay needle 0 r → is_some r ≡ contains hay needle
 finds_part hay needle (Some k) h = sym (contains_if hay needle k h.1)

@@ -5,7 +5,7 @@ pub mod Seeing
 pub mod Maps
 pub mod Pairs
 pub mod Finding
-pub mod Marking
+pub mod Ranking
 pub mod Covering
 pub mod Bounded
 pub mod Depths

@@ -14,5 +14,5 @@ pub mod Effects
 pub mod Laws
 pub mod Tables
 pub mod Answers
-pub mod Windows
+pub mod Suffixes
 pub mod Kept

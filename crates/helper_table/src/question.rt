@@ -25,6 +25,11 @@ impl Question {
     }
 }
 
+/// A place for a text. Equal texts have the same place.
+pub(crate) fn text_place<V: ValueStore>(table: &V, text: u64) -> usize {
+    (mixed(0, seen(table.at(text))) >> 32) as usize
+}
+
 // A number for an operand, the same for equal ones.
 fn seen(shape: Option<Shape<'_>>) -> u64 {
     match shape {

@@ -1,13 +1,15 @@
 //! Calls that reuse a kept answer. Steps and charge do not count the bytes of a text, so a loop that
 //! reads the same long texts in each turn must not scan them each time.
 
-ghost use Rattle.std.specs.Prelude.{◌≡◌, ℕ, true, IfSome, IsSome, slice_get};
+ghost use Rattle.std.specs.Prelude.{◌≡◌, ℕ, true, Some, IfSome, IsSome, slice_get};
 ghost use Rattle.helper_table.specs.Answers.{reads_texts, second_operand, AreAnswers, IsQuestionOf, IsAnswer, IsKeptAnswer, IsLasting};
 ghost use Rattle.helper_table.specs.Calls.{row_of};
+ghost use Rattle.helper_table.specs.Comparisons.{contains, on_texts};
 ghost use Rattle.helper_table.specs.Effects.{means, CanFollow};
 ghost use Rattle.helper_table.specs.Kept.{IsKept};
-ghost use Rattle.helper_table.specs.Windows.{AreSearched};
-ghost use Rattle.value_store.specs.Calls.{equal_at};
+ghost use Rattle.helper_table.specs.Suffixes.{AreSearched};
+ghost use Rattle.helper_table.specs.declared.helper.Helper.TheVariants as helper;
+ghost use Rattle.value_store.specs.Calls.{equal_at, text_at};
 
 use crate::answer::Answer;
 use crate::answers::Answers;
@@ -174,8 +176,26 @@ fn lasting(effect: HelperEffect<'_>) -> Option<HelperEffect<'static>>
     }
 }
 
-/// The effect of the row of a question that has no kept answer. It is found without a search if the first
-/// operand is known not to contain the second.
+/// Whether the first operand contains the second, if that is asked and an index tells.
+fn known_part<V: ValueStore>(
+    question: Question,
+    table: &mut V,
+    searches: &mut Searches,
+) -> Option<bool>
+    requires { AreSearched (V.values table.old) searches.old }
+    ensures asked { IfSome result (λ r. question.helper ≡ helper.Contains) }
+    ensures answer { IfSome result (λ r. on_texts contains (text_at (slice_get (V.values table.old) question.a)) (text_at (slice_get (V.values table.old) question.b)) ≡ Some r) }
+    ensures values { V.values table.new ≡ V.values table.old }
+    ensures charge { V.charge table.new ≡ V.charge table.old }
+    ensures searches { AreSearched (V.values table.old) searches.new }
+{
+    if question.helper != Helper::Contains {
+        return None;
+    }
+    searches.answer(table, question.a, question.b)
+}
+
+/// The effect of the row of a question that has no kept answer. It is found without a search if an index tells.
 fn new_effect<'a, V: ValueStore, M: Regions>(
     question: Question,
     args: [u64; 5],
@@ -191,8 +211,8 @@ fn new_effect<'a, V: ValueStore, M: Regions>(
     ensures charge { V.charge table.new ≡ V.charge table.old }
     ensures searches { AreSearched (V.values table.old) searches.new }
 {
-    if question.helper == Helper::Contains && searches.exclude(table, question.a, question.b) {
-        return Ok(HelperEffect::truth(Some(false)));
+    if let Some(is_part) = known_part(question, table, searches) {
+        return Ok(HelperEffect::truth(Some(is_part)));
     }
     effect_of(question.helper, args, table, memory)
 }

@@ -1,7 +1,10 @@
 """Reviews whose policies read long texts in each turn of a loop, each of two documents, ten times apart."""
 
+import random
+import sys
 from typing import Any
 
+from ..hostile.costs import MEGABYTES, SECONDS
 from .worst import on_request
 
 # bytes of the document, near enough: a tenth, and what the bounds of GATEKEEPER's page are for
@@ -38,6 +41,33 @@ def many_needles(runs: Any) -> None:
         on_request(runs, "contains of other images", test, {"object": thing})
 
 
+def letters(numbers: Any, length: int) -> str:
+    """A text of letters a and b, of which each part of a few letters occurs in another one."""
+    return "".join(numbers.choices("ab", k=length))
+
+
+def hostile_needles(runs: Any) -> None:
+    """Texts of a document below three mebibytes, searched in turn for needles whose parts they have."""
+    numbers = random.Random(1)
+    for count, length, many in ((1, 950_000, 30_000), (12, 80_000, 2_500), (2_000, 1_400, 100), (1, 2_800_000, 2_500)):
+        texts = [letters(numbers, length) for _ in range(count)]
+        end = texts[-1][-40 - many :]
+        for kind, needles in (
+            ("not there", [letters(numbers, 40) for _ in range(many)]),
+            ("at the end", [end[place : place + 40] for place in range(many)]),
+        ):
+            test = "object.l.all(x, object.t.all(t, t.contains(x) || x != ''))"
+            name = f"{many:,} in {count:,} of {length:,}, {kind}"
+            within(name, on_request(runs, name, test, {"object": {"t": texts, "l": needles}}))
+
+
+def within(name: str, taken: Any) -> None:
+    """Ends if a run took more than a gatekeeper's line may."""
+    seconds, megabytes = taken
+    if seconds > SECONDS or megabytes > MEGABYTES:
+        sys.exit(f"measure: {name} took {seconds:.2f} s and {megabytes:.0f} MB")
+
+
 def literals(runs: Any) -> None:
     """A list of texts that stands in the loop: it is made once."""
     for count in (10, 14):
@@ -49,5 +79,5 @@ def literals(runs: Any) -> None:
 
 def measure(runs: Any) -> None:
     """The rows of texts."""
-    for part in (loops, many_needles, literals):
+    for part in (loops, many_needles, hostile_needles, literals):
         part(runs)

@@ -52,19 +52,20 @@ exit
 """
 
 
-def timed(runs: Any, name: str, given: Any, words: Any, lines: Any = '', statuses: Any = (ALLOWED,)) -> None:
-    """A row of one run on files of so many bytes."""
+def timed(runs: Any, name: str, given: Any, words: Any, lines: Any = '', statuses: Any = (ALLOWED,)) -> Any:
+    """A row of one run on files of so many bytes: its seconds and memory."""
     seconds, memory = runs.best(words, lines, statuses, COUNT)
     row(name, f"{given / 1_000_000:.2f} MB in {seconds:.2f} s", memory)
+    return seconds, memory
 
 
-def on_request(runs: Any, name: str, expression: Any, request: Any, status: Any = ALLOWED) -> None:
+def on_request(runs: Any, name: str, expression: Any, request: Any, status: Any = ALLOWED) -> Any:
     """A review of this request under a policy with this validation."""
     path = policy(runs, "worst", [expression])
     whole = {"apiVersion": "admission.k8s.io/v1", "kind": "AdmissionReview", "request": {"uid": "u", **request}}
     review = runs.document("worst-review", whole)
     words = ["review", "--policy", path, "--review", review, "--steps", "1000000000"]
-    timed(runs, name, os.path.getsize(review), words, statuses=(status,))
+    return timed(runs, name, os.path.getsize(review), words, statuses=(status,))
 
 
 def searches(runs: Any) -> None:

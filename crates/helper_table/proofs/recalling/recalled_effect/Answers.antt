@@ -3,7 +3,7 @@ use Rattle.std.proofs.Common.{List, sym, subst}
 use Rattle.helper_table.proofs.Asking.{recalled_means, found_later}
 use Rattle.helper_table.proofs.Prelude.{ValueOrError, Helper}
 use Rattle.helper_table.specs.Answers.{IsQuestionOf}
-use Rattle.helper_table.specs.Windows.{AreSearched}
+use Rattle.helper_table.specs.Suffixes.{AreSearched}
 use Rattle.helper_table.proofs.recalling.recalled_effect.Goals as goal
 use Rattle.helper_table.proofs.recalling.recalled_effect.Goals.{in-Some-lasting, in_default-lasting}
 
