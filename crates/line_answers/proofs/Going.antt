@@ -78,6 +78,14 @@ module _ (texts : LineTexts) where
           let all = input_lines-ended (heard ++ (rest ++ 10 ∷ [])) (ap (λ (p : Pieces). take 65 p.1) ends_line) ∙ ap (λ (p : Pieces). p.0) ends_line in
           (part_told ((cut heard).1 ++ rest) (heard ++ (rest ++ 10 ∷ [])) new a (sym all), ap (λ (p : Pieces). p.1) ends_line)
 
+      -- the line is whole: nothing of it was kept
+      module _ (whole : (cut heard).1 ≡ []) where
+        pub going_whole : Answered texts rest written new → AnswersSoFar texts before (heard ++ (rest ++ 10 ∷ [])) new
+        going_whole a = going_line (subst (λ (l : List ℕ). Answered texts (l ++ rest) written new) (sym whole) a)
+
+        pub told_part_whole : AnsweredPart texts rest written new → AnswersBreak false texts before (heard ++ (rest ++ 10 ∷ [])) new
+        told_part_whole a = told_part (subst (λ (l : List ℕ). AnsweredPart texts (l ++ rest) written new) (sym whole) a)
+
     -- the end, where the rest behind the last line feed is answered
     pub end_whole : PassesNone texts → (new : Option (List ℕ)) → Answered texts (cut heard).1 written new → AnswersToEnd texts before heard new
     end_whole none new a = record {
@@ -100,6 +108,10 @@ kept_part most line heard part plain keeps = rw (cut-part heard part plain) keep
 
 pub kept_none : (most : ℕ) (line : Line) (heard rest : List ℕ) → HasNoFeed rest → KeepsLine most line [] → KeepsLine most line (cut (heard ++ (rest ++ 10 ∷ []))).1
 kept_none most line heard rest plain keeps = rw (cut-line heard rest plain) keeps
+
+pub kept_still : (most : ℕ) (line : Line) (heard rest : List ℕ) → HasNoFeed rest → (cut heard).1 ≡ [] → KeepsLine most line (cut heard).1
+    → KeepsLine most line (cut (heard ++ (rest ++ 10 ∷ []))).1
+kept_still most line heard rest plain whole keeps = kept_none most line heard rest plain (subst (KeepsLine most line) whole keeps)
 
 module _ (texts : LineTexts) (input before : List ℕ) (left written : Option (List ℕ)) where
   -- a write that failed

@@ -2,7 +2,8 @@
 use Rattle.std.proofs.Math.Seq.{take-add}
 use Rattle.std.proofs.lemmas.List.{drop_at, take_at}
 use Rattle.streams.proofs.Cut.{take-join}
-use Rattle.line_answers.proofs.Prelude.{◌≡◌, ◌++◌, ◌+◌, ◌-◌, ◌∙◌, refl, ℕ, suc, arith, length-take, ◌<◌, ◌≤◌, Bool, true, false, List, [], length, take, take_all, Option, sym, ap, subst, nat_lt, ltb-false, ltb-true, AddsBytes, AnswersInputLine, IsKeptOfLine, KeepsLine, LineTexts, AnsweredPart, is_blank, line_of, passed_over, too_long, decided}
+use Rattle.line_answers.proofs.Prelude.{◌≡◌, ◌++◌, ◌+◌, ◌-◌, ◌∙◌, refl, ℕ, suc, arith, length-take, ◌<◌, ◌≤◌, Bool, true, false, List, [], ◌∷◌, length, take, take_all, Option, Some, Result, Ok, Err, append-nil, sym, ap, subst, AddsBytes, AnswersInputLine, IsKeptOfLine, KeepsLine, LineTexts, Answered, AnsweredPart, is_blank, line_of, no_memory, passed_over, too_long, decided}
+use Rattle.std.specs.Prelude.{OnErr}
 use Rattle.line_answers.specs.declared.line.Line.{Line}
 
 -- what is kept of a line that is not too long is the line
@@ -12,41 +13,59 @@ kept_whole most kept line keeps short =
     let few : length line ≤ suc most = omega (arith, many, short, length-take (suc most) line) in
     keeps ∙ take_all (suc most) line few
 
-module _ (most : ℕ) (long : List ℕ) (decides : LineTexts) where
-  -- an empty line is blank
-  pub is_passed : (line : List ℕ) → line ≡ [] → AnswersInputLine most long decides line []
-  is_passed line is = subst (λ (l : List ℕ). AnswersInputLine most long decides l []) (sym is) (passed_over (omega arith) refl)
+-- a line of which nothing could be kept is not empty
+pub lacking : (most : ℕ) (l : Line) (line : List ℕ) → l.lacks ≡ true → KeepsLine most l line → 0 < length line
+lacking most l line lacks keeps = subst (λ (b : Bool). IsKeptOfLine b most l.bytes.items line) lacks keeps.kept
 
-  module _ (l : Line) (line : List ℕ) (held : l.lacks ≡ false) (keeps : KeepsLine most l line) where
+pub err_so : {T E : Type 0} (r : Result T E) (P : Type 0) → P → OnErr r P
+err_so (Ok a) P p = tt
+err_so (Err e) P p = p
+
+empty : (line : List ℕ) → length line ≡ 0 → line ≡ []
+empty [] none = refl
+empty (b ∷ bs) none = absurd (omega (arith, none))
+
+module _ (most : ℕ) (long : List ℕ) (decides : LineTexts) where
+  pub is_long : (line text answer : List ℕ) → most < length line → answer ≡ line_of text → text ≡ long → AnswersInputLine most long decides line answer
+  is_long line text answer above is same = subst (AnswersInputLine most long decides line) (sym (is ∙ ap line_of same)) (too_long above)
+
+  pub is_passed : (line answer : List ℕ) → length line ≤ most → is_blank line ≡ true → answer ≡ [] → AnswersInputLine most long decides line answer
+  is_passed line answer short blank is = subst (AnswersInputLine most long decides line) (sym is) (passed_over short blank)
+
+  pub is_decided : (line text answer : List ℕ) → length line ≤ most → is_blank line ≡ false → answer ≡ line_of text → decides line text
+      → AnswersInputLine most long decides line answer
+  is_decided line text answer short full is decides_it = subst (AnswersInputLine most long decides line) (sym is) (decided short full decides_it)
+
+  -- an empty line is blank
+  pub nothing_answered : (line : List ℕ) (old : Option (List ℕ)) → length line ≡ 0 → Answered (AnswersInputLine most long decides) line old old
+  nothing_answered line old none = record {
+    text = [];
+    answers = subst (λ (l : List ℕ). AnswersInputLine most long decides l []) (sym (empty line none)) (passed_over (omega arith) refl);
+    written = λ before is. is ∙ ap Some (sym (append-nil before));
+  }
+
+  -- what is answered to what is kept of a line is answered to the line
+  of_kept : (kept line text : List ℕ) → kept ≡ take (suc most) line → AnswersInputLine most long decides kept text → AnswersInputLine most long decides line text
+  of_kept kept line text keeps (too_long above) =
+      let many = ap length keeps in
+      too_long (omega (arith, above, many, length-take (suc most) line))
+  of_kept kept line text keeps (passed_over short blank) =
+      subst (λ (b : List ℕ). AnswersInputLine most long decides b []) (kept_whole most kept line keeps short) (passed_over short blank)
+  of_kept kept line text keeps (decided {text = t} short full by) =
+      subst (λ (b : List ℕ). AnswersInputLine most long decides b (line_of t)) (kept_whole most kept line keeps short) (decided short full by)
+  of_kept kept line text keeps (no_memory some) =
+      let many = ap length keeps in
+      no_memory (omega (arith, some, many, length-take (suc most) line))
+
+  module _ (l : Line) (line : List ℕ) (held : l.lacks ≡ false) (keeps : KeepsLine most l line) (old new : Option (List ℕ)) where
     kept : l.bytes.items ≡ take (suc most) line
     kept = subst (λ (lacks : Bool). IsKeptOfLine lacks most l.bytes.items line) held keeps.kept
 
-    pub was_long : (text answer : List ℕ) → true ≡ nat_lt l.most (length l.bytes.items) → answer ≡ line_of text → text ≡ long
-        → AnswersInputLine most long decides line answer
-    was_long text answer above is same =
-        let many = ap length kept in
-        let all = length-take (suc most) line in
-        let over = ltb-true l.most (length l.bytes.items) (sym above) in
-        subst (AnswersInputLine most long decides line) (sym (is ∙ ap line_of same)) (too_long (omega (arith, many, over, all, keeps.most_is)))
+    pub kept_answered : Answered (AnswersInputLine most long decides) l.bytes.items old new → Answered (AnswersInputLine most long decides) line old new
+    kept_answered a = record { text = a.text; answers = of_kept l.bytes.items line a.text kept a.answers; written = a.written }
 
-    -- what is answered to what is kept is answered to the line
-    was_whole : false ≡ nat_lt l.most (length l.bytes.items) → (Q : List ℕ → Type 0) → (length l.bytes.items ≤ most → Q l.bytes.items) → Q line
-    was_whole whole Q of_kept =
-        let above = ltb-false l.most (length l.bytes.items) (sym whole) in
-        let short : length l.bytes.items ≤ most = omega (arith, above, keeps.most_is) in
-        subst Q (kept_whole most l.bytes.items line kept short) (of_kept short)
-
-    pub was_blank : (answer : List ℕ) → false ≡ nat_lt l.most (length l.bytes.items) → is_blank l.bytes.items ≡ true → answer ≡ []
-        → AnswersInputLine most long decides line answer
-    was_blank answer whole blank is =
-        was_whole whole (λ (b : List ℕ). AnswersInputLine most long decides b answer)
-        (λ short. subst (AnswersInputLine most long decides l.bytes.items) (sym is) (passed_over short blank))
-
-    pub was_decided : (text answer : List ℕ) → false ≡ nat_lt l.most (length l.bytes.items) → is_blank l.bytes.items ≡ false
-        → answer ≡ line_of text → decides l.bytes.items text → AnswersInputLine most long decides line answer
-    was_decided text answer whole full is decides_it =
-        was_whole whole (λ (b : List ℕ). AnswersInputLine most long decides b answer)
-        (λ short. subst (AnswersInputLine most long decides l.bytes.items) (sym is) (decided short full decides_it))
+    pub kept_answered_part : AnsweredPart (AnswersInputLine most long decides) l.bytes.items old new → AnsweredPart (AnswersInputLine most long decides) line old new
+    kept_answered_part a = record { text = a.text; answers = of_kept l.bytes.items line a.text kept a.answers; many = a.many; is_cut = a.is_cut; written = a.written }
 
 pub written_part : (texts : LineTexts) (line text : List ℕ) (old new : Option (List ℕ)) → texts line text
     → (n : ℕ) × (n < length text) × AddsBytes old new (take n text) → AnsweredPart texts line old new

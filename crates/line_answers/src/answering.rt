@@ -64,8 +64,12 @@ impl<'a, D: Decider> Listener for Answers<'a, D> {
     }
 
     fn hear<W: Sink>(&mut self, rest: &[u8], w: &mut W) -> Result<bool, Failed> {
+        if self.line.is_empty() {
+            answer_line(self.alloc, self.decider, self.line.most, rest, w)?;
+            return Ok(false);
+        }
         self.line.extend(rest);
-        match answer_line(self.alloc, self.decider, &self.line, w) {
+        match answer_kept(self.alloc, self.decider, &self.line, w) {
             Ok(()) => {
                 self.line.clear();
                 Ok(false)
@@ -75,12 +79,12 @@ impl<'a, D: Decider> Listener for Answers<'a, D> {
     }
 
     fn hear_end<W: Sink>(&mut self, w: &mut W) -> Result<(), Failed> {
-        answer_line(self.alloc, self.decider, &self.line, w)
+        answer_kept(self.alloc, self.decider, &self.line, w)
     }
 }
 
-/// Answers a line, and writes nothing for one that is empty or blank.
-fn answer_line<D: Decider, W: Sink>(
+/// Answers the line that is kept.
+fn answer_kept<D: Decider, W: Sink>(
     alloc: Global,
     decider: &D,
     line: &Line,
@@ -91,29 +95,50 @@ fn answer_line<D: Decider, W: Sink>(
     ensures ok { OnOk result (W.failed w.new ≡ W.failed w.old) }
     ensures err { OnErr result (W.failed w.new ≡ one_more (W.failed w.old)) }
 {
+    if line.lacks {
+        return write_all(w, NO_MEMORY);
+    }
+    answer_line(alloc, decider, line.most, line.bytes.as_slice(), w)
+}
+
+/// Answers a line, and writes nothing for one that is empty or blank.
+fn answer_line<D: Decider, W: Sink>(
+    alloc: Global,
+    decider: &D,
+    max_line: u64,
+    line: &[u8],
+    w: &mut W,
+) -> Result<(), Failed>
+    ensures whole { OnOk result (Answered (AnswersInputLine max_line (D.refuses decider.now) (D.decides decider.now)) line.now (W.taken w.old) (W.taken w.new)) }
+    ensures part { OnErr result (AnsweredPart (AnswersInputLine max_line (D.refuses decider.now) (D.decides decider.now)) line.now (W.taken w.old) (W.taken w.new)) }
+    ensures ok { OnOk result (W.failed w.new ≡ W.failed w.old) }
+    ensures err { OnErr result (W.failed w.new ≡ one_more (W.failed w.old)) }
+{
     if line.is_empty() {
         return Ok(());
     }
-    match answer_of(alloc, decider, line) {
+    match answer_of(alloc, decider, max_line, line) {
         Ok(text) => write_all(w, text.as_slice()),
         Err(_) => write_all(w, NO_MEMORY),
     }
 }
 
 /// The answer to a line that is not empty, with its line feed; nothing if the line is blank.
-fn answer_of<D: Decider>(alloc: Global, decider: &D, line: &Line) -> Result<Vec<u8>, AllocError>
-    ensures { IfOk result (λ text. OfLine line.now (λ most bytes. 0 < length bytes → AnswersInputLine most (D.refuses decider.now) (D.decides decider.now) bytes text.items)) }
+fn answer_of<D: Decider>(
+    alloc: Global,
+    decider: &D,
+    max_line: u64,
+    line: &[u8],
+) -> Result<Vec<u8>, AllocError>
+    ensures { IfOk result (λ text. 0 < length line.now → AnswersInputLine max_line (D.refuses decider.now) (D.decides decider.now) line.now text.items) }
 {
-    if line.lacks {
-        return Err(AllocError);
-    }
-    if line.is_too_long() {
+    if line.len() as u64 > max_line {
         return with_line_feed(decider.refusal()?);
     }
-    if is_blank(line.bytes.as_slice()) {
+    if is_blank(line) {
         return Ok(Vec::new(alloc));
     }
-    with_line_feed(decider.answer(line.bytes.as_slice())?)
+    with_line_feed(decider.answer(line)?)
 }
 
 /// Whether no byte is other than a space, a tab or a carriage return.

@@ -1,23 +1,23 @@
 -- Proof obligations of `answering::answer_of`.
-use Rattle.line_answers.proofs.Prelude.{◌≡◌, ◌∙◌, true, false, sym, IfOk-weaker, is_blank}
-use Rattle.line_answers.proofs.OneLine.{was_blank, was_decided, was_long}
+use Rattle.line_answers.proofs.Prelude.{◌∙◌, ◌≤◌, ◌<◌, arith, length, sym, IfOk-weaker}
+use Rattle.line_answers.proofs.OneLine.{is_decided, is_long, is_passed}
 use Rattle.line_answers.proofs.answering.answer_of.Goals as goal
 
-pub returns-then-is_too_long : goal.returns-then-is_too_long
-returns-then-is_too_long g c =
+pub returns-then-line-max_line : goal.returns-then-line-max_line
+returns-then-line-max_line g c =
+    let above : c.args.max_line < length c.args.line.now = grind arith in
     IfOk-weaker c.with_line_feed.result _ _
-    (λ text is most bytes keeps some. was_long most _ _ c.args.line.now bytes c.if-line.false keeps _ _ (sym c.if-is_too_long.true ∙ c.is_too_long.ensures) is c.in_ok-refusal.ensures)
+    (λ text is some. is_long c.args.max_line _ _ c.args.line.now _ _ above is c.in_ok-refusal.ensures)
     c.with_line_feed.ensures
 
 pub returns-then-is_blank : goal.returns-then-is_blank
-returns-then-is_blank g c most bytes keeps some =
-    let blank : is_blank c.args.line.now.bytes.items ≡ true = rw c.as_slice.ensures.value at (sym c.is_blank.ensures ∙ c.if-is_blank.true) in
-    was_blank most _ _ c.args.line.now bytes c.if-line.false keeps _ (sym c.if-is_too_long.false ∙ c.is_too_long.ensures) blank c.new.ensures.items
+returns-then-is_blank g c some =
+    let short : length c.args.line.now ≤ c.args.max_line = grind arith in
+    is_passed c.args.max_line _ _ c.args.line.now _ short (sym c.is_blank.ensures ∙ c.if-is_blank.true) c.new.ensures.items
 
 pub returns : goal.returns
 returns g c =
-    let full : is_blank c.args.line.now.bytes.items ≡ false = rw c.as_slice.ensures.value at (sym c.is_blank.ensures ∙ c.if-is_blank.false) in
-    let decides = rw c.as_slice-2.ensures.value at c.in_ok-answer.ensures in
+    let short : length c.args.line.now ≤ c.args.max_line = grind arith in
     IfOk-weaker c.with_line_feed-2.result _ _
-    (λ text is most bytes keeps some. was_decided most _ _ c.args.line.now bytes c.if-line.false keeps _ _ (sym c.if-is_too_long.false ∙ c.is_too_long.ensures) full is decides)
+    (λ text is some. is_decided c.args.max_line _ _ c.args.line.now _ _ short (sym c.is_blank.ensures ∙ c.if-is_blank.false) is c.in_ok-answer.ensures)
     c.with_line_feed-2.ensures

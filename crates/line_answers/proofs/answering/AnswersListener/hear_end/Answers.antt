@@ -5,12 +5,12 @@ use Rattle.line_answers.proofs.answering.AnswersListener.hear_end.Goals as goal
 
 pub returns-clause-over : goal.returns-clause-over
 returns-clause-over g c =
-    on_ok_weaker c.answer_line.result
+    on_ok_weaker c.answer_kept.result
     (λ whole start before heard h. end_whole _ _ _ _ h.1 (passes_none _ _ _) _ (rw h.0 at (whole _ _ h.2)))
-    c.answer_line.ensures.whole
+    c.answer_kept.ensures.whole
 
 pub returns-clause-broken : goal.returns-clause-broken
 returns-clause-broken g c =
-    on_err_weaker c.answer_line.result
+    on_err_weaker c.answer_kept.result
     (λ part start before heard h. end_part _ _ _ _ h.1 (passes_none _ _ _) _ (rw h.0 at (part _ _ h.2)))
-    c.answer_line.ensures.part
+    c.answer_kept.ensures.part
