@@ -36,3 +36,4 @@ pub mod RootKinds
 pub mod RootsInOrder
 pub mod ReviewTables
 pub mod Pools
+pub mod MemberTexts

@@ -25,3 +25,4 @@ pub mod RootPlaces
 pub mod OtherRoots
 pub mod ReviewTable
 pub mod DocumentPool
+pub mod MemberText

@@ -24,6 +24,7 @@ mod lengths;
 mod lists;
 mod lookup;
 mod measure;
+mod member_text;
 mod numbers;
 mod open_review;
 mod order;
@@ -58,6 +59,7 @@ mod texts;
 mod writing;
 
 pub use document_pool::DocumentPool;
+pub use member_text::text_at;
 pub use open_review::OpenReview;
 pub use pooled_document::PooledDocument;
 pub use review_error::ReviewError;
