@@ -5,8 +5,9 @@ ghost use Rattle.std.specs.IoError.{error_kind};
 use crate::file_error::FileError;
 use crate::files::Files;
 use std::alloc::Global;
-use std::fs::{self, OpenFile};
+use std::fs::{self, Metadata, OpenFile};
 use std::io::{self, Error, ErrorKind, Write};
+use std::os::unix::fs::MetadataExt;
 use std::rt;
 
 /// The files of the operating system. Nothing is known about them before they are read.
@@ -37,21 +38,30 @@ impl<'a, R: rt::Files + AllocGlobal> Files for Disk<'a, R> {
 
 /// Replaces the contents of a file. If not all bytes are written, for example because the disk is full, a
 /// regular file is removed, so that nobody takes it for the whole. A file that cannot be opened stays.
-fn written<R: rt::Files>(rt: &R, name: &str, bytes: &[u8]) -> io::Result<()> {
+fn written<R: rt::Files + AllocGlobal>(rt: &R, name: &str, bytes: &[u8]) -> io::Result<()> {
     let mut file = fs::create(rt, name)?;
     let answer = file.write_all(bytes);
-    if answer.is_err() && is_regular(&file) {
-        let _ = fs::remove_file(rt, name);
+    if answer.is_err()
+        && let Ok(opened) = file.metadata()
+    {
+        let _ = remove_opened(rt, name, &opened);
     }
     answer
 }
 
-/// Whether an open file is a regular one. A device or a pipe is not.
-fn is_regular<F: OpenFile>(file: &F) -> bool {
-    match file.metadata() {
-        Ok(metadata) => metadata.is_file(),
-        Err(_) => false,
+/// Removes the regular file that was opened by this name, if the name still leads to it. A link on the way to it
+/// stays, as do a device and a pipe.
+pub(crate) fn remove_opened<R: rt::Files + AllocGlobal>(
+    rt: &R,
+    name: &str,
+    opened: &Metadata,
+) -> io::Result<()> {
+    let path = fs::canonicalize(rt, name)?;
+    let found = fs::symlink_metadata(rt, &path)?;
+    if opened.is_file() && opened.dev() == found.dev() && opened.ino() == found.ino() {
+        fs::remove_file(rt, &path)?;
     }
+    Ok(())
 }
 
 /// The system's result, with its error as a `FileError`.

@@ -1,11 +1,12 @@
 //! Tests: files of the operating system, written and read.
 
-use crate::disk::Disk;
+use crate::disk::{Disk, remove_opened};
 use crate::file_error::FileError;
 use crate::files::Files;
 use std::alloc::{AllocError, Global};
-use std::rt;
+use std::os::unix::fs::symlink;
 use std::test::Fail;
+use std::{fs, io, rt};
 
 /// More bytes than the system's buffer takes at once.
 fn long(alloc: Global) -> Result<Vec<u8>, AllocError> {
@@ -51,5 +52,22 @@ fn a_file_in_a_missing_folder_is_not_written(rt: HostRuntime) {
 fn a_device_that_takes_nothing_stays(rt: HostRuntime) {
     let written = Disk::new(&rt).write("/dev/full", b"a").err();
     assert!(rt; written == Some(FileError::Failed));
-    assert!(rt; std::fs::metadata(&rt, "/dev/full").is_ok());
+    assert!(rt; fs::metadata(&rt, "/dev/full").is_ok());
+}
+
+/// Removes what was opened by the first name, as if it were opened by the second.
+fn remove_as<R: rt::Files + AllocGlobal>(rt: &R, opened: &str, name: &str) -> io::Result<()> {
+    remove_opened(rt, name, &fs::metadata(rt, opened)?)
+}
+
+#[test]
+fn a_link_to_a_file_that_is_removed_stays(rt: HostRuntime) {
+    let mut disk = Disk::new(&rt);
+    assert!(rt; disk.write("whole", b"a").is_ok() && disk.write("half", b"b").is_ok());
+    assert!(rt; symlink(&rt, "half", "link").is_ok());
+    assert!(rt; remove_as(&rt, "whole", "link").is_ok());
+    assert!(rt; fs::metadata(&rt, "half").is_ok());
+    assert!(rt; remove_as(&rt, "link", "link").is_ok());
+    assert!(rt; fs::metadata(&rt, "half").is_err());
+    assert!(rt; fs::remove_file(&rt, "link").is_ok() && fs::remove_file(&rt, "whole").is_ok());
 }
