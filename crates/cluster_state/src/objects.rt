@@ -1,5 +1,5 @@
 //! The objects of a cluster, by kind, namespace and name.
-ghost use Rattle.std.specs.Prelude.{◌≡◌, ◌==◌, length, IfOk, OnOk, is_some, not, option_map, List, []};
+ghost use Rattle.std.specs.Prelude.{◌≡◌, ◌==◌, length, IfOk, IfSome, OnOk, is_some, not, option_map, List, []};
 ghost use Rattle.std.specs.Option.{option_map_or};
 ghost use Rattle.serde_json.specs.View.{view};
 ghost use Rattle.cluster_state.specs.Items.{Collection, item_view};
@@ -88,8 +88,23 @@ impl<'a> Objects<'a> {
         self.collections.get(place)
     }
 
-    /// The objects of an `apiVersion`, a kind and a namespace, which need not outlive them.
+    /// The objects with this `apiVersion` and kind in a namespace, whose name need not outlive them.
     pub(crate) fn at(
+        &self,
+        api_version: &'a str,
+        kind: &'a str,
+        namespace: &str,
+    ) -> Option<&BTreeMap<&'a str, &'a Value>>
+        ensures { option_map_or (λ m. named_view m.now.entries) result [] ≡ objects_view self.now (record { api_version = api_version.now; kind = kind.now; namespace = namespace.now }) }
+    {
+        match own_name(self.namespaces(), namespace) {
+            Some(own) => self.named(&(api_version, kind, own)),
+            None => self.beyond(api_version, kind, namespace),
+        }
+    }
+
+    /// The same in any namespace, also if there is no such Namespace.
+    fn beyond(
         &self,
         api_version: &str,
         kind: &str,
@@ -103,6 +118,25 @@ impl<'a> Objects<'a> {
             }
         }
         None
+    }
+}
+
+/// The name among these objects that is this text.
+fn own_name<'a>(named: Option<&BTreeMap<&'a str, &'a Value>>, name: &str) -> Option<&'a str>
+    ensures { IfSome result (λ own. own.now ≡ name.now) }
+{
+    match named {
+        Some(named) => own_name_in(named, name),
+        None => None,
+    }
+}
+
+fn own_name_in<'a>(named: &BTreeMap<&'a str, &'a Value>, name: &str) -> Option<&'a str>
+    ensures { IfSome result (λ own. own.now ≡ name.now) }
+{
+    match named.get_key_value(name) {
+        Some((own, _)) if *own == name => Some(*own),
+        _ => None,
     }
 }
 

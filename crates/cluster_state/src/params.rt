@@ -56,8 +56,8 @@ impl<'a> State<'a> {
     /// The objects of the kind: in the namespace that the binding names, and else in the request's.
     fn objects_for(
         &self,
-        kind: &KnownKind<'_>,
-        named: &str,
+        kind: &KnownKind<'a>,
+        named: &'a str,
         own: &str,
     ) -> Option<&BTreeMap<&'a str, &'a Value>>
         ensures { option_map_or (λ m. named_view m.now.entries) result [] ≡ (state_view self.now).objects (params_place kind.now.scope (param_kind_view kind.now.kind) named.now own.now) }
@@ -71,10 +71,10 @@ impl<'a> State<'a> {
                 if named.is_empty() {
                     self.objects.at(api_version, name, own)
                 } else {
-                    self.objects.at(api_version, name, named)
+                    self.objects.named(&(api_version, name, named))
                 }
             }
-            ParamScope::Cluster => self.objects.at(api_version, name, ""),
+            ParamScope::Cluster => self.objects.named(&(api_version, name, "")),
         }
     }
 }

@@ -1,6 +1,6 @@
--- Loop invariants of `objects::Objects::at`.
+-- Loop invariants of `objects::Objects::beyond`.
 use Rattle.cluster_state.proofs.Prelude.{◌≡◌, collection_cmp, is_at, lookup}
-use Rattle.cluster_state.proofs.objects.Objects.at.Given as goal
+use Rattle.cluster_state.proofs.objects.Objects.beyond.Given as goal
 
 abbrev pub invariant-loop-place : goal.invariant-loop-place
 invariant-loop-place l =

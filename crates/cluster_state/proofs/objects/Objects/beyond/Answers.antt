@@ -1,7 +1,7 @@
--- Proof obligations of `objects::Objects::at`.
+-- Proof obligations of `objects::Objects::beyond`.
 use Rattle.cluster_state.proofs.Prelude.{◌≡◌, ◌∙◌, [], Some, ap, collection_cmp, get_by, named_view, option_map_or, sym, Collection}
 use Rattle.cluster_state.proofs.Placed.{found_place, passed_place}
-use Rattle.cluster_state.proofs.objects.Objects.at.Goals as goal
+use Rattle.cluster_state.proofs.objects.Objects.beyond.Goals as goal
 
 pub returns-then-is_place : goal.returns-then-is_place
 returns-then-is_place c =
