@@ -6,19 +6,21 @@ ghost use Rattle.value_table.specs.DocumentPool.{HoldsReview, OpenReturns, PoolR
 ghost use Rattle.value_table.specs.Heap.{heap_values};
 
 use crate::heap::Heap;
+use crate::kept_scratch::KeptScratch;
 use crate::open_review::OpenReview;
 use crate::pooled_document::PooledDocument;
 use crate::reading::add_null;
 use crate::review_error::ReviewError;
 use crate::review_table::{document_value, review_values};
-use json::Scratch;
 use std::alloc::{AllocError, Global};
 use std::marker::Model;
+use std::rc::Rc;
 
-/// The values of documents. Copies share them.
+/// The values of documents. Copies share them, and the memory for reading.
 #[derive(Drop)]
 pub struct DocumentPool {
     heap: Heap,
+    scratch: Rc<KeptScratch>,
 }
 
 impl Model for DocumentPool {
@@ -44,6 +46,7 @@ impl DocumentPool {
     {
         Ok(DocumentPool {
             heap: Heap::new(alloc)?,
+            scratch: KeptScratch::shared(alloc)?,
         })
     }
 
@@ -53,6 +56,7 @@ impl DocumentPool {
     {
         Ok(DocumentPool {
             heap: self.heap.copy()?,
+            scratch: self.scratch.clone()?,
         })
     }
 
@@ -64,10 +68,11 @@ impl DocumentPool {
     pub fn with_document(self, text: &[u8]) -> Result<(DocumentPool, PooledDocument), ReviewError>
         ensures { PoolReturns self result (document_of text.now) }
     {
-        let mut heap = self.heap;
-        let mut scratch = Scratch::new(heap.cells.alloc());
-        let placed = document_value(&mut heap, &mut scratch, text)?;
-        Ok((DocumentPool { heap }, PooledDocument { placed }))
+        let DocumentPool { mut heap, scratch } = self;
+        let mut reading = scratch.take(heap.cells.alloc())?;
+        let placed = document_value(&mut heap, &mut reading, text)?;
+        scratch.keep(reading, text.len());
+        Ok((DocumentPool { heap, scratch }, PooledDocument { placed }))
     }
 
     /// Reads a review (AdmissionReview, `admission.k8s.io/v1`) beside the documents.
@@ -78,15 +83,17 @@ impl DocumentPool {
     pub fn open<'r>(self, review: &'r [u8]) -> Result<OpenReview<'r>, ReviewError>
         ensures { OpenReturns self result review.now }
     {
-        let mut heap = self.heap;
-        let mut scratch = Scratch::new(heap.cells.alloc());
-        let request = review_values(&mut heap, &mut scratch, review)?;
+        let DocumentPool { mut heap, scratch } = self;
+        let mut reading = scratch.take(heap.cells.alloc())?;
+        let request = review_values(&mut heap, &mut reading, review)?;
+        scratch.keep(reading, review.len());
         let null = add_null(&mut heap)?;
         Ok(OpenReview {
             review,
             heap,
             request,
             null,
+            scratch,
         })
     }
 }

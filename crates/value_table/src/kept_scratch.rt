@@ -3,6 +3,7 @@
 use json::Scratch;
 use std::alloc::{AllocError, Global};
 use std::cell::Cell;
+use std::rc::Rc;
 
 /// The largest length in bytes of a text whose memory is kept.
 const KEPT_LENGTH: usize = 1_048_576;
@@ -19,6 +20,11 @@ impl KeptScratch {
         KeptScratch {
             kept: Cell::new(None),
         }
+    }
+
+    /// The same, for pools and reviews that share it.
+    pub(crate) fn shared(alloc: Global) -> Result<Rc<KeptScratch>, AllocError> {
+        Rc::new(alloc, KeptScratch::new()).ok().ok_or(AllocError)
     }
 
     /// The memory that is kept, or else new memory.

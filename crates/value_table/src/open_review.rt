@@ -9,15 +9,16 @@ ghost use Rattle.value_table.specs.Held.{held_contents};
 ghost use Rattle.value_table.specs.ReviewTable.{ReviewTableReturns};
 
 use crate::heap::Heap;
+use crate::kept_scratch::KeptScratch;
 use crate::placed::Placed;
 use crate::placed_request::PlacedRequest;
 use crate::pooled_document::PooledDocument;
 use crate::review_error::ReviewError;
 use crate::review_table::document_value;
 use crate::table::Table;
-use json::Scratch;
 use std::alloc::AllocError;
 use std::marker::Model;
+use std::rc::Rc;
 
 /// A review, read beside the documents of a pool. Its tables share all values.
 #[derive(Drop)]
@@ -27,6 +28,7 @@ pub struct OpenReview<'r> {
     pub(crate) request: PlacedRequest,
     /// Where the null is that takes the place of a missing document.
     pub(crate) null: Placed,
+    pub(crate) scratch: Rc<KeptScratch>,
 }
 
 impl<'r> Model for OpenReview<'r> {
@@ -58,14 +60,17 @@ impl<'r> OpenReview<'r> {
             mut heap,
             request,
             null,
+            scratch,
         } = self;
-        let mut scratch = Scratch::new(heap.cells.alloc());
-        let placed = document_value(&mut heap, &mut scratch, text)?;
+        let mut reading = scratch.take(heap.cells.alloc())?;
+        let placed = document_value(&mut heap, &mut reading, text)?;
+        scratch.keep(reading, text.len());
         let opened = OpenReview {
             review,
             heap,
             request,
             null,
+            scratch,
         };
         Ok((opened, PooledDocument { placed }))
     }
@@ -79,6 +84,7 @@ impl<'r> OpenReview<'r> {
             heap: self.heap.copy()?,
             request: self.request,
             null: self.null,
+            scratch: self.scratch.clone()?,
         })
     }
 
@@ -99,6 +105,7 @@ impl<'r> OpenReview<'r> {
             heap,
             request,
             null,
+            scratch: _,
         } = self;
         let roots = [
             request.object,
