@@ -1,10 +1,9 @@
 -- The names of policies that bindings refer to.
-use Rattle.cluster_state.proofs.Prelude.{◌≡◌, ◌∙◌, ◌+◌, ◌++◌, ◌∷◌, ℕ, true, List, [], ap, arith, bytes_eq, is_eq-slice_cmp, list_any, nat_cmp, slice_cmp, sym, Bor, CodeBinding}
+use Rattle.cluster_state.proofs.Prelude.{◌≡◌, ◌∙◌, ◌+◌, ◌++◌, ◌∷◌, ℕ, true, List, [], ap, arith, is_eq-slice_cmp, list_any, nat_cmp, slice_cmp, sym, Bor, CodeBinding}
 use Rattle.std.proofs.Common.{◌<◌, get_or, length, take}
 use Rattle.std.proofs.lemmas.List.{take_more}
 use Rattle.std.proofs.lemmas.List.Folds.{list_any-append}
-use Rattle.std.proofs.lemmas.Cmp.{nat_list_eq_equiv}
-use Rattle.std.specs.BTreeSet.{BTreeSet, contains, IsEmpty, Updates}
+use Rattle.std.specs.BTreeSet.{BTreeSet, IsEmpty, Updates}
 use Rattle.std.specs.Ordering.{is_eq}
 use Rattle.cluster_state.specs.Names.{HoldsPolicyNames}
 

@@ -41,12 +41,23 @@ three_then Less b c = refl
 three_then Equal b c = two_then b c
 three_then Greater b c = refl
 
+and_back : (a b c : Bool) → (a && b && c) ≡ (c && b && a)
+and_back true true true = refl
+and_back true true false = refl
+and_back true false true = refl
+and_back true false false = refl
+and_back false true true = refl
+and_back false true false = refl
+and_back false false true = refl
+and_back false false false = refl
+
 -- the order of keys finds a collection
 pub is_place : (c d : Collection)
-    → is_eq (ordering_then (ordering_then (slice_cmp nat_cmp c.api_version d.api_version) (slice_cmp nat_cmp c.kind d.kind)) (slice_cmp nat_cmp c.namespace d.namespace)) ≡ is_collection c d
+    → is_eq (ordering_then (ordering_then (slice_cmp nat_cmp c.namespace d.namespace) (slice_cmp nat_cmp c.kind d.kind)) (slice_cmp nat_cmp c.api_version d.api_version)) ≡ is_collection c d
 is_place c d =
-    three_then (slice_cmp nat_cmp c.api_version d.api_version) (slice_cmp nat_cmp c.kind d.kind) (slice_cmp nat_cmp c.namespace d.namespace)
-    ∙ rw (is_eq-slice_cmp c.api_version d.api_version, is_eq-slice_cmp c.kind d.kind, is_eq-slice_cmp c.namespace d.namespace) refl
+    three_then (slice_cmp nat_cmp c.namespace d.namespace) (slice_cmp nat_cmp c.kind d.kind) (slice_cmp nat_cmp c.api_version d.api_version)
+    ∙ rw (is_eq-slice_cmp c.api_version d.api_version, is_eq-slice_cmp c.kind d.kind, is_eq-slice_cmp c.namespace d.namespace)
+    (and_back (bytes_eq c.namespace d.namespace) (bytes_eq c.kind d.kind) (bytes_eq c.api_version d.api_version))
 
 -- what is found after a place was emptied and refilled
 pub refilled : {M : Type 0} (f : M → Named) (b : Bool) (w : M) (o p q : Option M) → q ≡ cond b (Some w) p → p ≡ cond b None o
@@ -62,7 +73,7 @@ copied_or f (Some m) = refl
 -- a collection as a key of the code's map
 abbrev pub lent : Collection → Bor (List ℕ) × Bor (List ℕ) × Bor (List ℕ)
 lent c =
-    (record { ref_ptr = (0, 0); now = c.api_version }, record { ref_ptr = (0, 0); now = c.kind }, record { ref_ptr = (0, 0); now = c.namespace })
+    (record { ref_ptr = (0, 0); now = c.namespace }, record { ref_ptr = (0, 0); now = c.kind }, record { ref_ptr = (0, 0); now = c.api_version })
 
 pub not_back : (a b : Bool) → a ≡ not b → b ≡ not a
 not_back true true e = e

@@ -55,11 +55,11 @@ with_items objects (i ∷ is) = if is_taken objects i then Err (duplicate_item i
 abbrev pub named_view : List (Bor (List ℕ) × Bor Value) → Named
 named_view es = map (λ e. (e.0.now, view e.1.now)) es
 
--- how a collection compares with one of the code
+-- how a collection compares with one of the code, of which the namespace comes first
 abbrev pub collection_cmp : Collection → Bor (List ℕ) × Bor (List ℕ) × Bor (List ℕ) → Ordering
 collection_cmp c k =
-    ordering_then (ordering_then (slice_cmp nat_cmp c.api_version k.0.now) (slice_cmp nat_cmp c.kind k.1.now))
-    (slice_cmp nat_cmp c.namespace k.2.now)
+    ordering_then (ordering_then (slice_cmp nat_cmp c.namespace k.0.now) (slice_cmp nat_cmp c.kind k.1.now))
+    (slice_cmp nat_cmp c.api_version k.2.now)
 
 -- the objects of a collection in the map of the code
 abbrev pub named_in : BTreeMap (Bor (List ℕ) × Bor (List ℕ) × Bor (List ℕ)) (BTreeMap (Bor (List ℕ)) (Bor Value)) → Objects
@@ -71,4 +71,4 @@ objects_view o = named_in o.collections
 
 -- a collection of the code
 abbrev pub collection_view : Bor (List ℕ) × Bor (List ℕ) × Bor (List ℕ) → Collection
-collection_view k = record { api_version = k.0.now; kind = k.1.now; namespace = k.2.now }
+collection_view k = record { api_version = k.2.now; kind = k.1.now; namespace = k.0.now }

@@ -14,7 +14,7 @@ use std::collections::BTreeMap;
 /// The objects of a cluster.
 #[derive(Debug, Drop)]
 pub(crate) struct Objects<'a> {
-    /// By `apiVersion`, kind and namespace, and then by name.
+    /// By namespace, kind and `apiVersion`, and then by name. Those without a namespace come first.
     collections: BTreeMap<(&'a str, &'a str, &'a str), BTreeMap<&'a str, &'a Value>>,
 }
 
@@ -46,14 +46,14 @@ impl<'a> Objects<'a> {
     pub(crate) fn namespaces(&self) -> Option<&BTreeMap<&'a str, &'a Value>>
         ensures { option_map_or (λ m. named_view m.now.entries) result [] ≡ objects_view self.now namespaces }
     {
-        self.named(&("v1", "Namespace", ""))
+        self.named(&("", "Namespace", "v1"))
     }
 
     /// The definitions of kinds.
     pub(crate) fn definitions(&self) -> Option<&BTreeMap<&'a str, &'a Value>>
         ensures { option_map_or (λ m. named_view m.now.entries) result [] ≡ objects_view self.now definitions }
     {
-        self.named(&("apiextensions.k8s.io/v1", "CustomResourceDefinition", ""))
+        self.named(&("", "CustomResourceDefinition", "apiextensions.k8s.io/v1"))
     }
 
     /// The bindings of policies.
@@ -61,9 +61,9 @@ impl<'a> Objects<'a> {
         ensures { option_map_or (λ m. named_view m.now.entries) result [] ≡ objects_view self.now bindings }
     {
         self.named(&(
-            "admissionregistration.k8s.io/v1",
-            "ValidatingAdmissionPolicyBinding",
             "",
+            "ValidatingAdmissionPolicyBinding",
+            "admissionregistration.k8s.io/v1",
         ))
     }
 
@@ -72,13 +72,13 @@ impl<'a> Objects<'a> {
         ensures { option_map_or (λ m. named_view m.now.entries) result [] ≡ objects_view self.now policies }
     {
         self.named(&(
-            "admissionregistration.k8s.io/v1",
-            "ValidatingAdmissionPolicy",
             "",
+            "ValidatingAdmissionPolicy",
+            "admissionregistration.k8s.io/v1",
         ))
     }
 
-    /// The objects with this `apiVersion`, kind and namespace.
+    /// The objects with this namespace, kind and `apiVersion`.
     pub(crate) fn named(
         &self,
         place: &(&'a str, &'a str, &'a str),
@@ -98,7 +98,7 @@ impl<'a> Objects<'a> {
         ensures { option_map_or (λ m. named_view m.now.entries) result [] ≡ objects_view self.now (record { api_version = api_version.now; kind = kind.now; namespace = namespace.now }) }
     {
         match own_name(self.namespaces(), namespace) {
-            Some(own) => self.named(&(api_version, kind, own)),
+            Some(own) => self.named(&(own, kind, api_version)),
             None => self.beyond(api_version, kind, namespace),
         }
     }
@@ -144,7 +144,7 @@ fn own_name_in<'a>(named: &BTreeMap<&'a str, &'a Value>, name: &str) -> Option<&
 fn is_place(place: &(&str, &str, &str), api_version: &str, kind: &str, namespace: &str) -> bool
     ensures { result ≡ is_collection (record { api_version = api_version.now; kind = kind.now; namespace = namespace.now }) (collection_view place.now) }
 {
-    api_version == place.0 && kind == place.1 && namespace == place.2
+    namespace == place.0 && kind == place.1 && api_version == place.2
 }
 
 fn add_to<'a>(
@@ -155,7 +155,7 @@ fn add_to<'a>(
     ensures free { IfOk result (λ free. free ≡ not (is_taken (named_in collections.old) (item_view item.now))) }
     ensures added { OnOk result ((c : Collection) → named_in collections.new c ≡ with_item (named_in collections.old) (item_view item.now) c) }
 {
-    let place = (item.api_version, item.kind, item.namespace);
+    let place = (item.namespace, item.kind, item.api_version);
     let mut objects = named_or_new(alloc, collections.remove(&place));
     let old = objects.insert(item.name, item.document)?;
     collections.insert(place, objects)?;

@@ -71,10 +71,10 @@ impl<'a> State<'a> {
                 if named.is_empty() {
                     self.objects.at(api_version, name, own)
                 } else {
-                    self.objects.named(&(api_version, name, named))
+                    self.objects.named(&(named, name, api_version))
                 }
             }
-            ParamScope::Cluster => self.objects.named(&(api_version, name, "")),
+            ParamScope::Cluster => self.objects.named(&("", name, api_version)),
         }
     }
 }
