@@ -6,6 +6,8 @@ ghost use Rattle.json.specs.Print.{quoted, escape_byte};
 ghost use Rattle.value_store.specs.Plain.{saturated};
 ghost use Rattle.value_table.specs.Lengths.{commas};
 
+use crate::plain::is_plain;
+
 // The number of commas between `count` items and `more` items that follow them.
 fn commas(count: u64, more: u64) -> u64
     ensures { result ≡ commas count more }
@@ -65,6 +67,16 @@ fn digits(n: u64) -> u64
 
 /// The length of a text in JSON, with its quotes and escapes.
 pub(crate) fn quoted_length(text: &[u8]) -> u64
+    ensures { result ≡ saturated (length (quoted text.now)) }
+{
+    if is_plain(text) {
+        return 2u64.saturating_add(text.len() as u64);
+    }
+    counted_length(text)
+}
+
+// `quoted_length`, byte by byte.
+fn counted_length(text: &[u8]) -> u64
     ensures { result ≡ saturated (length (quoted text.now)) }
 {
     let mut length = 2u64;

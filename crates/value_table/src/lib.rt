@@ -35,6 +35,7 @@ mod pending_map;
 mod placed;
 mod placed_request;
 mod places;
+mod plain;
 mod pooled_document;
 mod read_error;
 mod reading;

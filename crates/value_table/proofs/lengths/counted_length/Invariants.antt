@@ -1,7 +1,7 @@
--- Loop invariant of `lengths::quoted_length`.
+-- Loop invariant of `lengths::counted_length`.
 
 use Rattle.value_table.proofs.Prelude.{◌≡◌, ◌≤◌, ◌+◌, length, take, escape, saturated}
-use Rattle.value_table.proofs.lengths.quoted_length.Given as goal
+use Rattle.value_table.proofs.lengths.counted_length.Given as goal
 
 abbrev pub invariant-loop-byte : goal.invariant-loop-byte
 invariant-loop-byte l = record {
