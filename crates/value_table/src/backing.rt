@@ -5,7 +5,6 @@ ghost use Rattle.std.specs.Borrow.{sem};
 ghost use Rattle.value_table.specs.Entries.{with_one};
 ghost use Rattle.value_table.specs.Lending.{LendsItems, LendsOwned};
 
-use crate::room::fill;
 use std::alloc::{AllocError, Global};
 use std::marker::Model;
 use std::rc::Rc;
@@ -124,9 +123,22 @@ impl<T: Copy> Backing<T> {
         ensures ok { OnOk result (self.new ≡ self.old ++ more.now) }
         ensures err { OnErr result (self.new ≡ self.old) }
     {
-        let items = self.room(more.len())?;
-        fill(items, more);
-        Ok(())
+        self.own(more.len())?;
+        append(&mut self.items, more)
+    }
+}
+
+// Appends items to the vector, if nobody else shares it.
+fn append<T: Copy>(items: &mut Rc<Vec<T>>, more: &[T]) -> Result<(), AllocError>
+    ensures ok { OnOk result (items.new.value.items ≡ items.old.value.items ++ more.now) }
+    ensures err { OnErr result (items.new.value.items ≡ items.old.value.items) }
+{
+    match Rc::get_mut(items) {
+        Some(items) => {
+            items.extend_from_slice(more)?;
+            Ok(())
+        }
+        None => Err(AllocError),
     }
 }
 

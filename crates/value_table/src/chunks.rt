@@ -68,12 +68,14 @@ impl<T: Copy> Chunks<T> {
         item(&self.full[..], &self.last[..], place)
     }
 
-    /// A copy that shares the full chunks, with capacity for a few further items.
-    pub(crate) fn copy(&self) -> Result<Chunks<T>, AllocError>
+    /// A copy that shares the full chunks, with capacity for these further items, at most for those
+    /// of a chunk.
+    pub(crate) fn copy(&self, more: usize) -> Result<Chunks<T>, AllocError>
         ensures { IfOk result (λ c. c.0 ≡ self.now.0) }
     {
         let full = self.full.clone()?;
-        let mut last = Vec::with_capacity(self.alloc(), self.last.len().saturating_add(SPARE))?;
+        let capacity = self.last.len().saturating_add(more.min(CHUNK));
+        let mut last = Vec::with_capacity(self.alloc(), capacity)?;
         last.extend_from_slice(&self.last)?;
         Ok(Chunks { full, last })
     }

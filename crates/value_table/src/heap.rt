@@ -56,9 +56,17 @@ impl Heap {
         requires { IsHeap self.now }
         ensures { IfOk result (λ h. IsHeap h × (heap_values h ≡ heap_values self.now)) }
     {
-        let words = self.cells.len().saturating_add(SPARE);
+        self.copy_with(SPARE)
+    }
+
+    /// A copy as `copy` makes it, with capacity for the cells of these further values.
+    pub(crate) fn copy_with(&self, more: usize) -> Result<Heap, AllocError>
+        requires { IsHeap self.now }
+        ensures { IfOk result (λ h. IsHeap h × (heap_values h ≡ heap_values self.now)) }
+    {
+        let words = self.cells.len().saturating_add(more);
         Ok(Heap {
-            cells: self.cells.clone()?,
+            cells: self.cells.copy(more)?,
             backings: self.backings.copy()?,
             same: Vec::with_capacity(self.cells.alloc(), words)?,
             indexes: Indexes::new(self.cells.alloc()),

@@ -1,7 +1,7 @@
 //! Maps that are being added.
 
 use crate::part::Part;
-use std::alloc::Global;
+use std::alloc::{AllocError, Global};
 
 /// The keys of a map, and the places of its values. The vectors are reused for the next map.
 #[derive(Drop)]
@@ -16,5 +16,11 @@ impl PendingMap {
             keys: Vec::new(alloc),
             places: Vec::new(alloc),
         }
+    }
+
+    /// Reserves capacity for this number of members.
+    pub(crate) fn reserve(&mut self, count: usize) -> Result<(), AllocError> {
+        self.keys.reserve(count)?;
+        self.places.reserve(count)
     }
 }

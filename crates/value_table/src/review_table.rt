@@ -30,6 +30,9 @@ const RESERVED: usize = 4096;
 /// About as many bytes of a document as a value takes.
 const BYTES_OF_A_VALUE: usize = 12;
 
+/// The number of members of a map for which capacity is reserved.
+const MEMBERS: usize = 16;
+
 impl Table {
     /// The table of the roots of a review (AdmissionReview, `admission.k8s.io/v1`), a namespace and
     /// params, read in one pass, and the uid of the review's request. A missing namespace or params
@@ -106,19 +109,15 @@ pub(crate) fn opened(
     Ok((table, uid))
 }
 
-// Reserves capacity for the values of a document of this length, so that the values of a short one
-// are not moved as they are added.
-fn reserve(heap: &mut Heap, length: usize) -> Result<(), AllocError>
+// Reserves capacity for the texts, lists and maps of a document with as many values, so that those
+// of a short one are not moved as they are added.
+fn reserve(heap: &mut Heap, length: usize, count: usize) -> Result<(), AllocError>
     requires { IsHeap heap.old }
     ensures heap { OnOk result (IsHeap heap.new) }
     ensures values { OnOk result (heap_values heap.new ≡ heap_values heap.old) }
 {
-    let length = length.min(RESERVED);
-    let count = length / BYTES_OF_A_VALUE;
     heap.backings.reserve(length, count)?;
-    heap.cells.reserve(count)?;
-    heap.same.reserve(heap.cells.len().saturating_add(count))?;
-    Ok(())
+    heap.pending.reserve(MEMBERS)
 }
 
 impl PlacedOthers {
@@ -129,8 +128,10 @@ impl PlacedOthers {
         ensures placed { IfOk result (λ o. ArePlaced o) }
         ensures same { IfOk result (λ o. (namespace params : Option Data) → ArePlacedOthers self.now namespace params → ArePlacedOthers o namespace params) }
     {
-        let mut heap = self.heap.copy()?;
-        reserve(&mut heap, length)?;
+        let length = length.min(RESERVED);
+        let count = length / BYTES_OF_A_VALUE;
+        let mut heap = self.heap.copy_with(count)?;
+        reserve(&mut heap, length, count)?;
         Ok(PlacedOthers {
             heap,
             places: self.places,

@@ -4,7 +4,7 @@ ghost use Rattle.std.specs.Prelude.{◌≡◌, ◌<◌, ◌+◌, ◌^◌, [], �
 ghost use Rattle.std.specs.Borrow.{sem};
 ghost use Rattle.value_table.specs.Lending.{LendsChunks};
 
-use crate::chunks::Chunks;
+use crate::chunks::{Chunks, SPARE};
 use std::alloc::{AllocError, Global};
 use std::marker::Model;
 
@@ -72,6 +72,14 @@ impl<T: Copy> Sequence<T> {
         Ok(&mut self.chunks)
     }
 
+    /// A copy with capacity for these further items, at most for 256.
+    pub(crate) fn copy(&self, more: usize) -> Result<Sequence<T>, AllocError>
+        ensures { IfOk result (λ s. s ≡ self.now) }
+    {
+        let chunks = self.chunks.copy(more)?;
+        Ok(Sequence { chunks })
+    }
+
     /// Reserves capacity for these further items, at most for 256.
     pub(crate) fn reserve(&mut self, more: usize) -> Result<(), AllocError>
         ensures { self.new ≡ self.old }
@@ -93,7 +101,6 @@ impl<T: Copy> Clone for Sequence<T> {
     ghost is_clone = { λ s copy. copy ≡ s };
 
     fn clone(&self) -> Result<Sequence<T>, AllocError> {
-        let chunks = self.chunks.copy()?;
-        Ok(Sequence { chunks })
+        self.copy(SPARE)
     }
 }
