@@ -1,7 +1,7 @@
 -- Results of the calls of a store, from the values at their references. A result is None if a
 -- reference is invalid or its value is of another kind.
 use Rattle.std.specs.Prelude.{◌≡◌, ℕ, Bool, true, List, [], ◌++◌, Option, Some, None, Result, Ok, Err, slice_get, option_map, option_and_then}
-use Rattle.value_store.specs.Value.{Value, null, boolean, int, text, list, map, Entries, ValueOrError, error, value, list_of, keys_of}
+use Rattle.value_store.specs.Value.{Value, text, list, map, Entries, ValueOrError, error, value, list_of, keys_of}
 use Rattle.value_store.specs.Value.{values_of, items_push, items_join}
 use Rattle.std.specs.declared.alloc.AllocError.{AllocError}
 use Rattle.value_store.specs.Equality.{equal}
@@ -23,11 +23,7 @@ value_part (value v) = Some v
 -- the entries of a map
 abbrev pub entries_part : Value → Option Entries
 entries_part (map es) = Some es
-entries_part null = None
-entries_part (boolean b) = None
-entries_part (int n) = None
-entries_part (text s) = None
-entries_part (list is) = None
+entries_part _ = None
 
 -- the value at a reference
 abbrev pub value_at : Option ValueOrError → Option Value
@@ -44,8 +40,7 @@ entries_at o = option_and_then entries_part (value_at o)
 -- f applied to two values; None if one is missing
 abbrev pub on_values : {A : Type 0} → (Value → Value → Option A) → Option Value → Option Value → Option A
 on_values f (Some a) (Some b) = f a b
-on_values f None b = None
-on_values f (Some a) None = None
+on_values f _ _ = None
 
 -- whether the values at two references are equal
 abbrev pub equal_at : Option ValueOrError → Option ValueOrError → Option Bool
@@ -67,10 +62,7 @@ find_at m key = option_map (place_of_key key) (entries_at m)
 abbrev pub parts_of : Value → List Value
 parts_of (list is) = list_of is
 parts_of (map es) = values_of es
-parts_of null = []
-parts_of (boolean b) = []
-parts_of (int n) = []
-parts_of (text s) = []
+parts_of _ = []
 
 -- the i-th item of the list at a reference, or the i-th value of the map there, counted from 0
 abbrev pub part_at : Option ValueOrError → ℕ → Option Value

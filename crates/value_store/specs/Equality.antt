@@ -1,12 +1,11 @@
 -- Deep equality (cel-spec, Equality): values of different kinds are unequal.
-use Rattle.std.specs.Prelude.{Bool, true, false, ◌&&◌, ℤ, pos, negsuc, nat_eq, bytes_eq}
+use Rattle.std.specs.Prelude.{Bool, true, false, not, ◌&&◌, ℤ, pos, negsuc, nat_eq, bytes_eq}
 use Rattle.value_store.specs.Value.{Value, null, boolean, int, text, list, map, Items, no_items, item, Entries, no_entries, entry}
 
 -- whether two bools are equal
 abbrev pub truth_equal : Bool → Bool → Bool
 truth_equal true b = b
-truth_equal false true = false
-truth_equal false false = true
+truth_equal false b = not b
 
 -- whether two ints are equal
 abbrev pub int_equal : ℤ → ℤ → Bool

@@ -5,11 +5,6 @@ use Rattle.std.specs.Fmt.{signed_decimal}
 use Rattle.json.specs.Print.{quoted}
 use Rattle.value_store.specs.Value.{Value, null, boolean, int, text, list, map, Items, no_items, item, Entries, no_entries, entry, ValueOrError, error, value}
 
--- the text of a bool (RFC 8259, section 3)
-abbrev pub truth_text : Bool → List ℕ
-truth_text true = codes "true"
-truth_text false = codes "false"
-
 -- a comma, if an item or entry precedes
 abbrev pub comma_after : Bool → List ℕ
 comma_after later = if later then codes "," else []
@@ -18,7 +13,7 @@ abbrev mutual
   -- the text of a value: a literal name, a number, a string, an array or an object (RFC 8259, section 3)
   pub json_text : Value → List ℕ
   json_text null = codes "null"
-  json_text (boolean b) = truth_text b
+  json_text (boolean b) = if b then codes "true" else codes "false"
   json_text (int n) = signed_decimal n
   json_text (text s) = quoted s
   json_text (list is) = codes "[" ++ items_text false is

@@ -3,7 +3,7 @@ use Rattle.std.specs.Prelude.{ℕ, suc, Bool, ◌||◌, List, Option, Some, None
 use Rattle.std.specs.declared.cmp.Ordering.{Ordering, TheVariants.Less, TheVariants.Equal, TheVariants.Greater}
 use Rattle.std.specs.Ordering.{nat_cmp}
 use Rattle.std.specs.Cmp.Lexicographic.{slice_cmp}
-use Rattle.value_store.specs.Value.{Value, null, boolean, int, text, list, map, Items, no_items, item, Entries, no_entries, entry}
+use Rattle.value_store.specs.Value.{Value, text, list, map, Items, no_items, item, Entries, no_entries, entry}
 use Rattle.value_store.specs.Equality.{equal}
 
 -- the value at a key, if the map has the key
@@ -28,21 +28,12 @@ has_item x (item v more) = equal x v || has_item x more
 -- the bytes of a text
 abbrev pub text_part : Value → Option (List ℕ)
 text_part (text s) = Some s
-text_part null = None
-text_part (boolean b) = None
-text_part (int n) = None
-text_part (list is) = None
-text_part (map es) = None
-
--- whether the text is a key of the map; None if there is no text
-abbrev pub key_among : Option (List ℕ) → Entries → Option Bool
-key_among (Some key) es = Some (has_key key es)
-key_among None es = None
+text_part _ = None
 
 -- whether x is in a value: a list has an equal item, a map has the text x as a key; None for other values
 abbrev pub member : Value → Value → Option Bool
 member x (list is) = Some (has_item x is)
-member x (map es) = key_among (text_part x) es
+member x (map es) = option_map (λ key. has_key key es) (text_part x)
 member x _ = None
 
 -- entries with a new one, by the comparison of its key with the first key k: before the first if

@@ -1,6 +1,6 @@
 -- The values of a store as a list; a reference is an index into it.
 use Rattle.std.specs.Prelude.{◌≡◌, ◌≤◌, ℕ, Bool, true, false, List, [], ◌∷◌, ◌++◌, length, Some, slice_get, ⊤}
-use Rattle.value_store.specs.Value.{Value, null, boolean, int, text, list, map, ValueOrError, error, value}
+use Rattle.value_store.specs.Value.{Value, null, boolean, ValueOrError, error, value}
 
 -- the limit of a store's charge, for its roots and all calls together: 2 ^ 24
 abbrev pub charge_limit : ℕ
@@ -15,28 +15,19 @@ abbrev pub place : List ValueOrError → Value → ℕ
 place vs null = 1
 place vs (boolean false) = 2
 place vs (boolean true) = 3
-place vs (int n) = length vs
-place vs (text s) = length vs
-place vs (list is) = length vs
-place vs (map es) = length vs
+place vs _ = length vs
 
 -- whether placing a value appends it, and so allocates: all values but null, false and true
 abbrev pub is_appended : Value → Bool
 is_appended null = false
 is_appended (boolean b) = false
-is_appended (int n) = true
-is_appended (text s) = true
-is_appended (list is) = true
-is_appended (map es) = true
+is_appended _ = true
 
 -- the values after one is placed: null, false and true are already there, any other is appended
 abbrev pub placed : List ValueOrError → Value → List ValueOrError
 placed vs null = vs
 placed vs (boolean b) = vs
-placed vs (int n) = vs ++ value (int n) ∷ []
-placed vs (text s) = vs ++ value (text s) ∷ []
-placed vs (list is) = vs ++ value (list is) ∷ []
-placed vs (map es) = vs ++ value (map es) ∷ []
+placed vs v = vs ++ value v ∷ []
 
 -- the error, false and true are at their fixed references only
 abbrev pub IsCanonicalAt : ValueOrError → ℕ → Type 0

@@ -33,11 +33,8 @@ abbrev mutual
 -- whether a document may be a root: an object or null
 abbrev pub is_root : json.Data → Bool
 is_root json.null = true
-is_root (json.boolean b) = false
-is_root (json.number n) = false
-is_root (json.string s) = false
-is_root (json.array ds) = false
 is_root (json.object ms) = true
+is_root _ = false
 
 -- the value of the root at a reference; without one the root is refused for a number
 abbrev pub root_value : ℕ → Option Value → Result Value TableError
