@@ -1,10 +1,11 @@
 -- Every derived phrase is read by some run of the reader.
-use Rattle.cel_reader.proofs.Prelude.{◌≡◌, ℕ, suc, List, [], ◌∷◌, Bool, true, false, ◌&&◌, Some, None, inl, inr, refl, sym, ◌∙◌, ap, is_name, Word, name, mark, Mark, Question, Colon, Comma, OpenParen, Tree, Literal, trees, is_identifier, may_stand_free, literal_of, literal_role, role_of, at, operator, this_mark, this_name, this_literal, this_operator, IsNotNext, Closes, GoesOn, closing_mark, takes_comma, Class, Expression, Infix, Unary, Prefixed, Member, Primary, Items, OptionalItems, Pairs, OptionalPairs, Phrase, One, Many, Keyed, below, OptionalComma, Derives, ReadOutcome, Got, Row, Tail, Suffix, Listed, Item, Behind, Mapped, Entry, BehindEntry, maybe_call, PlanRuns, stands, goes, calls, found, missing, enters, passes, opened, StepReads, Level, Or, And, Relation, Sum, Product, Closing, Call, Map, Role}
+use Rattle.cel_reader.proofs.Prelude.{◌≡◌, ℕ, suc, List, [], ◌∷◌, Bool, true, false, ◌&&◌, Some, None, inl, inr, refl, arith, sym, ◌∙◌, ap, is_name, Word, name, mark, Mark, Question, Colon, Comma, OpenParen, Tree, Literal, trees, is_identifier, literal_of, at, operator, this_mark, this_name, this_literal, this_operator, IsNotNext, Closes, GoesOn, closing_mark, takes_comma, Class, Expression, Infix, Unary, Prefixed, Member, Primary, Items, OptionalItems, Pairs, OptionalPairs, Phrase, One, Many, Keyed, below, OptionalComma, Derives, ReadOutcome, Got, Row, Tail, Suffix, Listed, Item, Behind, Mapped, Entry, BehindEntry, maybe_call, PlanRuns, stands, goes, calls, found, missing, enters, passes, opened, StepReads, Level, Or, And, Relation, Sum, Product, Closing, Call, Map}
+use Rattle.std.specs.Prelude.{◌||◌, not, codes, bytes_eq, if◌then◌else◌}
+use Rattle.cel_reader.specs.Words.{is_reserved}
 use Rattle.cel_reader.specs.Tree as tree
 use Rattle.cel_reader.specs.Grammar as derives
 use Rattle.cel_reader.specs.declared.closing.Closing.TheVariants.{List as ListLiteral}
 use Rattle.cel_reader.specs.declared.operator.UnaryOperator.TheVariants as unary
-use Rattle.cel_reader.specs.declared.role.Role.TheVariants as role
 use Rattle.cel_reader.proofs.FirstWords.{FirstIs, begins, first, goes_on, no_comma, no_prefix, mark_not_first, closing_not_first}
 use Rattle.cel_reader.proofs.Lists.{comma_no_end, list_empty, list_goes, behind_ends, behind_goes}
 use Rattle.cel_reader.proofs.Steps.{unary_goes}
@@ -61,15 +62,19 @@ closes_list c ws rest takes (inr e) = inr (takes, e)
 literal_no_mark : (w : Word) (v : Literal) (m : Mark) → literal_of w ≡ Some v → w ≡ mark m → ⊥
 literal_no_mark w v m e f = let g : None ≡ Some v = ap literal_of (sym f) ∙ e in cc
 
-plain_no_literal : (named : Bool) (r : Role) → (named && may_stand_free r) ≡ true → literal_role r ≡ None
-plain_no_literal true role.Plain e = refl
-plain_no_literal _ _ e = absurd (let g : false ≡ true = e in cc)
+plain_by : (named t f u i r : Bool) → ((named && not (t || (f || (u || i)))) && not r) ≡ true
+    → (if t then Some (tree.truth true) else (if f then Some (tree.truth false) else (if u then Some tree.null else None))) ≡ None
+plain_by named t f u i r e = grind arith
+
+plain_no_literal : (n : List ℕ) → is_identifier n ≡ true → literal_of (name n) ≡ None
+plain_no_literal n e =
+    plain_by (is_name n) (bytes_eq n (codes "true")) (bytes_eq n (codes "false")) (bytes_eq n (codes "null")) (bytes_eq n (codes "in")) (is_reserved n) e
 
 -- an identifier, or a call
 identified : {room : ℕ} {us : List Word} {n : List ℕ} {o : ReadOutcome} → is_identifier n ≡ true
     → PlanRuns (maybe_call (tree.name n) (λ items. tree.call n (trees items))) room us o → StepReads (Row Primary) room (name n ∷ us) o
 identified {n = n} is r =
-    goes (passes (λ e. cc) (passes (λ e. cc) (passes (λ e. cc) (missing (plain_no_literal (is_name n) (role_of n) is) (found (this_name is) r)))))
+    goes (passes (λ e. cc) (passes (λ e. cc) (passes (λ e. cc) (missing (plain_no_literal n is) (found (this_name is) r)))))
 
 pub built : {c : Class} {room : ℕ} {ws : List Word} {p : Phrase} {rest : List Word} → Derives c room ws p rest → Built c room ws p rest
 built (derives.plain {room = room} {ws = ws} {rest = rest} {a = a} d) = λ n. goes (calls a (ended_infix Or room ws rest a (built d) n.1) (passes n.0 stands))

@@ -19,6 +19,7 @@ pub mod Completed
 pub mod Places
 pub mod Told
 pub mod OneAnswer
+pub mod Unreadable
 pub mod Runs
 pub mod WellFormedTrees
 pub mod TreeLists

@@ -39,6 +39,7 @@ unfoldable pub use Rattle.cel_tokens.specs.Ints.{number_from}
 unfoldable pub use Rattle.cel_tokens.specs.Texts.{content, escape}
 pub use Rattle.cel_reader.specs.Answers.{ReadReturns, DeepAt, IsReadResult, IsExpression, IsNoExpression}
 pub use Rattle.cel_reader.specs.Answers.{UnexpectedAt, StandsAt, ParseReturns, ErrorIsAt, ParseErrorIsAt, IsViablePrefix}
+pub use Rattle.cel_reader.specs.Answers.{IsUnreadable}
 pub use Rattle.cel_reader.specs.Answers.{place_at}
 pub use Rattle.cel_reader.specs.Grammar.{Class, Derives, Expression, Infix, Items, Keyed, Many, Member, One}
 pub use Rattle.cel_reader.specs.Grammar.{OptionalComma, OptionalItems, OptionalPairs, Pairs, Phrase, Prefixed}
@@ -61,7 +62,7 @@ pub use Rattle.cel_reader.specs.Tree.{TreeEntries, Literal, Tree, Trees, entries
 pub use Rattle.cel_reader.specs.Tree.{more_entries, more_trees, no_entries, no_trees, tree_count, tree_list, trees}
 pub use Rattle.cel_reader.specs.Tree.{view}
 pub use Rattle.cel_reader.specs.WellFormed.{AreWellFormed, HasWellFormedEntries, IsWellFormed, IsWellFormedLiteral}
-pub use Rattle.cel_reader.specs.Words.{is_identifier, is_selector, level_of, literal_of, literal_role, may_stand_free}
+pub use Rattle.cel_reader.specs.Words.{is_identifier, is_selector, level_of, literal_of}
 pub use Rattle.cel_reader.specs.Words.{operator_mark, operator_of, unary_mark}
 pub use Rattle.cel_reader.specs.declared.closing.Closing.{Closing}
 pub use Rattle.cel_reader.specs.declared.closing.Closing.TheVariants.{Call, Map}

@@ -1,10 +1,11 @@
 -- A tree derived from the words of a text's tokens is well formed.
-use Rattle.cel_reader.proofs.Prelude.{◌≡◌, ℕ, ◌-◌, List, [], ◌∷◌, map, take, drop, Option, Some, None, inl, inr, subst, All, IfSome, IfOk, Ok, Err, Result, FitsSigned, w64, IsUtf8, All-nil, All-cons, All-head, All-tail, All-push, IsUtf8-string_bytes, Word, Token, mark, token_view, word_of, mark_word, mark_of, Lexes, IntFits, lexemes_fit, Mark, CloseBracket, CloseBrace, CodeToken, ReadError, Tree, trees, entries, view, literal_of, literal_role, role_of, words, Class, Phrase, One, Many, Keyed, Derives, OptionalComma, ParseReturns, IsWellFormedLiteral, IsWellFormed, AreWellFormed, HasWellFormedEntries, Expr, Role}
+use Rattle.cel_reader.proofs.Prelude.{◌≡◌, ℕ, ◌-◌, List, [], ◌∷◌, map, take, drop, Option, Some, None, inl, inr, subst, All, IfSome, IfOk, Ok, Err, Result, FitsSigned, w64, IsUtf8, All-nil, All-cons, All-head, All-tail, All-push, IsUtf8-string_bytes, Word, Token, mark, token_view, word_of, mark_word, mark_of, Lexes, IntFits, lexemes_fit, Mark, CloseBracket, CloseBrace, CodeToken, ReadError, Tree, trees, entries, view, literal_of, words, Class, Phrase, One, Many, Keyed, Derives, OptionalComma, ParseReturns, IsWellFormedLiteral, IsWellFormed, AreWellFormed, HasWellFormedEntries, Expr}
+use Rattle.std.specs.Prelude.{Bool, true, false, codes, bytes_eq, if◌then◌else◌}
+use Rattle.cel_reader.specs.Tree as tree
 use Rattle.cel_tokens.specs.Token as word
 use Rattle.cel_tokens.specs.declared.kind.Kind.{Kind}
 use Rattle.cel_tokens.specs.declared.kind.Kind.TheVariants as kind
 use Rattle.cel_reader.specs.Grammar as derives
-use Rattle.cel_reader.specs.declared.role.Role.TheVariants as role
 
 -- what holds of each word
 abbrev pub IsPlain : Word → Type 0
@@ -38,12 +39,15 @@ all_entries (e ∷ more) f = let x = All-head IsPair e more f in (x.0, x.1, all_
 if_some_is : {X : Type 0} (P : X → Type 0) (o : Option X) (x : X) → IfSome o P → o ≡ Some x → P x
 if_some_is {X} P o x f e = subst (λ (y : Option X). IfSome y P) e f
 
-role_formed : (r : Role) → IfSome (literal_role r) IsWellFormedLiteral
-role_formed role.True = tt
-role_formed _ = tt
+name_formed : (t f u : Bool)
+    → IfSome (if t then Some (tree.truth true) else (if f then Some (tree.truth false) else (if u then Some tree.null else None))) IsWellFormedLiteral
+name_formed true f u = tt
+name_formed false true u = tt
+name_formed false false true = tt
+name_formed false false false = tt
 
 word_formed : (w : Word) → IsPlain w → IfSome (literal_of w) IsWellFormedLiteral
-word_formed (word.name n) p = role_formed (role_of n)
+word_formed (word.name n) p = name_formed (bytes_eq n (codes "true")) (bytes_eq n (codes "false")) (bytes_eq n (codes "null"))
 word_formed (word.mark m) p = tt
 word_formed _ p = p
 

@@ -92,6 +92,16 @@ ErrorIsAt source (Err Memory) = Unit {0}
 ErrorIsAt source (Err e) = Lexes source (Err e)
 ErrorIsAt source (Ok e) = Unit {0}
 
+-- why a text is refused, and at which byte: for its tokens; or because their words are not an expression, at the first
+-- word with which none goes on; or because they open too many brackets and conditionals
+abbrev pub IsUnreadable : List ℕ → ReadError → Type 0
+IsUnreadable source (UnexpectedToken place) = (lexemes : List Token) × Lexes source (Ok lexemes)
+    × IsNoExpression (words_only lexemes) × StandsAt (length source) lexemes place UnexpectedAt
+IsUnreadable source (TooManyOpen place) = (lexemes : List Token) × Lexes source (Ok lexemes)
+    × IsTooDeep (words_only lexemes) × StandsAt (length source) lexemes place DeepAt
+IsUnreadable source Memory = ⊥
+IsUnreadable source e = Lexes source (Err e)
+
 -- a result other than an allocation failure: it is correct for the text, and so is its position
 pub record IsReadResult (source : List ℕ) (r : Result Expr ReadError) : Type 0 where
   pub some : r ≢ Err Memory

@@ -1,5 +1,5 @@
 -- The roles of words: names, literals and operators.
-use Rattle.std.specs.Prelude.{ℕ, List, [], ◌∷◌, Bool, true, false, if◌then◌else◌, ◌&&◌, ◌||◌, Option, Some, None, codes, bytes_eq}
+use Rattle.std.specs.Prelude.{ℕ, List, [], ◌∷◌, Bool, true, false, if◌then◌else◌, ◌&&◌, ◌||◌, not, Option, Some, None, codes, bytes_eq}
 use Rattle.cel_tokens.specs.Token.{Word, name, int, text, mark}
 use Rattle.cel_tokens.specs.Bytes.{is_name}
 use Rattle.cel_tokens.specs.declared.mark.Mark.{Mark}
@@ -21,16 +21,12 @@ is_one_of [] n = false
 is_one_of (w ∷ []) n = bytes_eq n w
 is_one_of (w ∷ v ∷ ws) n = bytes_eq n w || is_one_of (v ∷ ws) n
 
--- the reserved words (cel-spec, RESERVED)
-abbrev pub reserved_words : List (List ℕ)
-reserved_words =
-    codes "as" ∷ codes "break" ∷ codes "const" ∷ codes "continue" ∷ codes "else" ∷ codes "for" ∷
-    codes "function" ∷ codes "if" ∷ codes "import" ∷ codes "let" ∷ codes "loop" ∷ codes "package" ∷
-    codes "namespace" ∷ codes "return" ∷ codes "var" ∷ codes "void" ∷ codes "while" ∷ []
-
--- whether a name is reserved
+-- whether a name is reserved (cel-spec, RESERVED)
 unfoldable pub is_reserved : List ℕ → Bool
-is_reserved n = is_one_of reserved_words n
+is_reserved n = is_one_of
+    (codes "as" ∷ codes "break" ∷ codes "const" ∷ codes "continue" ∷ codes "else" ∷ codes "for" ∷
+    codes "function" ∷ codes "if" ∷ codes "import" ∷ codes "let" ∷ codes "loop" ∷ codes "package" ∷
+    codes "namespace" ∷ codes "return" ∷ codes "var" ∷ codes "void" ∷ codes "while" ∷ []) n
 
 -- the role of a name; only a plain one is an identifier, and a reserved one may also name a field
 unfoldable pub role_of : List ℕ → Role
@@ -42,35 +38,21 @@ role_of n =
     else (if is_reserved n then role.Reserved
     else role.Plain))))
 
--- whether a name of this role may follow a dot (cel-spec, SELECTOR)
-abbrev pub may_select : Role → Bool
-may_select role.Reserved = true
-may_select role.Plain = true
-may_select other = false
-
--- whether a name of this role may be an identifier (cel-spec, IDENT)
-abbrev pub may_stand_free : Role → Bool
-may_stand_free role.Plain = true
-may_stand_free other = false
-
 -- a name other than false, in, null and true (cel-spec, SELECTOR)
 abbrev pub is_selector : List ℕ → Bool
-is_selector n = is_name n && may_select (role_of n)
+is_selector n = is_name n && not (is_one_of (codes "true" ∷ codes "false" ∷ codes "null" ∷ codes "in" ∷ []) n)
 
 -- a selector that is not reserved (cel-spec, IDENT)
 abbrev pub is_identifier : List ℕ → Bool
-is_identifier n = is_name n && may_stand_free (role_of n)
-
--- the literal of a name of this role, if any: true, false or null (cel-spec, LITERAL)
-abbrev pub literal_role : Role → Option Literal
-literal_role role.True = Some (tree.truth true)
-literal_role role.False = Some (tree.truth false)
-literal_role role.Null = Some tree.null
-literal_role other = None
+is_identifier n = is_selector n && not (is_reserved n)
 
 -- the literal of a word, if any (cel-spec, LITERAL)
 abbrev pub literal_of : Word → Option Literal
-literal_of (name n) = literal_role (role_of n)
+literal_of (name n) =
+    if bytes_eq n (codes "true") then Some (tree.truth true)
+    else (if bytes_eq n (codes "false") then Some (tree.truth false)
+    else (if bytes_eq n (codes "null") then Some tree.null
+    else None))
 literal_of (int z) = Some (tree.int z)
 literal_of (text bytes) = Some (tree.text bytes)
 literal_of (mark m) = None
@@ -92,14 +74,9 @@ operator_mark marks.Slash = Some Divide
 operator_mark marks.Percent = Some Remainder
 operator_mark other = None
 
--- the binary operator of a name of this role, if any: in
-abbrev pub operator_role : Role → Option BinaryOperator
-operator_role role.In = Some In
-operator_role other = None
-
 -- the binary operator of a word, if any
 abbrev pub operator_of : Word → Option BinaryOperator
-operator_of (name n) = operator_role (role_of n)
+operator_of (name n) = if bytes_eq n (codes "in") then Some In else None
 operator_of (int z) = None
 operator_of (text bytes) = None
 operator_of (mark m) = operator_mark m

@@ -65,6 +65,7 @@ fn operator_mark(mark: Mark) -> Option<BinaryOperator>
 }
 
 /// The binary operator of a word, if any.
+#[tactic(auto, unfolding(crate::specs::Words::role_of))]
 fn operator_of(found: Word) -> Option<BinaryOperator>
     ensures { result ≡ specs.operator_of (word_view found.entry) }
 {
@@ -145,6 +146,7 @@ pub fn identifier_at<'a>(text: &'a [u8], tokens: &'a [Token]) -> Option<(&'a [u8
 }
 
 /// The literal of a word, if any.
+#[tactic(auto, unfolding(crate::specs::Words::role_of))]
 fn literal_of(alloc: Global, found: Word) -> Result<Option<Literal>, AllocError>
     ensures { IfOk result (λ o. option_map literal_view o ≡ specs.literal_of (word_view found.entry)) }
 {

@@ -9,6 +9,7 @@ use cel_tokens::is_name;
 use std::alloc::{AllocError, Global};
 
 /// Whether the name may follow a dot (cel-spec, SELECTOR).
+#[tactic(auto, unfolding(crate::specs::Words::role_of))]
 pub fn is_selector(name: &[u8]) -> bool
     ensures { result ≡ specs.is_selector name.now }
 {
@@ -16,6 +17,7 @@ pub fn is_selector(name: &[u8]) -> bool
 }
 
 /// Whether the name may be an identifier (cel-spec, IDENT).
+#[tactic(auto, unfolding(crate::specs::Words::role_of))]
 pub fn is_identifier(name: &[u8]) -> bool
     ensures { result ≡ specs.is_identifier name.now }
 {

@@ -13,18 +13,6 @@ use Rattle.cel_tokens.specs.declared.read_error.ReadError.TheVariants.{UnknownCh
 abbrev pub lexeme : ℕ → ℕ → Word → Token
 lexeme place n w = record { place = place; end = place + n; word = w }
 
--- the text from this position on is these tokens, the longest at each position, with blanks and comments between them
-pub data Tokens : Bool → ℕ → List ℕ → List Token → Type 0 where
-  over : {signed : Bool} {place : ℕ} {rest : List ℕ} → front signed rest ≡ front.over → Tokens signed place rest []
-  space : {signed : Bool} {place : ℕ} {rest : List ℕ} {more : List Token} (n : ℕ) → front signed rest ≡ front.space n
-      → Tokens signed (place + n) (drop n rest) more → Tokens signed place rest more
-  token : {signed : Bool} {place : ℕ} {rest : List ℕ} {more : List Token} (n : ℕ) (w : Word) → front signed rest ≡ front.word n w
-      → Tokens (sign_may_follow w) (place + n) (drop n rest) more → Tokens signed place rest (lexeme place n w ∷ more)
-
--- these are the tokens of the whole text
-abbrev pub IsTokens : List ℕ → List Token → Type 0
-IsTokens source lexemes = Tokens true 0 source lexemes
-
 -- a token begins at the front, even if its text or its size is invalid
 pub data TokenBegins : front.Lexed → Type 0 where
   a_word : (n : ℕ) (w : Word) → TokenBegins (front.word n w)
@@ -54,6 +42,18 @@ pub data Cuts : Bool → List Token → ℕ → List ℕ → Result (List Token)
 pub data Lexes : List ℕ → Result (List Token) ReadError → Type 0 where
   too_long : {source : List ℕ} → text_limit < length source → Lexes source (Err (TextTooLong text_limit))
   read : {source : List ℕ} {r : Result (List Token) ReadError} → length source ≤ text_limit → Cuts true [] 0 source r → Lexes source r
+
+-- the text from this position on is these tokens, the longest at each position, with blanks and comments between them
+pub data Tokens : Bool → ℕ → List ℕ → List Token → Type 0 where
+  over : {signed : Bool} {place : ℕ} {rest : List ℕ} → front signed rest ≡ front.over → Tokens signed place rest []
+  space : {signed : Bool} {place : ℕ} {rest : List ℕ} {more : List Token} (n : ℕ) → front signed rest ≡ front.space n
+      → Tokens signed (place + n) (drop n rest) more → Tokens signed place rest more
+  token : {signed : Bool} {place : ℕ} {rest : List ℕ} {more : List Token} (n : ℕ) (w : Word) → front signed rest ≡ front.word n w
+      → Tokens (sign_may_follow w) (place + n) (drop n rest) more → Tokens signed place rest (lexeme place n w ∷ more)
+
+-- these are the tokens of the whole text
+abbrev pub IsTokens : List ℕ → List Token → Type 0
+IsTokens source lexemes = Tokens true 0 source lexemes
 
 -- reading on allocates: the first thing here after blanks and comments is a token or a text literal
 pub data TakesMemory : Bool → List ℕ → Type 0 where

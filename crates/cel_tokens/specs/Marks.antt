@@ -1,5 +1,6 @@
 -- Operators and brackets.
 use Rattle.std.specs.Prelude.{ℕ, List, [], ◌∷◌, if◌then◌else◌, ◌==◌, ◌&&◌, Option, Some, None}
+use Rattle.std.specs.Option.{option_or}
 use Rattle.cel_tokens.specs.declared.mark.Mark.{Mark}
 use Rattle.cel_tokens.specs.declared.mark.Mark.TheVariants.{Question, Colon, Or, And, Less, LessEqual, GreaterEqual, Greater, Equal}
 use Rattle.cel_tokens.specs.declared.mark.Mark.TheVariants.{NotEqual, Plus, Minus, Star, Slash, Percent, Not, Dot, Comma, OpenParen}
@@ -44,14 +45,9 @@ operator b =
     else (if b == 44 then Some Comma
     else None)))))))))))
 
--- the first mark if there is one, else the other
-abbrev pub or_else : Option Mark → Option Mark → Option Mark
-or_else None other = other
-or_else (Some m) other = Some m
-
 -- the mark of this byte, if any
 abbrev pub one_byte : ℕ → Option Mark
-one_byte b = or_else (bracket b) (operator b)
+one_byte b = option_or (bracket b) (operator b)
 
 -- the mark of a token with these bytes
 abbrev pub mark_of : List ℕ → Option Mark
