@@ -6,14 +6,15 @@ use Rattle.policy_glue.specs.Checked.{ConditionsChecked, ValidationsChecked, Var
 use Rattle.policy_glue.specs.declared.expression_error.ExpressionError.TheVariants as expression_error
 use Rattle.policy_glue.specs.declared.part_kind.PartKind.TheVariants.{Variable}
 use Rattle.policy_glue.proofs.OneAnswer.{err_same}
+use Rattle.cel_reader.proofs.Unreadable.{result_refused}
 
 unread_by : (text : List ℕ) (e : ReadError) → ReadReturns text (Err e) → ErrorIsAt text (Err e) → ReadsAndExpands text (Err (from_reader e))
-unread_by text (UnknownCharacter place) said at = λ some scope. unread (UnknownCharacter place) (record { some = λ no. cc; answers = said; placed = at })
-unread_by text (InvalidTextLiteral place) said at = λ some scope. unread (InvalidTextLiteral place) (record { some = λ no. cc; answers = said; placed = at })
-unread_by text (IntOutOfRange place) said at = λ some scope. unread (IntOutOfRange place) (record { some = λ no. cc; answers = said; placed = at })
-unread_by text (UnexpectedToken place) said at = λ some scope. unread (UnexpectedToken place) (record { some = λ no. cc; answers = said; placed = at })
-unread_by text (TooManyOpen place) said at = λ some scope. unread (TooManyOpen place) (record { some = λ no. cc; answers = said; placed = at })
-unread_by text (TextTooLong place) said at = λ some scope. unread (TextTooLong place) (record { some = λ no. cc; answers = said; placed = at })
+unread_by text (UnknownCharacter place) said at = λ some scope. unread (UnknownCharacter place) (result_refused text (UnknownCharacter place) (record { some = λ no. cc; answers = said; placed = at }))
+unread_by text (InvalidTextLiteral place) said at = λ some scope. unread (InvalidTextLiteral place) (result_refused text (InvalidTextLiteral place) (record { some = λ no. cc; answers = said; placed = at }))
+unread_by text (IntOutOfRange place) said at = λ some scope. unread (IntOutOfRange place) (result_refused text (IntOutOfRange place) (record { some = λ no. cc; answers = said; placed = at }))
+unread_by text (UnexpectedToken place) said at = λ some scope. unread (UnexpectedToken place) (result_refused text (UnexpectedToken place) (record { some = λ no. cc; answers = said; placed = at }))
+unread_by text (TooManyOpen place) said at = λ some scope. unread (TooManyOpen place) (result_refused text (TooManyOpen place) (record { some = λ no. cc; answers = said; placed = at }))
+unread_by text (TextTooLong place) said at = λ some scope. unread (TextTooLong place) (result_refused text (TextTooLong place) (record { some = λ no. cc; answers = said; placed = at }))
 unread_by text read_error.Memory said at = λ some. absurd (some refl)
 
 -- the text is not an expression

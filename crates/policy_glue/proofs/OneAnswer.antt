@@ -1,6 +1,7 @@
 -- Compilation has one result and one image.
-use Rattle.policy_glue.proofs.Prelude.{◌≡◌, ℕ, List, [], Result, Ok, Err, refl, sym, ap, ◌∙◌, subst, true≢false, ◌∷◌, ◌++◌, length, arith, Token, ReadError, IsReadResult, words_only, Tree, one_refusal, whole_unique, one_list, only_of, Declaration, allowed, CelType, ConditionsEnd, TakenOrRefused, IsNoValidation, IsNoneOf, IsOneOf, HasOtherType, IsExpressionRefused, IsValidation, IsTaken, IsVariable, PartsEnd, ReadsTree, RefusesCondition, RefusesValidation, RefusesVariable, TakesCondition, TakesValidation, TakesVariable, ValidationsEnd, VariablesEnd, expression, expression_judged, judged, of_another_type, refused, scope_after, texts, truths, unread, variable_judged, CompileError, InvalidExpression, NotABool, MessageNotAString, ExpressionError, Unread, PartKind, HasOneImage, Compiles, excess, NamedExpression, Validation, Policy, PolicyTree, ValidationTree, VariableTree, Condition, Message, CodeValidation, open_limit}
+use Rattle.policy_glue.proofs.Prelude.{◌≡◌, ℕ, List, [], Result, Ok, Err, refl, sym, ap, ◌∙◌, subst, true≢false, ◌∷◌, ◌++◌, length, arith, Token, ReadError, IsUnreadable, words_only, Tree, one_refusal, whole_unique, one_list, only_of, Declaration, allowed, CelType, ConditionsEnd, TakenOrRefused, IsNoValidation, IsNoneOf, IsOneOf, HasOtherType, IsExpressionRefused, IsValidation, IsTaken, IsVariable, PartsEnd, ReadsTree, RefusesCondition, RefusesValidation, RefusesVariable, TakesCondition, TakesValidation, TakesVariable, ValidationsEnd, VariablesEnd, expression, expression_judged, judged, of_another_type, refused, scope_after, texts, truths, unread, variable_judged, CompileError, InvalidExpression, NotABool, MessageNotAString, ExpressionError, Unread, PartKind, HasOneImage, Compiles, excess, NamedExpression, Validation, Policy, PolicyTree, ValidationTree, VariableTree, Condition, Message, CodeValidation, open_limit}
 use Rattle.cel_reader.specs.Answers.{IsExpression}
+use Rattle.cel_reader.proofs.Unreadable.{refused_result}
 use Rattle.policy_glue.specs.Checking as checking
 use Rattle.policy_glue.specs.Limits as limits
 
@@ -21,8 +22,10 @@ reads_once text a b r s =
     whole_unique open_limit open_limit (words_only s.0) a b (subst (λ (ls : List Token). IsExpression open_limit (words_only ls) a) (one_list text r.0 s.0 r.1 s.1) r.2) s.2
 
 -- a text that is an expression is not refused as unreadable
-not_unread : (text : List ℕ) (a : Tree) (e : ReadError) → ReadsTree text a → IsReadResult text (Err e) → ⊥
-not_unread text a e r is = is.some (ap Err (only_of text (Err e) is.answers r.0 a r.1 r.2))
+not_unread : (text : List ℕ) (a : Tree) (e : ReadError) → ReadsTree text a → IsUnreadable text e → ⊥
+not_unread text a e r refused =
+    let is = refused_result text e refused in
+    is.some (ap Err (only_of text (Err e) is.answers r.0 a r.1 r.2))
 
 -- ---- judged texts
 
@@ -36,7 +39,7 @@ module _ (judge : Tree → Result CelType ExpressionError) (text : List ℕ) whe
   not_refused a t e taken (judged b x reads is) = ok_is_no_err t x (sym taken.judged ∙ ap judge (reads_once text a b taken.reads reads) ∙ is)
 
   pub refused_once : (e f : ExpressionError) → IsExpressionRefused judge text e → IsExpressionRefused judge text f → e ≡ f
-  refused_once e f (unread x is) (unread y also) = ap Unread (one_refusal text x y is also)
+  refused_once e f (unread x is) (unread y also) = ap Unread (one_refusal text x y (refused_result text x is) (refused_result text y also))
   refused_once e f (unread x is) (judged b y reads also) = absurd (not_unread text b x reads is)
   refused_once e f (judged a x reads is) (unread y also) = absurd (not_unread text a y reads also)
   refused_once e f (judged a x reads is) (judged b y more also) = err_same x y (sym is ∙ ap judge (reads_once text a b reads more) ∙ also)

@@ -69,7 +69,7 @@ unfoldable pub use Rattle.cel_measures.specs.Measures.{deepest, need, nodes}
 pub use Rattle.cel_reader.proofs.OneAnswer.{one_refusal}
 pub use Rattle.cel_reader.proofs.Theorems.{whole_unique}
 pub use Rattle.cel_reader.proofs.Told.{one_list, only_of}
-pub use Rattle.cel_reader.specs.Answers.{ReadReturns, IsReadResult, ErrorIsAt}
+pub use Rattle.cel_reader.specs.Answers.{ReadReturns, IsUnreadable, ErrorIsAt}
 pub use Rattle.cel_reader.specs.Limits.{open_limit}
 pub use Rattle.cel_reader.specs.Look.{words_only}
 pub use Rattle.cel_reader.specs.Tree.{TreeEntries, Tree, Trees, more_entries, more_trees, no_entries, no_trees, view}

@@ -3,9 +3,12 @@
 -- expression is checked completely before the next.
 use Rattle.std.specs.Prelude.{◌≡◌, ℕ, true, false, List, [], ◌∷◌, ◌++◌, length, fold, nat_lt, Option, Some, None, Result, Ok, Err, if◌then◌else◌}
 use Rattle.cel_reader.specs.Limits.{open_limit}
+use Rattle.cel_tokens.specs.Token.{Token}
+use Rattle.cel_tokens.specs.Lexis.{Lexes}
 use Rattle.cel_tokens.specs.declared.read_error.ReadError.{ReadError}
+use Rattle.cel_reader.specs.Look.{words_only}
 use Rattle.cel_reader.specs.Tree.{Tree}
-use Rattle.cel_reader.specs.Answers.{HasTokens, IsReadResult, IsExpression}
+use Rattle.cel_reader.specs.Answers.{IsUnreadable, IsExpression}
 use Rattle.cel_macros.specs.CoreTree.{expanded}
 use Rattle.cel_macros.specs.MacroFault.{MacroFault, macro_fault, fault_error}
 use Rattle.cel_types.specs.Declarations.{Declaration, declared, depths_of, scope_of}
@@ -67,7 +70,7 @@ variable_judged scope a = with_depth (depth_in scope a) (expression_judged scope
 
 -- the text parses as this tree, with at most 100 brackets and conditionals open at once
 abbrev pub ReadsTree : List ℕ → Tree → Type 0
-ReadsTree text a = HasTokens text (λ ws. IsExpression open_limit ws a)
+ReadsTree text a = (lexemes : List Token) × Lexes text (Ok lexemes) × IsExpression open_limit (words_only lexemes) a
 
 -- the text parses as this tree, which has this type
 pub record IsTaken (judge : Tree → Result CelType ExpressionError) (text : List ℕ) (a : Tree) (t : CelType) : Type 0 where
@@ -76,7 +79,7 @@ pub record IsTaken (judge : Tree → Result CelType ExpressionError) (text : Lis
 
 -- the text is not an expression, or its tree is refused
 pub data IsExpressionRefused (judge : Tree → Result CelType ExpressionError) (text : List ℕ) : ExpressionError → Type 0 where
-  unread : (e : ReadError) → IsReadResult text (Err e) → IsExpressionRefused judge text (Unread e)
+  unread : (e : ReadError) → IsUnreadable text e → IsExpressionRefused judge text (Unread e)
   judged : (a : Tree) (e : ExpressionError) → ReadsTree text a → judge a ≡ Err e → IsExpressionRefused judge text e
 
 -- the type of a condition or validation: Bool, or Dyn if the type is not known statically
