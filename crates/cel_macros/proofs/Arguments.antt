@@ -1,5 +1,6 @@
 -- The number of arguments and their trees, and what the tests of the first ones mean for all.
-use Rattle.cel_macros.proofs.Prelude.{◌≡◌, ◌<◌, true, List, [], ◌∷◌, length, get_or, map, Option, Some, Result, Ok, refl, arith, Expr, view, trees, Macro, MacroError, name_of, MacroFault, ArgumentCount, before, name_fault, three_fault, has_fault, fold_fault, refusal}
+use Rattle.cel_macros.proofs.Prelude.{◌≡◌, ◌<◌, true, List, [], ◌∷◌, length, get_or, map, Option, Some, Result, Ok, refl, arith, Expr, view, trees, Macro, MacroError, name_of, MacroFault, ArgumentCount, name_fault, three_fault, has_fault, fold_fault, refusal}
+use Rattle.std.specs.Option.{option_or}
 
 -- ---- the number of arguments
 
@@ -31,5 +32,5 @@ fold_of_three m _ x h g e = absurd (omega arith)
 
 -- ---- tests in sequence
 
-pub then_tested : (a b : Option MacroFault) (u : Unit {0}) (r : Result (Unit {0}) MacroError) → Ok u ≡ refusal a → r ≡ refusal b → r ≡ refusal (before a b)
+pub then_tested : (a b : Option MacroFault) (u : Unit {0}) (r : Result (Unit {0}) MacroError) → Ok u ≡ refusal a → r ≡ refusal b → r ≡ refusal (option_or a b)
 then_tested a b u r h e = grind arith

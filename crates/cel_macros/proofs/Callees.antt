@@ -1,10 +1,15 @@
 -- A callee has the name that it was found by, and is the function and the test of that name.
-use Rattle.cel_macros.proofs.Prelude.{◌≡◌, ℕ, Bool, true, false, List, [], ◌∷◌, Option, Some, None, IfSome, bytes_eq, refl, ap, sym, ◌∙◌, arith, Function, TextTest, function_named, test_named, is_has, Callee, OfFunction, OfTest, Unknown, callee_name, callee_named, callee_of, function_in, test_in}
+use Rattle.cel_macros.proofs.Prelude.{◌≡◌, ℕ, Bool, true, false, List, [], ◌∷◌, Option, Some, None, IfSome, bytes_eq, refl, ap, sym, ◌∙◌, arith, Function, TextTest, function_named, test_named, is_has, Callee, OfFunction, OfTest, Unknown, callee_name, callee_named, function_in, test_in}
 use Rattle.cel_macros.specs.Functions.{function_name, test_name}
 use Rattle.cel_macros.specs.declared.function.Function.{TheVariants.Size, TheVariants.String as StringFunction, TheVariants.Dyn}
 use Rattle.cel_macros.specs.declared.text_test.TextTest.{TheVariants.StartsWith, TheVariants.EndsWith, TheVariants.Contains}
 use Rattle.std.proofs.Common.{find, IsSome}
 use lib.Pointwise.{bytes_decides}
+use Rattle.std.specs.Option.{option_map_or}
+
+-- the callee of a name that denotes this function or this test
+abbrev callee_of : Option Function → Option TextTest → List ℕ → Callee
+callee_of f t n = option_map_or OfFunction f (option_map_or OfTest t (Unknown n))
 
 -- ---- what is found by a name has that name
 

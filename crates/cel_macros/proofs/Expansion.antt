@@ -1,6 +1,7 @@
 -- Expansion keeps the tree and its meaning.
-use Rattle.cel_macros.proofs.Prelude.{◌≡◌, ℕ, Bool, true, List, Option, Some, IfSome, bytes_eq, refl, ap, ◌∙◌, arith, Tree, Trees, TreeEntries, no_trees, more_trees, no_entries, more_entries, Value, ValueOrError, Environment, bind, truth, ternary_of, index_of, list_literal, map_literal, function_named, method_of, text_test_of, Macro, Map, macro_name, macros, macro_named, has_name, variables_name, is_map, is_has, is_variables, name_of, field_name, range_of, over_range, map_over_range, unary_of, binary_of, selected, called, meaning, operand_meaning, meanings, entry_meanings, Core, plain_tree, plain_trees, plain_entries, selection, call_or_has, method_or_fold, method_or_fold_map, expanded, expanded_operand, expanded_trees, expanded_entries, folded, folded_map, fold_meaning, fold_meanings, fold_entries}
+use Rattle.cel_macros.proofs.Prelude.{◌≡◌, ℕ, Bool, true, List, [], ◌∷◌, Option, Some, IfSome, bytes_eq, refl, ap, ◌∙◌, arith, Tree, Trees, TreeEntries, no_trees, more_trees, no_entries, more_entries, Value, ValueOrError, Environment, bind, truth, ternary_of, index_of, list_literal, map_literal, function_named, method_of, text_test_of, Macro, All, Exists, ExistsOne, Filter, Map, macro_name, macro_named, variables_name, is_map, is_has, is_variables, name_of, field_name, range_of, over_range, map_over_range, unary_of, binary_of, selected, called, meaning, operand_meaning, meanings, entry_meanings, Core, plain_tree, plain_trees, plain_entries, selection, call_or_has, method_or_fold, method_or_fold_map, expanded, expanded_operand, expanded_trees, expanded_entries, folded, folded_map, fold_meaning, fold_meanings, fold_entries}
 use lib.Pointwise.{bytes_decides}
+use Rattle.std.specs.Prelude.{codes}
 use Rattle.cel_reader.specs.Tree as tree
 use Rattle.cel_macros.proofs.Callees.{callee_back, found, function_stays, test_stays, weaker}
 use Rattle.cel_macros.proofs.Folds.{folds_mean, fold_maps_mean}
@@ -9,7 +10,7 @@ use Rattle.cel_macros.proofs.Folds.{folds_mean, fold_maps_mean}
 
 macro_back : (n : List ℕ) → IfSome (macro_named n) (λ m. macro_name m ≡ n)
 unfolding macro_named
-macro_back n = weaker (macro_named n) _ _ (λ m e. (bytes_decides (macro_name m) n).0 e) (found (λ m. bytes_eq (macro_name m) n) macros)
+macro_back n = weaker (macro_named n) _ _ (λ m e. (bytes_decides (macro_name m) n).0 e) (found (λ m. bytes_eq (macro_name m) n) (All ∷ Exists ∷ ExistsOne ∷ Filter ∷ Map ∷ []))
 
 name_back : (x : Tree) → IfSome (name_of x) (λ n. tree.name n ≡ x)
 name_back x = grind arith
@@ -18,7 +19,7 @@ pub variables_back : (a : Tree) → is_variables a ≡ true → tree.name variab
 unfolding is_variables
 variables_back a e = grind arith
 
-has_back : (n : List ℕ) → is_has n ≡ true → has_name ≡ n
+has_back : (n : List ℕ) → is_has n ≡ true → codes "has" ≡ n
 unfolding is_has
 has_back n e = grind arith
 

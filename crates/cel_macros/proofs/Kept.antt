@@ -1,5 +1,5 @@
 -- The results of `exists_one`, `filter` and `map` from item to item.
-use Rattle.cel_macros.proofs.Prelude.{◌≡◌, ℕ, ◌+◌, Bool, cond, List, [], ◌∷◌, ◌++◌, Option, Some, option_map, filter, nat_eq, pos, fold, map, refl, ap, ◌∙◌, append_assoc, append-nil, add-zero, arith, list_any, Value, ValueOrError, error, value, boolean, int, list, items_of, items_push, Truth, truth, with_value, values_in, list_or_error, ExistsOne, Filter, Map, is_yes, is_other, exists_one_of, filter_of, map_of, map_where_of, push_parts, step_of, start_of, end_of, map_step, folded_map}
+use Rattle.cel_macros.proofs.Prelude.{◌≡◌, ℕ, ◌+◌, Bool, cond, List, [], ◌∷◌, ◌++◌, Option, Some, option_map, filter, nat_eq, pos, fold, map, refl, ap, ◌∙◌, append_assoc, append-nil, add-zero, arith, list_any, Value, ValueOrError, error, value, boolean, int, list, items_of, items_push, Truth, truth, with_value, values_in, list_or_error, ExistsOne, Filter, Map, is_yes, is_other, exists_one_of, map_of, where_true, push_parts, step_of, start_of, end_of, map_step, folded_map}
 
 abbrev of_list : List Value → ValueOrError
 of_list vs = value (list (items_of vs))
@@ -51,7 +51,7 @@ filters : (f : Value → ValueOrError) (items : List Value) → Filters f items
 filters f [] kept = grind (arith, append-nil)
 filters f (v ∷ items) kept = grind (arith, push_is, append_assoc, filter_error, filters f items)
 
-pub folds_filter : (f : Value → ValueOrError) (items : List Value) → fold (step_of Filter f) (start_of Filter) items ≡ filter_of (λ x. truth (f x)) items
+pub folds_filter : (f : Value → ValueOrError) (items : List Value) → fold (step_of Filter f) (start_of Filter) items ≡ where_true (λ x. truth (f x)) (λ kept. list_or_error (Some kept)) items
 folds_filter f items = filters f items []
 
 -- ---- map
@@ -107,5 +107,5 @@ module _ (p : Value → Truth) (f : Value → ValueOrError) where
   maps_where [] kept = grind (arith, append-nil)
   maps_where (v ∷ items) kept = grind (arith, where_yes, map_where_error, maps_where items)
 
-  pub folds_map_where : (items : List Value) → folded_map p f (Some items) ≡ map_where_of p f items
+  pub folds_map_where : (items : List Value) → folded_map p f (Some items) ≡ where_true p (map_of f) items
   folds_map_where items = maps_where items [] ∙ ap (λ r. cond (others items) error r) (from_none (chosen_values items))

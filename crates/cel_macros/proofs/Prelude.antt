@@ -32,19 +32,19 @@ pub use Rattle.value_store.specs.Keys.{Ascend}
 pub use Rattle.value_store.specs.Lookup.{find, inserted}
 pub use Rattle.value_store.specs.Value.{Items, Value, ValueOrError, boolean, entry, error, int, item, items_join}
 pub use Rattle.value_store.specs.Value.{items_of, items_push, keys_of, list, list_of, no_items, text, value}
-pub use Rattle.cel_macros.specs.Arithmetic.{Addend, Listed, NoAddend, Number, Text, addend, fits, int_or_error}
-pub use Rattle.cel_macros.specs.Arithmetic.{int_part, is_zero, quotient, remainder, sum_of_parts}
-pub use Rattle.cel_macros.specs.Callee.{Callee, OfFunction, OfTest, Unknown, callee_name, callee_of, function_in}
+pub use Rattle.cel_macros.specs.Arithmetic.{fits, int_or_error}
+pub use Rattle.cel_macros.specs.Arithmetic.{int_part, is_zero, quotient, remainder, sum_of}
+pub use Rattle.cel_macros.specs.Callee.{Callee, OfFunction, OfTest, Unknown, callee_name, function_in}
 pub use Rattle.cel_macros.specs.Callee.{test_in}
 pub use Rattle.cel_macros.specs.Comparison.{on_values}
 pub use Rattle.cel_macros.specs.CoreTree.{Core, call, call_or_has, method_or_fold, method_or_fold_map, name}
 pub use Rattle.cel_macros.specs.CoreTree.{selection}
 pub use Rattle.cel_macros.specs.CoreView.{core_entries, core_view, cores}
-pub use Rattle.cel_macros.specs.Environment.{Environment, bind, item_or_root, lookup, result_or_error, value_or_error}
+pub use Rattle.cel_macros.specs.Environment.{Environment, bind, lookup, value_or_error}
 pub use Rattle.cel_macros.specs.Expanding.{AreCallArguments, IsPair, IsTriple, call_of, call_with, core_name}
 pub use Rattle.cel_macros.specs.Expanding.{core_pair, core_selection, expanded_pair, has_or_call}
 pub use Rattle.cel_macros.specs.FoldMeaning.{end_of, folded, folded_map, map_step, push_parts, start_of, step_of}
-pub use Rattle.cel_macros.specs.Functions.{method_of, size_of, string_of, test_texts}
+pub use Rattle.cel_macros.specs.Functions.{method_of, size_of, string_of}
 pub use Rattle.cel_macros.specs.declared.function.Function.{Function}
 pub use Rattle.cel_macros.specs.declared.function.Function.TheVariants.{Size}
 pub use Rattle.cel_macros.specs.declared.text_test.TextTest.{TextTest}
@@ -53,13 +53,13 @@ pub use Rattle.cel_macros.specs.Literals.{entries_in, list_literal, list_or_erro
 pub use Rattle.cel_macros.specs.Literals.{text_part, values_in, with_value}
 pub use Rattle.cel_macros.specs.Logic.{No, Other, Truth, Yes, chosen, conjunction, disjunction, of_truth, ternary_of}
 pub use Rattle.cel_macros.specs.Logic.{truth}
-pub use Rattle.cel_macros.specs.MacroFault.{ArgumentCount, MacroFault, before, fold_fault, has_fault, name_fault}
+pub use Rattle.cel_macros.specs.MacroFault.{ArgumentCount, MacroFault, fold_fault, has_fault, name_fault}
 pub use Rattle.cel_macros.specs.MacroFault.{refusal, three_fault}
-pub use Rattle.cel_macros.specs.Macros.{all_of, exists_of, exists_one_of, field_name, filter_of, has_name, is_no}
-pub use Rattle.cel_macros.specs.Macros.{is_other, is_yes, macro_name, macro_of, macros, map_of, map_over_range}
-pub use Rattle.cel_macros.specs.Macros.{map_where_of, name_of, over_range, range_of, variables_name, where_true}
+pub use Rattle.cel_macros.specs.Macros.{all_of, exists_of, exists_one_of, field_name, is_no}
+pub use Rattle.cel_macros.specs.Macros.{is_other, is_yes, macro_name, macro_of, map_of, map_over_range}
+pub use Rattle.cel_macros.specs.Macros.{name_of, over_range, range_of, variables_name, where_true}
 pub use Rattle.cel_macros.specs.Meaning.{binary_of, called, selected, unary_of}
-pub use Rattle.cel_macros.specs.Selection.{Container, Index, container, field_among, index, index_of, part_at}
+pub use Rattle.cel_macros.specs.Selection.{field_of, index_of}
 pub use Rattle.cel_macros.specs.Values.{AreValues, AtEntrySizes, AtSize, AtSizes, AreEntryValues, IntsStay, IsValue}
 pub use Rattle.cel_macros.specs.Values.{IsValueOrError, NamesValues, TextsAndKeysStay}
 pub use Rattle.cel_macros.specs.declared.core_tree.Core.{Core as CodeCore}

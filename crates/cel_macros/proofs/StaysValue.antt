@@ -1,8 +1,8 @@
 -- An expression in an environment of values means a value or the error.
-use Rattle.cel_macros.proofs.Prelude.{◌≡◌, ℕ, zero, suc, ◌/◌, ◌%◌, ◌<◌, Bool, true, false, List, [], ◌∷◌, arith, Option, Some, IfSome, ℤ, pos, negsuc, int_rem, ◌+ℤ◌, ⊤, FitsSigned, w64, AllByRecursion, IsAscii, IsUtf8, digit_glyph, digits_onto, decimal, signed_decimal, IsUtf8-append, IsUtf8-from_ascii, IsAscii-nil, IsAscii-cons, Tree, Trees, no_trees, more_trees, TreeEntries, no_entries as no_tree_entries, more_entries, IsWellFormed, AreWellFormed, HasWellFormedEntries, BinaryOperator, UnaryOperator, Value, ValueOrError, error, Environment, bind, Truth, truth, of_truth, chosen, fits, int_or_error, int_part, is_zero, quotient, remainder, addend, Addend, Number, Text, Listed, NoAddend, sum_of_parts, on_values, container, index, entries_in, Function, Size, TextTest, size_of, string_of, method_of, function_named, test_texts, range_of, macro_named, is_map, is_has, is_variables, name_of, field_name, unary_of, binary_of, called, meaning, meanings, entry_meanings, operand_meaning, AreValues, IsValueOrError, NamesValues, AtSize, AtSizes, AtEntrySizes, TextsAndKeysStay, IntsStay}
+use Rattle.cel_macros.proofs.Prelude.{◌≡◌, ℕ, zero, suc, ◌/◌, ◌%◌, ◌<◌, Bool, true, false, List, [], ◌∷◌, arith, Option, Some, IfSome, ℤ, pos, negsuc, int_rem, ◌+ℤ◌, ⊤, FitsSigned, w64, AllByRecursion, IsAscii, IsUtf8, digit_glyph, digits_onto, decimal, signed_decimal, IsUtf8-append, IsUtf8-from_ascii, IsAscii-nil, IsAscii-cons, Tree, Trees, no_trees, more_trees, TreeEntries, no_entries as no_tree_entries, more_entries, IsWellFormed, AreWellFormed, HasWellFormedEntries, BinaryOperator, UnaryOperator, Value, int, text, list, ValueOrError, error, value, Environment, bind, Truth, truth, of_truth, chosen, fits, int_or_error, int_part, is_zero, quotient, remainder, sum_of, on_values, entries_in, Function, Size, TextTest, size_of, string_of, method_of, function_named, text_test_of, range_of, macro_named, is_map, is_has, is_variables, name_of, field_name, unary_of, binary_of, called, meaning, meanings, entry_meanings, operand_meaning, IsValueOrError, NamesValues, AtSize, AtSizes, AtEntrySizes, TextsAndKeysStay, IntsStay}
 use Rattle.std.specs.Fmt.{digits}
 use Rattle.cel_reader.specs.Tree as tree
-use Rattle.cel_macros.proofs.ValueParts.{joined, contained, a_part, a_list_literal, all_entries, a_map, range_in, over, map_over, named, within, a_selection}
+use Rattle.cel_macros.proofs.ValueParts.{joined, an_item, a_list_literal, all_entries, a_map, range_in, over, map_over, named, within, a_selection}
 
 glyph : (d : ℕ) → d < 10 → digit_glyph false d < 128
 glyph d low = grind arith
@@ -52,26 +52,17 @@ module _ (P : ℤ → Type 0) (S : Type 0) (fitting : (z : ℤ) → fits z ≡ t
   int_in : (x : ValueOrError) → Is x → Int (int_part x)
   int_in x h = grind arith
 
-  abbrev AnAddend : Addend → Type 0
-  AnAddend (Number z) = P z
-  AnAddend (Text s) = IsUtf8 s
-  AnAddend (Listed is) = AreValues P is
-  AnAddend NoAddend = ⊤
-
-  addend_in : (x : ValueOrError) → Is x → AnAddend (addend x)
-  addend_in x h = grind arith
-
-  summed : (a b : Addend) → AnAddend a → AnAddend b → Is (sum_of_parts a b)
-  summed (Number a) (Number b) h k = an_int (a +ℤ b)
-  summed (Text a) (Text b) h k = IsUtf8-append a b h k
-  summed (Listed a) (Listed b) h k = joined P a b h k
+  summed : (x y : ValueOrError) → Is x → Is y → Is (sum_of x y)
+  summed (value (int a)) (value (int b)) h k = an_int (a +ℤ b)
+  summed (value (text a)) (value (text b)) h k = IsUtf8-append a b h k
+  summed (value (list a)) (value (list b)) h k = joined P a b h k
   summed _ _ h k = tt
 
   by_unary : (op : UnaryOperator) (x : ValueOrError) → Is (unary_of op x)
   by_unary op x = grind arith
 
   by_binary : (op : BinaryOperator) (x y : ValueOrError) → Is x → Is y → Is (binary_of op x y)
-  by_binary op x y h k = grind (arith, of_truths, compared, summed, addend_in, an_int, int_in, a_quotient, a_remainder)
+  by_binary op x y h k = grind (arith, of_truths, compared, summed, an_int, int_in, a_quotient, a_remainder)
 
   -- ---- functions
 
@@ -84,7 +75,7 @@ module _ (P : ℤ → Type 0) (S : Type 0) (fitting : (z : ℤ) → fits z ≡ t
   by_method : (f : Option Function) (x : ValueOrError) → (f ≡ Some Size → S) → Is (method_of f x)
   by_method f x s = grind arith
 
-  by_test : (t : Option TextTest) (a b : Option (List ℕ)) → Is (test_texts t a b)
+  by_test : (t : Option TextTest) (a b : ValueOrError) → Is (text_test_of t a b)
   by_test t a b = grind arith
 
   by_call : (b : Bool) (f : Option (List ℕ)) (g : Option Function) (x y : ValueOrError) → (g ≡ Some Size → S) → Is y → Is (called b f g x y)
@@ -96,7 +87,7 @@ module _ (P : ℤ → Type 0) (S : Type 0) (fitting : (z : ℤ) → fits z ≡ t
 
       stays : (e : Tree) (env : Environment) → IsWellFormed e → AtSize S e → NamesValues P env → Is (meaning e env)
       stays (tree.select a f) env w s h = a_selection P (is_variables a) f (meaning a env) env (stays a env w.0 s h) h
-      stays (tree.index a k) env w s h = a_part P (container (meaning a env)) (index (meaning k env)) (contained P (meaning a env) (stays a env w.0 s.0 h))
+      stays (tree.index a k) env w s h = an_item P (meaning a env) (meaning k env) (stays a env w.0 s.0 h)
       stays (tree.binary op a b) env w s h = by_binary op (meaning a env) (meaning b env) (stays a env w.0 s.0 h) (stays b env w.1 s.1 h)
       stays (tree.ternary c a b) env w s h = one_of (truth (meaning c env)) (meaning a env) (meaning b env) (stays a env w.1 s.1 h) (stays b env w.2 s.2 h)
       stays (tree.list items) env w s h = a_list_literal P (meanings items env) (each_stays items env w s h)

@@ -1,8 +1,8 @@
 -- Parts of values are values, and so are the results of literals, macros and names.
-use Rattle.cel_macros.proofs.Prelude.{ℕ, suc, Bool, true, false, cond, List, [], ◌∷◌, map as each, filter, Option, Some, IfSome, arith, rules, ℤ, ⊤, slice_get, AllByRecursion, list_any, list_all, IsUtf8, Value, boolean, text, Items, no_items, item, entry, ValueOrError, error, value, list_of, items_of, keys_of, items_join, Ascend, find, inserted, inserted_in_order, Macro, All, Exists, ExistsOne, Filter, Map, Environment, bind, lookup, value_or_error, item_or_root, name_value, result_or_error, variable_value, Truth, truth, field_among, Container, Index, container, part_at, with_value, values_in, list_or_error, list_literal, text_part, entries_in, map_or_error, is_yes, is_no, is_other, where_true, map_of, macro_of, over_range, map_over_range, range_of, selected, IsValue, AreValues, AreEntryValues, IsValueOrError, NamesValues}
+use Rattle.cel_macros.proofs.Prelude.{ℕ, suc, Bool, true, false, cond, List, [], ◌∷◌, map as each, filter, Option, Some, IfSome, arith, rules, ℤ, slice_get, AllByRecursion, list_any, list_all, IsUtf8, Value, boolean, text, Items, no_items, item, entry, ValueOrError, error, value, list_of, items_of, keys_of, items_join, Ascend, find, inserted, inserted_in_order, Macro, All, Exists, ExistsOne, Filter, Map, Environment, bind, lookup, value_or_error, name_value, variable_value, Truth, truth, field_of, index_of, with_value, values_in, list_or_error, list_literal, text_part, entries_in, map_or_error, is_yes, is_no, is_other, where_true, map_of, macro_of, over_range, map_over_range, range_of, selected, IsValue, AreValues, AreEntryValues, IsValueOrError, NamesValues}
 use Rattle.std.specs.List.Sorted.{IsStrictlySortedBy}
+use Rattle.std.specs.Option.{option_or, unwrap_or}
 use Rattle.value_store.specs.Value.{Entries, no_entries}
-use Rattle.cel_macros.specs.Selection as selection
 
 no_keys : Ascend []
 unfolding IsStrictlySortedBy
@@ -51,19 +51,11 @@ module _ (P : ℤ → Type 0) where
 
   -- ---- fields, keys and indices
 
-  pub a_field : (f : List ℕ) (o : Option Entries) → IfSome o (AreEntryValues P) → Is (field_among f o)
-  a_field f o h = grind (arith, a_value, found)
+  pub a_field : (f : List ℕ) (x : ValueOrError) → Is x → Is (field_of x f)
+  a_field f x h = grind (arith, a_value, found)
 
-  abbrev pub Contained : Container → Type 0
-  Contained (selection.Listed is) = AreValues P is
-  Contained (selection.Keyed es) = AreEntryValues P es
-  Contained selection.NoContainer = ⊤
-
-  pub contained : (x : ValueOrError) → Is x → Contained (container x)
-  contained x h = grind arith
-
-  pub a_part : (c : Container) (i : Index) → Contained c → Is (part_at c i)
-  a_part c i h = grind (arith, a_value, at, listed, found)
+  pub an_item : (x k : ValueOrError) → Is x → Is (index_of x k)
+  an_item x k h = grind (arith, a_value, at, listed, found)
 
   -- ---- literals of lists and maps
 
@@ -146,10 +138,10 @@ module _ (P : ℤ → Type 0) where
   results n [] h = tt
   results n (b ∷ bs) h = grind (arith, results n bs h.1)
 
-  pub a_result : (o : Option ValueOrError) → IfSome o Is → Is (result_or_error o)
+  pub a_result : (o : Option ValueOrError) → IfSome o Is → Is (unwrap_or o error)
   a_result o h = grind arith
 
-  pub a_name : (o r : Option Value) → Part o → Part r → Is (item_or_root o r)
+  pub a_name : (o r : Option Value) → Part o → Part r → Is (value_or_error (option_or o r))
   a_name o r h k = grind arith
 
   pub named : (n : List ℕ) (env : Environment) → NamesValues P env → Is (name_value n env)

@@ -1,12 +1,9 @@
 -- Arithmetic on 64-bit ints, and concatenation (cel-spec, Arithmetic Operators, Overflow).
-use Rattle.std.specs.Prelude.{ℕ, ℤ, pos, negsuc, ◌+ℤ◌, ◌-ℤ◌, ◌*ℤ◌, neg_ℤ, int_div, int_rem, ◌^◌, nat_lt, Bool, false, List, ◌++◌, Option}
+use Rattle.std.specs.Prelude.{ℤ, pos, negsuc, ◌+ℤ◌, ◌-ℤ◌, ◌*ℤ◌, neg_ℤ, int_div, int_rem, nat_lt, Bool, false, ◌++◌, Option}
 use Rattle.std.specs.Prelude.{Some, None, if◌then◌else◌}
-use Rattle.value_store.specs.Value.{ValueOrError, error, value, int, text, list, Items, items_join}
-
--- whether an integer fits a signed 64-bit int
-abbrev pub fits : ℤ → Bool
-fits (pos n) = nat_lt n (2 ^ 63)
-fits (negsuc n) = nat_lt n (2 ^ 63)
+use Rattle.std.specs.Option.{option_map_or}
+pub use Rattle.cel_tokens.specs.Ints.{fits64 as fits}
+use Rattle.value_store.specs.Value.{ValueOrError, error, value, int, text, list, items_join}
 
 -- the int as a result, or the error on overflow
 abbrev pub int_or_error : ℤ → ValueOrError
@@ -27,14 +24,6 @@ abbrev pub is_zero : ℤ → Bool
 is_zero (pos n) = nat_lt n 1
 is_zero (negsuc n) = false
 
--- a - b; overflow is the error
-abbrev pub difference : ℤ → ℤ → ValueOrError
-difference a b = int_or_error (a -ℤ b)
-
--- a * b; overflow is the error
-abbrev pub product : ℤ → ℤ → ValueOrError
-product a b = int_or_error (a *ℤ b)
-
 -- a / b, rounded toward zero; the error if b is 0, and for the least int by -1, which overflows
 abbrev pub quotient : ℤ → ℤ → ValueOrError
 quotient a b = if is_zero b then error else int_or_error (int_div a b)
@@ -43,39 +32,21 @@ quotient a b = if is_zero b then error else int_or_error (int_div a b)
 abbrev pub remainder : ℤ → ℤ → ValueOrError
 remainder a b = if is_zero b then error else (if fits (int_div a b) then value (int (int_rem a b)) else error)
 
--- a result as an operand of `+`
-pub data Addend : Type 0 where
-  Number : ℤ → Addend
-  Text : List ℕ → Addend
-  Listed : Items → Addend
-  NoAddend : Addend
-
--- the operand of `+` that a result is: an int, a text, a list, or none of them
-abbrev pub addend : ValueOrError → Addend
-addend (value (int z)) = Number z
-addend (value (text s)) = Text s
-addend (value (list is)) = Listed is
-addend _ = NoAddend
-
--- the sum of two ints, or the error on overflow; the concatenation of two texts or two lists; the error for all else
-abbrev pub sum_of_parts : Addend → Addend → ValueOrError
-sum_of_parts (Number a) (Number b) = int_or_error (a +ℤ b)
-sum_of_parts (Text a) (Text b) = value (text (a ++ b))
-sum_of_parts (Listed a) (Listed b) = value (list (items_join a b))
-sum_of_parts _ _ = error
-
--- x + y: the sum of two ints, or the concatenation of two texts or two lists
--- (cel-spec, Arithmetic Operators, Overflow)
+-- x + y: the sum of two ints, or the error on overflow; the concatenation of two texts or two lists; the error for
+-- all else (cel-spec, Arithmetic Operators, Overflow)
 abbrev pub sum_of : ValueOrError → ValueOrError → ValueOrError
-sum_of x y = sum_of_parts (addend x) (addend y)
+sum_of (value (int a)) (value (int b)) = int_or_error (a +ℤ b)
+sum_of (value (text a)) (value (text b)) = value (text (a ++ b))
+sum_of (value (list a)) (value (list b)) = value (list (items_join a b))
+sum_of _ _ = error
 
 -- x - y of two ints; the error if an operand is not an int, or on overflow (cel-spec, Overflow)
 abbrev pub difference_of : ValueOrError → ValueOrError → ValueOrError
-difference_of x y = on_ints difference (int_part x) (int_part y)
+difference_of x y = on_ints (λ a b. int_or_error (a -ℤ b)) (int_part x) (int_part y)
 
 -- x * y of two ints; the error if an operand is not an int, or on overflow (cel-spec, Overflow)
 abbrev pub product_of : ValueOrError → ValueOrError → ValueOrError
-product_of x y = on_ints product (int_part x) (int_part y)
+product_of x y = on_ints (λ a b. int_or_error (a *ℤ b)) (int_part x) (int_part y)
 
 -- x / y of two ints; the error if an operand is not an int, if y is 0, or on overflow (cel-spec, Overflow)
 abbrev pub quotient_of : ValueOrError → ValueOrError → ValueOrError
@@ -85,11 +56,6 @@ quotient_of x y = on_ints quotient (int_part x) (int_part y)
 abbrev pub remainder_of : ValueOrError → ValueOrError → ValueOrError
 remainder_of x y = on_ints remainder (int_part x) (int_part y)
 
--- the negated int; the error without an int, and for the least int, which overflows
-abbrev pub negation : Option ℤ → ValueOrError
-negation (Some a) = int_or_error (neg_ℤ a)
-negation None = error
-
--- -x of an int; the error if x is not an int, or on overflow (cel-spec, Overflow)
+-- -x of an int; the error if x is not an int, and for the least int, which overflows (cel-spec, Overflow)
 abbrev pub negation_of : ValueOrError → ValueOrError
-negation_of x = negation (int_part x)
+negation_of x = option_map_or (λ a. int_or_error (neg_ℤ a)) (int_part x) error

@@ -1,5 +1,6 @@
 -- Callees of calls and methods: a function of one operand, a test of two texts, or an unknown name.
 use Rattle.std.specs.Prelude.{ℕ, List, Option, Some, None, string_bytes}
+use Rattle.std.specs.Option.{option_map_or}
 use Rattle.cel_macros.specs.Functions.{function_name, function_named, test_name, test_named}
 use Rattle.cel_macros.specs.declared.function.Function.{Function}
 use Rattle.cel_macros.specs.declared.text_test.TextTest.{TextTest}
@@ -30,15 +31,9 @@ test_in (OfFunction f) = None
 test_in (OfTest t) = Some t
 test_in (Unknown n) = None
 
--- the callee of a name that denotes this function or this test
-abbrev pub callee_of : Option Function → Option TextTest → List ℕ → Callee
-callee_of (Some f) t n = OfFunction f
-callee_of None (Some t) n = OfTest t
-callee_of None None n = Unknown n
-
--- the callee of a name
+-- the callee of a name: the function, else the test of this name
 unfoldable pub callee_named : List ℕ → Callee
-callee_named n = callee_of (function_named n) (test_named n) n
+callee_named n = option_map_or OfFunction (function_named n) (option_map_or OfTest (test_named n) (Unknown n))
 
 -- a callee of the code as plain data
 abbrev pub callee_view : CodeCallee → Callee

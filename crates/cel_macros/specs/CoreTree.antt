@@ -1,12 +1,12 @@
 -- Expressions with their macros expanded: each fold records its macro.
-use Rattle.std.specs.Prelude.{ℕ, Bool, true, false, List, Option, Some, None}
+use Rattle.std.specs.Prelude.{ℕ, Bool, true, false, List, Option, Some, codes}
 use Rattle.cel_reader.specs.Tree as tree
 use Rattle.cel_reader.specs.Tree.{Tree, Trees, TreeEntries, no_trees, more_trees, no_entries, more_entries}
 use Rattle.cel_reader.specs.declared.operator.BinaryOperator.{BinaryOperator}
 use Rattle.cel_reader.specs.declared.operator.UnaryOperator.{UnaryOperator}
 use Rattle.cel_macros.specs.declared.macros.Macro.{Macro, TheVariants.Map}
 use Rattle.cel_macros.specs.Callee.{Callee, callee_name, callee_named}
-use Rattle.cel_macros.specs.Macros.{macro_name, macro_named, has_name, variables_name, is_map, is_has, is_variables, name_of, field_name}
+use Rattle.cel_macros.specs.Macros.{macro_name, macro_named, variables_name, is_map, is_has, is_variables, name_of, field_name}
 
 mutual
   -- an expanded expression: like one in the source, except that `variables.v`, `has(e.f)` and the macros
@@ -46,7 +46,7 @@ unfoldable mutual
   plain_tree (name n) = tree.name n
   plain_tree (variable v) = tree.select (tree.name variables_name) v
   plain_tree (select a f) = tree.select (plain_tree a) f
-  plain_tree (has a f) = tree.call has_name (more_trees (tree.select (plain_tree a) f) no_trees)
+  plain_tree (has a f) = tree.call (codes "has") (more_trees (tree.select (plain_tree a) f) no_trees)
   plain_tree (index a k) = tree.index (plain_tree a) (plain_tree k)
   plain_tree (call c arguments) = tree.call (callee_name c) (plain_trees arguments)
   plain_tree (method a c arguments) = tree.method (plain_tree a) (callee_name c) (plain_trees arguments)
@@ -82,22 +82,19 @@ selection false f a = select a f
 -- a call of n with one argument a: `has(inner.f)` if n is `has` and a selects the field f of inner, else a call
 abbrev pub call_or_has : Bool → Option (List ℕ) → List ℕ → Core → Core → Core
 call_or_has true (Some f) n inner a = has inner f
-call_or_has true None n inner a = call (callee_named n) (one_core a)
-call_or_has false f n inner a = call (callee_named n) (one_core a)
+call_or_has _ _ n inner a = call (callee_named n) (one_core a)
 
 -- a method n of a with the arguments x and p: the macro of that name over a, if
 -- there is one and x is a name i; else a call
 abbrev pub method_or_fold : Option Macro → Option (List ℕ) → List ℕ → Core → Core → Core → Core
 method_or_fold (Some m) (Some i) n a x p = fold m i a p
-method_or_fold (Some m) None n a x p = method a (callee_named n) (more_cores x (one_core p))
-method_or_fold None i n a x p = method a (callee_named n) (more_cores x (one_core p))
+method_or_fold _ _ n a x p = method a (callee_named n) (more_cores x (one_core p))
 
 -- a method n of a with three arguments: `map` over a with predicate p and transform t, if
 -- n is `map` and x is a name i; else a call
 abbrev pub method_or_fold_map : Bool → Option (List ℕ) → List ℕ → Core → Core → Core → Core → Core
 method_or_fold_map true (Some i) n a x p t = fold_map i a p t
-method_or_fold_map true None n a x p t = method a (callee_named n) (more_cores x (more_cores p (one_core t)))
-method_or_fold_map false i n a x p t = method a (callee_named n) (more_cores x (more_cores p (one_core t)))
+method_or_fold_map _ _ n a x p t = method a (callee_named n) (more_cores x (more_cores p (one_core t)))
 
 unfoldable mutual
   -- an expression with its macros expanded: `variables.f`, `has(e.f)`, and a macro over a range with the number of

@@ -1,5 +1,6 @@
 -- The values of an expression's names (cel-spec, Name Resolution).
-use Rattle.std.specs.Prelude.{ℕ, Bool, List, [], ◌∷◌, Option, Some, None, if◌then◌else◌, bytes_eq, codes}
+use Rattle.std.specs.Prelude.{ℕ, Bool, List, [], ◌∷◌, Option, Some, None, if◌then◌else◌, bytes_eq, codes, unwrap_or}
+use Rattle.std.specs.Option.{option_or}
 use Rattle.cel_reader.specs.Words.{is_one_of}
 use Rattle.value_store.specs.Value.{Value, ValueOrError, error, value}
 
@@ -21,13 +22,10 @@ pub record Roots : Type 0 where
   pub namespace_object : Value
   pub request : Value
 
--- the names of these documents in expressions (ValidatingAdmissionPolicy v1)
-abbrev pub root_names : List (List ℕ)
-root_names = codes "object" ∷ codes "oldObject" ∷ codes "params" ∷ codes "namespaceObject" ∷ codes "request" ∷ []
-
--- whether a name is one of the roots
+-- whether a name is one of these documents in expressions (ValidatingAdmissionPolicy v1)
 unfoldable pub is_root : List ℕ → Bool
-is_root n = is_one_of root_names n
+is_root n =
+    is_one_of (codes "object" ∷ codes "oldObject" ∷ codes "params" ∷ codes "namespaceObject" ∷ codes "request" ∷ []) n
 
 -- the roots' names with their documents
 abbrev pub root_bindings : Roots → List (List ℕ × Value)
@@ -41,23 +39,13 @@ pub record Environment : Type 0 where
   pub items : List (List ℕ × Value)
   pub variables : List (List ℕ × ValueOrError)
 
--- an iteration name hides a root of the same name
-abbrev pub item_or_root : Option Value → Option Value → ValueOrError
-item_or_root (Some v) root = value v
-item_or_root None root = value_or_error root
-
--- the value of a name: an item, else a root, else the error (cel-spec, Name Resolution)
+-- the value of a name: an item, which hides a root of the same name, else a root, else the error (cel-spec, Name Resolution)
 unfoldable pub name_value : List ℕ → Environment → ValueOrError
-name_value n env = item_or_root (lookup n env.items) (lookup n (root_bindings env.roots))
+name_value n env = value_or_error (option_or (lookup n env.items) (lookup n (root_bindings env.roots)))
 
--- the result, or the error if there is none
-abbrev pub result_or_error : Option ValueOrError → ValueOrError
-result_or_error (Some x) = x
-result_or_error None = error
-
--- the result of `variables.n`
+-- the result of `variables.n`; the error if there is no such variable
 unfoldable pub variable_value : List ℕ → List (List ℕ × ValueOrError) → ValueOrError
-variable_value n variables = result_or_error (lookup n variables)
+variable_value n variables = unwrap_or (lookup n variables) error
 
 -- the environment inside a macro, in which the iteration name denotes an item
 abbrev pub bind : List ℕ → Value → Environment → Environment

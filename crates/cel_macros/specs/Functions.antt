@@ -4,7 +4,6 @@ use Rattle.std.specs.List.{starts_with, ends_with}
 use Rattle.std.specs.Fmt.{signed_decimal}
 use Rattle.text_kernels.specs.Scans.{code_points_of}
 use Rattle.value_store.specs.Value.{ValueOrError, error, value, boolean, int, text, list, map, keys_of, list_of}
-use Rattle.cel_macros.specs.Literals.{text_part}
 use Rattle.cel_macros.specs.declared.function.Function.{Function, TheVariants.Size, TheVariants.String, TheVariants.Dyn}
 use Rattle.cel_macros.specs.declared.text_test.TextTest.{TextTest, TheVariants.StartsWith, TheVariants.EndsWith, TheVariants.Contains}
 
@@ -41,9 +40,7 @@ function_of None x = error
 -- a function called as a method, which only `size` may be; the error otherwise
 abbrev pub method_of : Option Function → ValueOrError → ValueOrError
 method_of (Some Size) x = size_of x
-method_of (Some String) x = error
-method_of (Some Dyn) x = error
-method_of None x = error
+method_of _ x = error
 
 -- the name of a test of two texts
 abbrev pub test_name : TextTest → List ℕ
@@ -66,11 +63,7 @@ holds_of StartsWith a b = starts_with nat_eq a b
 holds_of EndsWith a b = ends_with nat_eq a b
 holds_of Contains a b = contains a b
 
--- a test of two texts; the error if there is no such test, or an operand is not a text
-abbrev pub test_texts : Option TextTest → Option (List ℕ) → Option (List ℕ) → ValueOrError
-test_texts (Some t) (Some a) (Some b) = value (boolean (holds_of t a b))
-test_texts _ _ _ = error
-
--- a test of x, the operand before the dot, with the argument y
+-- a test of two texts: the operand before the dot, and the argument; the error if there is no such test, or one is no text
 abbrev pub text_test_of : Option TextTest → ValueOrError → ValueOrError → ValueOrError
-text_test_of t x y = test_texts t (text_part x) (text_part y)
+text_test_of (Some t) (value (text a)) (value (text b)) = value (boolean (holds_of t a b))
+text_test_of _ _ _ = error

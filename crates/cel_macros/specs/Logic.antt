@@ -1,5 +1,5 @@
 -- Logical operators and the conditional (cel-spec, Logical Operators).
-use Rattle.std.specs.Prelude.{true, false}
+use Rattle.std.specs.Prelude.{true, false, not}
 use Rattle.value_store.specs.Value.{ValueOrError, error, value, boolean}
 
 -- a result as an operand of a logical operator: true, false, or neither
@@ -22,33 +22,17 @@ of_truth Other = error
 
 -- false on either side decides, for any other side
 abbrev pub conjunction : Truth → Truth → Truth
+conjunction No t = No
+conjunction s No = No
 conjunction Yes Yes = Yes
-conjunction Yes No = No
-conjunction Yes Other = Other
-conjunction No Yes = No
-conjunction No No = No
-conjunction No Other = No
-conjunction Other Yes = Other
-conjunction Other No = No
-conjunction Other Other = Other
+conjunction _ _ = Other
 
 -- true on either side decides, for any other side
 abbrev pub disjunction : Truth → Truth → Truth
-disjunction Yes Yes = Yes
-disjunction Yes No = Yes
-disjunction Yes Other = Yes
-disjunction No Yes = Yes
+disjunction Yes t = Yes
+disjunction s Yes = Yes
 disjunction No No = No
-disjunction No Other = Other
-disjunction Other Yes = Yes
-disjunction Other No = Other
-disjunction Other Other = Other
-
--- the negation; neither stays neither
-abbrev pub opposite : Truth → Truth
-opposite Yes = No
-opposite No = Yes
-opposite Other = Other
+disjunction _ _ = Other
 
 -- x && y: false if either is false, true if both are true, else the error (cel-spec, Logical Operators)
 abbrev pub and_of : ValueOrError → ValueOrError → ValueOrError
@@ -60,7 +44,8 @@ or_of x y = of_truth (disjunction (truth x) (truth y))
 
 -- !x of a bool; the error for all else (cel-spec, Logical Operators)
 abbrev pub not_of : ValueOrError → ValueOrError
-not_of x = of_truth (opposite (truth x))
+not_of (value (boolean b)) = value (boolean (not b))
+not_of _ = error
 
 -- a if the condition is true, b if it is false, c if it is neither
 abbrev pub chosen : {A : Type 0} → Truth → A → A → A → A

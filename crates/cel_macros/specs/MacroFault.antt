@@ -1,10 +1,11 @@
 -- The first invalid macro: a node before its parts, parts from left to right.
 use Rattle.std.specs.Prelude.{ℕ, Bool, true, false, ◌||◌, List, Option, Some, None, Result, Ok, Err, if◌then◌else◌, bytes_eq}
+use Rattle.std.specs.Option.{option_or}
 use Rattle.cel_reader.specs.Tree as tree
 use Rattle.cel_reader.specs.Tree.{Tree, Trees, TreeEntries, no_trees, more_trees, no_entries, more_entries}
 use Rattle.cel_macros.specs.declared.macro_error.MacroError.{MacroError, TheVariants.WrongArgumentCount, TheVariants.InvalidIterationName, TheVariants.HasWithoutSelection}
 use Rattle.cel_macros.specs.Environment.{is_root}
-use Rattle.cel_macros.specs.declared.macros.Macro.{Macro, TheVariants.All, TheVariants.Exists, TheVariants.ExistsOne, TheVariants.Filter, TheVariants.Map}
+use Rattle.cel_macros.specs.declared.macros.Macro.{Macro, TheVariants.Map}
 use Rattle.cel_macros.specs.Macros.{macro_named, is_has, variables_name, name_of, field_name}
 
 -- the faults of a macro: the number of its arguments, its iteration name, or an
@@ -13,11 +14,6 @@ pub data MacroFault : Type 0 where
   ArgumentCount : MacroFault
   IterationName : MacroFault
   NoSelection : MacroFault
-
--- the first fault if there is one, else a later one
-abbrev pub before : Option MacroFault → Option MacroFault → Option MacroFault
-before (Some y) later = Some y
-before None later = later
 
 -- whether a name must not be an iteration name: it is a root, or `variables`
 abbrev pub is_taken : List ℕ → Bool
@@ -42,10 +38,7 @@ has_fault true _ = Some ArgumentCount
 -- the fault of a macro with three arguments: only `map` takes a third, and the first must be an iteration name
 abbrev pub three_fault : Macro → Option (List ℕ) → Option MacroFault
 three_fault Map n = name_fault n
-three_fault All n = Some ArgumentCount
-three_fault Exists n = Some ArgumentCount
-three_fault ExistsOne n = Some ArgumentCount
-three_fault Filter n = Some ArgumentCount
+three_fault _ n = Some ArgumentCount
 
 -- the fault of a method, which can have one only if its name is a macro's: that takes two or three
 -- arguments, the first of them an iteration name
@@ -61,24 +54,25 @@ unfoldable mutual
   macro_fault (tree.literal l) = None
   macro_fault (tree.name n) = None
   macro_fault (tree.select a f) = macro_fault a
-  macro_fault (tree.index a k) = before (macro_fault a) (macro_fault k)
+  macro_fault (tree.index a k) = option_or (macro_fault a) (macro_fault k)
   macro_fault (tree.unary op a) = macro_fault a
-  macro_fault (tree.binary op a b) = before (macro_fault a) (macro_fault b)
-  macro_fault (tree.ternary c a b) = before (macro_fault c) (before (macro_fault a) (macro_fault b))
+  macro_fault (tree.binary op a b) = option_or (macro_fault a) (macro_fault b)
+  macro_fault (tree.ternary c a b) = option_or (macro_fault c) (option_or (macro_fault a) (macro_fault b))
   macro_fault (tree.list items) = trees_fault items
   macro_fault (tree.map es) = entries_fault es
-  macro_fault (tree.call n arguments) = before (has_fault (is_has n) arguments) (trees_fault arguments)
-  macro_fault (tree.method a n arguments) = before (fold_fault (macro_named n) arguments) (before (macro_fault a) (trees_fault arguments))
+  macro_fault (tree.call n arguments) = option_or (has_fault (is_has n) arguments) (trees_fault arguments)
+  macro_fault (tree.method a n arguments) =
+      option_or (fold_fault (macro_named n) arguments) (option_or (macro_fault a) (trees_fault arguments))
 
   -- the first fault in the expressions, from left to right
   pub trees_fault : Trees → Option MacroFault
   trees_fault no_trees = None
-  trees_fault (more_trees a more) = before (macro_fault a) (trees_fault more)
+  trees_fault (more_trees a more) = option_or (macro_fault a) (trees_fault more)
 
   -- the first fault in the entries, a key before its value
   pub entries_fault : TreeEntries → Option MacroFault
   entries_fault no_entries = None
-  entries_fault (more_entries k v more) = before (macro_fault k) (before (macro_fault v) (entries_fault more))
+  entries_fault (more_entries k v more) = option_or (macro_fault k) (option_or (macro_fault v) (entries_fault more))
 
 -- the error of a fault
 abbrev pub fault_error : MacroFault → MacroError

@@ -17,17 +17,9 @@ macro_name ExistsOne = codes "exists_one"
 macro_name Filter = codes "filter"
 macro_name Map = codes "map"
 
--- the macros over a range
-abbrev pub macros : List Macro
-macros = All ∷ Exists ∷ ExistsOne ∷ Filter ∷ Map ∷ []
-
 -- the macro over a range with this name, if any
 unfoldable pub macro_named : List ℕ → Option Macro
-macro_named n = find (λ m. bytes_eq (macro_name m) n) macros
-
--- the name of the macro that tests for a field
-abbrev pub has_name : List ℕ
-has_name = codes "has"
+macro_named n = find (λ m. bytes_eq (macro_name m) n) (All ∷ Exists ∷ ExistsOne ∷ Filter ∷ Map ∷ [])
 
 -- the name before the dot of a policy's variables (ValidatingAdmissionPolicy v1)
 abbrev pub variables_name : List ℕ
@@ -37,9 +29,9 @@ variables_name = codes "variables"
 unfoldable pub is_map : List ℕ → Bool
 is_map n = bytes_eq (macro_name Map) n
 
--- whether a name is `has`
+-- whether a name is `has`, the macro that tests for a field
 unfoldable pub is_has : List ℕ → Bool
-is_has n = bytes_eq has_name n
+is_has n = bytes_eq (codes "has") n
 
 -- the name, if the expression is one
 abbrev pub name_of : Tree → Option (List ℕ)
@@ -65,20 +57,17 @@ range_of _ = None
 -- whether a truth is true
 abbrev pub is_yes : Truth → Bool
 is_yes Yes = true
-is_yes No = false
-is_yes Other = false
+is_yes _ = false
 
 -- whether a truth is false
 abbrev pub is_no : Truth → Bool
-is_no Yes = false
 is_no No = true
-is_no Other = false
+is_no _ = false
 
 -- whether a truth is neither
 abbrev pub is_other : Truth → Bool
-is_other Yes = false
-is_other No = false
 is_other Other = true
+is_other _ = false
 
 -- one false decides, else all must be true
 abbrev pub all_of : List Truth → ValueOrError
@@ -96,24 +85,16 @@ exists_one_of ts = if list_any is_other ts then error else value (boolean (nat_e
 abbrev pub where_true : (Value → Truth) → (List Value → ValueOrError) → List Value → ValueOrError
 where_true p result items = if list_any (λ x. is_other (p x)) items then error else result (filter (λ x. is_yes (p x)) items)
 
--- the list of the items whose predicate is true; the error if a predicate is neither true nor false
-abbrev pub filter_of : (Value → Truth) → List Value → ValueOrError
-filter_of p items = where_true p (λ kept. list_or_error (Some kept)) items
-
 -- the list of f applied to each item; the error if one of these is the error
 abbrev pub map_of : (Value → ValueOrError) → List Value → ValueOrError
 map_of f items = list_literal (each f items)
-
--- the list of f applied to each item whose predicate is true; the error if a predicate or a transform is invalid
-abbrev pub map_where_of : (Value → Truth) → (Value → ValueOrError) → List Value → ValueOrError
-map_where_of p f items = where_true p (map_of f) items
 
 -- a macro over items, with f as predicate or transform
 abbrev pub macro_of : Macro → (Value → ValueOrError) → List Value → ValueOrError
 macro_of All f items = all_of (each (λ x. truth (f x)) items)
 macro_of Exists f items = exists_of (each (λ x. truth (f x)) items)
 macro_of ExistsOne f items = exists_one_of (each (λ x. truth (f x)) items)
-macro_of Filter f items = filter_of (λ x. truth (f x)) items
+macro_of Filter f items = where_true (λ x. truth (f x)) (λ kept. list_or_error (Some kept)) items
 macro_of Map f items = map_of f items
 
 -- a macro over a range, with its predicate or transform by iteration name and item; the error if a part is missing
@@ -124,5 +105,5 @@ over_range _ _ f _ = error
 -- `map` with a predicate and a transform over a range; the error if a part is missing
 abbrev pub map_over_range : Bool → Option (List ℕ) → (List ℕ → Value → ValueOrError) → (List ℕ → Value → ValueOrError) → Option (List Value)
     → ValueOrError
-map_over_range true (Some n) p f (Some items) = map_where_of (λ x. truth (p n x)) (f n) items
+map_over_range true (Some n) p f (Some items) = where_true (λ x. truth (p n x)) (map_of (f n)) items
 map_over_range _ _ p f _ = error

@@ -1,5 +1,5 @@
 -- The meaning of an expression in an environment: a value or the error, by cases on its tree (cel-spec, Evaluation).
-use Rattle.std.specs.Prelude.{ℕ, Bool, true, false, List, [], ◌∷◌, Option, Some, None}
+use Rattle.std.specs.Prelude.{ℕ, Bool, true, false, List, [], ◌∷◌, Option, Some}
 use Rattle.cel_reader.specs.Tree as tree
 use Rattle.cel_reader.specs.Tree.{Tree, Trees, TreeEntries, no_trees, more_trees, no_entries, more_entries}
 use Rattle.cel_reader.specs.declared.operator.BinaryOperator.{BinaryOperator}
@@ -47,8 +47,7 @@ selected false f x env = field_of x f
 -- `has(e.f)`, where x is the meaning of e, or a function of y
 abbrev pub called : Bool → Option (List ℕ) → Option Function → ValueOrError → ValueOrError → ValueOrError
 called true (Some f) g x y = has_of x f
-called true None g x y = function_of g y
-called false f g x y = function_of g y
+called _ _ g x y = function_of g y
 
 unfoldable mutual
   -- the meaning of an expression in an environment: a value or the error

@@ -1,6 +1,6 @@
 -- The code of sums, differences and concatenations gives their values.
 -- For the laws in `specs/Gives/Arithmetic`.
-use Rattle.expression_code.proofs.Prelude.{◌≡◌, ℕ, ◌+◌, ◌^◌, ◌<◌, ◌≤◌, List, Some, refl, sym, subst, arith, suc, [], ◌∷◌, ◌++◌, None, ℤ, pos, ◌+ℤ◌, ◌-ℤ◌, FitsSigned, slice_get, ◌⊎◌, w64, cast_signed, cast_unsigned, IsSigned, signed_of, Names, AluOp, Add, Sub, Comparison, Sge, Sgt, Sle, Slt, Insn, Call, Register, R0, R1, R6, R7, R10, R2, W64, ValueOrError, error, value, int, fits, int_or_error, difference, difference_of, int_part, on_ints, sum_of, alu_result, CpuState, set_register, checked_tail, difference_tail, sum_tail, difference_code, int_operands, sum_code, Context, IsWellFormedState, LeavesValue, RunContext, RunsTo, IsCodeAt, size, slots, answered, IsResultBounded, joined, AdditionsGive, TailGives, join_of, joined_length, Combines, ints, frame_words}
+use Rattle.expression_code.proofs.Prelude.{◌≡◌, ℕ, ◌+◌, ◌^◌, ◌<◌, ◌≤◌, List, Some, refl, sym, subst, arith, suc, [], ◌∷◌, ◌++◌, None, ℤ, pos, ◌+ℤ◌, ◌-ℤ◌, FitsSigned, slice_get, ◌⊎◌, w64, cast_signed, cast_unsigned, IsSigned, signed_of, Names, AluOp, Add, Sub, Comparison, Sge, Sgt, Sle, Slt, Insn, Call, Register, R0, R1, R6, R7, R10, R2, W64, ValueOrError, error, value, int, fits, int_or_error, difference_of, int_part, on_ints, sum_of, alu_result, CpuState, set_register, checked_tail, difference_tail, sum_tail, difference_code, int_operands, sum_code, Context, IsWellFormedState, LeavesValue, RunContext, RunsTo, IsCodeAt, size, slots, answered, IsResultBounded, joined, AdditionsGive, TailGives, join_of, joined_length, Combines, ints, frame_words}
 use Rattle.expression_code.proofs.Sites.{Site, Budget, site_at, in_frame, budget, CombinesAt}
 use Rattle.expression_code.proofs.Frames.{fits_registers, shows_registers}
 use Rattle.expression_code.proofs.HelperAnswers.{helpers}
@@ -140,7 +140,7 @@ ints_give f site off tail t x y long error_at gives = record { runs = λ b has f
 
 pub difference_gives : TailGives difference_code R6 R7 difference_of 19 5
 difference_gives s p k c depth x y low =
-    ints_give difference (site_at s p (in_frame c depth k)) 8 difference_tail (budget 7 1) x y refl refl (λ m n. difference_runs s (p + 12) c depth k m n (omega arith))
+    ints_give (λ m n. int_or_error (m -ℤ n)) (site_at s p (in_frame c depth k)) 8 difference_tail (budget 7 1) x y refl refl (λ m n. difference_runs s (p + 12) c depth k m n (omega arith))
 
 -- ---- `+`
 

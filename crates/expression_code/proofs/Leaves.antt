@@ -1,6 +1,7 @@
 -- The code of literals without parts and of names gives their values.
 -- For the laws in `specs/Gives/Leaves`.
-use Rattle.expression_code.proofs.Prelude.{◌≡◌, ℕ, ◌+◌, ◌≤◌, List, length, Option, Some, None, Bool, true, false, refl, ap, subst, arith, ℤ, pos, FitsSigned, bytes_eq, codes, if◌then◌else◌, w64, cast_signed, cast_unsigned, is_utf8, to_z-of_z, Names, R0, R1, R2, Value, ValueOrError, error, value, null, boolean, int, text, Roots, item_or_root, lookup, name_value, root_bindings, value_or_error, CpuState, set_register, HelperPlaces, leaf_code, int_code, null_leaf, text_code, truth_leaf, held_leaf, name_leaf, reference_or_error, root_reference, Context, Evaluates, HasValues, IsHeld, RunContext, LeavesGive, LeavesName, HasText, Lends, IsLeafIn, IsLeafOf, SimpleOperand, Reference, frame_words}
+use Rattle.expression_code.proofs.Prelude.{◌≡◌, ℕ, ◌+◌, ◌≤◌, List, length, Option, Some, None, Bool, true, false, refl, ap, subst, arith, ℤ, pos, FitsSigned, bytes_eq, codes, if◌then◌else◌, w64, cast_signed, cast_unsigned, is_utf8, to_z-of_z, Names, R0, R1, R2, Value, ValueOrError, error, value, null, boolean, int, text, Roots, lookup, name_value, root_bindings, value_or_error, CpuState, set_register, HelperPlaces, leaf_code, int_code, null_leaf, text_code, truth_leaf, held_leaf, name_leaf, reference_or_error, root_reference, Context, Evaluates, HasValues, IsHeld, RunContext, LeavesGive, LeavesName, HasText, Lends, IsLeafIn, IsLeafOf, SimpleOperand, Reference, frame_words}
+use Rattle.std.specs.Option.{option_or}
 use Rattle.expression_code.proofs.Sites.{in_frame}
 use Rattle.value_store.specs.Placing.{Contents}
 use Rattle.expression_code.proofs.Frames.{fits_registers, shows_registers}
@@ -73,7 +74,7 @@ root_named roots values n h =
     root_by roots values h (bytes_eq (codes "object") n) (bytes_eq (codes "oldObject") n) (bytes_eq (codes "params") n) (bytes_eq (codes "namespaceObject") n) (bytes_eq (codes "request") n)
 
 held_named : (depth base : ℕ) (b : CpuState) (r : ℤ) (root : Option Value) → base ≤ frame_words → Names b.values.values (cast_unsigned w64 r) (value_or_error root)
-    → (word : Option ℕ) (item : Option Value) → IsHeld depth base b word item → IsLeafIn (held_leaf word r) depth b (item_or_root item root)
+    → (word : Option ℕ) (item : Option Value) → IsHeld depth base b word item → IsLeafIn (held_leaf word r) depth b (value_or_error (option_or item root))
 held_named depth base b r root low named word item held = grind arith
 
 name_named : (c : Context) (depth base : ℕ) (n : List ℕ) → base ≤ frame_words → IsLeafOf c depth base (Some (name_leaf n c.words.items)) (name_value n c.environment)

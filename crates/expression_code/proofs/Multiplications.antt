@@ -1,6 +1,6 @@
 -- The code of products, quotients and remainders gives their values.
 -- For the laws in `specs/Gives/Arithmetic`.
-use Rattle.expression_code.proofs.Prelude.{◌≡◌, ℕ, ◌+◌, ◌≤◌, true, false, not, inl, inr, refl, sym, ap, ◌∙◌, arith, suc, ℤ, ◌*ℤ◌, w64, cast_unsigned, AluOp, Sdiv, Smod, Eq, Ne, Register, R1, R2, R6, R7, R10, W64, ValueOrError, error, fits, product, product_of, quotient, quotient_of, remainder, remainder_of, alu_result, compares, CpuState, set_register, divided_code, divided_tail, least_word, product_code, product_tail, Context, IsWellFormedState, LeavesValue, RunContext, RunsTo, ProductsGive, TailGives, IsCodeAt, frame_words}
+use Rattle.expression_code.proofs.Prelude.{◌≡◌, ℕ, ◌+◌, ◌≤◌, true, false, not, inl, inr, refl, sym, ap, ◌∙◌, arith, suc, ℤ, ◌*ℤ◌, w64, cast_unsigned, AluOp, Sdiv, Smod, Eq, Ne, Register, R1, R2, R6, R7, R10, W64, ValueOrError, error, fits, int_or_error, product_of, quotient, quotient_of, remainder, remainder_of, alu_result, compares, CpuState, set_register, divided_code, divided_tail, least_word, product_code, product_tail, Context, IsWellFormedState, LeavesValue, RunContext, RunsTo, ProductsGive, TailGives, IsCodeAt, frame_words}
 use Rattle.expression_code.proofs.Sites.{site_at, in_frame, budget}
 use Rattle.expression_code.proofs.Additions.{OnInts, answers_error, answers_int, ints_give}
 use Rattle.expression_code.proofs.Ints.{fits_is, over}
@@ -18,7 +18,7 @@ module _ (s : RunContext) (c : Context) (depth k o : ℕ) (low : k ≤ frame_wor
   right = b.registers R7
 
   abbrev Q : CpuState → Type 0
-  Q = LeavesValue c depth k (product m n) b
+  Q = LeavesValue c depth k (int_or_error (m *ℤ n)) b
 
   module _ (registers : Register → ℕ) (pointer : registers R10 ≡ b.registers R10) (r1 : registers R1 ≡ check.result) where
     -- R1 holds the product, which fits
@@ -28,7 +28,7 @@ module _ (s : RunContext) (c : Context) (depth k o : ℕ) (low : k ≤ frame_wor
 
     fails : {t u : ℕ} → fits (m *ℤ n) ≡ false → RunsTo s (suc t) u (o + 12) (record b { registers = registers }) (o + 13) Q
     unfolding product_tail
-    fails h = answers_error s c depth k o low product_tail has 10 refl refl refl b registers (product m n) pointer fitting (over (m *ℤ n) h)
+    fails h = answers_error s c depth k o low product_tail has 10 refl refl refl b registers (int_or_error (m *ℤ n)) pointer fitting (over (m *ℤ n) h)
 
   -- the product is divided back
   divides : (registers : Register → ℕ) → registers R10 ≡ b.registers R10 → registers R1 ≡ check.result → registers R6 ≡ left → registers R7 ≡ right
@@ -62,7 +62,7 @@ module _ (s : RunContext) (c : Context) (depth k o : ℕ) (low : k ≤ frame_wor
       (λ lowest. fails loaded.registers refl refl (check.over near lowest))
       (λ far. divides loaded.registers refl refl refl refl some (inr far))))))))
 
-pub product_runs : (s : RunContext) (p : ℕ) (c : Context) (depth k : ℕ) (m n : ℤ) → k ≤ frame_words → OnInts s p product_tail c depth k m n (product m n) 11 1
+pub product_runs : (s : RunContext) (p : ℕ) (c : Context) (depth k : ℕ) (m n : ℤ) → k ≤ frame_words → OnInts s p product_tail c depth k m n (int_or_error (m *ℤ n)) 11 1
 unfolding product_tail
 product_runs s p c depth k m n low = grind (arith, product_goes, multiplied, fits_is)
 
@@ -104,7 +104,7 @@ divided_runs op f check s p c depth k m n low = grind (arith, divided_goes, fits
 product_gives : TailGives product_code R6 R7 product_of 23 5
 unfolding product_tail
 product_gives s p k c depth x y low =
-    ints_give product (site_at s p (in_frame c depth k)) 12 product_tail (budget 11 1) x y refl refl (λ m n. product_runs s (p + 12) c depth k m n (omega arith))
+    ints_give (λ m n. int_or_error (m *ℤ n)) (site_at s p (in_frame c depth k)) 12 product_tail (budget 11 1) x y refl refl (λ m n. product_runs s (p + 12) c depth k m n (omega arith))
 
 quotient_gives : TailGives (divided_code Sdiv) R6 R7 quotient_of 20 5
 quotient_gives s p k c depth x y low =

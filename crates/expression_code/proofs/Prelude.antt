@@ -53,12 +53,12 @@ pub use Rattle.bpf_word.specs.Overflow.{IsSigned}
 unfoldable pub use Rattle.bpf_word.specs.Arithmetic.{alu64_of, operated}
 unfoldable pub use Rattle.bpf_word.specs.Comparisons.{holds_of}
 unfoldable pub use Rattle.bpf_word.specs.Signs.{signed_of, word_of}
-pub use Rattle.cel_macros.specs.Arithmetic.{difference, difference_of, fits, int_or_error, int_part, is_zero, on_ints}
-pub use Rattle.cel_macros.specs.Arithmetic.{product, product_of, quotient, quotient_of, remainder, remainder_of}
+pub use Rattle.cel_macros.specs.Arithmetic.{difference_of, fits, int_or_error, int_part, is_zero, on_ints}
+pub use Rattle.cel_macros.specs.Arithmetic.{product_of, quotient, quotient_of, remainder, remainder_of}
 pub use Rattle.cel_macros.specs.Arithmetic.{sum_of}
 pub use Rattle.cel_macros.specs.Comparison.{equal_of, less_of, member_of, truth_or_error}
 pub use Rattle.cel_macros.specs.CoreTree.{Cores}
-pub use Rattle.cel_macros.specs.Environment.{Environment, Roots, item_or_root, lookup, root_bindings, value_or_error}
+pub use Rattle.cel_macros.specs.Environment.{Environment, Roots, lookup, root_bindings, value_or_error}
 pub use Rattle.cel_macros.specs.FoldMeaning.{end_of, folded, is_error, map_step, one_more, pushed, start_of, step_of}
 pub use Rattle.cel_macros.specs.FoldMeaning.{when_true}
 pub use Rattle.cel_macros.specs.Functions.{size_of, string_of, text_test_of}
