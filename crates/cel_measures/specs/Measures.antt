@@ -1,6 +1,6 @@
 -- Measures of an expanded expression: its nodes, the stack words that its code needs, and the depth of a variable
 -- that it defines.
-use Rattle.std.specs.Prelude.{ℕ, ◌+◌, max, List, Option, Some, None}
+use Rattle.std.specs.Prelude.{ℕ, ◌+◌, max, List, unwrap_or}
 use Rattle.cel_macros.specs.Environment.{lookup}
 use Rattle.cel_macros.specs.CoreTree.{Core, Cores, CoreEntries, no_cores, more_cores, no_core_entries, more_core_entries, literal}
 use Rattle.cel_macros.specs.CoreTree.{name, variable, select, has, index, call, method, unary, binary, ternary, list, map, fold, fold_map}
@@ -76,17 +76,12 @@ unfoldable mutual
   entries_need no_core_entries = 0
   entries_need (more_core_entries k v more) = max (max (1 + need k) (2 + need v)) (entries_need more)
 
--- the depth, 0 if there is none
-abbrev pub depth_or_none : Option ℕ → ℕ
-depth_or_none (Some d) = d
-depth_or_none None = 0
-
 unfoldable mutual
   -- the greatest depth of the variables that an expression uses, 0 if it uses none; s has the depth of each variable
   pub deepest : Core → List (List ℕ × ℕ) → ℕ
   deepest (literal l) s = 0
   deepest (name n) s = 0
-  deepest (variable v) s = depth_or_none (lookup v s)
+  deepest (variable v) s = unwrap_or (lookup v s) 0
   deepest (select a f) s = deepest a s
   deepest (has a f) s = deepest a s
   deepest (index a k) s = max (deepest a s) (deepest k s)

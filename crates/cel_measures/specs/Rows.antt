@@ -1,12 +1,13 @@
 -- Measures, worked by hand.
-use Rattle.std.specs.Prelude.{◌≡◌, ℕ, zero, suc, [], ◌∷◌, None, Some, codes}
+use Rattle.std.specs.Prelude.{◌≡◌, ℕ, zero, suc, [], ◌∷◌, codes}
 use Rattle.cel_reader.specs.Tree.{Tree, index, unary, binary, ternary}
 use Rattle.cel_reader.specs.Written.{num, str, yes, name, dot, call, method, list_literal, map_literal}
 use Rattle.cel_reader.specs.declared.operator.BinaryOperator.TheVariants.{And, Equal, Add, Greater}
 use Rattle.cel_reader.specs.declared.operator.UnaryOperator.TheVariants.{Not}
+use Rattle.cel_macros.specs.CoreTree as core
 use Rattle.cel_macros.specs.CoreTree.{expanded}
 use Rattle.cel_macros.specs.Written.{variable}
-use Rattle.cel_measures.specs.Measures.{nodes, need, depth, depth_or_none}
+use Rattle.cel_measures.specs.Measures.{nodes, need, depth, deepest}
 use Rattle.cel_measures.specs.Saturated.{saturated}
 
 -- the expression has this number of nodes
@@ -110,8 +111,8 @@ pub record MeasureRowsHold : Type 0 where
   pub no_variable : Depth yes 1
   -- no variable has this name
   pub unknown_depth : Depth (variable "u") 1
-  pub no_depth : depth_or_none None ≡ 0
-  pub some_depth : depth_or_none (Some 3) ≡ 3
+  pub no_depth : deepest (core.variable (codes "v")) [] ≡ 0
+  pub some_depth : deepest (core.variable (codes "v")) ((codes "v", 3) ∷ []) ≡ 3
   -- variables.w.x, has(variables.w.x), !variables.w, size(variables.w)
   pub selection_depth : Depth (dot w "x") 4
   pub has_depth : Depth (call "has" (dot w "x" ∷ [])) 4

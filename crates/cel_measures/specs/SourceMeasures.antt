@@ -1,11 +1,10 @@
 -- The measures of a source expression with its macros, and the law that they are those of its expansion.
-use Rattle.std.specs.Prelude.{◌≡◌, ℕ, ◌+◌, max, List, [], ◌∷◌}
+use Rattle.std.specs.Prelude.{◌≡◌, ℕ, ◌+◌, max, List, [], ◌∷◌, unwrap_or}
 use Rattle.std.specs.Prelude.{map as each}
 use Rattle.cel_reader.specs.Tree.{Tree}
 use Rattle.cel_macros.specs.Environment.{lookup}
 use Rattle.cel_macros.specs.CoreTree.{expanded}
 use Rattle.cel_measures.specs.Measures as core
-use Rattle.cel_measures.specs.Measures.{depth_or_none}
 use Rattle.cel_measures.specs.Parts.{ExpressionForm, measured, plain, variable, of_one, of_two, ternary, call, method, list, map, macro, map_where}
 
 -- the sum of the measures
@@ -57,7 +56,7 @@ need_by (map_where r p t) = max r (5 + max p t)
 -- the depth of variables.v, and for other forms the greatest of the parts; s has the depth of each variable
 abbrev pub deepest_by : List (List ℕ × ℕ) → ExpressionForm ℕ → ℕ
 deepest_by s plain = 0
-deepest_by s (variable v) = depth_or_none (lookup v s)
+deepest_by s (variable v) = unwrap_or (lookup v s) 0
 deepest_by s (of_one a) = a
 deepest_by s (of_two a b) = max a b
 deepest_by s (ternary c a b) = max c (max a b)

@@ -15,7 +15,7 @@ use cel_types::{Scope, Variable};
 
 /// The depth of the first variable with this name, 0 if there is none.
 fn depth_named(name: &str, variables: &[Variable]) -> u64
-    ensures { result ≡ specs.depth_or_none (lookup name.now (depths_of (list.map declaration variables.now))) }
+    ensures { result ≡ list.unwrap_or (lookup name.now (depths_of (list.map declaration variables.now))) 0 }
 {
     for variable in variables {
         if variable.name.as_str() == name {

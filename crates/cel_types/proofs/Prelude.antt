@@ -46,7 +46,7 @@ pub use Rattle.cel_types.specs.Iterations.{scope_within}
 pub use Rattle.cel_types.specs.Relation.{Fault, FaultsAreFirst, FirstFault, Has, Have, OneTypeOrFault, TypesAreRows}
 pub use Rattle.cel_types.specs.Relation.{at_node, behind, by_row, cause, here, in_part, in_scope, keys_and_values}
 pub use Rattle.cel_types.specs.Relation.{next_part, no_parts, parts_of}
-pub use Rattle.cel_types.specs.Scope.{Scope, type_or_fault, within}
+pub use Rattle.cel_types.specs.Scope.{Scope, within}
 pub use Rattle.cel_types.specs.Soundness.{FitsType, FitsScope, IsSound}
 pub use Rattle.cel_types.specs.TypeRows.{HasTextKeys, IsRow, MayAgree, MayBe, MayBeOne, MayBothBeOne, a_choice, a_dyn}
 pub use Rattle.cel_types.specs.TypeRows.{a_field, a_filter, a_filtered_transform, a_has, a_key, a_list, a_literal}

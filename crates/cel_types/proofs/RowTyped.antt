@@ -1,5 +1,6 @@
 -- The type or the fault of a node, given the types of its parts; it is the type of each row for them.
-use Rattle.cel_types.proofs.Prelude.{◌≡◌, ℕ, Bool, true, false, ◌&&◌, List, [], ◌∷◌, Option, Some, refl, ap, ◌∙◌, if◌then◌else◌, Contains, arith, AllByRecursion, Tree, no_trees, more_trees, BinaryOperator, Function, Size, String, Dyn, function_named, test_named, Macro, macro_named, is_map, is_has, is_variables, name_of, field_name, CelType, TypeFault, UnknownName, NoOverload, MisplacedVariables, Typing, typed, refused, allowed, agree, known_of, both_allowed, row, Scope, name_type, type_or_fault, variable_type, literal_type, field_row, index_row, unary_row, binary_row, order_row, member_row, ternary_row, function_row, method_row, test_row, macro_row, map_row, map_literal_row, call_type, MayBe, known, dynamic, MayBeOne, MayBothBeOne, MayAgree, HasTextKeys, no_keys, next_key, IsRow, a_name, a_variable, a_field, a_has, an_item, an_entry, a_not, a_negation, a_sum, an_arithmetic, an_equality, an_order, a_member, a_key, a_logic, a_choice, a_map, a_size, a_size_method, a_string, a_dyn, a_test, a_quantifier, a_filter, a_transform, a_filtered_transform, All-contains, All-from_recursion, list_any_at, cause}
+use Rattle.cel_types.proofs.Prelude.{◌≡◌, ℕ, Bool, true, false, ◌&&◌, List, [], ◌∷◌, Option, Some, refl, ap, ◌∙◌, if◌then◌else◌, Contains, arith, AllByRecursion, Tree, no_trees, more_trees, BinaryOperator, Function, Size, String, Dyn, function_named, test_named, Macro, macro_named, is_map, is_has, is_variables, name_of, field_name, CelType, TypeFault, UnknownName, NoOverload, MisplacedVariables, Typing, typed, refused, allowed, agree, known_of, both_allowed, row, Scope, name_type, variable_type, literal_type, field_row, index_row, unary_row, binary_row, order_row, member_row, ternary_row, function_row, method_row, test_row, macro_row, map_row, map_literal_row, call_type, MayBe, known, dynamic, MayBeOne, MayBothBeOne, MayAgree, HasTextKeys, no_keys, next_key, IsRow, a_name, a_variable, a_field, a_has, an_item, an_entry, a_not, a_negation, a_sum, an_arithmetic, an_equality, an_order, a_member, a_key, a_logic, a_choice, a_map, a_size, a_size_method, a_string, a_dyn, a_test, a_quantifier, a_filter, a_transform, a_filtered_transform, All-contains, All-from_recursion, list_any_at, cause}
+use Rattle.std.specs.Option.{option_map_or}
 use Rattle.cel_reader.specs.Tree as tree
 use Rattle.cel_reader.specs.declared.operator.BinaryOperator.TheVariants as binary
 use Rattle.cel_types.specs.declared.cel_type.CelType.TheVariants as type
@@ -115,7 +116,7 @@ grouped os x y r h {o} c = All-contains (λ p. binary_row p x y ≡ r) os o (All
 pub row_typed : (s : Scope) {e : Tree} {ts : List CelType} {t : CelType} → IsRow s e ts t → node s e ts ≡ typed t
 unfolding is_variables name_type variable_type
 row_typed s (a_name {n} v k) = λ j. if v j then refused MisplacedVariables else (if k j then typed type.Dyn else refused UnknownName)
-row_typed s (a_variable {a} {v = f} {t} v h) = (λ j. select_node (v j) f s []) ∙ ap type_or_fault h
+row_typed s (a_variable {a} {v = f} {t} v h) = (λ j. select_node (v j) f s []) ∙ ap (λ o. option_map_or typed o (refused MisplacedVariables)) h
 row_typed s (a_field {a} {f} {x} v m) = (λ j. select_node (v j) f s (x ∷ [])) ∙ one_typed type.Dyn (may m)
 row_typed s (a_has {n} {a} {f} {x} h m) = (λ j. call_type (h j) (Some f) (function_named n) (typed x) (typed x)) ∙ one_typed type.Bool (may m)
 row_typed s (an_item l m) = item_typed l m

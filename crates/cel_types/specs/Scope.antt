@@ -1,5 +1,6 @@
 -- The names that an expression may use.
-use Rattle.std.specs.Prelude.{ℕ, Bool, ◌||◌, List, ◌∷◌, Option, Some, None, if◌then◌else◌, bytes_eq}
+use Rattle.std.specs.Prelude.{ℕ, Bool, ◌||◌, List, ◌∷◌, if◌then◌else◌, bytes_eq}
+use Rattle.std.specs.Option.{option_map_or}
 use Rattle.std.specs.List.{list_any}
 use Rattle.cel_macros.specs.Environment.{lookup, is_root}
 use Rattle.cel_macros.specs.Macros.{variables_name}
@@ -23,14 +24,9 @@ name_type n items =
     else (if is_known n items then typed type.Dyn
     else refused UnknownName)
 
--- the type, or the fault of `variables` if there is none
-abbrev pub type_or_fault : Option CelType → Typing
-type_or_fault (Some t) = typed t
-type_or_fault None = refused MisplacedVariables
-
--- the type of `variables.n`: that of variable n, if it may be used
+-- the type of `variables.n`: that of variable n, if it may be used, else the fault of `variables`
 unfoldable pub variable_type : List ℕ → List (List ℕ × CelType) → Typing
-variable_type n variables = type_or_fault (lookup n variables)
+variable_type n variables = option_map_or typed (lookup n variables) (refused MisplacedVariables)
 
 -- the scope inside a macro with the iteration name n
 abbrev pub within : List ℕ → Scope → Scope

@@ -7,7 +7,7 @@ use Rattle.cel_reader.specs.declared.operator.UnaryOperator.{UnaryOperator}
 use Rattle.cel_reader.specs.declared.operator.UnaryOperator.TheVariants as unary
 use Rattle.cel_macros.specs.declared.function.Function.{Function, TheVariants.Size, TheVariants.String, TheVariants.Dyn}
 use Rattle.cel_macros.specs.declared.text_test.TextTest.{TextTest}
-use Rattle.cel_macros.specs.declared.macros.Macro.{Macro, TheVariants.All, TheVariants.Exists, TheVariants.ExistsOne, TheVariants.Filter, TheVariants.Map}
+use Rattle.cel_macros.specs.declared.macros.Macro.{Macro, TheVariants.Filter, TheVariants.Map}
 use Rattle.cel_types.specs.declared.cel_type.CelType.{CelType}
 use Rattle.cel_types.specs.declared.cel_type.CelType.TheVariants as type
 use Rattle.cel_types.specs.Types.{Typing, typed, refused, NoOverload, same_type, allowed, agree, known_of, both_allowed, row}
@@ -47,10 +47,6 @@ logic_row a b = row (both_allowed (type.Bool ∷ []) a b) type.Bool
 abbrev pub order_row : CelType → CelType → Typing
 order_row a b = row (both_allowed (type.Int ∷ type.String ∷ type.Bool ∷ []) a b && agree a b) type.Bool
 
--- == and != of one type are a bool
-abbrev pub equality_row : CelType → CelType → Typing
-equality_row a b = row (agree a b) type.Bool
-
 -- x in y is a bool: for any x and a list or Dyn, and for a string and a map
 abbrev pub member_row : CelType → CelType → Typing
 member_row x type.List = typed type.Bool
@@ -66,7 +62,7 @@ sum_row a b = row (both_allowed (type.Int ∷ type.String ∷ type.List ∷ []) 
 abbrev pub arithmetic_row : CelType → CelType → Typing
 arithmetic_row a b = row (both_allowed (type.Int ∷ []) a b) type.Int
 
--- the row of a binary operator, given the types of its operands
+-- the row of a binary operator, given the types of its operands; == and != of one type are a bool
 abbrev pub binary_row : BinaryOperator → CelType → CelType → Typing
 binary_row binary.Or a b = logic_row a b
 binary_row binary.And a b = logic_row a b
@@ -74,8 +70,8 @@ binary_row binary.Less a b = order_row a b
 binary_row binary.LessEqual a b = order_row a b
 binary_row binary.GreaterEqual a b = order_row a b
 binary_row binary.Greater a b = order_row a b
-binary_row binary.Equal a b = equality_row a b
-binary_row binary.NotEqual a b = equality_row a b
+binary_row binary.Equal a b = row (agree a b) type.Bool
+binary_row binary.NotEqual a b = row (agree a b) type.Bool
 binary_row binary.In a b = member_row a b
 binary_row binary.Add a b = sum_row a b
 binary_row binary.Subtract a b = arithmetic_row a b
@@ -101,9 +97,7 @@ function_row None t = refused NoOverload
 -- the row of a method without arguments: size
 abbrev pub method_row : Option Function → CelType → Typing
 method_row (Some Size) t = size_row t
-method_row (Some String) t = refused NoOverload
-method_row (Some Dyn) t = refused NoOverload
-method_row None t = refused NoOverload
+method_row _ t = refused NoOverload
 
 -- startsWith, endsWith and contains of two strings are a bool
 abbrev pub test_row : Option TextTest → CelType → CelType → Typing
@@ -112,19 +106,14 @@ test_row None a b = refused NoOverload
 
 -- the types that a macro accepts for its part: a bool, or any type for `map`
 abbrev pub part_allowed : Macro → CelType → Bool
-part_allowed All t = allowed (type.Bool ∷ []) t
-part_allowed Exists t = allowed (type.Bool ∷ []) t
-part_allowed ExistsOne t = allowed (type.Bool ∷ []) t
-part_allowed Filter t = allowed (type.Bool ∷ []) t
 part_allowed Map t = true
+part_allowed _ t = allowed (type.Bool ∷ []) t
 
 -- the type of a macro: a bool, or a list
 abbrev pub macro_type : Macro → CelType
-macro_type All = type.Bool
-macro_type Exists = type.Bool
-macro_type ExistsOne = type.Bool
 macro_type Filter = type.List
 macro_type Map = type.List
+macro_type _ = type.Bool
 
 -- the range of a macro is a list or a map
 abbrev pub is_range : CelType → Bool

@@ -1,5 +1,5 @@
 -- The type of an expression or its first fault. Parts come from left to right and before their node.
-use Rattle.std.specs.Prelude.{◌≡◌, ℕ, Bool, true, false, List, [], ◌∷◌, Option, Some, None}
+use Rattle.std.specs.Prelude.{◌≡◌, ℕ, Bool, true, false, List, [], ◌∷◌, Option, Some}
 use Rattle.std.specs.List.{list_all}
 use Rattle.cel_reader.specs.Tree as tree
 use Rattle.cel_reader.specs.Tree.{Tree, Trees, TreeEntries, no_trees, more_trees, no_entries, more_entries}
@@ -22,20 +22,17 @@ selected_type false f a s = with_type a field_row
 -- `has(e.f)`, with the type x of e, or a function of y
 abbrev pub call_type : Bool → Option (List ℕ) → Option Function → Typing → Typing → Typing
 call_type true (Some f) g x y = with_type x has_row
-call_type true None g x y = with_type y (function_row g)
-call_type false f g x y = with_type y (function_row g)
+call_type _ _ g x y = with_type y (function_row g)
 
 -- a macro with its range, and its part for an iteration name; a method that is not a macro has no row
 abbrev pub fold_type : Option Macro → Option (List ℕ) → Typing → (List ℕ → Typing) → List Typing → Typing
 fold_type (Some m) (Some n) r p parts = with_type r (λ a. with_type (p n) (λ b. macro_row m a b))
-fold_type (Some m) None r p parts = with_types parts (refused NoOverload)
-fold_type None n r p parts = with_types parts (refused NoOverload)
+fold_type _ _ r p parts = with_types parts (refused NoOverload)
 
 -- `map` with a predicate and a transform, each for an iteration name
 abbrev pub fold_map_type : Bool → Option (List ℕ) → Typing → (List ℕ → Typing) → (List ℕ → Typing) → List Typing → Typing
 fold_map_type true (Some n) r p t parts = with_type r (λ a. with_type (p n) (λ b. with_type (t n) (λ c. map_row a b c)))
-fold_map_type true None r p t parts = with_types parts (refused NoOverload)
-fold_map_type false n r p t parts = with_types parts (refused NoOverload)
+fold_map_type _ _ r p t parts = with_types parts (refused NoOverload)
 
 unfoldable mutual
   -- the type of an expression in a scope, or its first fault; parts come from left to right and before their node

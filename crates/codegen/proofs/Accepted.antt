@@ -1,6 +1,8 @@
 -- Each expression that the type checker accepts has code: its calls are of known functions, and its variables are in
 -- the scope.
-use Rattle.codegen.proofs.Prelude.{Size, ◌≡◌, ℕ, Bool, true, false, ◌||◌, List, [], ◌∷◌, Option, Some, sym, ap, ◌∙◌, subst, arith, if◌then◌else◌, refl, map-map, bytes_eq, IsSome, map as each, list_any, Core, Cores, CoreEntries, no_cores, more_cores, no_core_entries, more_core_entries, plain_tree, name, variable, select, has, index, call, method, unary, binary, ternary, list, fold, fold_map, plain_trees, plain_entries, expanded, expanded_trees, expanded_entries, expanded_operand, selection, call_or_has, method_or_fold, one_core, literal, lookup, is_variables, macro_name, macro_named, is_map, field_name, CelType, core_typing, core_typings, core_entry_typings, Declaration, depths_of, scope_of, Scope, name_type, type_or_fault, variable_type, within, field_row, has_row, index_row, unary_row, binary_row, ternary_row, test_row, macro_row, map_row, Typing, typed, refused, with_type, with_types, Variable, IsAccepted, AreAccepted, AreEntriesAccepted, names, nestings, TypedIsAccepted, Macro, Callee, callee_name, Function, function_again, function_in, not_has, test_again, test_in, is_has}
+use Rattle.codegen.proofs.Prelude.{Size, ◌≡◌, ℕ, Bool, true, false, ◌||◌, List, [], ◌∷◌, Option, Some, sym, ap, ◌∙◌, subst, arith, if◌then◌else◌, refl, map-map, bytes_eq, IsSome, map as each, list_any, Core, Cores, CoreEntries, no_cores, more_cores, no_core_entries, more_core_entries, plain_tree, name, variable, select, has, index, call, method, unary, binary, ternary, list, fold, fold_map, plain_trees, plain_entries, expanded, expanded_trees, expanded_entries, expanded_operand, selection, call_or_has, method_or_fold, one_core, literal, lookup, is_variables, macro_name, macro_named, is_map, field_name, CelType, core_typing, core_typings, core_entry_typings, Declaration, depths_of, scope_of, Scope, name_type, variable_type, within, field_row, has_row, index_row, unary_row, binary_row, ternary_row, test_row, macro_row, map_row, Typing, typed, refused, with_type, with_types, Variable, IsAccepted, AreAccepted, AreEntriesAccepted, names, nestings, TypedIsAccepted, Macro, Callee, callee_name, Function, function_again, function_in, not_has, test_again, test_in, is_has}
+use Rattle.std.specs.Option.{option_map_or}
+use Rattle.cel_types.specs.Types.{MisplacedVariables}
 use Rattle.cel_macros.specs.CoreTree.{map}
 
 abbrev pub IsTyped : Typing → Type 0
@@ -25,8 +27,8 @@ none_typed : (xs : List Typing) (y : _) → IsTyped (with_types xs (refused y)) 
 none_typed [] y h = h
 none_typed (x ∷ xs) y h = none_typed xs y (rest_typed x xs (refused y) h)
 
-known_by : (here : Bool) (t : CelType) (rest : Option CelType) (more : Bool) → (IsTyped (type_or_fault rest) → more ≡ true)
-    → IsTyped (type_or_fault (if here then Some t else rest)) → (here || more) ≡ true
+known_by : (here : Bool) (t : CelType) (rest : Option CelType) (more : Bool) → (IsTyped (option_map_or typed rest (refused MisplacedVariables)) → more ≡ true)
+    → IsTyped (option_map_or typed (if here then Some t else rest) (refused MisplacedVariables)) → (here || more) ≡ true
 known_by here t rest more later h = grind arith
 
 -- a variable with a type has one of the declared names

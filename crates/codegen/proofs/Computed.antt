@@ -1,5 +1,6 @@
 -- The code of an expression gives its value within its budget, by induction on its tree.
-use Rattle.codegen.proofs.Prelude.{append-nil, ◌≡◌, ℕ, ◌+◌, ◌<◌, ◌≤◌, Bool, true, false, List, [], Option, Some, None, IfSome, refl, arith, suc, ◌||◌, ◌∷◌, length, ap, ◌∙◌, ◌++◌, IsSome, slice_get, bytes_eq, ◌&&◌, if◌then◌else◌, Insn, ValueOrError, Value, Core, call_or_has, no_cores, one_core, selection, expanded, expanded_entries, expanded_operand, expanded_trees, plain_tree, variable_value, Roots, lookup, name_value, Environment, bind, Function, Size, TextTest, function_named, function_of, method_of, test_named, text_test_of, called, selected, entry_meanings, meaning, meanings, operand_meaning, deepest, need, depth_or_none, kept_size, Context, Evaluates, RunContext, IsLeafOf, IsLeafIn, Variable, IsScope, place_named, scope_setting, SimpleOperand, code_of, function_code, leaf_of, method_function_code, test_code, texts_of, routine_named, field_leaf, ComputesPart, names, nestings, routines, scope_context, Computes, Ready, environment_in, Cost, ◌and◌, call_cost, node, nothing, selection_cost, cost, costs, entry_costs, operand_cost, IsAccepted, ints, list_any, Image, FrameUse, RootField, with_name, scope_gives, bytes_decides, field_of, CpuState, Word, leaves_name, paths_give, Tree, Trees, TreeEntries, no_trees, more_trees, no_entries, more_entries, field_name, is_has, is_map, is_variables, macro_named, name_of, later_gives, EntriesHaveLiterals, HasLiterals, HaveLiterals, gives_within, CodeGives, word_limit, record_limit, memo_limit, frame_words, Callee, callee_named, function_in, function_stays, test_in, test_stays, subst, Cores, kept_place, list_literal, list_value, literal_values}
+use Rattle.codegen.proofs.Prelude.{append-nil, ◌≡◌, ℕ, ◌+◌, ◌<◌, ◌≤◌, Bool, true, false, List, [], Option, Some, None, IfSome, refl, arith, suc, ◌||◌, ◌∷◌, length, ap, ◌∙◌, ◌++◌, IsSome, slice_get, bytes_eq, ◌&&◌, if◌then◌else◌, Insn, ValueOrError, Value, Core, call_or_has, no_cores, one_core, selection, expanded, expanded_entries, expanded_operand, expanded_trees, plain_tree, variable_value, Roots, lookup, name_value, Environment, bind, Function, Size, TextTest, function_named, function_of, method_of, test_named, text_test_of, called, selected, entry_meanings, meaning, meanings, operand_meaning, deepest, need, kept_size, Context, Evaluates, RunContext, IsLeafOf, IsLeafIn, Variable, IsScope, place_named, scope_setting, SimpleOperand, code_of, function_code, leaf_of, method_function_code, test_code, texts_of, routine_named, field_leaf, ComputesPart, names, nestings, routines, scope_context, Computes, Ready, environment_in, Cost, ◌and◌, call_cost, node, nothing, selection_cost, cost, costs, entry_costs, operand_cost, IsAccepted, ints, list_any, Image, FrameUse, RootField, with_name, scope_gives, bytes_decides, field_of, CpuState, Word, leaves_name, paths_give, Tree, Trees, TreeEntries, no_trees, more_trees, no_entries, more_entries, field_name, is_has, is_map, is_variables, macro_named, name_of, later_gives, EntriesHaveLiterals, HasLiterals, HaveLiterals, gives_within, CodeGives, word_limit, record_limit, memo_limit, frame_words, Callee, callee_named, function_in, function_stays, test_in, test_stays, subst, Cores, kept_place, list_literal, list_value, literal_values}
+use Rattle.std.specs.Prelude.{unwrap_or}
 use Rattle.codegen.proofs.Subexpressions.{Subexpression, subexpression, in_macro}
 use Rattle.cel_macros.specs.CoreTree as core
 use Rattle.codegen.proofs.Parts.{leaf, LeafPart, Part, function_part, has_part, or_left, or_right, select_part, test_part, texts_back, texts_front, EntriesPart, ItemsPart, entries_more, entries_none, items_more, items_none, list_part, map_part, binary_part, unary_part, index_part, literal_part, name_part, ternary_part}
@@ -107,7 +108,7 @@ module _ (image : Image) (deep : Bool) (roots : Roots) (constants : List ℕ) (s
   unfolding code_of deepest IsAccepted
   use_gives items words depth k n low accepted frames p =
       let f = found n scope accepted in
-      let nesting = ap depth_or_none f.nesting_is in
+      let nesting = ap (λ o. unwrap_or o 0) f.nesting_is in
       let routine = same n accepted ∙ f.routine_is in
       rw routine (scope_gives image deep roots constants scope words items n f.number f.variable p depth k _ is few low f.place_is f.stands (omega arith) (omega (arith, ints)))
 

@@ -1,5 +1,6 @@
 -- The code of expressions, as an emitter makes it.
-use Rattle.codegen.proofs.Prelude.{◌≡◌, ℕ, ◌+◌, ◌≤◌, Bool, true, List, [], ◌∷◌, ◌++◌, length, append-nil, refl, sym, ap, ◌∙◌, arith, ◌*◌, false, length-append, suc, subst, and_from, le-leb, nat_le, saturated, if◌then◌else◌, map as each, pos, All, zip, length-map, map-append, Image, Core, Cores, CoreEntries, no_cores, more_cores, no_core_entries, more_core_entries, variable, select, has, index, call, method, unary, binary, ternary, list, fold, fold_map, plain_tree, Roots, lookup, meaning, deepest, deepest_of, depth_or_none, entries_deepest, need, depth, nodes, Declaration, depths_of, declared, nothing_kept, FrameUse, IsScope, Variable, scope_setting, Returns, first_use, wider_gives, scope_begins, scope_grows, routine_named, texts_of, whole_code, routine_code, Computes, Ready, TextsStand, environment_in, names, nestings, routines, scope_context, variable_of, with_texts, IsDeep, cost, spent_by, AreShallow, AreTaken, EmitsRoutine, ExpressionGives, FramesAreEnough, HasConstants, IsEmittable, VariableIsTaken, VariableJoins, RoutineGives, RoutineIsPassed, Emitted, with_piece, HasLiterals, routines_of, ints, Insn, ja, size, AreInsns, IsCodeAt, slots, size-append, size-cons, stands_first, stands_rest, done, looser, to_place, jump, passed, code_at, has_room, with_counted, with_expression, with_variable, Value, memo_tail, insns_append, memo_insns, routine_returns, EmitsExpression, EmitsVariable, HasRoutines, Running, Suits, caller_context, context, cost_in, meaning_in, next_routine, next_variable, setting, variable_depth_limit, record_limit, memo_limit, word_limit, slot_reach, code_limit, node_limit, call_reach, part_slots_per_node, steps_per_visit, charge_per_unit}
+use Rattle.codegen.proofs.Prelude.{◌≡◌, ℕ, ◌+◌, ◌≤◌, Bool, true, List, [], ◌∷◌, ◌++◌, length, append-nil, refl, sym, ap, ◌∙◌, arith, ◌*◌, false, length-append, suc, subst, and_from, le-leb, nat_le, saturated, if◌then◌else◌, map as each, pos, All, zip, length-map, map-append, Image, Core, Cores, CoreEntries, no_cores, more_cores, no_core_entries, more_core_entries, variable, select, has, index, call, method, unary, binary, ternary, list, fold, fold_map, plain_tree, Roots, lookup, meaning, deepest, deepest_of, entries_deepest, need, depth, nodes, Declaration, depths_of, declared, nothing_kept, FrameUse, IsScope, Variable, scope_setting, Returns, first_use, wider_gives, scope_begins, scope_grows, routine_named, texts_of, whole_code, routine_code, Computes, Ready, TextsStand, environment_in, names, nestings, routines, scope_context, variable_of, with_texts, IsDeep, cost, spent_by, AreShallow, AreTaken, EmitsRoutine, ExpressionGives, FramesAreEnough, HasConstants, IsEmittable, VariableIsTaken, VariableJoins, RoutineGives, RoutineIsPassed, Emitted, with_piece, HasLiterals, routines_of, ints, Insn, ja, size, AreInsns, IsCodeAt, slots, size-append, size-cons, stands_first, stands_rest, done, looser, to_place, jump, passed, code_at, has_room, with_counted, with_expression, with_variable, Value, memo_tail, insns_append, memo_insns, routine_returns, EmitsExpression, EmitsVariable, HasRoutines, Running, Suits, caller_context, context, cost_in, meaning_in, next_routine, next_variable, setting, variable_depth_limit, record_limit, memo_limit, word_limit, slot_reach, code_limit, node_limit, call_reach, part_slots_per_node, steps_per_visit, charge_per_unit}
+use Rattle.std.specs.Prelude.{unwrap_or}
 use Rattle.cel_macros.specs.CoreTree.{map}
 use Rattle.codegen.proofs.Accepted.{names_declared, typed_accepted}
 use Rattle.codegen.proofs.Lent.{texts_stand}
@@ -39,7 +40,7 @@ routines_found slots ds first rest scope later whole taken n h =
 
 -- ---- no expression uses a variable that is deeper than all declared ones
 
-shallow_named : (n : List ℕ) (ds : List Declaration) → AreShallow ds → depth_or_none (lookup n (depths_of ds)) ≤ variable_depth_limit
+shallow_named : (n : List ℕ) (ds : List Declaration) → AreShallow ds → unwrap_or (lookup n (depths_of ds)) 0 ≤ variable_depth_limit
 shallow_named n [] h = omega arith
 shallow_named n (d ∷ ds) h = grind (arith, shallow_named n ds)
 

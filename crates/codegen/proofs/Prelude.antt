@@ -54,7 +54,7 @@ unfoldable pub use Rattle.cel_macros.specs.Environment.{name_value, variable_val
 unfoldable pub use Rattle.cel_macros.specs.Functions.{function_named, test_named}
 unfoldable pub use Rattle.cel_macros.specs.Macros.{is_has, is_map, is_variables, macro_named}
 unfoldable pub use Rattle.cel_macros.specs.Meaning.{entry_meanings, meaning, meanings, operand_meaning}
-pub use Rattle.cel_measures.specs.Measures.{depth, depth_or_none}
+pub use Rattle.cel_measures.specs.Measures.{depth}
 pub use Rattle.cel_measures.specs.Saturated.{saturated}
 unfoldable pub use Rattle.cel_measures.specs.Measures.{deepest, deepest_of, entries_deepest, entries_need}
 unfoldable pub use Rattle.cel_measures.specs.Measures.{entries_nodes, need, needs, nodes, nodes_of}
@@ -63,7 +63,7 @@ pub use Rattle.cel_reader.specs.WellFormed.{IsWellFormedLiteral}
 pub use Rattle.cel_reader.specs.declared.operator.BinaryOperator.{BinaryOperator}
 pub use Rattle.cel_reader.specs.declared.operator.UnaryOperator.{UnaryOperator}
 pub use Rattle.cel_types.specs.Declarations.{Declaration, declaration, declared, depths_of, scope_of}
-pub use Rattle.cel_types.specs.Scope.{Scope, type_or_fault, within}
+pub use Rattle.cel_types.specs.Scope.{Scope, within}
 pub use Rattle.cel_types.specs.TypeTable.{binary_row, field_row, has_row, index_row, macro_row, map_row, ternary_row}
 pub use Rattle.cel_types.specs.TypeTable.{test_row, unary_row}
 pub use Rattle.cel_types.specs.Types.{Typing, refused, typed, with_type, with_types}
