@@ -43,7 +43,8 @@ pub use Rattle.insn_codec.specs.Lines.{register_text, signed_decimal, wide_text}
 pub use Rattle.insn_codec.specs.Mnemonics.{alu_text, atomic_text, comparison_text, mnemonic_text, width_text}
 pub use Rattle.insn_codec.specs.Spelling.{IsOperand}
 pub use Rattle.insn_codec.specs.Statements.{IsStatement, Listing, Lists, after_statement, lines_text, statement_bytes}
-pub use Rattle.insn_codec.specs.Statements.{statement_mnemonic, statement_slots, statement_text}
+pub use Rattle.insn_codec.specs.Statements.{statement_slots, statement_text}
+pub use Rattle.assembler.specs.Forms.{statement_mnemonic}
 pub use Rattle.insn_codec.specs.Statements.Lists.{place}
 pub use Rattle.insn_codec.specs.declared.alu_op.AluOp.{AluOp}
 pub use Rattle.insn_codec.specs.declared.atomic_op.AtomicOp.{AtomicOp}

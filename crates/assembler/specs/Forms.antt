@@ -1,8 +1,9 @@
 -- The two halves of a line with operands: its mnemonic, and the operands after the space.
 use Rattle.std.specs.Prelude.{◌≡◌, ℕ, List, [], ◌∷◌, Option, Some, None, Result, Ok, Err}
-use Rattle.insn_codec.specs.Lines.{operands_text}
-use Rattle.insn_codec.specs.Statements.{statement_mnemonic, statement_operands}
+use Rattle.insn_codec.specs.Lines.{mnemonic_of, operands_of, operands_text, wide_text}
 use Rattle.insn_codec.specs.declared.mnemonic.Mnemonic.{Mnemonic}
+use Rattle.insn_codec.specs.declared.mnemonic.Mnemonic.TheVariants as mnemonic
+use Rattle.insn_codec.specs.declared.statement.Statement.{Statement, TheVariants.Insn, TheVariants.Slot}
 use Rattle.assembler.specs.Items.{HasLine, InRange, SourceItem, item_of, statement, label, jump}
 use Rattle.assembler.specs.Jumps.{jump_mnemonic, jump_operands}
 use Rattle.assembler.specs.declared.lines.line.Line.{Line}
@@ -16,6 +17,16 @@ HasNoByte c (x ∷ xs) = (x ≡ c → ⊥) × HasNoByte c xs
 -- two operands, separated by a comma and a space
 abbrev pub operand_list : List ℕ → List ℕ → List ℕ
 operand_list x y = operands_text (x ∷ y ∷ [])
+
+-- the mnemonic of a statement's line
+abbrev pub statement_mnemonic : Statement → Mnemonic
+statement_mnemonic (Insn i) = mnemonic_of i
+statement_mnemonic (Slot word) = mnemonic.Slot
+
+-- the operands of a statement's line
+abbrev pub statement_operands : Statement → List (List ℕ)
+statement_operands (Insn i) = operands_of i
+statement_operands (Slot word) = wide_text word ∷ []
 
 -- the mnemonic, if there are operands
 abbrev pub before_operands : List (List ℕ) → Mnemonic → Option Mnemonic

@@ -7,7 +7,7 @@ pub use Rattle.std.specs.Int.{from_be_bytes, w64}
 pub use Rattle.byteorder.specs.Endian.{big_number, little_number}
 pub use Rattle.insn_codec.specs.Laws.{SlotsAreFilled}
 pub use Rattle.insn_codec.specs.Spelling.{more_bytes, on_hand}
-pub use Rattle.insn_codec.specs.Statements.{Listing, Lists, after_statement, insn_or_slot, lines_text, statement_text}
+pub use Rattle.insn_codec.specs.Statements.{Listing, Lists, after_statement, lines_text, statement_text}
 pub use Rattle.insn_codec.specs.Statements.Lists.{ended, place}
 pub use Rattle.insn_codec.specs.declared.insn.Insn.{Insn}
 pub use Rattle.insn_codec.specs.declared.statement.Statement.{Statement}

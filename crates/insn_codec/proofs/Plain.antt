@@ -1,5 +1,9 @@
 -- Bytes that do not occur in a line's parts; a statement's line contains no line feed.
-use Rattle.insn_codec.proofs.Prelude.{◌≡◌, ◌/◌, ◌%◌, ◌<◌, ℕ, zero, suc, ℤ, List, [], ◌∷◌, ◌++◌, Bool, true, refl, arith, ◌∙◌, ◌≢◌, All, nat_eq, not, ◌&&◌, codes, list_all, AllDigits, and_from, and_parts, nat_tests, list_all-append, decimal, hex_digit, hex_digits, offset_text, operand_text, register_text, signed_decimal, wide_text, address_text, line_with, operands_text, place_text, mnemonic_text, Register, Operand, Mnemonic, All-nil, All-cons, NoLineFeed, statement_mnemonic, statement_operands, statement_text, Statement}
+use Rattle.insn_codec.proofs.Prelude.{◌≡◌, ◌/◌, ◌%◌, ◌<◌, ℕ, zero, suc, ℤ, List, [], ◌∷◌, ◌++◌, Bool, true, refl, arith, ◌∙◌, ◌≢◌, All, nat_eq, not, ◌&&◌, codes, list_all, AllDigits, and_from, and_parts, nat_tests, list_all-append, decimal, hex_digit, hex_digits, offset_text, operand_text, register_text, signed_decimal, wide_text, address_text, line_with, operands_text, place_text, mnemonic_text, Register, Operand, Mnemonic, All-nil, All-cons, NoLineFeed, statement_text}
+use Rattle.insn_codec.specs.Lines.{mnemonic_of, operands_of}
+use Rattle.insn_codec.specs.declared.insn.Insn.{Insn as Instruction}
+use Rattle.insn_codec.specs.declared.mnemonic.Mnemonic.TheVariants as mnemonic
+use Rattle.insn_codec.specs.declared.statement.Statement.TheVariants.{Insn, Slot}
 use Rattle.insn_codec.proofs.Decimals.{decimal_digits}
 
 -- whether the byte is none of those between parts: line feed, space, comma, colon and square brackets
@@ -85,8 +89,11 @@ abbrev AllQuiet : List (List ℕ) → Type 0
 AllQuiet [] = Unit {0}
 AllQuiet (x ∷ xs) = Quiet x × AllQuiet xs
 
-all_quiet : (x : Statement) → AllQuiet (statement_operands x)
-all_quiet x = grind (arith, register, operand_plain, offset, signed_decimal_plain, place, plain, wide_plain)
+all_quiet : (i : Instruction) → AllQuiet (operands_of i)
+all_quiet i = grind (arith, register, operand_plain, offset, signed_decimal_plain, place, plain, wide_plain)
+
+slot_quiet : (word : ℕ) → AllQuiet (wide_text word ∷ [])
+slot_quiet word = grind (arith, plain, wide_plain)
 
 joined_quiet : (xs : List (List ℕ)) → AllQuiet xs → Quiet (operands_text xs)
 joined_quiet [] h = literal [] refl
@@ -103,4 +110,5 @@ heard [] h = All-nil (λ b. b ≢ 10)
 heard (x ∷ xs) h = All-cons (λ b. b ≢ 10) x xs (grind (arith, h)) (heard xs (grind (arith, h)))
 
 pub statement_on_one_line : NoLineFeed
-statement_on_one_line x h = heard (statement_text x) (line_quiet (statement_mnemonic x) (statement_operands x) (all_quiet x)).tells
+statement_on_one_line (Insn i) h = heard (statement_text (Insn i)) (line_quiet (mnemonic_of i) (operands_of i) (all_quiet i)).tells
+statement_on_one_line (Slot word) h = heard (statement_text (Slot word)) (line_quiet mnemonic.Slot (wide_text word ∷ []) (slot_quiet word)).tells

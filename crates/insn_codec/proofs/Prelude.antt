@@ -23,7 +23,7 @@ pub use Rattle.std.specs.Int.Digits.{AllBelowBase, digits_of}
 pub use Rattle.std.specs.List.{list_all, starts_with}
 pub use Rattle.std.specs.Str.Parse.{AllDigits, digits_value}
 unfoldable pub use Rattle.std.specs.Fmt.{char_count, digits, padded_integral}
-pub use Rattle.insn_codec.specs.Candidate.{extends_at, ◌>>=◌}
+pub use Rattle.insn_codec.specs.Candidate.{◌>>=◌}
 pub use Rattle.insn_codec.specs.Codes.{atomic_width, operand_at, register_number, register_of}
 pub use Rattle.insn_codec.specs.Families.{alu_of, atomic_of, comparison_of, extension_of, order_of, signed_size_of}
 pub use Rattle.insn_codec.specs.Families.{size_of_code, swap_of}
@@ -35,8 +35,8 @@ pub use Rattle.insn_codec.specs.Slots.{IsSlot, second_imm, slot_bytes, slot_of}
 pub use Rattle.insn_codec.specs.Spelled.{SpelledIsSpelling}
 pub use Rattle.insn_codec.specs.Spelling.{BeginsWith, IsInsn, IsOperand, first_slot, more_bytes, on_hand}
 pub use Rattle.insn_codec.specs.Spelling.{second_bytes, slot_count, spelling}
-pub use Rattle.insn_codec.specs.Statements.{IsStatement, insn_or_slot, statement_bytes, statement_mnemonic}
-pub use Rattle.insn_codec.specs.Statements.{statement_operands, statement_slots, statement_text}
+pub use Rattle.insn_codec.specs.Statements.{IsStatement, statement_bytes}
+pub use Rattle.insn_codec.specs.Statements.{statement_slots, statement_text}
 pub use Rattle.insn_codec.specs.declared.byte_order.ByteOrder.TheVariants.{Little}
 pub use Rattle.insn_codec.specs.declared.comparison.Comparison.TheVariants.{Eq}
 pub use Rattle.insn_codec.specs.declared.extension.Extension.TheVariants.{From8To32}

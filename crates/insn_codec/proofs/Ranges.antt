@@ -1,6 +1,8 @@
 -- Encoding and decoding of a slot's fields: each instruction is the candidate of its own
 -- first slot, and the fields are in range.
-use Rattle.insn_codec.proofs.Prelude.{◌≡◌, ℕ, ◌+◌, ◌*◌, ◌/◌, ◌%◌, ◌^◌, ◌<◌, Some, refl, arith, Option, FitsSigned, w32, cast_signed, cast_unsigned, w16, of_z-to_z, arithmetic_at, atomic_at, branch_at, candidate_at, jump_at, memory_at, wide_at, ◌>>=◌, extends_at, register_number, register_of, atomic_width, operand_at, first_slot, IsInsn, IsOperand, Little, Eq, From8To32, Insn, Alu, Neg, SignExtend, ByteSwap, Jump, JumpLong, Branch, Call, CallLocal, Exit, Load, LoadSigned, StoreImm, Store, Atomic, LoadWide, Imm, Register, W32, IfSome, option_map, Bool, if◌then◌else◌, ◌==◌, alu_of, atomic_of, comparison_of, extension_of, order_of, signed_size_of, size_of_code, swap_of, IsSlot, Operand, Slot, Width}
+use Rattle.insn_codec.proofs.Prelude.{◌≡◌, ℕ, ◌+◌, ◌*◌, ◌/◌, ◌%◌, ◌^◌, ◌<◌, Some, refl, arith, Option, FitsSigned, w32, cast_signed, cast_unsigned, w16, of_z-to_z, arithmetic_at, atomic_at, branch_at, candidate_at, jump_at, memory_at, wide_at, ◌>>=◌, register_number, register_of, atomic_width, operand_at, first_slot, IsInsn, IsOperand, Little, Eq, From8To32, Insn, Alu, Neg, SignExtend, ByteSwap, Jump, JumpLong, Branch, Call, CallLocal, Exit, Load, LoadSigned, StoreImm, Store, Atomic, LoadWide, Imm, Register, W32, IfSome, option_map, Bool, if◌then◌else◌, ◌==◌, alu_of, atomic_of, comparison_of, extension_of, order_of, signed_size_of, size_of_code, swap_of, IsSlot, Operand, Slot, Width}
+use Rattle.std.specs.Prelude.{◌&&◌, not}
+use Rattle.insn_codec.specs.Families.{holds}
 use Rattle.insn_codec.specs.declared.alu_op.AluOp.TheVariants as alu
 use Rattle.insn_codec.specs.declared.atomic_op.AtomicOp.TheVariants as atomic
 use Rattle.insn_codec.specs.declared.signed_size.SignedSize.TheVariants as signed
@@ -74,7 +76,7 @@ unfolding arithmetic_at
 arithmetic_in_range s width h = bound IsInsn (register_of s.dst) _ (λ dst.
     either IsInsn (s.opcode / 16 == 0x8) _ _ tt
     (either IsInsn (s.opcode / 16 == 0xd) _ _ (bound IsInsn (order_of s.opcode) _ (λ order. bound IsInsn (swap_of s.imm) _ (λ bits. tt)))
-    (either IsInsn (extends_at s) _ _ (bound IsInsn (extension_of width s.offset) _ (λ extension. bound IsInsn (register_of s.src) _ (λ src. tt)))
+    (either IsInsn ((s.opcode / 16 == 0xb) && not (holds s.offset 0)) _ _ (bound IsInsn (extension_of width s.offset) _ (λ extension. bound IsInsn (register_of s.src) _ (λ src. tt)))
     (bound IsInsn (alu_of (s.opcode / 16) s.offset) _ (λ op. with_operand (operand_at s) (Alu op width dst) (operand_in_range s h) (λ x f. f))))))
 
 branch_in_range : (s : Slot) (width : Width) → FitsSigned w16 s.offset → FitsSigned w32 s.imm → IfSome (branch_at s width) IsInsn

@@ -1,6 +1,7 @@
 -- The statement at the front of code.
-use Rattle.insn_codec.proofs.Prelude.{◌≡◌, ◌≢◌, ℕ, zero, suc, ◌*◌, ◌%◌, ◌^◌, ◌<◌, ◌≤◌, List, [], ◌∷◌, ◌++◌, Option, Some, None, All, refl, sym, ◌∙◌, ap, arith, length, take, drop, get_or, append_assoc, take-append-drop, length-take-le, cases_lt, get_or_past, All-take, be_bytes_8, w64, to_be_bytes, from_be_bytes, spelled, BeginsWith, IsInsn, slot_count, spelling, StatementIsSpelled, IsStatement, insn_or_slot, statement_bytes, statement_of, statement_slots, Insn as Instruction}
-use Rattle.insn_codec.specs.declared.statement.Statement.TheVariants.{Insn}
+use Rattle.insn_codec.proofs.Prelude.{◌≡◌, ◌≢◌, ℕ, zero, suc, ◌*◌, ◌%◌, ◌^◌, ◌<◌, ◌≤◌, List, [], ◌∷◌, ◌++◌, Option, Some, None, All, refl, sym, ◌∙◌, ap, arith, length, take, drop, get_or, append_assoc, take-append-drop, length-take-le, cases_lt, get_or_past, All-take, be_bytes_8, w64, to_be_bytes, from_be_bytes, spelled, BeginsWith, IsInsn, slot_count, spelling, StatementIsSpelled, IsStatement, statement_bytes, statement_of, statement_slots, Insn as Instruction}
+use Rattle.insn_codec.specs.declared.statement.Statement.TheVariants.{Insn, Slot}
+use Rattle.std.specs.Option.{option_map_or}
 use Rattle.insn_codec.proofs.Spelled.{spelled_is}
 
 -- a front of at most n bytes is within the first n bytes
@@ -37,7 +38,7 @@ word_below bytes small = omega arith
 
 -- by the instruction that the first sixteen bytes encode
 stands : (code : List ℕ) (o : Option Instruction) → spelled (take 16 code) ≡ o → All (λ b. b < 256) code → 8 ≤ length code
-    → IsStatement (insn_or_slot o code) × (code ≡ statement_bytes (insn_or_slot o code) ++ drop (8 * statement_slots (insn_or_slot o code)) code)
+    → IsStatement (option_map_or Insn o (Slot (from_be_bytes w64 (take 8 code)))) × (code ≡ statement_bytes (option_map_or Insn o (Slot (from_be_bytes w64 (take 8 code)))) ++ drop (8 * statement_slots (option_map_or Insn o (Slot (from_be_bytes w64 (take 8 code))))) code)
 stands code (Some i) e small long =
     let is = (spelled_is (take 16 code) (All-take (λ b. b < 256) 16 code small) i).0 e in
     (is.1, insn_bytes i code (begins_whole 16 (spelling i) code is.0))
@@ -46,7 +47,7 @@ stands code None e small long = (word_below (take 8 code) (byte_at (take 8 code)
 pub chosen_of : (code : List ℕ) (i : Instruction) → All (λ b. b < 256) code → IsInsn i → BeginsWith (spelling i) code → statement_of code ≡ Insn i
 unfolding statement_of
 chosen_of code i small fits b =
-    ap (λ (o : Option Instruction). insn_or_slot o code) ((spelled_is (take 16 code) (All-take (λ b. b < 256) 16 code small) i).1 fits (begins_within 16 (spelling i) code (grind arith) b))
+    ap (λ (o : Option Instruction). option_map_or Insn o (Slot (from_be_bytes w64 (take 8 code)))) ((spelled_is (take 16 code) (All-take (λ b. b < 256) 16 code small) i).1 fits (begins_within 16 (spelling i) code (grind arith) b))
 
 pub is_spelled : StatementIsSpelled
 unfolding statement_of

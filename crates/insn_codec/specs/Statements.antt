@@ -1,28 +1,18 @@
 -- Statements of a listing, and the listing of code.
-use Rattle.std.specs.Prelude.{◌≡◌, ℕ, ◌*◌, ◌^◌, ◌<◌, List, [], ◌∷◌, ◌++◌, take, drop, Option, Some, None}
+use Rattle.std.specs.Prelude.{◌≡◌, ℕ, ◌*◌, ◌^◌, ◌<◌, List, [], ◌∷◌, ◌++◌, take, drop}
+use Rattle.std.specs.Option.{option_map_or}
 use Rattle.std.specs.Int.{w64, to_be_bytes, from_be_bytes}
 use Rattle.insn_codec.specs.Lines.{line_with, mnemonic_of, operands_of, wide_text}
 use Rattle.insn_codec.specs.Spelled.{spelled}
 use Rattle.insn_codec.specs.Spelling.{IsInsn, slot_count, spelling}
-use Rattle.insn_codec.specs.declared.insn.Insn.{Insn as Instruction}
-use Rattle.insn_codec.specs.declared.mnemonic.Mnemonic.{Mnemonic}
 use Rattle.insn_codec.specs.declared.mnemonic.Mnemonic.TheVariants as mnemonic
 use Rattle.insn_codec.specs.declared.statement.Statement.{Statement, TheVariants.Insn, TheVariants.Slot}
 
--- the mnemonic of a statement's line: that of its instruction, or `.slot`
-abbrev pub statement_mnemonic : Statement → Mnemonic
-statement_mnemonic (Insn i) = mnemonic_of i
-statement_mnemonic (Slot word) = mnemonic.Slot
-
--- the operands of a statement's line: those of its instruction, or the slot's eight
--- bytes as 16 hex digits, the first byte first
-abbrev pub statement_operands : Statement → List (List ℕ)
-statement_operands (Insn i) = operands_of i
-statement_operands (Slot word) = wide_text word ∷ []
-
--- the line of a statement, without its line feed
+-- the line of a statement, without its line feed: that of its instruction, or `.slot` with the slot's eight bytes as 16 hex
+-- digits, the first byte first
 abbrev pub statement_text : Statement → List ℕ
-statement_text x = line_with (statement_mnemonic x) (statement_operands x)
+statement_text (Insn i) = line_with (mnemonic_of i) (operands_of i)
+statement_text (Slot word) = line_with mnemonic.Slot (wide_text word ∷ [])
 
 -- the bytes of a statement
 abbrev pub statement_bytes : Statement → List ℕ
@@ -39,14 +29,9 @@ abbrev pub IsStatement : Statement → Type 0
 IsStatement (Insn i) = IsInsn i
 IsStatement (Slot word) = word < 2 ^ 64
 
--- the instruction if there is one, else the first eight bytes of the code as a slot
-abbrev pub insn_or_slot : Option Instruction → List ℕ → Statement
-insn_or_slot (Some i) code = Insn i
-insn_or_slot None code = Slot (from_be_bytes w64 (take 8 code))
-
--- the statement at the front of code: the instruction that its slots encode, else its first slot
+-- the statement at the front of code: the instruction that its slots encode, else its first eight bytes as a slot
 unfoldable pub statement_of : List ℕ → Statement
-statement_of code = insn_or_slot (spelled (take 16 code)) code
+statement_of code = option_map_or Insn (spelled (take 16 code)) (Slot (from_be_bytes w64 (take 8 code)))
 
 -- the code after the statement at its front
 abbrev pub after_statement : List ℕ → List ℕ

@@ -1,6 +1,6 @@
 //! Arithmetic operations.
 
-ghost use Rattle.std.specs.Prelude.{◌≡◌, Some};
+ghost use Rattle.std.specs.Prelude.{◌≡◌, Some, pos};
 ghost use Rattle.insn_codec.specs.Mnemonics.{alu_text};
 
 use std::fmt;
@@ -47,20 +47,20 @@ impl AluOp {
         ensures { result ≡ alu_of code offset }
     {
         match (code, offset) {
-            (0x0, _) => Some(AluOp::Add),
-            (0x1, _) => Some(AluOp::Sub),
-            (0x2, _) => Some(AluOp::Mul),
+            (0x0, 0) => Some(AluOp::Add),
+            (0x1, 0) => Some(AluOp::Sub),
+            (0x2, 0) => Some(AluOp::Mul),
             (0x3, 0) => Some(AluOp::Div),
             (0x3, 1) => Some(AluOp::Sdiv),
-            (0x4, _) => Some(AluOp::Or),
-            (0x5, _) => Some(AluOp::And),
-            (0x6, _) => Some(AluOp::Lsh),
-            (0x7, _) => Some(AluOp::Rsh),
+            (0x4, 0) => Some(AluOp::Or),
+            (0x5, 0) => Some(AluOp::And),
+            (0x6, 0) => Some(AluOp::Lsh),
+            (0x7, 0) => Some(AluOp::Rsh),
             (0x9, 0) => Some(AluOp::Mod),
             (0x9, 1) => Some(AluOp::Smod),
-            (0xa, _) => Some(AluOp::Xor),
-            (0xb, _) => Some(AluOp::Mov),
-            (0xc, _) => Some(AluOp::Arsh),
+            (0xa, 0) => Some(AluOp::Xor),
+            (0xb, 0) => Some(AluOp::Mov),
+            (0xc, 0) => Some(AluOp::Arsh),
             _ => None,
         }
     }
@@ -87,7 +87,7 @@ impl AluOp {
 
     /// The slot's offset field: 1 for signed division and remainder, else 0.
     pub(crate) fn offset(self) -> i16
-        ensures { result ≡ alu_offset self }
+        ensures { result ≡ pos (alu_offset self) }
     {
         match self {
             AluOp::Sdiv | AluOp::Smod => 1,

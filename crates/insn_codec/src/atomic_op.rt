@@ -1,6 +1,6 @@
 //! Atomic operations.
 
-ghost use Rattle.std.specs.Prelude.{◌≡◌, Some};
+ghost use Rattle.std.specs.Prelude.{◌≡◌, Some, pos};
 ghost use Rattle.insn_codec.specs.Mnemonics.{atomic_text};
 
 use std::fmt;
@@ -55,7 +55,7 @@ impl AtomicOp {
 
     /// The code of the operation.
     pub(crate) fn code(self) -> i32
-        ensures { result ≡ atomic_code self }
+        ensures { result ≡ pos (atomic_code self) }
     {
         self as i32
     }

@@ -1,6 +1,6 @@
 //! Sign extensions.
 
-ghost use Rattle.std.specs.Prelude.{◌≡◌, Some};
+ghost use Rattle.std.specs.Prelude.{◌≡◌, Some, pos};
 ghost use Rattle.insn_codec.specs.Mnemonics.{extension_text};
 
 use crate::width::Width;
@@ -40,7 +40,7 @@ impl Extension {
 
     /// The number of bits that it reads, as in the slot's offset field.
     pub(crate) fn bits(self) -> i16
-        ensures { result ≡ extension_bits self }
+        ensures { result ≡ pos (extension_bits self) }
     {
         match self {
             Extension::From8To32 | Extension::From8To64 => 8,

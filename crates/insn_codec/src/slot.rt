@@ -16,7 +16,8 @@ pub struct Slot {
 }
 
 impl Slot {
-    ghost use Rattle.insn_codec.specs.Candidate.{extends_at};
+    ghost use Rattle.std.specs.Prelude.{◌/◌, ◌==◌, ◌&&◌, not};
+    ghost use Rattle.insn_codec.specs.Families.{holds};
     ghost use Rattle.insn_codec.specs.Codes.{register_number};
     ghost use Rattle.insn_codec.specs.Slots.{IsSlot, slot_bytes, slot_with};
 
@@ -87,7 +88,7 @@ impl Slot {
 
     /// Whether a move has an offset other than 0, the number of bits that it extends (RFC 9669, section 4.1).
     pub(crate) fn extends(self) -> bool
-        ensures { result ≡ extends_at self }
+        ensures { result ≡ ((self.opcode / 16 == 0xb) && not (holds self.offset 0)) }
     {
         self.opcode / 16 == 0xb && self.offset != 0
     }

@@ -1,6 +1,6 @@
 //! Widths of byte swaps.
 
-ghost use Rattle.std.specs.Prelude.{◌≡◌, Some};
+ghost use Rattle.std.specs.Prelude.{◌≡◌, Some, pos};
 ghost use Rattle.insn_codec.specs.Mnemonics.{swap_text};
 
 use std::fmt;
@@ -33,7 +33,7 @@ impl SwapWidth {
 
     /// The number of bits, as in the slot's imm field.
     pub(crate) fn bits(self) -> i32
-        ensures { result ≡ swap_bits self }
+        ensures { result ≡ pos (swap_bits self) }
     {
         self as i32
     }
