@@ -1,17 +1,18 @@
 -- The checks for faults, in numbers.
-use Rattle.loader.proofs.Prelude.{◌≡◌, ◌≤◌, ◌==◌, ℕ, ◌+◌, ◌*◌, Bool, false, not, ◌||◌, List, length, take, arith, if◌then◌else◌, Result, Ok, Err, ltb-false, le-ltb, nat_tests, bytes_eq-Decides, bytes_eq, Image, First, Second, magic, version_in, slots_in, constants_in, is_bad_count, is_too_short, has_other_magic, has_bad_slots, has_long_constants, has_other_length, contents_in, image_in, LoadError, slot_limit, constants_limit}
+use Rattle.loader.proofs.Prelude.{◌≡◌, ◌≤◌, ◌==◌, ℕ, ◌+◌, ◌*◌, Bool, false, not, ◌||◌, List, length, take, arith, if◌then◌else◌, Result, Ok, Err, ltb-false, le-ltb, nat_tests, bytes_eq-Decides, bytes_eq, Image, First, Second, magic, slots_in, constants_in, is_bad_count, is_too_long, has_magic, contents_in, image_in, LoadError, slot_limit, constants_limit}
+use Rattle.std.specs.Prelude.{nat_lt}
 
 -- the file has no fault
 pub record HasNoFault (file : List ℕ) : Type 0 where
-  pub short : is_too_short file ≡ false
-  pub magic : has_other_magic file ≡ false
-  pub slots : has_bad_slots file ≡ false
-  pub constants : has_long_constants file ≡ false
-  pub whole : has_other_length file ≡ false
+  pub short : nat_lt (length file) 16 ≡ false
+  pub magic : not (has_magic First file || has_magic Second file) ≡ false
+  pub slots : is_bad_count (slots_in file) ≡ false
+  pub constants : is_too_long (constants_in file) ≡ false
+  pub whole : not (length file == 16 + 8 * slots_in file + constants_in file) ≡ false
 
 -- the file has no fault, in numbers
 pub record HasShape (file : List ℕ) : Type 0 where
-  pub magic_is : take 8 file ≡ magic (version_in file)
+  pub magic_is : take 8 file ≡ magic (if has_magic First file then First else Second)
   pub some_slots : 1 ≤ slots_in file
   pub most_slots : slots_in file ≤ slot_limit
   pub most_constants : constants_in file ≤ constants_limit

@@ -12,8 +12,8 @@ pub use Rattle.std.specs.Str.{bytes_eq}
 pub use Rattle.byteorder.specs.Endian.{little_bytes, little_number}
 pub use Rattle.insn_codec.specs.Limits.{slot_limit}
 pub use Rattle.loader.specs.Contents.{AreBytes, Image, IsImage}
-pub use Rattle.loader.specs.Format.{contents_in, has_bad_slots, has_long_constants, has_other_length, has_other_magic}
-pub use Rattle.loader.specs.Format.{is_bad_count, is_too_short, version_in}
+pub use Rattle.loader.specs.Format.{contents_in, has_magic}
+pub use Rattle.loader.specs.Format.{is_bad_count, is_too_long}
 pub use Rattle.loader.specs.Limits.{constants_limit}
 pub use Rattle.loader.specs.declared.load_error.LoadError.{LoadError}
 pub use Rattle.loader.specs.declared.version.Version.{Version}

@@ -1,5 +1,5 @@
 -- Reading and writing are inverse to each other.
-use Rattle.loader.proofs.Prelude.{◌≡◌, ◌≤◌, ℕ, zero, suc, ◌+◌, ◌*◌, ◌/◌, List, [], ◌∷◌, ◌++◌, length, take, drop, sym, ap, ◌∙◌, arith, length-append, length-drop, Ok, if◌then◌else◌, take-append-drop, drop-drop, take_all, length-take-le, take-append_seam, drop-append_seam, take-length, mul-div_cancel_left, bytes_eq, little_number, little_bytes, Image, IsImage, AreBytes, Version, First, Second, magic, version_in, slots_in, constants_in, contents_in, file_of, image_in}
+use Rattle.loader.proofs.Prelude.{◌≡◌, ◌≤◌, ℕ, zero, suc, ◌+◌, ◌*◌, ◌/◌, List, [], ◌∷◌, ◌++◌, length, take, drop, sym, ap, ◌∙◌, arith, length-append, length-drop, Ok, if◌then◌else◌, take-append-drop, drop-drop, take_all, length-take-le, take-append_seam, drop-append_seam, take-length, mul-div_cancel_left, bytes_eq, little_number, little_bytes, Image, IsImage, AreBytes, Version, First, Second, magic, has_magic, slots_in, constants_in, contents_in, file_of, image_in}
 use Rattle.loader.proofs.Numbers.{number_back}
 use Rattle.loader.proofs.Faults.{HasNoFault, HasShape, shape_of, no_fault, holds}
 
@@ -41,12 +41,12 @@ behind text part rest other is same = is ∙ ap (λ (xs : List ℕ). part ++ xs)
 
 -- a file is its head, its code and its constants
 whole : (file : List ℕ) → AreBytes file → HasShape file
-    → file ≡ magic (version_in file) ++ (little_bytes 4 (slots_in file) ++ (little_bytes 4 (constants_in file) ++ (take (8 * slots_in file) (drop 16 file) ++ take (constants_in file) (drop (16 + 8 * slots_in file) file))))
+    → file ≡ magic (if has_magic First file then First else Second) ++ (little_bytes 4 (slots_in file) ++ (little_bytes 4 (constants_in file) ++ (take (8 * slots_in file) (drop 16 file) ++ take (constants_in file) (drop (16 + 8 * slots_in file) file))))
 whole file bytes s =
     let e = s.length_is in
     let head = sym (take-append-drop 8 file) ∙ ap (λ (xs : List ℕ). xs ++ drop 8 file) s.magic_is in
     let last = sym (take_all (constants_in file) (drop (16 + 8 * slots_in file) file) (omega (arith, length-drop (16 + 8 * slots_in file) file))) in
-    behind file (magic (version_in file)) (drop 8 file) _ head
+    behind file (magic (if has_magic First file then First else Second)) (drop 8 file) _ head
     (behind _ (little_bytes 4 (slots_in file)) (drop 12 file) _ (slots_first file (omega arith) bytes)
     (behind _ (little_bytes 4 (constants_in file)) (drop 16 file) _ (constants_next file (omega arith) bytes)
     (behind _ (take (8 * slots_in file) (drop 16 file)) (drop (16 + 8 * slots_in file) file) _ (cut 16 (8 * slots_in file) file) last)))
@@ -71,7 +71,7 @@ pub record HasFields (c : Image) : Type 0 where
   pub parts : drop 16 (file_of c) ≡ c.code ++ c.constants
   pub length_is : length (file_of c) ≡ 16 + (length c.code + length c.constants)
   pub magic_is : take 8 (file_of c) ≡ magic c.version
-  pub version : version_in (file_of c) ≡ c.version
+  pub version : (if has_magic First (file_of c) then First else Second) ≡ c.version
 
 own_version : (v : Version) → (if bytes_eq (magic v) (magic First) then First else Second) ≡ v
 unfolding magic

@@ -25,10 +25,6 @@ file_of c =
 abbrev pub has_magic : Version → List ℕ → Bool
 has_magic version file = bytes_eq (take 8 file) (magic version)
 
--- the version of a file that begins with the first bytes of one
-abbrev pub version_in : List ℕ → Version
-version_in file = if has_magic First file then First else Second
-
 -- the number of slots that a file states
 unfoldable pub slots_in : List ℕ → ℕ
 slots_in file = little_number 4 (drop 8 file)
@@ -47,52 +43,30 @@ is_too_long constants = nat_lt constants_limit constants
 
 -- the causes for which a file is refused, in the order in which they are checked
 
--- the file has fewer than the 16 bytes before the code
-abbrev pub is_too_short : List ℕ → Bool
-is_too_short file = nat_lt (length file) 16
-
--- the file begins with the first bytes of no version
-abbrev pub has_other_magic : List ℕ → Bool
-has_other_magic file = not (has_magic First file || has_magic Second file)
-
--- the file states a number of slots that no image has
-abbrev pub has_bad_slots : List ℕ → Bool
-has_bad_slots file = is_bad_count (slots_in file)
-
--- the file states a number of bytes of constants that no image has
-abbrev pub has_long_constants : List ℕ → Bool
-has_long_constants file = is_too_long (constants_in file)
-
--- the file is longer or shorter than it states
-abbrev pub has_other_length : List ℕ → Bool
-has_other_length file = not (nat_eq (length file) (16 + 8 * slots_in file + constants_in file))
-
 -- the version, the code and the constants of a file that is not refused
 abbrev pub contents_in : List ℕ → Image
 contents_in file = record {
-  version = version_in file;
+  version = if has_magic First file then First else Second;
   code = take (8 * slots_in file) (drop 16 file);
   constants = take (constants_in file) (drop (16 + 8 * slots_in file) file);
 }
 
--- the image of a file, or the first cause for which the file is refused
+-- the image of a file, or the first cause for which the file is refused: it has fewer than the 16 bytes before the code; it
+-- begins with the first bytes of no version; no image has as many slots, or bytes of constants; it has another length
 unfoldable pub image_in : List ℕ → Result Image LoadError
 image_in file =
-    if is_too_short file then Err TooShort
-    else (if has_other_magic file then Err UnknownMagic
-    else (if has_bad_slots file then Err BadSlotCount
-    else (if has_long_constants file then Err ConstantsTooLong
-    else (if has_other_length file then Err BadLength
+    if nat_lt (length file) 16 then Err TooShort
+    else (if not (has_magic First file || has_magic Second file) then Err UnknownMagic
+    else (if is_bad_count (slots_in file) then Err BadSlotCount
+    else (if is_too_long (constants_in file) then Err ConstantsTooLong
+    else (if not (nat_eq (length file) (16 + 8 * slots_in file + constants_in file)) then Err BadLength
     else Ok (contents_in file)))))
 
--- whether the code ends within a slot
-abbrev pub has_part_of_slot : List ℕ → Bool
-has_part_of_slot code = not (nat_eq (length code % 8) 0)
-
--- the image of a version with this code and these constants, or the first cause for which they are refused
+-- the image of a version with this code and these constants, or the first cause for which they are refused: the code ends
+-- within a slot, it has no slots or too many, or the constants are too long
 unfoldable pub image_from : Version → List ℕ → List ℕ → Result Image LoadError
 image_from version code constants =
-    if has_part_of_slot code then Err BadLength
+    if not (nat_eq (length code % 8) 0) then Err BadLength
     else (if is_bad_count (length code / 8) then Err BadSlotCount
     else (if is_too_long (length constants) then Err ConstantsTooLong
     else Ok (record { version = version; code = code; constants = constants })))

@@ -1,6 +1,7 @@
 //! The fields of an image's file, and the causes for which a file is refused.
 
-ghost use Rattle.std.specs.Prelude.{◌≡◌, ◌≤◌, length, false};
+ghost use Rattle.std.specs.Prelude.{◌≡◌, ◌≤◌, ◌+◌, ◌*◌, ◌||◌, if◌then◌else◌, length, nat_eq, nat_lt, not};
+ghost use Rattle.loader.specs.declared.version.Version.TheVariants.{First, Second};
 ghost use Rattle.byteorder.specs.Endian.{little_bytes};
 ghost use Rattle.loader.specs.Format as format;
 
@@ -46,7 +47,7 @@ pub fn is_too_long(constants: u64) -> bool
 
 /// Whether the file is shorter than a head.
 pub fn is_too_short(file: &[u8]) -> bool
-    ensures { result ≡ format.is_too_short file.now }
+    ensures { result ≡ nat_lt (length file.now) 16 }
 {
     file.len() < HEAD
 }
@@ -62,7 +63,7 @@ fn has_magic(file: &[u8], version: Version) -> bool
 /// Whether the file begins with the first bytes of neither version.
 pub fn has_other_magic(file: &[u8]) -> bool
     requires { 16 ≤ length file.now }
-    ensures { result ≡ format.has_other_magic file.now }
+    ensures { result ≡ not (format.has_magic First file.now || format.has_magic Second file.now) }
 {
     !(has_magic(file, Version::First) || has_magic(file, Version::Second))
 }
@@ -70,7 +71,7 @@ pub fn has_other_magic(file: &[u8]) -> bool
 /// The version of a file that begins with the first bytes of one.
 pub fn version_in(file: &[u8]) -> Version
     requires { 16 ≤ length file.now }
-    ensures { result ≡ format.version_in file.now }
+    ensures { result ≡ (if format.has_magic First file.now then First else Second) }
 {
     if has_magic(file, Version::First) {
         Version::First
@@ -82,7 +83,7 @@ pub fn version_in(file: &[u8]) -> Version
 /// Whether the file states a number of slots that no image has.
 pub fn has_bad_slots(file: &[u8]) -> bool
     requires { 16 ≤ length file.now }
-    ensures { result ≡ format.has_bad_slots file.now }
+    ensures { result ≡ format.is_bad_count (format.slots_in file.now) }
 {
     is_bad_count(u64::from(slots_in(file)))
 }
@@ -90,7 +91,7 @@ pub fn has_bad_slots(file: &[u8]) -> bool
 /// Whether the file states more constants than an image may have.
 pub fn has_long_constants(file: &[u8]) -> bool
     requires { 16 ≤ length file.now }
-    ensures { result ≡ format.has_long_constants file.now }
+    ensures { result ≡ format.is_too_long (format.constants_in file.now) }
 {
     is_too_long(u64::from(constants_in(file)))
 }
@@ -98,7 +99,7 @@ pub fn has_long_constants(file: &[u8]) -> bool
 /// Whether the length of the file differs from the one that its head states.
 pub fn has_other_length(file: &[u8]) -> bool
     requires { 16 ≤ length file.now }
-    ensures { result ≡ format.has_other_length file.now }
+    ensures { result ≡ not (nat_eq (length file.now) (16 + 8 * format.slots_in file.now + format.constants_in file.now)) }
 {
     let stated = HEAD as u64 + 8 * u64::from(slots_in(file)) + u64::from(constants_in(file));
     file.len() as u64 != stated

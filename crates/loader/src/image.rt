@@ -1,6 +1,6 @@
 //! Images.
 
-ghost use Rattle.std.specs.Prelude.{◌≡◌, ◌≤◌, length, false, IfOk, IsOk, Err};
+ghost use Rattle.std.specs.Prelude.{◌≡◌, ◌≤◌, ◌+◌, ◌*◌, length, nat_eq, not, false, IfOk, IsOk, Err};
 ghost use Rattle.loader.specs.Contents.{IsImage, version_number};
 ghost use Rattle.loader.specs.Format as format;
 ghost use Rattle.loader.specs.Format.{image_in, image_from, contents_in, file_of};
@@ -66,9 +66,9 @@ impl Image {
     /// The version, the code and the constants of a file without faults.
     fn parts(alloc: Global, file: &[u8]) -> Result<Image, AllocError>
         requires head { 16 ≤ length file.now }
-        requires slots { format.has_bad_slots file.now ≡ false }
-        requires constants { format.has_long_constants file.now ≡ false }
-        requires whole { format.has_other_length file.now ≡ false }
+        requires slots { format.is_bad_count (format.slots_in file.now) ≡ false }
+        requires constants { format.is_too_long (format.constants_in file.now) ≡ false }
+        requires whole { not (nat_eq (length file.now) (16 + 8 * format.slots_in file.now + format.constants_in file.now)) ≡ false }
         ensures { IfOk result (λ image. image ≡ contents_in file.now) }
     {
         let middle = HEAD + 8 * slots_in(file) as usize;
