@@ -65,7 +65,7 @@ pub use Rattle.value_store.specs.Size.{entries_size, items_size, size_of}
 pub use Rattle.value_store.specs.Value.{Entries, Items, Value, ValueOrError, keys_of, list_of, value}
 pub use Rattle.value_store.specs.declared.table_error.TableError.{TableError}
 pub use Rattle.value_store.specs.declared.table_error.TableError.TheVariants.{NotAnObject, RootsTooLarge}
-pub use Rattle.bpf_machine.specs.Access.{loaded, loaded_signed, stored}
+pub use Rattle.bpf_machine.specs.Access.{loaded, stored}
 pub use Rattle.bpf_machine.specs.Atomics.{exchanged, is_read_only, is_stored, taken_and_stored, taken_by}
 pub use Rattle.bpf_machine.specs.Atomics.{taker, where_stores}
 pub use Rattle.bpf_machine.specs.Conversions.{atomic_memory_size, memory_size}

@@ -2,14 +2,10 @@
 use Rattle.std.specs.Prelude.{ℕ, ℤ, zero, suc, List, [], ◌∷◌, ◌++◌, codes, decimal, slice_index}
 use Rattle.std.specs.Fmt.{signed_decimal}
 use Rattle.guest_memory.specs.ErrorCodes.{fault_code}
-use Rattle.insn_codec.specs.Lines.{wide_text}
+pub use Rattle.insn_codec.specs.Lines.{wide_text as word_text}
 pub use Rattle.insn_codec.specs.Lines.{hex_digit, hex_digits}
 use Rattle.bpf_machine.specs.State.{State}
 use Rattle.bpf_machine.specs.declared.status.Status.{Status, TheVariants.Running, TheVariants.Exited, TheVariants.Fault}
-
--- a word of 64 bits: `0x` and 16 digits
-abbrev pub word_text : ℕ → List ℕ
-word_text w = wide_text w
 
 -- a printed status: with the word in R0 after an exit, or with the name of the fault
 abbrev pub status_text : Status → List ℕ

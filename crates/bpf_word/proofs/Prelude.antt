@@ -9,10 +9,10 @@ pub use Rattle.std.specs.Int.{IsNonZero, Width, cast_signed, cast_unsigned, int_
 pub use Rattle.std.specs.Int.Bits.{and_lt}
 pub use Rattle.std.specs.Int.Signed.{mag}
 pub use Rattle.bpf_word.specs.Overflow.{IsSigned, SumsOverflow, exact_sum, wrapped_sum}
-pub use Rattle.bpf_word.specs.declared.comparison.Comparison.TheVariants.{Sge, Slt}
-pub use Rattle.bpf_word.specs.declared.alu_op.AluOp.{AluOp}
-pub use Rattle.bpf_word.specs.declared.alu_op.AluOp.TheVariants.{Add, And, Div, Lsh, Mod, Mov, Mul, Or, Rsh}
-pub use Rattle.bpf_word.specs.declared.alu_op.AluOp.TheVariants.{Sdiv, Smod, Xor}
+pub use Rattle.insn_codec.specs.declared.comparison.Comparison.TheVariants.{Sge, Slt}
+pub use Rattle.insn_codec.specs.declared.alu_op.AluOp.{AluOp}
+pub use Rattle.insn_codec.specs.declared.alu_op.AluOp.TheVariants.{Add, And, Div, Lsh, Mod, Mov, Mul, Or, Rsh}
+pub use Rattle.insn_codec.specs.declared.alu_op.AluOp.TheVariants.{Sdiv, Smod, Xor}
 unfoldable pub use Rattle.bpf_word.specs.Arithmetic.{alu64_of, operated}
 unfoldable pub use Rattle.bpf_word.specs.Comparisons.{holds_of}
 unfoldable pub use Rattle.bpf_word.specs.Signs.{signed_of, word_of}

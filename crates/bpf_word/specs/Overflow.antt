@@ -2,7 +2,7 @@
 use Rattle.std.specs.Prelude.{◌≡◌, ℕ, ◌+◌, ◌-◌, ◌%◌, ◌^◌, ◌<◌, ℤ, pos, negsuc, ◌+ℤ◌, ◌≤ℤ◌, true, false}
 use Rattle.bpf_word.specs.Comparisons.{holds_of}
 use Rattle.bpf_word.specs.Signs.{signed_of}
-use Rattle.bpf_word.specs.declared.comparison.Comparison.TheVariants.{Sge, Slt}
+use Rattle.insn_codec.specs.declared.comparison.Comparison.TheVariants.{Sge, Slt}
 
 -- the number is a signed 64-bit number
 abbrev pub IsSigned : ℤ → Type 0

@@ -4,10 +4,10 @@ use Rattle.bpf_word.specs.Arithmetic.{alu64_of, alu32_of}
 use Rattle.bpf_word.specs.Bytes.{swap_of}
 use Rattle.bpf_word.specs.Comparisons.{holds_of}
 use Rattle.bpf_word.specs.Signs.{sext_of}
-use Rattle.bpf_word.specs.declared.comparison.Comparison.TheVariants.{Eq, Gt, Ge, Set, Ne, Sgt, Sge, Lt, Le, Slt, Sle}
-use Rattle.bpf_word.specs.declared.alu_op.AluOp.TheVariants.{Add, Sub, Mul, Div, Sdiv, Or, And, Lsh, Rsh, Mod, Smod, Xor, Mov, Arsh}
-use Rattle.bpf_word.specs.declared.signed_size.SignedSize.TheVariants.{B, H, W}
-use Rattle.bpf_word.specs.declared.swap_width.SwapWidth.TheVariants.{Bits16, Bits32, Bits64}
+use Rattle.insn_codec.specs.declared.comparison.Comparison.TheVariants.{Eq, Gt, Ge, Set, Ne, Sgt, Sge, Lt, Le, Slt, Sle}
+use Rattle.insn_codec.specs.declared.alu_op.AluOp.TheVariants.{Add, Sub, Mul, Div, Sdiv, Or, And, Lsh, Rsh, Mod, Smod, Xor, Mov, Arsh}
+use Rattle.insn_codec.specs.declared.signed_size.SignedSize.TheVariants.{B, H, W}
+use Rattle.insn_codec.specs.declared.swap_width.SwapWidth.TheVariants.{Bits16, Bits32, Bits64}
 
 -- operations on two operands, with their results
 pub record WordRowsHold : Type 0 where

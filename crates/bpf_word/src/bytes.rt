@@ -2,7 +2,7 @@
 ghost use Rattle.std.specs.Prelude.{◌≡◌};
 ghost use Rattle.bpf_word.specs.Bytes.{swap_of};
 
-use crate::swap_width::SwapWidth;
+use insn_codec::SwapWidth;
 
 /// The low bits of a word, `width` of them, with their bytes reversed; the bits
 /// above are zero (RFC 9669, section 4.2).

@@ -8,7 +8,8 @@ use bpf_word::laws::{
     comparisons_tell, operations_are, results_are_words, rows_stand, sums_overflow,
     upper_half_is_zero,
 };
-use bpf_word::{AluOp, Comparison, SignedSize, SwapWidth, alu32, alu64, holds, sext, swap};
+use bpf_word::{alu32, alu64, holds, sext, swap};
+use insn_codec::{AluOp, Comparison, SignedSize, SwapWidth};
 
 const LEAST: u64 = 0x8000_0000_0000_0000;
 
