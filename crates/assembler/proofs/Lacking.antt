@@ -1,5 +1,6 @@
 -- Texts that are split at the first byte of a kind.
-use Rattle.assembler.proofs.Prelude.{◌≡◌, ◌≢◌, ◌<◌, ℕ, zero, suc, List, [], ◌∷◌, ◌++◌, refl, sym, ◌∙◌, ap, subst, arith, length, get_or, Bool, true, false, eq-eqb, ◌==◌, ◌&&◌, not, and_parts, all_go_on, goes_on_name, HasNoByte}
+use Rattle.assembler.proofs.Prelude.{◌≡◌, ◌≢◌, ◌<◌, ℕ, zero, suc, List, [], ◌∷◌, ◌++◌, refl, sym, ◌∙◌, ap, subst, arith, length, get_or, Bool, true, false, eq-eqb, ◌==◌, ◌&&◌, not, and_parts, goes_on_name, HasNoByte}
+use Rattle.std.specs.List.{list_all}
 
 -- a byte that does not occur is at no index
 pub lacks_at : (c : ℕ) (xs : List ℕ) → HasNoByte c xs → (i : ℕ) → i < length xs → get_or xs i 0 ≢ c
@@ -48,8 +49,8 @@ lacks_by c [] e = tt
 lacks_by c (x ∷ xs) e = let p = and_parts _ _ e in (apart x c (grind arith), lacks_by c xs p.1)
 
 -- the bytes of names
-pub go_lacks : (c : ℕ) → goes_on_name c ≡ false → (xs : List ℕ) → all_go_on xs ≡ true → HasNoByte c xs
+pub go_lacks : (c : ℕ) → goes_on_name c ≡ false → (xs : List ℕ) → list_all goes_on_name xs ≡ true → HasNoByte c xs
 go_lacks c h [] e = tt
 go_lacks c h (x ∷ xs) e =
-    let p = and_parts (goes_on_name x) (all_go_on xs) e in
+    let p = and_parts (goes_on_name x) (list_all goes_on_name xs) e in
     (λ q. let r : goes_on_name c ≡ true = subst (λ y. goes_on_name y ≡ true) q p.0 in absurd (let z : true ≡ false = sym r ∙ h in cc), go_lacks c h xs p.1)

@@ -1,5 +1,6 @@
 -- The bytes that occur in a line's parts, and those that do not.
-use Rattle.assembler.proofs.Prelude.{◌≡◌, ◌+◌, ◌≤◌, ℕ, ℤ, List, [], ◌∷◌, refl, arith, true, false, sym, ap, ◌∙◌, suc, pos, negsuc, ◌++◌, subst, ◌==◌, map, IsTrue, AllBelowBase, all_below_base_digits_of, address_text, decimal, offset_text, operand_text, place_text, register_text, Operand, Register, all_go_on, goes_on_name, IsLabel, begins_name, HasNoByte, is_plain, offset_plain, operand_plain, plain_append, register_plain, all_plain, and_parts, false≢true, nat_tests}
+use Rattle.assembler.proofs.Prelude.{◌≡◌, ◌+◌, ◌≤◌, ℕ, ℤ, List, [], ◌∷◌, refl, arith, true, false, sym, ap, ◌∙◌, suc, pos, negsuc, ◌++◌, subst, ◌==◌, map, IsTrue, AllBelowBase, all_below_base_digits_of, address_text, decimal, offset_text, operand_text, place_text, register_text, Operand, Register, goes_on_name, IsLabel, begins_name, HasNoByte, is_plain, offset_plain, operand_plain, plain_append, register_plain, all_plain, and_parts, false≢true, nat_tests}
+use Rattle.std.specs.List.{list_all}
 use Rattle.assembler.proofs.Lacking.{apart, go_lacks, lacks_append}
 
 pub plain_lacks : (c : ℕ) → is_plain c ≡ false → (xs : List ℕ) → all_plain xs ≡ true → HasNoByte c xs
@@ -9,10 +10,10 @@ plain_lacks c f (x ∷ xs) e = let t = and_parts (is_plain x) (all_plain xs) e i
 first_byte_plain : (c : ℕ) → begins_name c ≡ true → is_plain c ≡ true
 first_byte_plain c e = grind (arith, nat_tests)
 
-pub all_go_on_plain : (cs : List ℕ) → IsTrue (all_go_on cs) → all_plain cs ≡ true
+pub all_go_on_plain : (cs : List ℕ) → IsTrue (list_all goes_on_name cs) → all_plain cs ≡ true
 all_go_on_plain [] e = refl
 all_go_on_plain (c ∷ cs) e =
-    let t = and_parts (goes_on_name c) (all_go_on cs) e in
+    let t = and_parts (goes_on_name c) (list_all goes_on_name cs) e in
     let p : is_plain c ≡ true = (grind (arith, nat_tests)) in
     rw (p, all_go_on_plain cs t.1) refl
 
@@ -22,11 +23,11 @@ name_plain h0 h = grind (arith, is_plain, true, first_byte_plain, all_go_on_plai
 go_number : (b : ℕ) → 48 ≤ b → b ≤ 57 → goes_on_name b ≡ true
 go_number b low high = grind arith
 
-go_digits : (ds : List ℕ) → AllBelowBase 10 ds → all_go_on (map (λ d. 48 + d) ds) ≡ true
+go_digits : (ds : List ℕ) → AllBelowBase 10 ds → list_all goes_on_name (map (λ d. 48 + d) ds) ≡ true
 go_digits [] low = refl
 go_digits (d ∷ ds) low = rw (go_number (48 + d) (omega (arith, low.0)) (omega (arith, low.0))) (go_digits ds low.1)
 
-pub go_decimal : (n : ℕ) → all_go_on (decimal n) ≡ true
+pub go_decimal : (n : ℕ) → list_all goes_on_name (decimal n) ≡ true
 unfolding decimal
 go_decimal n = grind (arith, go_digits, all_below_base_digits_of)
 

@@ -71,7 +71,7 @@ pub use Rattle.assembler.specs.FirstPass.{Scans}
 pub use Rattle.assembler.specs.FirstPass.Scans.{ended, formless, full, next, twice, wide}
 pub use Rattle.assembler.specs.Forms.{HasNoByte, ReadsOperands, item_mnemonic, item_operands, operand_list}
 pub use Rattle.assembler.specs.Hex.{all_hex_digits, is_hex_digit}
-pub use Rattle.assembler.specs.Items.{HasLine, InRange, IsLabel, SourceItem, all_go_on, begins_name, goes_on_name, item_of}
+pub use Rattle.assembler.specs.Items.{HasLine, InRange, IsLabel, SourceItem, begins_name, goes_on_name, item_of}
 pub use Rattle.assembler.specs.Items.{item_slots, item_text, jump, label, slots_of, statement}
 pub use Rattle.assembler.specs.Jumps.{JumpInRange, fits_16, jump_by, jump_mnemonic, jump_operands, reaches}
 pub use Rattle.assembler.specs.Jumps.{with_offset}

@@ -36,14 +36,10 @@ begins_name b = (nat_le 97 b && nat_le b 122) || ((nat_le 65 b && nat_le b 90) |
 abbrev pub goes_on_name : ℕ → Bool
 goes_on_name b = begins_name b || (nat_le 48 b && nat_le b 57)
 
--- whether each byte is a letter, an underscore or a digit
-abbrev pub all_go_on : List ℕ → Bool
-all_go_on = list_all goes_on_name
-
 -- an identifier: a letter or an underscore, followed by letters, underscores and digits
 abbrev pub IsLabel : List ℕ → Type 0
 IsLabel [] = ⊥
-IsLabel (b ∷ bs) = IsTrue (begins_name b) × IsTrue (all_go_on bs)
+IsLabel (b ∷ bs) = IsTrue (begins_name b) × IsTrue (list_all goes_on_name bs)
 
 -- the 64-bit words of a statement fit sixteen hex digits
 abbrev pub HasDigits : Statement → Type 0

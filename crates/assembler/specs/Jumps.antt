@@ -17,10 +17,8 @@ jump_mnemonic (Branch comparison width dst operand) = mnemonic.Branch comparison
 
 -- the operands of a jump; the last is the target, an offset or the name of a label
 abbrev pub jump_operands : Jump → List ℕ → List (List ℕ)
-jump_operands Near target = target ∷ []
-jump_operands Long target = target ∷ []
-jump_operands CallLocal target = target ∷ []
 jump_operands (Branch comparison width dst operand) target = register_text dst ∷ operand_text operand ∷ target ∷ []
+jump_operands _ target = target ∷ []
 
 -- the number among the operands is in range
 abbrev pub JumpInRange : Jump → Type 0
@@ -42,10 +40,9 @@ fits_16 (negsuc n) = nat_lt n 32768
 -- whether the offset fits the jump: `ja` and branches have 16 bits signed, `ja32` and `call_local` 32, which hold
 -- every offset between two slots of a program (RFC 9669, section 4.3)
 abbrev pub reaches : Jump → ℤ → Bool
-reaches Near offset = fits_16 offset
 reaches Long offset = true
 reaches CallLocal offset = true
-reaches (Branch comparison width dst operand) offset = fits_16 offset
+reaches _ offset = fits_16 offset
 
 -- the jump with its offset, if the offset fits
 abbrev pub with_offset : Jump → ℤ → Option Statement

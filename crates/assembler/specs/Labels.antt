@@ -1,12 +1,11 @@
 -- The slots of labels.
 use Rattle.std.specs.Prelude.{◌≡◌, ℕ, ◌+◌, Bool, false, List, [], ◌∷◌, Option, Some, None, if◌then◌else◌, bytes_eq}
-use Rattle.assembler.specs.Items.{SourceItem, statement, label, jump, item_slots}
+use Rattle.assembler.specs.Items.{SourceItem, label, item_slots}
 
 -- whether the item is the line of the label q
 abbrev pub names : SourceItem → List ℕ → Bool
 names (label name) q = bytes_eq name q
-names (statement x) q = false
-names (jump j name) q = false
+names _ q = false
 
 -- the slot of the label q by its first line, with these lines starting at this slot
 abbrev pub label_slot_from : ℕ → List SourceItem → List ℕ → Option ℕ
@@ -19,6 +18,5 @@ label_slot items q = label_slot_from 0 items q
 
 -- no line before has the same label
 abbrev pub IsFree : List SourceItem → SourceItem → Type 0
-IsFree before (statement x) = Unit {0}
 IsFree before (label name) = label_slot before name ≡ None
-IsFree before (jump j name) = Unit {0}
+IsFree before _ = Unit {0}

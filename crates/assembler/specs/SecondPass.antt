@@ -1,5 +1,6 @@
 -- The second pass: the bytes of the items, with offsets for the labels.
 use Rattle.std.specs.Prelude.{ℕ, suc, ◌+◌, ℤ, pos, ◌-ℤ◌, List, [], ◌∷◌, ◌++◌, Option, Some, None, Result, Ok, Err}
+use Rattle.std.specs.Option.{option_map_or}
 use Rattle.insn_codec.specs.Statements.{statement_bytes}
 use Rattle.insn_codec.specs.declared.statement.Statement.{Statement}
 use Rattle.assembler.specs.Items.{SourceItem, statement, label, jump, item_slots}
@@ -11,15 +12,10 @@ use Rattle.assembler.specs.declared.asm_error.AsmError.{AsmError, TheVariants.Un
 abbrev pub offset_to : ℕ → ℕ → ℤ
 offset_to slot target = pos target -ℤ pos (suc slot)
 
--- the jump, or the error of its line if the label is too far away
-abbrev pub in_reach : ℕ → Option Statement → Result (Option Statement) AsmError
-in_reach number None = Err (JumpTooFar number)
-in_reach number (Some x) = Ok (Some x)
-
 -- the jump in this slot, on the line with this number, to the label's slot
 abbrev pub jump_at : ℕ → ℕ → Jump → Option ℕ → Result (Option Statement) AsmError
 jump_at number slot j None = Err (UnknownLabel number)
-jump_at number slot j (Some target) = in_reach number (with_offset j (offset_to slot target))
+jump_at number slot j (Some target) = option_map_or (λ x. Ok (Some x)) (with_offset j (offset_to slot target)) (Err (JumpTooFar number))
 
 -- the statement of the line with this number, which begins at this slot; none for a label
 abbrev pub line_statement : (List ℕ → Option ℕ) → ℕ → ℕ → SourceItem → Result (Option Statement) AsmError

@@ -1,6 +1,7 @@
 //! Names of labels.
 ghost use Rattle.std.specs.Prelude.{◌≡◌, ◌↔◌, true};
-ghost use Rattle.assembler.specs.Items.{IsLabel, all_go_on, begins_name, goes_on_name};
+ghost use Rattle.std.specs.List.{list_all};
+ghost use Rattle.assembler.specs.Items.{IsLabel, begins_name, goes_on_name};
 
 /// Whether the text is an identifier: a letter or an underscore, followed by letters, underscores and digits.
 pub(crate) fn is_name(text: &str) -> bool
@@ -13,7 +14,7 @@ pub(crate) fn is_name(text: &str) -> bool
 }
 
 fn all_go_on(bytes: &[u8]) -> bool
-    ensures { result ≡ all_go_on bytes.now }
+    ensures { result ≡ list_all goes_on_name bytes.now }
 {
     bytes.iter().all(|byte| goes_on_name(*byte))
 }
