@@ -79,8 +79,8 @@ pub use Rattle.debugger.specs.Breakpoints.{SetsAndClears, has_breakpoint, in_ord
 pub use Rattle.debugger.specs.Breakpoints.{without_breakpoint}
 pub use Rattle.debugger.specs.CommandLines.{AsksFor, CommandsHaveLines, IsLine, IsNumbered}
 pub use Rattle.debugger.specs.Commands.{FitsWords, begins_with, capped_command, hex_value, is_digit, is_hex_digit}
-pub use Rattle.debugger.specs.Commands.{is_quit, leads_with_zero, numbered, read_address, read_digits}
-pub use Rattle.debugger.specs.Inspection.{HasRegions, IsSized, StaysSized, bytes_at, is_count, memory_text}
+pub use Rattle.debugger.specs.Commands.{is_quit, numbered, read_address, read_digits}
+pub use Rattle.debugger.specs.Inspection.{HasRegions, IsSized, StaysSized, memory_text}
 pub use Rattle.debugger.specs.Inspection.{shown_bytes, value_text}
 pub use Rattle.debugger.specs.Listing.{listing_at, statement_at}
 pub use Rattle.debugger.specs.Rows.{AnswersInLines, StaysInOrder, TellsAll}

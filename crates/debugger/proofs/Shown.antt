@@ -1,5 +1,5 @@
 -- Bytes of memory read one by one, and their lines.
-use Rattle.debugger.proofs.Prelude.{◌≡◌, ℕ, zero, suc, ◌+◌, ◌-◌, ◌*◌, ◌%◌, ◌^◌, ◌<◌, ◌≤◌, true, List, [], ◌∷◌, ◌++◌, length, map, take, drop, Option, Some, None, Ok, refl, sym, ap, ◌∙◌, arith, add-one, add-zero, option_map, codes, take-add, nat_tests, common_steps, drop-drop, constants_of, read_of, region_of, Memory, Region, base_of, bytes_in, part, word_of, B, hex_digits, HasRegions, bytes_at, bytes_from, digits_of_bytes, is_count, memory_line, memory_lines, memory_text, shown_bytes}
+use Rattle.debugger.proofs.Prelude.{◌≡◌, ℕ, zero, suc, ◌+◌, ◌-◌, ◌*◌, ◌%◌, ◌^◌, ◌<◌, ◌≤◌, true, List, [], ◌∷◌, ◌++◌, length, map, nat_le, ◌&&◌, take, drop, Option, Some, None, Ok, refl, sym, ap, ◌∙◌, arith, add-one, add-zero, option_map, codes, take-add, nat_tests, common_steps, drop-drop, constants_of, read_of, region_of, Memory, Region, base_of, bytes_in, part, word_of, B, hex_digits, HasRegions, bytes_from, digits_of_bytes, memory_line, memory_lines, memory_text, shown_bytes}
 
 -- ---- regions
 
@@ -78,7 +78,7 @@ byte_there r m address n i is less s =
     (word_of (part (bytes_in r m) (address + i - base_of r) 1), rw (region_here r m (address + i) 1 is (omega arith) here) refl)
 
 none_by : (m : Memory) (address n i : ℕ) (o : Option (Region × ℕ)) → HasRegions m → i < n → constants_of m address n ≡ None
-    → (address + i < 2 ^ 64 → (b : ℕ) → read_of m (address + i) B ≡ Ok b → ⊥) → Says m address n o → None ≡ bytes_at m n o
+    → (address + i < 2 ^ 64 → (b : ℕ) → read_of m (address + i) B ≡ Ok b → ⊥) → Says m address n o → None ≡ option_map (λ place. part (bytes_in place.0 m) place.1 n) o
 unfolding Says
 none_by m address n i (Some (r, at)) is less none missing says =
     let s = says.0 in
@@ -94,10 +94,10 @@ row_lent m address n lent is some has = grind (arith, nat_tests)
 
 -- ---- replies
 
-pub count_within : (n : ℕ) → is_count n ≡ true → (0 < n) × (n ≤ 256)
+pub count_within : (n : ℕ) → (nat_le 1 n && nat_le n 256) ≡ true → (0 < n) × (n ≤ 256)
 count_within n is = grind arith
 
-pub shows : (m : Memory) (address n : ℕ) (bytes : Option (List ℕ)) (text : List ℕ) → is_count n ≡ true → bytes ≡ bytes_from m address n
+pub shows : (m : Memory) (address n : ℕ) (bytes : Option (List ℕ)) (text : List ℕ) → (nat_le 1 n && nat_le n 256) ≡ true → bytes ≡ bytes_from m address n
     → text ≡ memory_text address bytes → text ≡ memory_text address (shown_bytes m address n)
 shows m address n bytes text few is text_is = grind arith
 
@@ -160,6 +160,6 @@ unfolding bytes_from
 low_missing m address n i has less none missing =
     ap (option_map low) (none_by m address n i (region_of m address n) has less none missing (region_says m address n))
 
-pub shows_low : (m : Memory) (address n : ℕ) (bytes : Option (List ℕ)) (text : List ℕ) → is_count n ≡ true
+pub shows_low : (m : Memory) (address n : ℕ) (bytes : Option (List ℕ)) (text : List ℕ) → (nat_le 1 n && nat_le n 256) ≡ true
     → bytes ≡ option_map low (bytes_from m address n) → text ≡ memory_text address bytes → text ≡ memory_text address (shown_bytes m address n)
 shows_low m address n bytes text few is text_is = grind (arith, nat_tests, low_lines)

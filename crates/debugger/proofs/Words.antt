@@ -1,5 +1,5 @@
 -- The lines of commands, and how they are parsed.
-use Rattle.debugger.proofs.Prelude.{◌≡◌, ◌≢◌, ℕ, suc, ◌+◌, ◌-◌, ◌*◌, ◌/◌, ◌%◌, ◌^◌, ◌<◌, ◌≤◌, Bool, true, false, ◌&&◌, List, [], ◌∷◌, ◌++◌, length, length-append, length-drop, drop, Option, Some, None, decimal, nat_eq, nat_le, nat_lt, codes, refl, sym, ap, ◌∙◌, inl, inr, subst, arith, append_assoc, append-nil, add-one, ◌⊎◌, slice_index, if◌then◌else◌, bytes_eq, pow-le-pow_right, pow-suc, and_parts, nat_tests, decimal_digit, decimal_step_wide, decimal_by_steps_wide, take-append-drop, bytes_eq-Decides, hex_digits, begins_with, command_of, form_of, hex_value, is_digit, is_hex_digit, leads_with_zero, move_form_of, number_of, numbered, numbered_form_of, read_address, read_digits, shown_form_of, AsksFor, CommandsHaveLines, IsLine, IsNumbered, Command, ValueAt, MemoryAt, Unknown}
+use Rattle.debugger.proofs.Prelude.{◌≡◌, ◌≢◌, ℕ, suc, ◌+◌, ◌-◌, ◌*◌, ◌/◌, ◌%◌, ◌^◌, ◌<◌, ◌≤◌, Bool, true, false, ◌&&◌, List, [], ◌∷◌, ◌++◌, length, length-append, length-drop, drop, Option, Some, None, decimal, nat_eq, nat_le, nat_lt, codes, refl, sym, ap, ◌∙◌, inl, inr, subst, arith, append_assoc, append-nil, add-one, ◌⊎◌, slice_index, if◌then◌else◌, bytes_eq, pow-le-pow_right, pow-suc, and_parts, nat_tests, decimal_digit, decimal_step_wide, decimal_by_steps_wide, take-append-drop, bytes_eq-Decides, hex_digits, begins_with, command_of, form_of, hex_value, is_digit, is_hex_digit, move_form_of, number_of, numbered, numbered_form_of, read_address, read_digits, shown_form_of, AsksFor, CommandsHaveLines, IsLine, IsNumbered, Command, ValueAt, MemoryAt, Unknown}
 use Rattle.debugger.proofs.Addresses.{address_ended, address_read, below_digit, digit_is, hex_digits-more}
 
 -- a number and one more digit
@@ -65,7 +65,7 @@ first_written c (d ∷ ds) n true false is first alone short read =
     let all = digits_written (d ∷ ds) 1 (c - 48) n (omega (arith, other)) (omega (arith, high)) (omega (arith, short)) (ap (λ (m : ℕ). read_digits m (d ∷ ds)) (sym value) ∙ read) in
     (ap (λ (front : List ℕ). front ++ d ∷ ds) (ap (λ (e : ℕ). e ∷ []) (sym same) ∙ sym (decimal_digit (c - 48) (omega (arith, high)))) ∙ all.0, all.1)
 
-number_by : (c : ℕ) (ds : List ℕ) (n : ℕ) (empty leads : Bool) → leads_with_zero (c ∷ ds) ≡ leads → length (c ∷ ds) ≤ 64
+number_by : (c : ℕ) (ds : List ℕ) (n : ℕ) (empty leads : Bool) → (nat_lt 1 (length (c ∷ ds)) && nat_eq (slice_index (c ∷ ds) 0) 48) ≡ leads → length (c ∷ ds) ≤ 64
     → (if empty then None else (if leads then None else read_digits 0 (c ∷ ds))) ≡ Some n → Writes (c ∷ ds) n
 number_by c ds n false false is short read = first_written c ds n (is_digit c) (nat_eq c 48) refl refl is short read
 number_by c ds n _ _ is short read = cc
@@ -74,7 +74,7 @@ number_by c ds n _ _ is short read = cc
 number_written : (ds : List ℕ) (n : ℕ) → length ds ≤ 64 → number_of ds ≡ Some n → Writes ds n
 unfolding number_of
 number_written [] n short read = cc
-number_written (c ∷ ds) n short read = number_by c ds n (nat_eq (length (c ∷ ds)) 0) (leads_with_zero (c ∷ ds)) refl short read
+number_written (c ∷ ds) n short read = number_by c ds n (nat_eq (length (c ∷ ds)) 0) (nat_lt 1 (length (c ∷ ds)) && nat_eq (slice_index (c ∷ ds) 0) 48) refl short read
 
 -- decimal digits are read as their number, and have no leading zeros
 record Reads (n : ℕ) (ds : List ℕ) : Type 0 where
@@ -110,7 +110,7 @@ reads_more n ds large r =
       alone = λ none. absurd (omega (arith, none, large));
     }
 
-first_or_alone : (n : ℕ) (ds : List ℕ) → Reads n ds → leads_with_zero ds ≡ false
+first_or_alone : (n : ℕ) (ds : List ℕ) → Reads n ds → (nat_lt 1 (length ds) && nat_eq (slice_index ds 0) 48) ≡ false
 first_or_alone n ds r = grind arith
 
 -- decimal digits are read as their number

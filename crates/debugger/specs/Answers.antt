@@ -5,7 +5,6 @@ use Rattle.bpf_machine.specs.Trace.{state_after}
 use Rattle.bpf_machine.specs.Text.{move_text, registers_text}
 use Rattle.history.specs.Search.{first_stop, last_stop}
 use Rattle.insn_codec.specs.Limits.{slot_limit}
-use Rattle.debugger.specs.Limits.{move_limit, place_limit}
 use Rattle.debugger.specs.Breakpoints.{has_breakpoint, with_breakpoint, without_breakpoint}
 use Rattle.debugger.specs.Commands.{command_of}
 use Rattle.debugger.specs.Inspection.{frames_text, memory_text, shown_bytes, value_at, value_text}
@@ -37,11 +36,11 @@ is_slot n = nat_le n (slot_limit - 1)
 
 -- whether a command accepts this number of steps: 1 to 1,000,000
 abbrev pub in_range : ℕ → Bool
-in_range n = nat_le 1 n && nat_le n move_limit
+in_range n = nat_le 1 n && nat_le n 1000000
 
 -- whether a command may go n steps forward from step k: n is in range, and step 1,000,000,000 is not passed
 abbrev pub can_go_on : ℕ → ℕ → Bool
-can_go_on k n = in_range n && nat_le (k + n) place_limit
+can_go_on k n = in_range n && nat_le (k + n) 1000000000
 
 -- whether a command may go n steps back from step k: n is in range, and step 0 is not passed
 abbrev pub can_go_back : ℕ → ℕ → Bool
@@ -49,7 +48,7 @@ can_go_back k n = in_range n && nat_le n k
 
 -- whether step k may be shown: it is at most 1,000,000,000
 abbrev pub can_go_to : ℕ → Bool
-can_go_to k = nat_le k place_limit
+can_go_to k = nat_le k 1000000000
 
 -- a reply that leaves the session state unchanged
 abbrev pub says : SessionState → List ℕ → Answer
@@ -99,20 +98,15 @@ answer_of s w Unknown = says w (codes "? what\n")
 -- range, a value, a code listing, and a verdict
 unfoldable pub may_be_refused : State → SessionState → Command → Bool
 may_be_refused s w (SetBreakpoint n) = is_slot n && not (has_breakpoint n w.breakpoints)
-may_be_refused s w (ClearBreakpoint n) = false
 may_be_refused s w (Forward n) = can_go_on w.place n
 may_be_refused s w (Back n) = can_go_back w.place n
 may_be_refused s w (Go k) = can_go_to k
 may_be_refused s w (Continue n) = can_go_on w.place n
 may_be_refused s w ReverseContinue = true
-may_be_refused s w Registers = false
 may_be_refused s w (ValueAt h) = is_some (value_at (state_after w.place s) h)
-may_be_refused s w (MemoryAt address n) = false
-may_be_refused s w Frames = false
 may_be_refused s w Listing = is_inside (state_after w.place s).image.code (state_after w.place s).pc
 may_be_refused s w Verdict = true
-may_be_refused s w Quit = false
-may_be_refused s w Unknown = false
+may_be_refused s w _ = false
 
 -- a line, and whether an allocation fails for it
 abbrev pub Line : Type 0

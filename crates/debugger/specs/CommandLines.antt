@@ -2,7 +2,7 @@
 use Rattle.std.specs.Prelude.{◌≡◌, ◌≢◌, ◌↔◌, ℕ, ◌^◌, ◌<◌, ◌≤◌, List, ◌++◌, codes, decimal, length}
 use Rattle.insn_codec.specs.Lines.{hex_digits}
 use Rattle.debugger.specs.Commands.{command_of}
-use Rattle.debugger.specs.Limits.{line_limit, address_digit_limit}
+use Rattle.debugger.specs.Limits.{line_limit}
 use Rattle.debugger.specs.declared.command.Command.{Command, TheVariants.Quit, TheVariants.Unknown}
 use Rattle.debugger.specs.declared.command.Command.TheVariants.{SetBreakpoint, ClearBreakpoint, Forward, Back, Go, Continue}
 use Rattle.debugger.specs.declared.command.Command.TheVariants.{ReverseContinue, Registers, ValueAt, MemoryAt, Frames, Listing, Verdict}
@@ -16,7 +16,7 @@ pub record IsNumbered (word : List ℕ) (n : ℕ) (line : List ℕ) : Type 0 whe
 pub record IsMemoryLine (address n : ℕ) (line : List ℕ) : Type 0 where
   pub digits : ℕ
   pub some : 0 < digits
-  pub most : digits ≤ address_digit_limit
+  pub most : digits ≤ 16
   pub fits : address < 16 ^ digits
   pub number_fits : n < 10 ^ line_limit
   pub is : line ≡ codes "m 0x" ++ (hex_digits digits address ++ (codes " " ++ decimal n))

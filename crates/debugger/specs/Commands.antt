@@ -3,29 +3,22 @@ use Rattle.std.specs.Prelude.{ℕ, suc, ◌+◌, ◌-◌, ◌*◌, ◌^◌, ◌<
 use Rattle.std.specs.Prelude.{Option, Some, None, codes, nat_eq, nat_le, nat_lt, slice_index, if◌then◌else◌}
 use Rattle.std.specs.Str.{bytes_eq}
 use Rattle.bpf_machine.specs.State.{State}
-use Rattle.debugger.specs.Limits.{line_limit, address_digit_limit}
+use Rattle.debugger.specs.Limits.{line_limit}
+pub use Rattle.std.specs.Char.{is_ascii_digit as is_digit}
 use Rattle.debugger.specs.declared.command.Command.{Command, TheVariants.Quit, TheVariants.Unknown}
 use Rattle.debugger.specs.declared.command.Command.TheVariants.{SetBreakpoint, ClearBreakpoint, Forward, Back, Go, Continue}
 use Rattle.debugger.specs.declared.command.Command.TheVariants.{ReverseContinue, Registers, ValueAt, MemoryAt, Frames, Listing, Verdict}
-
--- whether the byte is a decimal digit
-abbrev pub is_digit : ℕ → Bool
-is_digit c = nat_le 48 c && nat_le c 57
 
 -- the number that continues n with these decimal digits
 abbrev pub read_digits : ℕ → List ℕ → Option ℕ
 read_digits n [] = Some n
 read_digits n (c ∷ cs) = if is_digit c then read_digits (n * 10 + (c - 48)) cs else None
 
--- whether the first of several digits is 0
-abbrev pub leads_with_zero : List ℕ → Bool
-leads_with_zero digits = nat_lt 1 (length digits) && nat_eq (slice_index digits 0) 48
-
 -- a number: decimal digits without leading zeros
 unfoldable pub number_of : List ℕ → Option ℕ
 number_of digits =
     if nat_eq (length digits) 0 then None
-    else (if leads_with_zero digits then None
+    else (if nat_lt 1 (length digits) && nat_eq (slice_index digits 0) 48 then None
     else read_digits 0 digits)
 
 -- the line begins with these bytes
@@ -51,7 +44,7 @@ abbrev pub read_address : ℕ → ℕ → List ℕ → Command
 read_address digits address [] = Unknown
 read_address digits address (c ∷ cs) =
     if nat_eq c 32 && nat_lt 0 digits then numbered (MemoryAt address) (number_of cs)
-    else (if is_hex_digit c && nat_lt digits address_digit_limit then read_address (suc digits) (address * 16 + hex_value c) cs
+    else (if is_hex_digit c && nat_lt digits 16 then read_address (suc digits) (address * 16 + hex_value c) cs
     else Unknown)
 
 -- a command that shows a part of the state, by its number or its address

@@ -1,14 +1,13 @@
 -- The parts of a state that a session shows: a value, bytes of memory, and frames.
 use Rattle.std.specs.Prelude.{◌≡◌, ℕ, zero, suc, ◌+◌, ◌≤◌, Bool, ◌&&◌, List, [], ◌∷◌, ◌++◌, take, drop, length, codes, decimal, Option}
-use Rattle.std.specs.Prelude.{Some, None, nat_le, slice_get, if◌then◌else◌}
+use Rattle.std.specs.Prelude.{Some, None, nat_le, option_map, slice_get, if◌then◌else◌}
 use Rattle.std.specs.Fmt.{signed_decimal}
 use Rattle.bpf_machine.specs.State.{State}
 use Rattle.bpf_machine.specs.Text.{hex_digits, word_text}
 use Rattle.bpf_machine.specs.Trace.{state_after}
-use Rattle.debugger.specs.Limits.{shown_bytes_limit, line_bytes, shown_lines_limit}
 use Rattle.bpf_machine.specs.declared.frame.Frame.{Frame}
 use Rattle.guest_memory.specs.Access.{region_of}
-use Rattle.guest_memory.specs.Memory.{Memory, Region, bytes_in, scratch_length, stack_length, verdict_length}
+use Rattle.guest_memory.specs.Memory.{Memory, bytes_in, scratch_length, stack_length, verdict_length}
 use Rattle.guest_memory.specs.Word.{part}
 use Rattle.value_store.specs.Json.{shown_text}
 use Rattle.value_store.specs.Value.{ValueOrError}
@@ -49,22 +48,13 @@ value_text h None = codes "? range\n"
 
 -- ---- memory
 
--- the n bytes of a region from an offset on
-abbrev pub bytes_at : Memory → ℕ → Option (Region × ℕ) → Option (List ℕ)
-bytes_at m n (Some (r, at)) = Some (part (bytes_in r m) at n)
-bytes_at m n None = None
-
 -- n bytes at an address, if all of them are in one region
 unfoldable pub bytes_from : Memory → ℕ → ℕ → Option (List ℕ)
-bytes_from m address n = bytes_at m n (region_of m address n)
+bytes_from m address n = option_map (λ place. part (bytes_in place.0 m) place.1 n) (region_of m address n)
 
--- whether this number of bytes can be shown
-abbrev pub is_count : ℕ → Bool
-is_count n = nat_le 1 n && nat_le n shown_bytes_limit
-
--- the bytes that are shown: from 1 to `shown_bytes_limit` of them
+-- the bytes that are shown: from 1 to 256 of them
 abbrev pub shown_bytes : Memory → ℕ → ℕ → Option (List ℕ)
-shown_bytes m address n = if is_count n then bytes_from m address n else None
+shown_bytes m address n = if nat_le 1 n && nat_le n 256 then bytes_from m address n else None
 
 -- each byte as a space and two hex digits
 unfoldable pub digits_of_bytes : List ℕ → List ℕ
@@ -75,15 +65,15 @@ digits_of_bytes (b ∷ bs) = codes " " ++ (hex_digits 2 b ++ digits_of_bytes bs)
 unfoldable pub memory_line : ℕ → List ℕ → List ℕ
 memory_line address bytes = word_text address ++ (digits_of_bytes bytes ++ 10 ∷ [])
 
--- at most `count` lines of up to `line_bytes` bytes
+-- at most `count` lines of up to 16 bytes
 unfoldable pub memory_lines : ℕ → ℕ → List ℕ → List ℕ
 memory_lines zero address bytes = []
 memory_lines (suc count) address [] = []
-memory_lines (suc count) address (b ∷ bs) = memory_line address (take line_bytes (b ∷ bs)) ++ memory_lines count (address + line_bytes) (drop line_bytes (b ∷ bs))
+memory_lines (suc count) address (b ∷ bs) = memory_line address (take 16 (b ∷ bs)) ++ memory_lines count (address + 16) (drop 16 (b ∷ bs))
 
--- these bytes in lines of `line_bytes`, or that they cannot be shown
+-- these bytes in at most 16 lines of 16 bytes, or that they cannot be shown
 abbrev pub memory_text : ℕ → Option (List ℕ) → List ℕ
-memory_text address (Some bytes) = memory_lines shown_lines_limit address bytes
+memory_text address (Some bytes) = memory_lines 16 address bytes
 memory_text address None = codes "? range\n"
 
 -- ---- frames

@@ -3,7 +3,7 @@ use Rattle.std.specs.Prelude.{ℕ, Bool, false, List, [], ◌++◌, codes, fold,
 use Rattle.std.specs.List.{list_any}
 use Rattle.std.specs.Str.{bytes_eq}
 use Rattle.bpf_machine.specs.State.{State}
-use Rattle.debugger.specs.Answers.{SessionState, Line, session_state_at, answer_to}
+use Rattle.debugger.specs.Answers.{SessionState, Line, answer_to}
 use Rattle.debugger.specs.Commands.{command_of, is_quit}
 use Rattle.streams.specs.Lines.{cut, input_lines, readable}
 
@@ -18,7 +18,7 @@ pub record Dialogue : Type 0 where
 
 -- a session before its first line: at step 0, without breakpoints
 abbrev pub start_dialogue : Dialogue
-start_dialogue = record { session_state = session_state_at [] 0 false; text = [] }
+start_dialogue = record { session_state = record { place = 0; breakpoints = []; ended = false }; text = [] }
 
 -- the reply to one more line, appended to the text so far
 abbrev pub with_answer : State → Dialogue → Line → Dialogue

@@ -1,7 +1,6 @@
 -- The verdict region as a session shows it: words of eight bytes, in decimal.
 use Rattle.std.specs.Prelude.{ℕ, zero, suc, ◌+◌, ◌*◌, List, [], ◌∷◌, ◌++◌, codes, decimal, nat_eq, if◌then◌else◌}
 use Rattle.bpf_machine.specs.State.{State}
-use Rattle.debugger.specs.Limits.{verdict_list_words, validations_offset, messages_offset}
 use Rattle.guest_memory.specs.Memory.{Memory}
 use Rattle.guest_memory.specs.Word.{part, word_of}
 use Rattle.loader.specs.Contents.{version_number}
@@ -27,11 +26,11 @@ word_lines name m from (suc i) = word_lines name m from i ++ word_line name i (v
 
 -- the lines of messages, which only programs of images of version 2 write
 abbrev pub message_lines : ℕ → Memory → List ℕ
-message_lines version m = if nat_eq version 2 then word_lines (codes "message") m messages_offset verdict_list_words else []
+message_lines version m = if nat_eq version 2 then word_lines (codes "message") m 528 64 else []
 
 -- the lines of a verdict: outcome and denials, the validations, and the messages
 unfoldable pub verdict_lines : ℕ → Memory → List ℕ
-verdict_lines version m = verdict_line m ++ (word_lines (codes "validation") m validations_offset verdict_list_words ++ message_lines version m)
+verdict_lines version m = verdict_line m ++ (word_lines (codes "validation") m 16 64 ++ message_lines version m)
 
 -- the verdict of an image's program in its current state
 abbrev pub verdict_text : State → List ℕ

@@ -1,7 +1,7 @@
 //! Parsing of command lines.
-ghost use Rattle.std.specs.Prelude.{◌≡◌, ◌≤◌, ◌<◌, ◌^◌, ◌-◌, ◌+◌, ◌*◌, ℕ, true, drop, min, option_map};
+ghost use Rattle.std.specs.Prelude.{◌≡◌, ◌≤◌, ◌<◌, ◌^◌, ◌-◌, ◌+◌, ◌*◌, ◌&&◌, ℕ, true, drop, length, min, nat_eq, nat_lt, option_map, slice_index};
 ghost use Rattle.std.specs.Str.{bytes_eq};
-ghost use Rattle.debugger.specs.Commands.{begins_with, capped, capped_command, capped_number, command_of, form_of, hex_value, is_digit, is_hex_digit, leads_with_zero, move_form_of, number_of, numbered_form_of, read_address, read_digits, shown_form_of};
+ghost use Rattle.debugger.specs.Commands.{begins_with, capped, capped_command, capped_number, command_of, form_of, hex_value, is_digit, is_hex_digit, move_form_of, number_of, numbered_form_of, read_address, read_digits, shown_form_of};
 
 /// The maximum number of bytes of a command line.
 const LINE_LIMIT: usize = 64;
@@ -204,7 +204,7 @@ fn number(digits: &[u8]) -> Option<u64>
 
 /// Whether these are several digits of which the first is zero.
 fn leads_with_zero(digits: &[u8]) -> bool
-    ensures { result ≡ leads_with_zero digits.now }
+    ensures { result ≡ (nat_lt 1 (length digits.now) && nat_eq (slice_index digits.now 0) 48) }
 {
     digits.len() > 1 && digits[0] == b'0'
 }

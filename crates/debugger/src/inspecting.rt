@@ -1,8 +1,8 @@
 //! Shows parts of the machine's current state.
-ghost use Rattle.std.specs.Prelude.{◌≡◌, ◌≤◌, ◌<◌, ◌^◌, ◌+◌, ◌%◌, ℕ, true, None, Ok, length, map, is_some, option_map, string_bytes, IfNone, IfOk, IfSome, OnErr};
+ghost use Rattle.std.specs.Prelude.{◌≡◌, ◌≤◌, ◌&&◌, nat_le, ◌<◌, ◌^◌, ◌+◌, ◌%◌, ℕ, true, None, Ok, length, map, is_some, option_map, string_bytes, IfNone, IfOk, IfSome, OnErr};
 ghost use Rattle.guest_memory.specs.Access.{constants_of, read_of};
 ghost use Rattle.guest_memory.specs.declared.size.Size.TheVariants.{B};
-ghost use Rattle.debugger.specs.Inspection.{HasRegions, IsSized, bytes_from, frames_text, is_count, memory_lines, memory_text, shown_bytes, value_at, value_line, value_text};
+ghost use Rattle.debugger.specs.Inspection.{HasRegions, IsSized, bytes_from, frames_text, memory_lines, memory_text, shown_bytes, value_at, value_line, value_text};
 ghost use Rattle.debugger.specs.Replies.{reply_text};
 
 use crate::answer_text::AnswerText;
@@ -68,7 +68,7 @@ fn show_bytes<M: Regions>(memory: &M, address: u64, n: u64) -> Reply
 const SHOWN_BYTES_LIMIT: u64 = 256;
 
 fn is_count(n: u64) -> bool
-    ensures { result ≡ is_count n }
+    ensures { result ≡ (nat_le 1 n && nat_le n 256) }
 {
     1 <= n && n <= SHOWN_BYTES_LIMIT
 }
