@@ -1,9 +1,14 @@
 -- The code of macros, within the budgets of their parts.
-use Rattle.codegen.proofs.Prelude.{◌≡◌, ℕ, zero, suc, ◌+◌, ◌<◌, Bool, true, List, [], ◌∷◌, Option, Some, refl, ap, ◌∙◌, arith, subst, slice_get, Insn, Value, ValueOrError, Macro, folded, folded_map, Truth, Yes, chosen, truth, range_of, map_over_range, over_range, ComputesPart, Cost, ◌and◌, each_item, items_cost, kept, kept_by, node, nothing, one_item, spent_by, macro_cost, map_cost, macro_code, map_where_code, Context, RunContext, IsItem, each_spent, each_visits, items_spent, items_visits, with_item, size, macro_gives, gives_within, map_where_gives, Core, method_or_fold, method_or_fold_map, fold_maps_mean, folds_mean, deepest, need, with_name, Variable, code_of, texts_of, IsAccepted, fold_limit}
+use Rattle.codegen.proofs.Prelude.{◌≡◌, ℕ, zero, suc, ◌+◌, ◌<◌, Bool, true, List, [], ◌∷◌, Option, Some, refl, ap, ◌∙◌, arith, subst, slice_get, Insn, Value, ValueOrError, Macro, folded, folded_map, Truth, Yes, chosen, truth, range_of, map_over_range, over_range, ComputesPart, Cost, ◌and◌, each_item, kept, kept_by, node, nothing, one_visit, spent_by, macro_cost, map_cost, macro_code, map_where_code, Context, RunContext, IsItem, each_spent, each_visits, items_spent, items_visits, with_item, size, macro_gives, gives_within, map_where_gives, Core, method_or_fold, method_or_fold_map, fold_maps_mean, folds_mean, deepest, need, with_name, Variable, code_of, texts_of, IsAccepted, fold_limit}
 use Rattle.codegen.proofs.Subexpressions.{Subexpression, Valued, PerItem, InMacro, valued, per_item}
 use Rattle.expression_code.proofs.Sites.{Site, site_at, in_frame}
 use Rattle.cel_macros.specs.CoreTree as core
 use Rattle.codegen.proofs.Parts.{Part, result_size_least, or_left, or_right, texts_back, texts_front}
+use Rattle.std.specs.Option.{option_map_or}
+
+-- the items; none if the value is neither a list nor a map
+abbrev items_cost : (Value → Cost) → Option (List Value) → Cost
+items_cost f o = option_map_or (each_item f) o nothing
 
 pub right_deep : (a b : Cost) → b.is_deep ≡ true → (a and b).is_deep ≡ true
 right_deep a b e = or_right a.is_deep b.is_deep e
@@ -29,7 +34,7 @@ module _ (f : Value → Cost) where
   each_deep : (vs : List Value) (i : ℕ) (v : Value) → slice_get vs i ≡ Some v → (f v).is_deep ≡ true → (each_item f vs).is_deep ≡ true
   each_deep [] i v at deep = absurd (cc)
   each_deep (w ∷ vs) zero v at deep = let same : w ≡ v = cc in or_left (f w).is_deep (each_item f vs).is_deep (ap (λ (u : Value). (f u).is_deep) same ∙ deep)
-  each_deep (w ∷ vs) (suc i) v at deep = right_deep (one_item and f w) (each_item f vs) (each_deep vs i v at deep)
+  each_deep (w ∷ vs) (suc i) v at deep = right_deep (one_visit and f w) (each_item f vs) (each_deep vs i v at deep)
 
   pub item_deep : (r : ValueOrError) (v : Value) → IsItem r v → (f v).is_deep ≡ true → (items_cost f (range_of r)).is_deep ≡ true
   item_deep r v inside deep = grind (arith, each_deep)

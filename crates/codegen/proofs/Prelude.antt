@@ -158,8 +158,8 @@ pub use Rattle.codegen.specs.Code.Whole.{shorter}
 pub use Rattle.codegen.specs.Computes.{Computes, ComputesPart, Ready, TextsStand, environment_in, names, nestings}
 pub use Rattle.codegen.specs.Computes.{routines, scope_context, variable_of}
 pub use Rattle.codegen.specs.Constants.{joined, place_of, with_text, with_texts}
-pub use Rattle.codegen.specs.Cost.{Cost, IsDeep, call_cost, each_item, items_cost, kept, kept_by, literal_cost}
-pub use Rattle.codegen.specs.Cost.{macro_cost, map_cost, name_or_text, node, nothing, one_item, selection_cost}
+pub use Rattle.codegen.specs.Cost.{Cost, IsDeep, call_cost, each_item, kept, kept_by, literal_cost}
+pub use Rattle.codegen.specs.Cost.{macro_cost, map_cost, name_or_text, node, nothing, one_visit, selection_cost}
 pub use Rattle.codegen.specs.Cost.{spent_by, ◌and◌}
 pub use Rattle.codegen.specs.Emission.{EmitsExpression, EmitsVariable, HasRoutines, Running, Suits, caller_context}
 pub use Rattle.codegen.specs.Emission.{context, cost_in, meaning_in, next_routine, next_variable, setting}

@@ -1,12 +1,13 @@
 -- The cost of an evaluation, which bounds the steps and the charge of its code. Both sides of a logical operator
 -- count, the chosen branch of a conditional, and every item of a macro's range.
-use Rattle.std.specs.Prelude.{ℕ, ◌+◌, ◌*◌, length, nat_le, Bool, true, false, ◌||◌, List, [], ◌∷◌, Option, Some, None, ◌≡◌}
+use Rattle.std.specs.Prelude.{ℕ, ◌+◌, ◌*◌, length, nat_le, Bool, true, false, ◌||◌, List, [], ◌∷◌, Option, Some, ◌≡◌}
+use Rattle.std.specs.Option.{option_map_or}
 use Rattle.cel_reader.specs.Tree as tree
 use Rattle.cel_reader.specs.Tree.{Tree, Trees, TreeEntries, no_trees, more_trees, no_entries, more_entries}
 use Rattle.helper_table.specs.Building.{depth_limit}
 use Rattle.value_store.specs.Value.{Value, ValueOrError, error, value}
 use Rattle.value_store.specs.Size.{result_size, result_depth}
-use Rattle.cel_macros.specs.declared.macros.Macro.{Macro, TheVariants.All, TheVariants.Exists, TheVariants.ExistsOne, TheVariants.Filter, TheVariants.Map}
+use Rattle.cel_macros.specs.declared.macros.Macro.{Macro, TheVariants.Filter, TheVariants.Map}
 use Rattle.cel_macros.specs.Environment.{Environment, bind}
 use Rattle.cel_macros.specs.Logic.{Truth, truth, chosen}
 use Rattle.cel_macros.specs.Macros.{macro_named, is_map, is_has, is_variables, name_of, field_name, range_of}
@@ -36,9 +37,9 @@ node x = record { visits = 1; sizes = result_size x; is_deep = false }
 abbrev pub name_or_text : List ℕ → Cost
 name_or_text s = record { visits = 0; sizes = 1 + length s; is_deep = false }
 
--- one item of a macro's range
-abbrev pub one_item : Cost
-one_item = record { visits = 1; sizes = 0; is_deep = false }
+-- one visit, as of an item of a macro's range
+abbrev pub one_visit : Cost
+one_visit = record { visits = 1; sizes = 0; is_deep = false }
 
 -- the value is put into a list or map: these have a depth of at most 255, and are deeper than all that they hold
 abbrev pub kept : ValueOrError → Cost
@@ -57,37 +58,30 @@ selection_cost false f a = a and name_or_text f
 -- for `has(e.f)`, where e costs x: the field name and e; for another function of y: the cost of y
 abbrev pub call_cost : Bool → Option (List ℕ) → Cost → Cost → Cost
 call_cost true (Some f) x y = x and name_or_text f
-call_cost true None x y = y
-call_cost false f x y = y
+call_cost _ _ x y = y
 
 -- the items in order, each with its cost
 abbrev pub each_item : (Value → Cost) → List Value → Cost
 each_item f [] = nothing
-each_item f (v ∷ vs) = one_item and f v and each_item f vs
-
--- the items; none if the value is neither a list nor a map
-abbrev pub items_cost : (Value → Cost) → Option (List Value) → Cost
-items_cost f (Some vs) = each_item f vs
-items_cost f None = nothing
+each_item f (v ∷ vs) = one_visit and f v and each_item f vs
 
 -- what a macro keeps of item v if its part gives x
 abbrev pub kept_by : Macro → Value → ValueOrError → Cost
-kept_by All v x = nothing
-kept_by Exists v x = nothing
-kept_by ExistsOne v x = nothing
 kept_by Filter v x = chosen (truth x) (kept (value v)) nothing nothing
 kept_by Map v x = kept x
+kept_by _ v x = nothing
 
--- the items of a macro; for each name and item its part has this cost and this value
+-- the items of a macro, none if its range is neither a list nor a map; for each name and item its part has this cost and this value
 abbrev pub macro_cost : Option Macro → Option (List ℕ) → (List ℕ → Value → Cost) → (List ℕ → Value → ValueOrError) → Option (List Value)
     → Cost
-macro_cost (Some m) (Some n) c x items = items_cost (λ v. c n v and kept_by m v (x n v)) items
+macro_cost (Some m) (Some n) c x items = option_map_or (each_item (λ v. c n v and kept_by m v (x n v))) items nothing
 macro_cost _ _ c x items = nothing
 
 -- the items of a `map` with a predicate; the transform is visited if the predicate is true
 abbrev pub map_cost : Bool → Option (List ℕ) → (List ℕ → Value → Cost) → (List ℕ → Value → Truth) → (List ℕ → Value → Cost)
     → Option (List Value) → Cost
-map_cost true (Some n) c p t items = items_cost (λ v. c n v and chosen (p n v) (t n v) nothing nothing) items
+map_cost true (Some n) c p t items =
+    option_map_or (each_item (λ v. c n v and chosen (p n v) (t n v) nothing nothing)) items nothing
 map_cost _ _ c p t items = nothing
 
 -- each node with its result, and the cost of its parts
