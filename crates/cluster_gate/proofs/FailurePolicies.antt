@@ -4,16 +4,17 @@ use Rattle.std.proofs.Common.{arith}
 use Rattle.std.proofs.lemmas.Map.Text.{is_eq-slice_cmp}
 use Rattle.std.proofs.lemmas.Slice.Eq.{bytes_eq-Decides}
 use Rattle.std.specs.Ordering.{is_eq, match_ordering}
-use Rattle.std.specs.Prelude.{bytes_eq, codes, if◌then◌else◌, not}
+use Rattle.std.specs.Prelude.{bytes_eq, codes, if◌then◌else◌, not, option_and_then}
+use Rattle.std.specs.Option.{option_map_or}
 use Rattle.std.specs.declared.cmp.Ordering.{Ordering}
 use Rattle.serde_json.specs.Data as json
 use Rattle.serde_json.specs.Find.{get, get_member}
 use Rattle.value_store.specs.Documents.{equals_string}
 use Rattle.value_store.specs.Reviews.{without}
 use Rattle.policy_glue.specs.Policy.{NamedExpression, Policy, Validation}
-use Rattle.policy_glue.specs.Reading.{failure_in, has_head, has_spec_form, has_top_form, judged_form, policy_from, policy_in, policy_of, policy_parts_in, policy_read, spec_in, spec_parts}
+use Rattle.policy_glue.specs.Reading.{failure_in, has_head, has_spec_form, has_top_form, judged, policy_in, policy_of, policy_parts_in, spec_in, spec_parts}
 use Rattle.policy_glue.specs.declared.failure_policy.FailurePolicy.{FailurePolicy, TheVariants.Fail, TheVariants.Ignore}
-use Rattle.policy_glue.specs.declared.policy_error.PolicyError.{PolicyError, TheVariants.MessageWithLineBreak, TheVariants.NoValidations, TheVariants.NotAPolicy, TheVariants.TooManyParts}
+use Rattle.policy_glue.specs.declared.policy_error.PolicyError.{PolicyError, TheVariants.InvalidField, TheVariants.MessageWithLineBreak, TheVariants.NoValidations, TheVariants.NotAPolicy, TheVariants.NotJson, TheVariants.TooManyParts}
 use Rattle.admission_documents.specs.Documents.{field, field_of, present}
 use Rattle.cluster_plan.specs.Steps.{fails_closed}
 use Rattle.cluster_gate.proofs.SameReading.{without_status_shallow}
@@ -51,11 +52,11 @@ judged_by false true c p q e = absurd (cc)
 judged_by false false true p q e = absurd (cc)
 judged_by false false false p q e = cc
 
-form_is : (o : Option Policy) (q : Policy) → judged_form o ≡ Ok q → o ≡ Some q
+form_is : (o : Option Policy) (q : Policy) → option_map_or judged o (Err InvalidField) ≡ Ok q → o ≡ Some q
 form_is None q e = absurd (cc)
 form_is (Some p) q e = ap Some (judged_by _ _ _ p q e)
 
-head_is : (b : Bool) (o : Option Policy) (q : Policy) → ◌≡◌ {A = Result Policy PolicyError} (if b then judged_form o else Err NotAPolicy) (Ok q) → o ≡ Some q
+head_is : (b : Bool) (o : Option Policy) (q : Policy) → ◌≡◌ {A = Result Policy PolicyError} (if b then option_map_or judged o (Err InvalidField) else Err NotAPolicy) (Ok q) → o ≡ Some q
 head_is true o q e = form_is o q e
 head_is false o q e = absurd (cc)
 
@@ -83,6 +84,12 @@ unfolding policy_of
 read_spec d q e = spec_is (get (codes "spec") d) q (top_is (has_top_form d) (spec_in (get (codes "spec") d)) q (head_is (has_head d) (policy_parts_in d) q e))
 
 -- ---- the failure policy
+
+-- a policy, if each of its parts has the right form
+abbrev policy_from : Option FailurePolicy → Option (List NamedExpression) → Option (List NamedExpression) → Option (List Validation) → Option Policy
+policy_from failure conditions variables validations =
+    option_and_then (λ f. option_and_then (λ cs. option_and_then (λ vs. option_and_then (λ rs.
+    Some (record { failure_policy = f; conditions = cs; variables = vs; validations = rs })) validations) variables) conditions) failure
 
 first_part : (f : Option FailurePolicy) (cs vs : Option (List NamedExpression)) (rs : Option (List Validation)) (q : Policy) → policy_from f cs vs rs ≡ Some q
     → f ≡ Some q.failure_policy
@@ -130,7 +137,7 @@ unfolding fails_closed field policy_in
 fails_closed_as_compiled p names c shallow =
     let q = c.is_policy.parsed in
     let reads = c.has_text.reads (without_status_shallow p.document shallow) in
-    let read : policy_of (without_status p.document) ≡ Ok q = subst (λ (o : Option json.Data). policy_read o ≡ Ok q) reads c.is_policy.is_said in
+    let read : policy_of (without_status p.document) ≡ Ok q = subst (λ (o : Option json.Data). option_map_or policy_of o (Err NotJson) ≡ Ok q) reads c.is_policy.is_said in
     let spec = read_spec (without_status p.document) q read in
     let ignores = λ (o : Option json.Data). not (equals_string (field_of (codes "failurePolicy") o) (codes "Ignore")) in
     ap (λ (o : Option json.Data). ignores (present o)) (sym (spec_kept p.document) ∙ spec.is)

@@ -1,11 +1,13 @@
 -- Documents whose texts are read as the same values decide alike.
 use Rattle.cluster_gate.proofs.Prelude.{◌≡◌, ◌∙◌, ◌≤◌, ℕ, Bool, true, false, List, Option, Some, None, Result, Ok, Err, ap, arith, refl, sym}
 use Rattle.std.specs.Prelude.{bytes_eq, codes, if◌then◌else◌}
+use Rattle.std.specs.Option.{option_map_or}
 use Rattle.serde_json.specs.Data as json
 use Rattle.value_store.specs.Documents.{document_given, document_of}
 use Rattle.value_store.specs.Reviews.{parts_given, without}
 use Rattle.policy_glue.specs.Findings.{PolicyFinding}
-use Rattle.policy_glue.specs.Reading.{policy_in, policy_read}
+use Rattle.policy_glue.specs.Reading.{policy_in, policy_of}
+use Rattle.policy_glue.specs.declared.policy_error.PolicyError.{TheVariants.NotJson}
 use Rattle.admission.specs.Deciding.{Case, Documents, HasNoResponse, IsPolicy, IsPolicyRefused, values_given}
 use Rattle.admission.specs.Findings.{FindsReview}
 use Rattle.admission.specs.Reviews.{contents_from, contents_given, documents_from, documents_given}
@@ -39,7 +41,7 @@ same_text_if (Some d) (Some t) (Some u) shallow a b = same_text d t u shallow a 
 
 pub same_policy : (t u : List ℕ) → document_of t ≡ document_of u → policy_in t ≡ policy_in u
 unfolding policy_in
-same_policy t u is = ap policy_read is
+same_policy t u is = ap (λ o. option_map_or policy_of o (Err NotJson)) is
 
 pub same_contents : (r s : List ℕ) (n m p q : Option (List ℕ)) → r ≡ s → document_given n ≡ document_given m → document_given p ≡ document_given q
     → contents_given (Some r) n p ≡ contents_given (Some s) m q

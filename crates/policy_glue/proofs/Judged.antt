@@ -1,5 +1,5 @@
 -- The check of a policy, step by step, in lemmas over plain variables.
-use Rattle.policy_glue.proofs.Prelude.{◌≡◌, ◌≤◌, ◌<◌, ◌++◌, ◌∷◌, ℕ, List, [], nat_lt, false, Option, Some, None, Result, Ok, Err, IsErr, IfSome, arith, refl, sym, ap, ◌∙◌, ◌+◌, drop, get_or, length, length-append, map, subst, false≢true, nat_tests, All, IsErrAnd, ReadError, UnknownCharacter, InvalidTextLiteral, IntOutOfRange, UnexpectedToken, TooManyOpen, TextTooLong, Tree, ReadReturns, ErrorIsAt, Core, expanded, core_view, MacroFault, ArgumentCount, IterationName, NoSelection, macro_fault, fault_error, CodeCore, MacroError, Declaration, declared, depths_of, scope_of, allowed, typing, CelType, depth, need, saturated, ChecksValidation, ReadsAndExpands, IsAdded, IsExpanded, Judges, JudgesVariable, Sorts, SortsMessage, PartsChecked, Checks, ChecksConditions, ChecksValidations, ChecksVariables, IsFormedVariable, validation_trees, variable_expanded, ReadsTree, IsExpressionRefused, unread, judged, refused, of_another_type, expression, message, depth_in, expression_judged, texts, truths, type_or_any, variable_judged, with_depth, with_macros, with_typing, TakenOrRefused, over, next, IsVariable, TakesVariable, RefusesVariable, ValidationsEnd, in_conditions, in_validations, in_variables, scope_after, taken, with_variable, from_macros, from_reader, in_part, CompileError, NamedExpression, Validation, Policy, CheckedValidation, NotABool, MessageNotAString, PartKind, Message, CodeValidation, ExpressionError, NeedsTooManyWords, VariableTooDeep, Unread, Unexpanded, Untyped, drop_of_length-le, drop_more, map-append, All-push, fold-append, Checked, CodeNamedExpression, variable_depth_limit}
+use Rattle.policy_glue.proofs.Prelude.{◌≡◌, ◌≤◌, ◌<◌, ◌++◌, ◌∷◌, ℕ, List, [], nat_lt, false, Option, Some, None, Result, Ok, Err, IsErr, IfSome, arith, refl, sym, ap, ◌∙◌, ◌+◌, drop, get_or, length, length-append, map, subst, false≢true, nat_tests, All, IsErrAnd, ReadError, UnknownCharacter, InvalidTextLiteral, IntOutOfRange, UnexpectedToken, TooManyOpen, TextTooLong, Tree, ReadReturns, ErrorIsAt, Core, expanded, core_view, MacroFault, ArgumentCount, IterationName, NoSelection, macro_fault, fault_error, CodeCore, MacroError, Declaration, declared, depths_of, scope_of, allowed, typing, CelType, depth, need, saturated, ChecksValidation, ReadsAndExpands, IsAdded, IsExpanded, Judges, JudgesVariable, Sorts, SortsMessage, PartsChecked, Checks, ChecksConditions, ChecksValidations, ChecksVariables, IsFormedVariable, validation_trees, variable_expanded, ReadsTree, IsExpressionRefused, unread, judged, refused, of_another_type, expression, message, depth_in, expression_judged, texts, truths, type_or_any, variable_judged, with_depth, with_typing, TakenOrRefused, over, next, IsVariable, TakesVariable, RefusesVariable, ValidationsEnd, in_conditions, in_validations, in_variables, scope_after, taken, with_variable, from_macros, from_reader, in_part, CompileError, NamedExpression, Validation, Policy, CheckedValidation, NotABool, MessageNotAString, PartKind, Message, CodeValidation, ExpressionError, NeedsTooManyWords, VariableTooDeep, Unread, Unexpanded, Untyped, drop_of_length-le, drop_more, map-append, All-push, fold-append, Checked, CodeNamedExpression, variable_depth_limit}
 use Rattle.cel_tokens.specs.declared.read_error.ReadError.TheVariants as read_error
 use Rattle.cel_macros.specs.declared.macro_error.MacroError.TheVariants as macro_error
 use Rattle.policy_glue.specs.Checked.{ConditionsChecked, ValidationsChecked, VariablesChecked}
@@ -7,6 +7,7 @@ use Rattle.policy_glue.specs.declared.expression_error.ExpressionError.TheVarian
 use Rattle.policy_glue.specs.declared.part_kind.PartKind.TheVariants.{Variable}
 use Rattle.policy_glue.proofs.OneAnswer.{err_same}
 use Rattle.cel_reader.proofs.Unreadable.{result_refused}
+use Rattle.std.specs.Option.{option_map_or}
 
 unread_by : (text : List ℕ) (e : ReadError) → ReadReturns text (Err e) → ErrorIsAt text (Err e) → ReadsAndExpands text (Err (from_reader e))
 unread_by text (UnknownCharacter place) said at = λ some scope. unread (UnknownCharacter place) (result_refused text (UnknownCharacter place) (record { some = λ no. cc; answers = said; placed = at }))
@@ -26,7 +27,7 @@ unread_is text e r said at err is = grind (arith, false≢true, unread_by)
 macros_judged : (scope : List Declaration) (a : Tree) (fault : MacroFault) → macro_fault a ≡ Some fault
     → expression_judged scope a ≡ Err (Unexpanded (fault_error fault))
 unfolding expression_judged
-macros_judged scope a fault is = ap (λ m. with_macros m (typing a (scope_of scope)) (need (expanded a))) is
+macros_judged scope a fault is = ap (λ m. option_map_or (λ fault. Err (Unexpanded (fault_error fault))) m (with_typing (typing a (scope_of scope)) (need (expanded a)))) is
 
 fault_by : (text : List ℕ) (a : Tree) (fault : MacroFault) → ReadsTree text a → macro_fault a ≡ Some fault → ReadsAndExpands text (Err (from_macros (fault_error fault)))
 fault_by text a ArgumentCount reads is = λ some scope. judged a _ reads (macros_judged scope a ArgumentCount is)
@@ -53,7 +54,7 @@ macros_refused text a e r reads clause only err is = grind (arith, false≢true,
 expression_is : (scope : List Declaration) (a : Tree) (r : Result CelType ExpressionError) → macro_fault a ≡ None
     → r ≡ with_typing (typing a (scope_of scope)) (need (expanded a)) → expression_judged scope a ≡ r
 unfolding expression_judged
-expression_is scope a r plain is = ap (λ m. with_macros m (typing a (scope_of scope)) (need (expanded a))) plain ∙ sym is
+expression_is scope a r plain is = ap (λ m. option_map_or (λ fault. Err (Unexpanded (fault_error fault))) m (with_typing (typing a (scope_of scope)) (need (expanded a)))) plain ∙ sym is
 
 pub judged_is : (scope : List Declaration) (text : List ℕ) (core : CodeCore) (t : CelType) → ReadsAndExpands text (Ok core)
     → ((a : Tree) → IsExpanded core a → Ok t ≡ with_typing (typing a (scope_of scope)) (need (expanded a)))
@@ -101,7 +102,7 @@ shallow_is place scope text core t m judges is low =
 pub other_is : (types : List CelType) (other : CompileError) (part : PartKind) (place : ℕ) (scope : List Declaration) (text : List ℕ) (core : CodeCore) (t : CelType)
     → Judges (expression_judged scope) text (Ok (core, t)) → allowed types t ≡ false → Sorts types other part place scope text (Err other)
 other_is types other part place scope text core t judges kind =
-    λ some. of_another_type (record { tree = judges.0; cel_type = t; taken = judges.2; kind = kind })
+    λ some. of_another_type judges.0 t judges.2 kind
 
 part_by : (types : List CelType) (other : CompileError) (part : PartKind) (place : ℕ) (scope : List Declaration) (text : List ℕ) (e : ExpressionError)
     → Judges (expression_judged scope) text (Err e) → Sorts types other part place scope text (Err (in_part part place e))

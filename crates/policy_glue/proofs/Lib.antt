@@ -10,6 +10,7 @@ mod Lists
 mod Named
 mod OnLiterals
 mod OneAnswer
+mod PartTexts
 mod Programs
 mod Read
 mod ResponseTexts

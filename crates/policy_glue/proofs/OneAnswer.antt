@@ -56,13 +56,13 @@ module _ (types : List CelType) (scope : List Declaration) (text : List ℕ) whe
   module _ (other : CompileError) (part : PartKind) (place : ℕ) where
     pub not_none : (a : Tree) (e : CompileError) → IsOneOf types scope text a → IsNoneOf types other part place scope text e → ⊥
     not_none a e one (refused x because) = not_refused (expression_judged scope) text a one.cel_type x one.taken because
-    not_none a e one (of_another_type is) = not_other a one is
+    not_none a e one (of_another_type b t taken kind) = not_other a one (record { tree = b; cel_type = t; taken = taken; kind = kind })
 
     pub none_once : (e f : CompileError) → IsNoneOf types other part place scope text e → IsNoneOf types other part place scope text f → e ≡ f
     none_once e f (refused x because) (refused y also) = ap (InvalidExpression part place) (refused_once (expression_judged scope) text x y because also)
-    none_once e f (refused x because) (of_another_type is) = absurd (not_refused (expression_judged scope) text is.tree is.cel_type x is.taken because)
-    none_once e f (of_another_type is) (refused y because) = absurd (not_refused (expression_judged scope) text is.tree is.cel_type y is.taken because)
-    none_once e f (of_another_type is) (of_another_type also) = refl
+    none_once e f (refused x because) (of_another_type b t taken kind) = absurd (not_refused (expression_judged scope) text b t x taken because)
+    none_once e f (of_another_type b t taken kind) (refused y because) = absurd (not_refused (expression_judged scope) text b t y taken because)
+    none_once e f (of_another_type b t taken kind) (of_another_type c u other_taken other_kind) = refl
 
 -- ---- results
 

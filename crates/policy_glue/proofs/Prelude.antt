@@ -166,20 +166,22 @@ pub use Rattle.value_store.specs.Calls.{text_at}
 pub use Rattle.value_store.specs.Placing.{Contents, charge_limit}
 pub use Rattle.value_store.specs.Seen.{outcome_view}
 pub use Rattle.value_store.specs.Value.{ValueOrError, boolean, error, int, list, null, text, value}
-pub use Rattle.policy_glue.specs.Budget.{conditions_cost, is_running, message_cost, policy_spent, policy_work}
+pub use Rattle.policy_glue.specs.Budget.{conditions_cost, message_cost, policy_spent, policy_work}
 pub use Rattle.policy_glue.specs.Budget.{validations_cost, runs_on, variables_cost}
 pub use Rattle.policy_glue.specs.Checked.{PartsChecked, Checks, ChecksConditions, ChecksValidation, ChecksValidations}
 pub use Rattle.policy_glue.specs.Checked.{ChecksVariables, ReadsAndExpands, IsAdded, IsChecked, IsExpanded}
 pub use Rattle.policy_glue.specs.Checked.{IsFormedValidation, IsFormedVariable, Judges, JudgesVariable, Sorts}
 pub use Rattle.policy_glue.specs.Checked.{SortsMessage, validation_expanded, validation_trees, variable_expanded}
 pub use Rattle.policy_glue.specs.Checking.{ConditionsEnd, TakenOrRefused, IsNoValidation, IsNoneOf, IsOneOf}
-pub use Rattle.policy_glue.specs.Checking.{HasOtherType, IsExpressionRefused, IsValidation, IsTaken, IsVariable}
-pub use Rattle.policy_glue.specs.Checking.{PartsEnd, ReadsTree, RefusesCondition, RefusesValidation, RefusesVariable}
-pub use Rattle.policy_glue.specs.Checking.{TakesCondition, TakesValidation, TakesVariable, ValidationsEnd}
+pub use Rattle.policy_glue.specs.Checking.{IsExpressionRefused, IsValidation, IsTaken, IsVariable}
+pub use Rattle.policy_glue.specs.OneAnswer.{HasOtherType}
+pub use Rattle.policy_glue.specs.Checking.{PartsEnd, ReadsTree, ValidationsEnd}
+pub use Rattle.policy_glue.specs.Checked.{RefusesCondition, RefusesValidation, RefusesVariable}
+pub use Rattle.policy_glue.specs.Checked.{TakesCondition, TakesValidation, TakesVariable}
 pub use Rattle.policy_glue.specs.Checking.{VariablesEnd, depth_in, expression, in_conditions, in_validations}
 pub use Rattle.policy_glue.specs.Checking.{in_variables, judged, message, next, of_another_type, other_type, over}
 pub use Rattle.policy_glue.specs.Checking.{refused, scope_after, taken, texts, truths, type_or_any, types_of, unread}
-pub use Rattle.policy_glue.specs.Checking.{variable_judged, with_depth, with_macros, with_typing, with_variable}
+pub use Rattle.policy_glue.specs.Checking.{variable_judged, with_depth, with_typing, with_variable}
 pub use Rattle.policy_glue.specs.CompileErrors.{from_macros, from_reader, in_part}
 pub use Rattle.policy_glue.specs.Compiled.{CompilesTo, IsCompiled}
 pub use Rattle.policy_glue.specs.Denials.{denial_view, denials_told, denies_word, lent}
@@ -191,8 +193,9 @@ pub use Rattle.policy_glue.specs.Evaluation.{condition_values, environment_with,
 pub use Rattle.policy_glue.specs.Layout.{AreRead, IsLayout, IsMessageWord, Encodes, VerdictWords, finding_word}
 pub use Rattle.policy_glue.specs.Layout.{first_message, first_result, message_at, message_in}
 pub use Rattle.policy_glue.specs.Layout.{ok_or_zero, outcome_of, outcome_word, result_at, text_named, truth_word, words_view}
-pub use Rattle.policy_glue.specs.Limits.{Compiles, condition_texts, excess, message_nodes, message_texts, part_nodes}
-pub use Rattle.policy_glue.specs.Limits.{validation_nodes, validation_tree_texts, tree_texts, validation_texts, variable_texts}
+pub use Rattle.policy_glue.specs.Limits.{Compiles, excess, part_nodes}
+pub use Rattle.policy_glue.specs.Limits.{validation_nodes, validation_tree_texts, tree_texts}
+pub use Rattle.policy_glue.proofs.PartTexts.{condition_texts, message_nodes, message_texts, validation_texts, variable_texts}
 pub use Rattle.policy_glue.specs.Rejections.{Rejection, rejection_tree, rejection_by, rejection_of}
 pub use Rattle.policy_glue.specs.Rejections.{rejection_view}
 pub use Rattle.policy_glue.specs.OneAnswer.{HasOneImage}
@@ -222,7 +225,7 @@ pub use Rattle.policy_glue.specs.Verdict.{Errs, Fails, Finding, Holds}
 pub use Rattle.policy_glue.specs.declared.outcome.Outcome.{Outcome}
 pub use Rattle.policy_glue.specs.declared.outcome.Outcome.TheVariants.{Admitted, Denied, Skipped}
 pub use Rattle.policy_glue.specs.Verdict.{CheckResult, Verdict, decided, decided_before, denies, finding_of}
-pub use Rattle.policy_glue.specs.Verdict.{is_denial, is_failed, is_held, judged_by, text_given, truth_of, undecided}
+pub use Rattle.policy_glue.specs.Verdict.{is_denial, is_failed, is_held, judged_by, truth_of, undecided}
 pub use Rattle.policy_glue.specs.declared.checked.Checked.{Checked}
 pub use Rattle.policy_glue.specs.declared.checked_validation.CheckedValidation.{CheckedValidation}
 pub use Rattle.policy_glue.specs.declared.compile_error.CompileError.{CompileError}

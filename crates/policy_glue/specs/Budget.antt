@@ -1,19 +1,14 @@
 -- The cost of evaluating a policy: the visits and sizes that bound the steps and the charge of its program.
-use Rattle.std.specs.Prelude.{◌≡◌, ℕ, Bool, true, false, ◌&&◌, List, [], ◌∷◌, map, Option, Some, None}
+use Rattle.std.specs.Prelude.{◌≡◌, ℕ, ◌+◌, ◌*◌, Bool, true, ◌&&◌, List, [], ◌∷◌, map, Option, Some, is_none}
 use Rattle.value_store.specs.Value.{ValueOrError}
 use Rattle.cel_reader.specs.Tree.{Tree}
 use Rattle.cel_macros.specs.Environment.{Environment, Roots}
 use Rattle.cel_macros.specs.Meaning.{meaning}
-use Rattle.codegen.specs.Cost.{Cost, ◌and◌, nothing, cost, spent_by}
+use Rattle.codegen.specs.Cost.{Cost, ◌and◌, nothing, cost, one_visit}
 use Rattle.policy_glue.specs.Evaluation.{condition_values, environment_with, values_of, with_value}
 use Rattle.policy_glue.specs.Trees.{VariableTree, ValidationTree, PolicyTree}
 use Rattle.policy_glue.specs.Verdict.{decided_before, denies, truth_of}
-use Rattle.policy_glue.specs.declared.outcome.Outcome.{Outcome}
 use Rattle.policy_glue.specs.declared.failure_policy.FailurePolicy.{FailurePolicy}
-
--- one visit: of the policy, or of one of its parts
-abbrev pub one_visit : Cost
-one_visit = record { visits = 1; sizes = 0; is_deep = false }
 
 -- a part in this environment: its visit and the cost of its expression
 abbrev pub part_cost : Environment → Tree → Cost
@@ -33,31 +28,19 @@ conditions_cost roots (a ∷ more) = part_cost (environment_with roots []) a and
 -- a message expression, if it is evaluated
 abbrev pub message_cost : Bool → Environment → Option Tree → Cost
 message_cost true env (Some a) = part_cost env a
-message_cost true env None = nothing
-message_cost false env m = nothing
+message_cost _ env m = nothing
 
--- whether a validation denies, in a policy that runs
-abbrev pub is_denied : Bool → FailurePolicy → ValueOrError → Bool
-is_denied runs f x = runs && denies f (truth_of x)
-
--- a validation, and its message expression if the validation denies; the first argument says whether the policy runs
-abbrev pub validation_cost : Bool → FailurePolicy → Environment → ValidationTree → Cost
-validation_cost runs f env r =
-    part_cost env r.expression and message_cost (is_denied runs f (meaning r.expression env)) env r.message
-
--- all validations, in an environment with all variables
+-- all validations, in an environment with all variables, each with its message expression if it denies; the first argument says
+-- whether the policy runs
 abbrev pub validations_cost : Bool → FailurePolicy → Environment → List ValidationTree → Cost
 validations_cost runs f env [] = nothing
-validations_cost runs f env (r ∷ rs) = validation_cost runs f env r and validations_cost runs f env rs
+validations_cost runs f env (r ∷ rs) =
+    part_cost env r.expression and message_cost (runs && denies f (truth_of (meaning r.expression env))) env r.message
+    and validations_cost runs f env rs
 
--- the policy runs if its conditions decide nothing
-abbrev pub is_running : Option Outcome → Bool
-is_running None = true
-is_running (Some outcome) = false
-
--- whether the policy runs on these roots, so that its validations decide
+-- whether the policy runs on these roots, as its conditions decide nothing
 abbrev pub runs_on : FailurePolicy → PolicyTree → Roots → Bool
-runs_on f p roots = is_running (decided_before f (map truth_of (condition_values roots p.conditions)))
+runs_on f p roots = is_none (decided_before f (map truth_of (condition_values roots p.conditions)))
 
 -- the whole policy on these roots. All variables, conditions and validations count, even if the conditions decide.
 unfoldable pub policy_cost : FailurePolicy → PolicyTree → Roots → Cost
@@ -73,7 +56,7 @@ policy_work f p roots = (policy_cost f p roots).visits
 
 -- 8 for each visit, plus the sizes
 abbrev pub policy_spent : FailurePolicy → PolicyTree → Roots → ℕ
-policy_spent f p roots = spent_by (policy_cost f p roots)
+policy_spent f p roots = 8 * (policy_cost f p roots).visits + (policy_cost f p roots).sizes
 
 -- the evaluation would build a list or map around a value of depth 255 or more
 abbrev pub IsDeepPolicy : FailurePolicy → PolicyTree → Roots → Type 0

@@ -1,5 +1,5 @@
 -- Results of checking a policy's expressions, as the code returns them.
-use Rattle.std.specs.Prelude.{◌≡◌, ◌≢◌, ℕ, All, IfSome, List, [], ◌∷◌, ◌++◌, map, Option, Some, None, option_map, Result, Ok, Err, Vec}
+use Rattle.std.specs.Prelude.{◌≡◌, ◌≢◌, ℕ, All, IfSome, List, [], ◌∷◌, ◌++◌, length, map, Option, Some, None, option_map, Result, Ok, Err, Vec}
 use Rattle.std.specs.Global.{Global}
 use Rattle.cel_reader.specs.Tree.{Tree}
 use Rattle.cel_reader.specs.WellFormed.{IsWellFormed}
@@ -11,17 +11,41 @@ use Rattle.cel_types.specs.Declarations.{Declaration}
 use Rattle.cel_types.specs.declared.scope.Scope.{Scope}
 use Rattle.cel_types.specs.declared.cel_type.CelType.{CelType}
 use Rattle.policy_glue.specs.Checking.{TakenOrRefused, ReadsTree, IsTaken, IsExpressionRefused, IsOneOf, IsNoneOf, IsVariable, IsNoVariable, IsMessage, IsValidation, IsNoValidation, with_variable}
-use Rattle.policy_glue.specs.Checking.{PartsEnd, VariablesEnd, ConditionsEnd, ValidationsEnd, TakesVariable, TakesCondition, TakesValidation}
-use Rattle.policy_glue.specs.Checking.{RefusesVariable, RefusesCondition, RefusesValidation, depth_in, expression_judged, scope_after, texts, variable_judged}
+use Rattle.policy_glue.specs.Checking.{PartsEnd, VariablesEnd, ConditionsEnd, ValidationsEnd, truths}
+use Rattle.policy_glue.specs.Checking.{depth_in, expression_judged, scope_after, texts, variable_judged}
 use Rattle.policy_glue.specs.Policy.{NamedExpression, Validation, Policy}
 use Rattle.policy_glue.specs.Trees.{VariableTree, ValidationTree, PolicyTree}
 use Rattle.policy_glue.specs.declared.checked.Checked.{Checked}
 use Rattle.policy_glue.specs.declared.checked_validation.CheckedValidation.{CheckedValidation}
-use Rattle.policy_glue.specs.declared.compile_error.CompileError.{CompileError, TheVariants.MessageNotAString}
+use Rattle.policy_glue.specs.declared.compile_error.CompileError.{CompileError, TheVariants.MessageNotAString, TheVariants.NotABool}
 use Rattle.policy_glue.specs.declared.compile_error.CompileError.TheVariants as compile_error
 use Rattle.policy_glue.specs.declared.expression_error.ExpressionError.{ExpressionError}
 use Rattle.policy_glue.specs.declared.expression_error.ExpressionError.TheVariants as expression_error
-use Rattle.policy_glue.specs.declared.part_kind.PartKind.{PartKind, TheVariants.Message}
+use Rattle.policy_glue.specs.declared.part_kind.PartKind.{PartKind, TheVariants.Condition, TheVariants.Message}
+
+-- the next variable is accepted; it may use those accepted so far
+abbrev pub TakesVariable : List VariableTree → NamedExpression → VariableTree → Type 0
+TakesVariable taken n v = IsVariable (scope_after taken) n v
+
+-- the next variable is refused; its place is the number of variables accepted so far
+abbrev pub RefusesVariable : List VariableTree → NamedExpression → CompileError → Type 0
+RefusesVariable taken n e = IsNoVariable (scope_after taken) (length taken) n.expression e
+
+-- the next condition is accepted; it may use no variable
+abbrev pub TakesCondition : List Tree → NamedExpression → Tree → Type 0
+TakesCondition taken n a = IsOneOf truths [] n.expression a
+
+-- the next condition is refused, with `NotABool` if it has another type
+abbrev pub RefusesCondition : List Tree → NamedExpression → CompileError → Type 0
+RefusesCondition taken n e = IsNoneOf truths NotABool Condition (length taken) [] n.expression e
+
+-- the next validation is accepted
+abbrev pub TakesValidation : List Declaration → List ValidationTree → Validation → ValidationTree → Type 0
+TakesValidation scope taken n r = IsValidation scope n r
+
+-- the next validation is refused; its place is the number of validations accepted so far
+abbrev pub RefusesValidation : List Declaration → List ValidationTree → Validation → CompileError → Type 0
+RefusesValidation scope taken n e = IsNoValidation scope (length taken) n e
 
 -- the tree with its macros expanded; its literals are valid values and its names valid names
 abbrev pub IsExpanded : CodeCore → Tree → Type 0

@@ -2,6 +2,7 @@
 -- checked in this order, each list in its own order. A message expression comes directly after its validation. Each
 -- expression is checked completely before the next.
 use Rattle.std.specs.Prelude.{◌≡◌, ℕ, true, false, List, [], ◌∷◌, ◌++◌, length, fold, nat_lt, Option, Some, None, Result, Ok, Err, if◌then◌else◌}
+use Rattle.std.specs.Option.{option_map_or}
 use Rattle.cel_reader.specs.Limits.{open_limit}
 use Rattle.cel_tokens.specs.Token.{Token}
 use Rattle.cel_tokens.specs.Lexis.{Lexes}
@@ -10,7 +11,7 @@ use Rattle.cel_reader.specs.Look.{words_only}
 use Rattle.cel_reader.specs.Tree.{Tree}
 use Rattle.cel_reader.specs.Answers.{IsUnreadable, IsExpression}
 use Rattle.cel_macros.specs.CoreTree.{expanded}
-use Rattle.cel_macros.specs.MacroFault.{MacroFault, macro_fault, fault_error}
+use Rattle.cel_macros.specs.MacroFault.{macro_fault, fault_error}
 use Rattle.cel_types.specs.Declarations.{Declaration, declared, depths_of, scope_of}
 use Rattle.cel_types.specs.Types as typing
 use Rattle.cel_types.specs.Types.{TypeFault, Typing, UnknownName, NoOverload, MisplacedVariables, allowed}
@@ -35,23 +36,16 @@ type_error UnknownName = UnknownIdentifier
 type_error NoOverload = NoMatchingOverload
 type_error MisplacedVariables = MisusedVariables
 
--- this type; `NeedsTooManyWords` if the tree needs more stack words than a frame has
-abbrev pub with_need : ℕ → CelType → Result CelType ExpressionError
-with_need n t = if nat_lt word_limit n then Err NeedsTooManyWords else Ok t
-
--- the outcome of type checking: a type with the stack words that the tree needs, or an error
+-- the outcome of type checking: a type, `NeedsTooManyWords` if the tree needs more stack words than a frame has, or an error
 abbrev pub with_typing : Typing → ℕ → Result CelType ExpressionError
-with_typing (typing.typed t) n = with_need n t
+with_typing (typing.typed t) n = if nat_lt word_limit n then Err NeedsTooManyWords else Ok t
 with_typing (typing.refused y) n = Err (Untyped (type_error y))
 
--- the first misuse of a macro if there is one, else the outcome of type checking
-abbrev pub with_macros : Option MacroFault → Typing → ℕ → Result CelType ExpressionError
-with_macros None t n = with_typing t n
-with_macros (Some fault) t n = Err (Unexpanded (fault_error fault))
-
--- the type of a tree that may use these variables, or why it is refused
+-- the type of a tree that may use these variables, or why it is refused: for the first misuse of a macro, or by type checking
 unfoldable pub expression_judged : List Declaration → Tree → Result CelType ExpressionError
-expression_judged scope a = with_macros (macro_fault a) (type_of a (scope_of scope)) (need (expanded a))
+expression_judged scope a =
+    option_map_or (λ fault. Err (Unexpanded (fault_error fault))) (macro_fault a)
+    (with_typing (type_of a (scope_of scope)) (need (expanded a)))
 
 -- the result for a variable of this depth: `VariableTooDeep` if it is too deep, else the result of its tree
 abbrev pub with_depth : ℕ → Result CelType ExpressionError → Result CelType ExpressionError
@@ -106,19 +100,13 @@ pub record IsOneOf (types : List CelType) (scope : List Declaration) (text : Lis
   pub taken : IsTaken (expression_judged scope) text a cel_type
   pub kind : allowed types cel_type ≡ true
 
--- the text parses as a tree of another type
-pub record HasOtherType (types : List CelType) (scope : List Declaration) (text : List ℕ) : Type 0 where
-  pub tree : Tree
-  pub cel_type : CelType
-  pub taken : IsTaken (expression_judged scope) text tree cel_type
-  pub kind : allowed types cel_type ≡ false
-
 -- the expression of the part at this place is refused, or has a type that is not in the list
 pub data IsNoneOf (types : List CelType) (other : CompileError) (part : PartKind) (place : ℕ) (scope : List Declaration) (text : List ℕ)
     : CompileError → Type 0 where
   refused : (e : ExpressionError) → IsExpressionRefused (expression_judged scope) text e
       → IsNoneOf types other part place scope text (InvalidExpression part place e)
-  of_another_type : HasOtherType types scope text → IsNoneOf types other part place scope text other
+  of_another_type : (a : Tree) (t : CelType) → IsTaken (expression_judged scope) text a t → allowed types t ≡ false
+      → IsNoneOf types other part place scope text other
 
 -- ---- lists of parts
 
@@ -157,29 +145,15 @@ pub record IsNoVariable (scope : List Declaration) (place : ℕ) (text : List �
   pub because : IsExpressionRefused (variable_judged scope) text cause
   pub is : e ≡ InvalidExpression Variable place cause
 
--- the next variable is accepted; it may use those accepted so far
-abbrev pub TakesVariable : List VariableTree → NamedExpression → VariableTree → Type 0
-TakesVariable taken n v = IsVariable (scope_after taken) n v
-
--- the next variable is refused; its place is the number of variables accepted so far
-abbrev pub RefusesVariable : List VariableTree → NamedExpression → CompileError → Type 0
-RefusesVariable taken n e = IsNoVariable (scope_after taken) (length taken) n.expression e
-
--- the trees of all variables, or the first refusal
+-- the trees of all variables, or the first refusal; a variable may use those accepted so far, and its place is their number
 abbrev pub VariablesEnd : List NamedExpression → Result (List VariableTree) CompileError → Type 0
-VariablesEnd ns end = TakenOrRefused TakesVariable RefusesVariable [] ns end
+VariablesEnd ns end = TakenOrRefused (λ taken n v. IsVariable (scope_after taken) n v)
+    (λ taken n e. IsNoVariable (scope_after taken) (length taken) n.expression e) [] ns end
 
--- a condition may use no variable
-abbrev pub TakesCondition : List Tree → NamedExpression → Tree → Type 0
-TakesCondition taken n a = IsOneOf truths [] n.expression a
-
--- the next condition is refused, with `NotABool` if it has another type
-abbrev pub RefusesCondition : List Tree → NamedExpression → CompileError → Type 0
-RefusesCondition taken n e = IsNoneOf truths NotABool Condition (length taken) [] n.expression e
-
--- the trees of all conditions, or the first refusal
+-- the trees of all conditions, or the first refusal, `NotABool` for another type; a condition may use no variable
 abbrev pub ConditionsEnd : List NamedExpression → Result (List Tree) CompileError → Type 0
-ConditionsEnd ns end = TakenOrRefused TakesCondition RefusesCondition [] ns end
+ConditionsEnd ns end = TakenOrRefused (λ taken n a. IsOneOf truths [] n.expression a)
+    (λ taken n e. IsNoneOf truths NotABool Condition (length taken) [] n.expression e) [] ns end
 
 -- the message expression, if there is one, parses as this tree; it may use all variables
 abbrev pub IsMessage : List Declaration → Option (List ℕ) → Option Tree → Type 0
@@ -199,17 +173,10 @@ pub data IsNoValidation (scope : List Declaration) (place : ℕ) (n : Validation
   message : (a : Tree) (text : List ℕ) (e : CompileError) → IsOneOf truths scope n.expression a → n.message_expression ≡ Some text
       → IsNoneOf texts MessageNotAString Message place scope text e → IsNoValidation scope place n e
 
--- the next validation is accepted
-abbrev pub TakesValidation : List Declaration → List ValidationTree → Validation → ValidationTree → Type 0
-TakesValidation scope taken n r = IsValidation scope n r
-
--- the next validation is refused; its place is the number of validations accepted so far
-abbrev pub RefusesValidation : List Declaration → List ValidationTree → Validation → CompileError → Type 0
-RefusesValidation scope taken n e = IsNoValidation scope (length taken) n e
-
--- the trees of all validations, or the first refusal
+-- the trees of all validations, or the first refusal; the place of a validation is the number of those accepted so far
 abbrev pub ValidationsEnd : List Declaration → List Validation → Result (List ValidationTree) CompileError → Type 0
-ValidationsEnd scope ns end = TakenOrRefused (TakesValidation scope) (RefusesValidation scope) [] ns end
+ValidationsEnd scope ns end = TakenOrRefused (λ taken n r. IsValidation scope n r)
+    (λ taken n e. IsNoValidation scope (length taken) n e) [] ns end
 
 -- ---- the policy
 

@@ -1,5 +1,5 @@
 -- Parts of JSON documents, as `serde_json` reads them.
-use Rattle.std.specs.Prelude.{ℕ, ◌&&◌, Bool, true, false, List, [], ◌∷◌, Option, Some, None}
+use Rattle.std.specs.Prelude.{ℕ, ◌&&◌, Bool, true, false, List, [], ◌∷◌, Option, Some, None, option_and_then, option_map}
 use Rattle.std.specs.List.{list_any}
 use Rattle.std.specs.Str.{bytes_eq}
 use Rattle.serde_json.specs.Data as json
@@ -39,15 +39,10 @@ text_or_empty_of None = Some []
 text_or_empty_of (Some (json.string s)) = Some s
 text_or_empty_of (Some _) = None
 
--- the list with this first element, if both are there
-abbrev pub cons_if : {A : Type 0} → Option A → Option (List A) → Option (List A)
-cons_if (Some a) (Some rest) = Some (a ∷ rest)
-cons_if _ _ = None
-
 -- the results for all items, if each item has one
 abbrev pub each : {A : Type 0} → (json.Data → Option A) → json.Items → Option (List A)
 each f json.no_items = Some []
-each f (json.item d ds) = cons_if (f d) (each f ds)
+each f (json.item d ds) = option_and_then (λ a. option_map (λ more. a ∷ more) (each f ds)) (f d)
 
 -- the results for all items of a required list
 abbrev pub list_in : {A : Type 0} → (json.Data → Option A) → Option json.Data → Option (List A)

@@ -1,7 +1,8 @@
 -- The largest numbers of parts, and the response for each reason, worked by hand.
 use Rattle.std.specs.Prelude.{◌≡◌, ℕ, zero, suc, List, [], ◌∷◌, ◌++◌, None, Some, Ok, Err, codes, decimal}
+use Rattle.serde_json.specs.Data as json
 use Rattle.policy_glue.specs.Policy.{NamedExpression, Policy, Validation}
-use Rattle.policy_glue.specs.Reading.{failure_named, judged, reason_named}
+use Rattle.policy_glue.specs.Reading.{failure_in, judged, reason_in}
 use Rattle.policy_glue.specs.Response.{response_of}
 use Rattle.policy_glue.specs.Rows.{denied_as, plain_validation, policy_with}
 use Rattle.policy_glue.specs.Verdict.{Fails}
@@ -38,12 +39,12 @@ pub record LimitRowsStand : Type 0 where
   pub too_many_validations : judged (sized 0 0 65) ≡ Err TooManyParts
   -- an empty list of validations is reported before too many parts
   pub nothing_to_decide : judged (sized 0 65 0) ≡ Err NoValidations
-  pub fail : failure_named (codes "Fail") ≡ Some Fail
-  pub ignore : failure_named (codes "Ignore") ≡ Some Ignore
-  pub small_letters : failure_named (codes "fail") ≡ None
-  pub unauthorized : reason_named (codes "Unauthorized") ≡ Some Unauthorized
-  pub too_large : reason_named (codes "RequestEntityTooLarge") ≡ Some RequestEntityTooLarge
-  pub other_reason : reason_named (codes "NotFound") ≡ None
+  pub fail : failure_in (Some (json.string (codes "Fail"))) ≡ Some Fail
+  pub ignore : failure_in (Some (json.string (codes "Ignore"))) ≡ Some Ignore
+  pub small_letters : failure_in (Some (json.string (codes "fail"))) ≡ None
+  pub unauthorized : reason_in (Some (json.string (codes "Unauthorized"))) ≡ Some Unauthorized
+  pub too_large : reason_in (Some (json.string (codes "RequestEntityTooLarge"))) ≡ Some RequestEntityTooLarge
+  pub other_reason : reason_in (Some (json.string (codes "NotFound"))) ≡ None
   pub code_401 : denied_for Unauthorized ≡ denied_as (codes "{\"code\":401,\"message\":\"m\",\"reason\":\"Unauthorized\"}")
   pub code_403 : denied_for Forbidden ≡ denied_as (codes "{\"code\":403,\"message\":\"m\",\"reason\":\"Forbidden\"}")
   pub code_422 : denied_for Invalid ≡ denied_as (codes "{\"code\":422,\"message\":\"m\",\"reason\":\"Invalid\"}")

@@ -1,17 +1,18 @@
 -- The size limits of policies, and which policies compile.
-use Rattle.std.specs.Prelude.{◌≡◌, ℕ, ◌+◌, ◌*◌, List, [], ◌∷◌, ◌++◌, length, nat_lt, Option, Some, None, Result, Ok, Err, if◌then◌else◌}
-use Rattle.std.specs.List.{sum_by}
+use Rattle.std.specs.Prelude.{◌≡◌, ℕ, ◌+◌, ◌*◌, List, [], ◌++◌, fold, length, nat_lt, Option, Some, None, Result, Ok, Err, if◌then◌else◌}
+use Rattle.std.specs.List.{sum_by, flat_map}
+use Rattle.std.specs.Option.{option_map_or}
 use Rattle.loader.specs.Limits.{constants_limit}
 use Rattle.insn_codec.specs.Limits.{slot_limit}
 use Rattle.expression_code.specs.Limits.{slots_per_node}
 use Rattle.cel_reader.specs.Tree.{Tree}
 use Rattle.cel_macros.specs.CoreTree.{expanded}
 use Rattle.cel_measures.specs.Measures.{nodes}
-use Rattle.codegen.specs.Constants.{joined, with_texts}
+use Rattle.codegen.specs.Constants.{joined, with_text}
 use Rattle.codegen.specs.Code.Expressions.{texts_of}
 use Rattle.policy_glue.specs.Checking.{PartsEnd}
 use Rattle.policy_glue.specs.Policy.{Policy}
-use Rattle.policy_glue.specs.Trees.{VariableTree, ValidationTree, PolicyTree}
+use Rattle.policy_glue.specs.Trees.{ValidationTree, PolicyTree}
 use Rattle.policy_glue.specs.declared.compile_error.CompileError.{CompileError, TheVariants.TooManyNodes, TheVariants.TooManyTextBytes}
 
 -- ---- nodes: one for the policy, and for each part one and those of its expression
@@ -20,14 +21,9 @@ use Rattle.policy_glue.specs.declared.compile_error.CompileError.{CompileError, 
 abbrev pub part_nodes : Tree → ℕ
 part_nodes a = 1 + nodes (expanded a)
 
--- the nodes of a message expression, 0 if there is none
-abbrev pub message_nodes : Option Tree → ℕ
-message_nodes (Some a) = part_nodes a
-message_nodes None = 0
-
 -- the nodes of a validation with its message expression
 abbrev pub validation_nodes : ValidationTree → ℕ
-validation_nodes r = part_nodes r.expression + message_nodes r.message
+validation_nodes r = part_nodes r.expression + option_map_or part_nodes r.message 0
 
 -- the nodes of a whole policy
 unfoldable pub policy_nodes : PolicyTree → ℕ
@@ -40,34 +36,15 @@ policy_nodes p =
 abbrev pub tree_texts : Tree → List (List ℕ)
 tree_texts a = texts_of (expanded a)
 
--- the texts of a message expression, if there is one
-abbrev pub message_texts : Option Tree → List (List ℕ)
-message_texts (Some a) = tree_texts a
-message_texts None = []
-
 -- the texts of a validation with its message expression
 abbrev pub validation_tree_texts : ValidationTree → List (List ℕ)
-validation_tree_texts r = tree_texts r.expression ++ message_texts r.message
+validation_tree_texts r = tree_texts r.expression ++ option_map_or tree_texts r.message []
 
--- the texts of all variables
-abbrev pub variable_texts : List VariableTree → List (List ℕ)
-variable_texts [] = []
-variable_texts (v ∷ vs) = tree_texts v.expression ++ variable_texts vs
-
--- the texts of all conditions
-abbrev pub condition_texts : List Tree → List (List ℕ)
-condition_texts [] = []
-condition_texts (a ∷ more) = tree_texts a ++ condition_texts more
-
--- the texts of all validations
-abbrev pub validation_texts : List ValidationTree → List (List ℕ)
-validation_texts [] = []
-validation_texts (r ∷ rs) = validation_tree_texts r ++ validation_texts rs
-
--- the texts of the whole policy, each once
+-- the texts of the whole policy, each once: of its variables, its conditions and its validations
 unfoldable pub policy_texts : PolicyTree → List (List ℕ)
 policy_texts p =
-    with_texts [] (variable_texts p.variables ++ (condition_texts p.conditions ++ validation_texts p.validations))
+    fold with_text [] (flat_map (λ v. tree_texts v.expression) p.variables
+    ++ (flat_map tree_texts p.conditions ++ flat_map validation_tree_texts p.validations))
 
 -- ---- the limits
 

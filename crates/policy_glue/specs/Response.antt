@@ -1,12 +1,13 @@
 -- The response to a verdict (AdmissionReview, admission.k8s.io/v1), compact JSON with keys in byte order.
-use Rattle.std.specs.Prelude.{ℕ, ◌&&◌, Bool, true, false, not, List, [], ◌∷◌, ◌++◌, map, nat_eq, Option, Some, None, codes, if◌then◌else◌}
+use Rattle.std.specs.Prelude.{ℕ, ◌&&◌, Bool, true, false, not, List, [], ◌∷◌, ◌++◌, length, map, nat_eq, Option, codes, if◌then◌else◌}
 use Rattle.std.specs.List.{list_all}
+use Rattle.std.specs.Option.{option_map_or}
 use Rattle.serde_json.specs.Data as json
 use Rattle.serde_json.specs.Written.{compact_text}
 use Rattle.policy_glue.specs.Policy.{Validation, Policy, reason_name, reason_code}
 use Rattle.policy_glue.specs.Reading.{has_line_break}
 use Rattle.policy_glue.specs.Verdict.{Finding, Verdict, is_denial}
-use Rattle.policy_glue.specs.declared.outcome.Outcome.{Outcome, TheVariants.Skipped, TheVariants.Admitted, TheVariants.Rejected, TheVariants.Denied}
+use Rattle.policy_glue.specs.declared.outcome.Outcome.{Outcome, TheVariants.Rejected, TheVariants.Denied}
 use Rattle.policy_glue.specs.declared.failure_policy.FailurePolicy.{FailurePolicy}
 use Rattle.policy_glue.specs.declared.reason.Reason.{Reason, TheVariants.Invalid}
 
@@ -24,14 +25,9 @@ denials_of f (r ∷ rs) [] = []
 denials_of f (r ∷ rs) (x ∷ xs) =
     if is_denial f x then record { validation = r; message = x.message } ∷ denials_of f rs xs else denials_of f rs xs
 
--- the message if one is set, else that the expression failed
-abbrev pub set_message : List ℕ → List ℕ → List ℕ
-set_message [] expression = codes "failed expression: " ++ expression
-set_message (b ∷ message) expression = b ∷ message
-
--- the message of a validation without its message expression
+-- the message of a validation without its message expression: the one that is set, else that the expression failed
 abbrev pub plain_message : Validation → List ℕ
-plain_message r = set_message r.message r.expression
+plain_message r = if nat_eq (length r.message) 0 then codes "failed expression: " ++ r.expression else r.message
 
 -- a text can be used as a message if it is not empty, not only spaces, and has no line break
 abbrev pub is_space : ℕ → Bool
@@ -41,14 +37,10 @@ is_space b = nat_eq b 32
 abbrev pub serves : List ℕ → Bool
 serves text = not (list_all is_space text) && not (has_line_break text)
 
--- the text of the message expression if it can be used, else the plain message
-abbrev pub message_or : Option (List ℕ) → List ℕ → List ℕ
-message_or (Some text) plain = if serves text then text else plain
-message_or None plain = plain
-
--- the message of one denial
+-- the message of one denial: the text of the message expression if it can be used, else the plain message
 abbrev pub denial_text : Denial → List ℕ
-denial_text d = message_or d.message (plain_message d.validation)
+denial_text d =
+    let plain = plain_message d.validation in option_map_or (λ text. if serves text then text else plain) d.message plain
 
 -- the texts, joined with `; `
 abbrev pub joined : List (List ℕ) → List ℕ
@@ -90,20 +82,12 @@ review_tree response = json.object
     (json.member (codes "kind") (json.string (codes "AdmissionReview"))
     (json.member (codes "response") response json.no_members)))
 
--- the response if the conditions could not be decided
-abbrev pub rejected_tree : List ℕ → json.Data
-rejected_tree uid = denied_tree uid (codes "match conditions not decided") Invalid
-
--- the response for denials: their messages, and the reason of the first
-abbrev pub denials_tree : List Denial → List ℕ → json.Data
-denials_tree ds uid = denied_tree uid (joined (map denial_text ds)) (first_reason ds)
-
--- the response for an outcome; `Skipped` and `Admitted` allow the request
+-- the response for an outcome: `Rejected` if the conditions could not be decided; for denials their messages, and the reason of
+-- the first; `Skipped` and `Admitted` allow the request
 abbrev pub tree_of : Outcome → List Denial → List ℕ → json.Data
-tree_of Rejected ds uid = rejected_tree uid
-tree_of Denied ds uid = denials_tree ds uid
-tree_of Skipped ds uid = allowed_tree uid
-tree_of Admitted ds uid = allowed_tree uid
+tree_of Rejected ds uid = denied_tree uid (codes "match conditions not decided") Invalid
+tree_of Denied ds uid = denied_tree uid (joined (map denial_text ds)) (first_reason ds)
+tree_of _ ds uid = allowed_tree uid
 
 -- the text of the response to a verdict of the policy, for the request with this uid
 unfoldable pub response_of : Policy → Verdict → List ℕ → List ℕ

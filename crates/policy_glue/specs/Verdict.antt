@@ -61,16 +61,11 @@ denies f Fails = true
 denies Fail Errs = true
 denies Ignore Errs = false
 
--- the text that a message expression gave, if it did
-abbrev pub text_given : Option ValueOrError → Option (List ℕ)
-text_given (Some x) = text_at (Some x)
-text_given None = None
-
 -- the finding for the value of a validation's expression and that of its message expression, if it has one
 abbrev pub finding_of : FailurePolicy → ValueOrError × Option ValueOrError → Finding
 finding_of f x = record {
   truth = truth_of x.0;
-  message = if denies f (truth_of x.0) then text_given x.1 else None;
+  message = if denies f (truth_of x.0) then text_at x.1 else None;
 }
 
 -- whether this finding denies

@@ -1,5 +1,5 @@
 -- The validations of a policy's program, in order, and its outcome.
-use Rattle.policy_glue.proofs.Prelude.{◌≡◌, ℕ, ◌+◌, ◌<◌, ◌%◌, ◌^◌, List, [], ◌∷◌, ◌++◌, length, length-append, None, Bool, true, false, refl, ap, ◌∙◌, sym, arith, true≢false, ◌≤◌, Some, Option, subst, append-nil, append_assoc, if◌then◌else◌, pos, map, option_map, ◌||◌, Insn, R1, R2, R0, R6, ValueOrError, error, value, null, boolean, int, text, list, CpuState, set_register, Context, IsWellFormedState, RunContext, RunsTo, IsCodeAt, size, set_verdict, verdict_address, verdict_at, add_is, differs_no, differs_yes, equal_no, equal_yes, alu, begins, jump, load_wide, no, yes, ask, mov, done, from_place, looser, and_then, to_place, first_result, part_limit, truth_word, IsMessageWord, first_message, finding_word, message_in, denial_code, error_way, result_code, message_tail, if_true, message_code, validation_code, validations_code, outcome_tail, Finding, CheckResult, Holds, Fails, Errs, denies, is_denial, truth_of, text_given, Denied, Admitted, FailurePolicy, cases_lt, kind_number, Names, Ne, W64, text_at, charge_limit, outcome_view, compares, Tells, answered, fits_registers, helpers, fits_told, names_error, small_reference, size-append, size-cons, stands_back, stands_front, MessageGives, Part, PartGives, ValidationPart, ValidationsGive, found, message_charge, message_size, message_steps, validation_charge, codes_of_validation, codes_of_validations, validation_size, validation_steps, validations_charge, validations_steps, list_any, sum_by-cons}
+use Rattle.policy_glue.proofs.Prelude.{◌≡◌, ℕ, ◌+◌, ◌<◌, ◌%◌, ◌^◌, List, [], ◌∷◌, ◌++◌, length, length-append, None, Bool, true, false, refl, ap, ◌∙◌, sym, arith, true≢false, ◌≤◌, Some, Option, subst, append-nil, append_assoc, if◌then◌else◌, pos, map, option_map, ◌||◌, Insn, R1, R2, R0, R6, ValueOrError, error, value, null, boolean, int, text, list, CpuState, set_register, Context, IsWellFormedState, RunContext, RunsTo, IsCodeAt, size, set_verdict, verdict_address, verdict_at, add_is, differs_no, differs_yes, equal_no, equal_yes, alu, begins, jump, load_wide, no, yes, ask, mov, done, from_place, looser, and_then, to_place, first_result, part_limit, truth_word, IsMessageWord, first_message, finding_word, message_in, denial_code, error_way, result_code, message_tail, if_true, message_code, validation_code, validations_code, outcome_tail, Finding, CheckResult, Holds, Fails, Errs, denies, is_denial, truth_of, text_at, Denied, Admitted, FailurePolicy, cases_lt, kind_number, Names, Ne, W64, charge_limit, outcome_view, compares, Tells, answered, fits_registers, helpers, fits_told, names_error, small_reference, size-append, size-cons, stands_back, stands_front, MessageGives, Part, PartGives, ValidationPart, ValidationsGive, found, message_charge, message_size, message_steps, validation_charge, codes_of_validation, codes_of_validations, validation_size, validation_steps, validations_charge, validations_steps, list_any, sum_by-cons}
 use Rattle.value_store.specs.Value.{map as map_value}
 use Rattle.policy_glue.proofs.Programs.Words.{Judges, Marked, Marks, denials_stored, marks_registers, marks_told, result_stored, tested, message_stored, marks_shown, outcome_stored, load_verdict, put_verdict, store_verdict, count_more, count_of, count_small, message_none, message_of, result_of, message_last, get_last, get_other, none_more}
 use Rattle.policy_glue.proofs.Programs.Conditions.{part_runs, Ends}
@@ -217,7 +217,7 @@ message_code_size i m = grind (arith, message_tail_size, size-append)
 
 module _ (s : RunContext) (c : Context) (f : FailurePolicy) (xs : List Finding) (x : Finding) (few : length xs < part_limit) where
   -- the message of a denial
-  message_given : (o : ℕ) (m : Option Part) (b : CpuState) → IsCodeAt s.image.code o (message_code (length xs) (codes_in m)) → MessageGives s c o true m → x.message ≡ text_given (value_in m) → Counted s c f xs x few b → RunsTo s (message_steps true m) (message_charge true m) o b (o + message_size m) (Marked c f 0 (xs ++ x ∷ []))
+  message_given : (o : ℕ) (m : Option Part) (b : CpuState) → IsCodeAt s.image.code o (message_code (length xs) (codes_in m)) → MessageGives s c o true m → x.message ≡ text_at (value_in m) → Counted s c f xs x few b → RunsTo s (message_steps true m) (message_charge true m) o b (o + message_size m) (Marked c f 0 (xs ++ x ∷ []))
   message_given o None b has gives is counted =
       to_place s (o + 0) (omega arith) (done s o b (Marked c f 0 (xs ++ x ∷ [])) (marks_told counted refl (λ j. refl) (λ j. message_none xs x j is)))
   message_given o (Some m) b has gives is counted =
@@ -228,7 +228,7 @@ module _ (s : RunContext) (c : Context) (f : FailurePolicy) (xs : List Finding) 
       message_runs s c f xs x few q (stands_back s.image.code o m.code (message_tail (length xs)) has) m.value b1 (marks_shown counted m.value b1 shown) shown.shows is))
 
   -- the code after the expression
-  result_runs : (o : ℕ) (m : Option Part) (v : ValueOrError) (d : Bool) (b : CpuState) → IsCodeAt s.image.code o (result_code f (length xs) (message_code (length xs) (codes_in m))) → MessageGives s c (o + 10) d m → x.truth ≡ truth_of v → is_denial f x ≡ d → x.message ≡ (if d then text_given (value_in m) else None) → Judges c f 0 xs v b → RunsTo s (8 + message_steps d m) (message_charge d m) o b (o + 10 + message_size m) (Marked c f 0 (xs ++ x ∷ []))
+  result_runs : (o : ℕ) (m : Option Part) (v : ValueOrError) (d : Bool) (b : CpuState) → IsCodeAt s.image.code o (result_code f (length xs) (message_code (length xs) (codes_in m))) → MessageGives s c (o + 10) d m → x.truth ≡ truth_of v → is_denial f x ≡ d → x.message ≡ (if d then text_at (value_in m) else None) → Judges c f 0 xs v b → RunsTo s (8 + message_steps d m) (message_charge d m) o b (o + 10 + message_size m) (Marked c f 0 (xs ++ x ∷ []))
   result_runs o m v false b has gives truth denial is judges =
       let long = message_code_size (length xs) m in
       looser s {n = 8} {x = 0} (8 + message_steps false m) (message_charge false m) (omega arith) (omega arith)

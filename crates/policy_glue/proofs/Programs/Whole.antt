@@ -1,5 +1,5 @@
 -- The code of a policy, from its start to its exit.
-use Rattle.policy_glue.proofs.Prelude.{◌≡◌, ℕ, ◌+◌, ◌<◌, ◌≤◌, List, [], ◌∷◌, ◌++◌, length, Option, Some, None, true, refl, ap, ◌∙◌, subst, sym, arith, append_assoc, All, map, pos, if◌then◌else◌, list_any, ints, start_memory, Insn, Exit, Contents, ValueOrError, Roots, DecodesSpelling, fetched, State, state_after, Frame, CpuState, Context, HasValues, RunContext, RunsTo, ExitsOrRunsOut, ja, IsCodeAt, size, start_body, bindings, scope_setting, routine_context, comes_to_exit, size-append, size-cons, stands_back, stands_first, stands_front, stands_rest, halts_into, start_fits, start_is, steps-most, word_in-zeros, and_then, done, looser, to_place, spelled_stands, is_running, part_limit, conditions_code, decided_code, outcome_tail, policy_code, routines_code, validations_code, LeavesVerdict, PolicyDecides, conditions_place, program_charge, program_steps, validations_place, ConditionsGive, Part, ValidationPart, ValidationsGive, codes_of, conditions_charge, conditions_steps, found, codes_of_validations, values_of_validations, validations_charge, validations_steps, values_given, Denied, Admitted, Finding, Outcome, Verdict, decided, decided_before, finding_of, is_denial, judged_by, truth_of, verdict_of, FailurePolicy}
+use Rattle.policy_glue.proofs.Prelude.{◌≡◌, ℕ, ◌+◌, ◌<◌, ◌≤◌, List, [], ◌∷◌, ◌++◌, length, Option, Some, None, true, refl, ap, ◌∙◌, subst, sym, arith, append_assoc, All, map, pos, if◌then◌else◌, list_any, ints, start_memory, Insn, Exit, Contents, ValueOrError, Roots, DecodesSpelling, fetched, State, state_after, Frame, CpuState, Context, HasValues, RunContext, RunsTo, ExitsOrRunsOut, ja, IsCodeAt, size, start_body, bindings, scope_setting, routine_context, comes_to_exit, size-append, size-cons, stands_back, stands_first, stands_front, stands_rest, halts_into, start_fits, start_is, steps-most, word_in-zeros, and_then, done, looser, to_place, spelled_stands, is_none, part_limit, conditions_code, decided_code, outcome_tail, policy_code, routines_code, validations_code, LeavesVerdict, PolicyDecides, conditions_place, program_charge, program_steps, validations_place, ConditionsGive, Part, ValidationPart, ValidationsGive, codes_of, conditions_charge, conditions_steps, found, codes_of_validations, values_of_validations, validations_charge, validations_steps, values_given, Denied, Admitted, Finding, Outcome, Verdict, decided, decided_before, finding_of, is_denial, judged_by, truth_of, verdict_of, FailurePolicy}
 use Rattle.loader.specs.Contents as loader
 use Rattle.expression_code.proofs.Steps as step
 use Rattle.policy_glue.proofs.Programs.Conditions.{Ends, Exits, conditions_end, conditions_pass, decided_size, truths_of}
@@ -40,7 +40,7 @@ routines_pass s (routine ∷ more) p b has =
 
 -- ---- from the first slot to an exit
 
-module _ (s : RunContext) (c : Context) (f : FailurePolicy) (routines : List (List Insn)) (conditions : List Part) (rules : List ValidationPart) (few : length rules ≤ part_limit) (b : CpuState) (marked : Marked c f 0 [] b) (has : IsCodeAt s.image.code 0 (policy_code f routines (codes_of conditions) (codes_of_validations rules) ++ Exit ∷ [])) (gives_conditions : ConditionsGive s c (conditions_place routines) conditions) (gives_rules : is_running (decided_before f (truths_of conditions)) ≡ true → ValidationsGive f s c (validations_place f routines conditions) rules) where
+module _ (s : RunContext) (c : Context) (f : FailurePolicy) (routines : List (List Insn)) (conditions : List Part) (rules : List ValidationPart) (few : length rules ≤ part_limit) (b : CpuState) (marked : Marked c f 0 [] b) (has : IsCodeAt s.image.code 0 (policy_code f routines (codes_of conditions) (codes_of_validations rules) ++ Exit ∷ [])) (gives_conditions : ConditionsGive s c (conditions_place routines) conditions) (gives_rules : is_none (decided_before f (truths_of conditions)) ≡ true → ValidationsGive f s c (validations_place f routines conditions) rules) where
   abbrev code : List ℕ
   code = s.image.code
 
@@ -109,10 +109,10 @@ module _ (s : RunContext) (c : Context) (f : FailurePolicy) (routines : List (Li
       let Q = Ends c f (if list_any (is_denial f) found_all then Denied else Admitted) found_all in
       let long = rules_size f 0 rules in
       and_then s (validations_steps f rules + 6) (validations_charge f rules + 0) (third + 7) Q (conditions_pass s c f conditions first b has_conditions gives_conditions marked e) (λ b1 marked1.
-      and_then s 6 0 (third + 7) Q (to_place s third (omega arith) (rules_run s c f rules [] second b1 (omega arith) (stands_front code second rules_row outcome_tail has_second) (gives_rules (ap is_running e)) marked1)) (λ b2 marked2.
+      and_then s 6 0 (third + 7) Q (to_place s third (omega arith) (rules_run s c f rules [] second b1 (omega arith) (stands_front code second rules_row outcome_tail has_second) (gives_rules (ap is_none e)) marked1)) (λ b2 marked2.
       outcome_runs s c f found_all third has_third b2 marked2))
 
-  ends_by : (o : Option Outcome) → decided_before f (truths_of conditions) ≡ o → let v = decided o (judged_by f found_all) in Exits s (length routines + (conditions_steps conditions + 3 + (if is_running o then validations_steps f rules + 6 else 0))) (conditions_charge conditions + (if is_running o then validations_charge f rules else 0)) 0 b (Ends c f v.outcome v.findings)
+  ends_by : (o : Option Outcome) → decided_before f (truths_of conditions) ≡ o → let v = decided o (judged_by f found_all) in Exits s (length routines + (conditions_steps conditions + 3 + (if is_none o then validations_steps f rules + 6 else 0))) (conditions_charge conditions + (if is_none o then validations_charge f rules else 0)) 0 b (Ends c f v.outcome v.findings)
   ends_by None e = record {
     place = third + 7;
     comes =
@@ -162,7 +162,7 @@ policy_decides law image deep values roots scope f routines conditions rules aft
     let n = program_steps f routines conditions rules in
     let x = program_charge f conditions rules in
     let stands : IsCodeAt image.code 0 whole = subst (λ (bs : List ℕ). IsCodeAt bs 0 whole) (sym code) (spelled_stands law [] after whole 0 refl (subst (λ (bs : List ℕ). All (λ b. b < 256) bs) code bytes) insns) in
-    let ends = policy_ends s c f routines conditions rules few start (start_marked image values roots (bindings scope) f constants table) stands gives_conditions (λ e. gives_rules (ap (λ ts. is_running (decided_before f ts)) (truths_are conditions) ∙ e)) in
+    let ends = policy_ends s c f routines conditions rules few start (start_marked image values roots (bindings scope) f constants table) stands gives_conditions (λ e. gives_rules (ap (λ ts. is_none (decided_before f ts)) (truths_are conditions) ∙ e)) in
     let most = steps-most image scope start.memory.scratch in
     let halts = comes_to_exit s n x 0 ends.place m start (Ends c f v.outcome v.findings) ends.comes ends.here (λ b q. no_records b.records q.marked.fits.frame.records_are) (omega arith) in
     let told = halts_into s x start (Ends c f v.outcome v.findings) (LeavesVerdict f v) (λ b q. record { answers = q.answers; layout = is_layout f v b.values.values b.memory.verdict q.marked.words }) halts in
