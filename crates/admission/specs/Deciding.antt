@@ -14,7 +14,7 @@ use Rattle.policy_glue.specs.Reading.{policy_in}
 use Rattle.policy_glue.specs.Response.{response_of}
 use Rattle.policy_glue.specs.Trees.{PolicyTree}
 use Rattle.policy_glue.specs.Verdict.{Verdict}
-use Rattle.policy_glue.specs.declared.outcome.Outcome.{Outcome, TheVariants.Skipped, TheVariants.Rejected, TheVariants.Denied, TheVariants.Admitted}
+use Rattle.policy_glue.specs.declared.outcome.Outcome.{Outcome, TheVariants.Skipped, TheVariants.Admitted}
 use Rattle.admission.specs.Reviews.{contents_given, uid_in}
 use Rattle.admission.specs.declared.policy_and_image.PolicyAndImage.{PolicyAndImage}
 use Rattle.admission.specs.declared.policy_refusal.PolicyRefusal.{PolicyRefusal, TheVariants.Unread, TheVariants.Uncompiled}
@@ -33,9 +33,8 @@ pub record Reply : Type 0 where
 -- whether an outcome allows the request
 abbrev pub is_allowed : Outcome → Bool
 is_allowed Skipped = true
-is_allowed Rejected = false
-is_allowed Denied = false
 is_allowed Admitted = true
+is_allowed _ = false
 
 -- the reply to the request with this uid, for a verdict
 abbrev pub answer_of : Policy → Verdict → List ℕ → Reply

@@ -27,7 +27,7 @@ use Rattle.host.specs.declared.file_error.FileError.{FileError, TheVariants.Fail
 use Rattle.host.specs.declared.file_error.FileError.TheVariants as file_error
 use Rattle.host.specs.declared.order_error.OrderError.{OrderError, TheVariants.InvalidArguments}
 use Rattle.host.specs.declared.order_error.OrderError.TheVariants as order_error
-use Rattle.admission.specs.declared.run_error.RunError.{RunError, TheVariants.PolicyRefused, TheVariants.ReviewRefused, TheVariants.NamespaceOrParamsRefused, TheVariants.OutOfSteps, TheVariants.OverLimit}
+use Rattle.admission.specs.declared.run_error.RunError.{RunError, TheVariants.PolicyRefused, TheVariants.OutOfSteps, TheVariants.OverLimit}
 use Rattle.admission.specs.declared.policy_refusal.PolicyRefusal.{PolicyRefusal, TheVariants.Unread, TheVariants.Uncompiled}
 use Rattle.admission.specs.declared.policy_refusal.PolicyRefusal.TheVariants as policy_refusal
 use Rattle.admission.specs.declared.run_error.RunError.TheVariants as run_error
@@ -142,17 +142,9 @@ refusal_line r = codes "celbpf: " ++ (refusal_text r ++ 10 ∷ [])
 abbrev pub longest_line : ℕ
 longest_line = 80
 
--- 4 if the run gave no verdict, 3 for every other reason why a review has no response
-abbrev pub run_error_status : RunError → ℕ
-run_error_status (PolicyRefused e) = 3
-run_error_status ReviewRefused = 3
-run_error_status NamespaceOrParamsRefused = 3
-run_error_status OutOfSteps = 4
-run_error_status OverLimit = 4
-run_error_status run_error.Memory = 3
-
--- 2 if the words are refused, 3 for input, files and memory
+-- 2 if the words are refused, 4 if the run of a review gave no verdict, 3 for every other reason: input, files and memory
 abbrev pub refusal_status : Refusal → ℕ
 refusal_status Words = 2
-refusal_status (Run e) = run_error_status e
+refusal_status (Run OutOfSteps) = 4
+refusal_status (Run OverLimit) = 4
 refusal_status _ = 3

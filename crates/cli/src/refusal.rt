@@ -1,6 +1,6 @@
 //! Why a program refuses what it is asked to do.
 ghost use Rattle.std.specs.Prelude.{◌≡◌};
-ghost use Rattle.cli.specs.Refusals.{file_refusal, load_refusal, order_refusal, policy_refusal_of, program_refusal, refusal_status, run_error_status, run_refusal, session_refusal};
+ghost use Rattle.cli.specs.Refusals.{file_refusal, load_refusal, order_refusal, policy_refusal_of, program_refusal, refusal_status, run_refusal, session_refusal};
 ghost use Rattle.cli.specs.declared.refusal.Refusal.TheVariants as refusal;
 
 use admission::{PolicyRefusal, RunError};
@@ -136,7 +136,7 @@ impl From<SessionError> for Refusal {
 
 /// The exit status for a review without a response.
 fn run_error_status(error: RunError) -> u8
-    ensures { result ≡ run_error_status error }
+    ensures { result ≡ refusal_status (refusal.Run error) }
 {
     match error {
         RunError::OutOfSteps | RunError::OverLimit => 4,
