@@ -7,7 +7,7 @@ use Rattle.std.specs.Str.{bytes_eq}
 use Rattle.host.specs.declared.file_error.FileError.TheVariants as file_error
 use Rattle.host.specs.FileSystem.{IsWriting, KeepsFiles}
 use Rattle.review_runner.specs.Debugging.{SessionFiles}
-use Rattle.review_runner.specs.Effect.{Hold, CanWrite, Leaves}
+use Rattle.review_runner.specs.Effect.{Hold, Leaves}
 
 -- ---- files
 
@@ -70,10 +70,10 @@ by_files known name files held h =
     subst (FilesBy known name files) h.are
     (by_reads known name files _ _ _ _ h.readings.is_subject h.readings.is_review h.readings.is_namespace h.readings.is_params)
 
-pub takes_of : (known after : Option FileSystem) (name bytes : List ℕ) → IsWriting known name bytes after (Ok tt) → CanWrite known name true
+pub takes_of : (known after : Option FileSystem) (name bytes : List ℕ) → IsWriting known name bytes after (Ok tt) → (f : FileSystem) → known ≡ Some f → f.takes name ≡ true
 takes_of known after name bytes write f is = (write f is).2.taken
 
-pub refuses_of : (known after : Option FileSystem) (name bytes : List ℕ) → IsWriting known name bytes after (Err Failed) → CanWrite known name false
+pub refuses_of : (known after : Option FileSystem) (name bytes : List ℕ) → IsWriting known name bytes after (Err Failed) → (f : FileSystem) → known ≡ Some f → f.takes name ≡ false
 refuses_of known after name bytes write f is = (write f is).2.taken
 
 pub leaves_with : (known after : Option FileSystem) (name bytes : List ℕ) → IsWriting known name bytes after (Ok tt)

@@ -33,7 +33,7 @@ use Rattle.policy_glue.specs.Verdict.{Verdict}
 use Rattle.value_store.specs.Placing.{charge_limit}
 use Rattle.review_runner.specs.Debugging as debugging
 use Rattle.review_runner.specs.Debugging.{SessionFiles}
-use Rattle.review_runner.specs.Effect.{CarriesOut, Hold, Outcome, ReviewRun, files_read, steps_of, value}
+use Rattle.review_runner.specs.Effect.{CarriesOut, Hold, ReviewRun, files_read, steps_of, value}
 use Rattle.review_runner.specs.Effect as effect
 use Rattle.review_runner.specs.Making as making
 use Rattle.review_runner.specs.Performing as performing
@@ -45,7 +45,7 @@ use Rattle.review_runner.proofs.EffectFiles.{FilesBy, takes_of, refuses_of, leav
 
 -- ---- outcomes
 
-abbrev pub seen : OrderOutcome → Outcome
+abbrev pub seen : OrderOutcome → Result (ℕ × List ℕ) Refusal
 seen (Ok report) = Ok (report.status, report.out)
 seen (Err r) = Err r
 
@@ -91,7 +91,7 @@ module _ (chosen : Images) (rows : List Row) (old : Option FileSystem) where
   abbrev pub Holds : Documents → Type 0
   Holds d = Hold old (files_read (codes "review") rows) (Some d.policy ∷ Some d.review ∷ d.namespace ∷ d.params ∷ [])
 
-  abbrev pub Has : Option FileSystem → Text → Outcome → Type 0
+  abbrev pub Has : Option FileSystem → Text → Result (ℕ × List ℕ) Refusal → Type 0
   Has new command outcome = CarriesOut chosen rows old new command outcome
 
   pub unread : (new : Option FileSystem) (command : Text) (e : FileError) → Fails old (files_read command rows) e → new ≡ old
@@ -191,7 +191,7 @@ module _ (chosen : Images) (rows : List Row) (old : Option FileSystem) where
       replied once new d answer
       (subst (λ (n : List (Option Text)). Hold old n (Some d.policy ∷ Some d.review ∷ d.namespace ∷ d.params ∷ [])) names hold) reviews agrees same
 
-  pub of_refusal : Result State Refusal → Outcome
+  pub of_refusal : Result State Refusal → Result (ℕ × List ℕ) Refusal
   of_refusal (Ok s) = Ok (0, [])
   of_refusal (Err r) = Err r
 

@@ -1,5 +1,5 @@
 -- The effect of the words of a command line: the files that are read and written, the input, the output, and the end.
-use Rattle.std.specs.Prelude.{◌≡◌, ◌⊎◌, ℕ, ◌+◌, ◌*◌, ◌<◌, Bool, true, false, List, [], ◌∷◌, ◌++◌, codes}
+use Rattle.std.specs.Prelude.{◌≡◌, ◌⊎◌, ℕ, ◌+◌, ◌*◌, ◌<◌, true, false, List, [], ◌∷◌, ◌++◌, codes}
 use Rattle.std.specs.Prelude.{Option, Some, None, Result, Ok, Err, if◌then◌else◌, unwrap_or}
 use Rattle.std.specs.List.{list_any}
 use Rattle.std.specs.Option.{option_map_or}
@@ -91,10 +91,6 @@ Hold known (Some name ∷ names) (Some bytes ∷ held) = HasFile known name (Som
 Hold known (None ∷ names) (None ∷ held) = Hold known names held
 Hold known _ _ = ⊥
 
--- whether a file with this name can be written, if the files are known
-abbrev pub CanWrite : Option FileSystem → Text → Bool → Type 0
-CanWrite known name can = (f : FileSystem) → known ≡ Some f → f.takes name ≡ can
-
 -- known files stay known, and each name has the bytes that this function gives for it and for those before; the names that can be
 -- written are the same
 abbrev pub Leaves : Option FileSystem → Option FileSystem → (Text → Option (List ℕ) → Option (List ℕ)) → Type 0
@@ -103,10 +99,6 @@ Leaves known after holds =
     → (g : FileSystem) × (after ≡ Some g) × ((name : Text) → g.holds name ≡ holds name (f.holds name)) × (g.takes ≡ f.takes)
 
 -- ---- outcomes
-
--- the status and the bytes for standard output, or a refusal
-abbrev pub Outcome : Type 0
-Outcome = Result (ℕ × List ℕ) Refusal
 
 -- the status of a run of at most n steps, and its registers and its end as the debugger prints `r` and a move there
 abbrev pub run_given : ℕ → State → ℕ × List ℕ
@@ -131,8 +123,9 @@ pub record ReviewRun (chosen : Images) (n : ℕ) (document review : List ℕ) (n
   pub is_verdict : verdict ≡ decision_of policy.failure_policy trees roots
   pub status : (state_after n (start_state image (started roots))).status ≡ due verdict
 
--- the outcome of a command by the contents of the files that it reads, if no file is to be written
-pub data Gives (chosen : Images) (n : ℕ) : Text → List (Option (List ℕ)) → Outcome → Type 0 where
+-- the outcome of a command, its status and its bytes for standard output or a refusal, by the contents of the files that it reads,
+-- if no file is to be written
+pub data Gives (chosen : Images) (n : ℕ) : Text → List (Option (List ℕ)) → Result (ℕ × List ℕ) Refusal → Type 0 where
   run : {file : List ℕ} {image : Image} → image_in file ≡ Ok image
       → Gives chosen n (codes "run-image") (Some file ∷ []) (Ok (run_given n (start_state image null_values)))
   not_run : {file : List ℕ} {e : LoadError} → image_in file ≡ Err e
@@ -183,20 +176,22 @@ pub data Makes (chosen : Images) : Text → List ℕ → Image → Type 0 where
 -- ---- effects
 
 -- the effect of a command on the files, and its outcome; a session has none but its refusals
-pub data CarriesOut (chosen : Images) (rows : List Row) (old new : Option FileSystem) : Text → Outcome → Type 0 where
+pub data CarriesOut (chosen : Images) (rows : List Row) (old new : Option FileSystem) : Text → Result (ℕ × List ℕ) Refusal
+    → Type 0 where
   -- a file cannot be read, and those before it hold some bytes
   unread : {command : Text} (before after : List (Option Text)) (name : Text) (held : List (Option (List ℕ)))
       → files_read command rows ≡ before ++ Some name ∷ after → Hold old before held → HasFile old name None → new ≡ old
       → CarriesOut chosen rows old new command (Err File)
-  given : {command : Text} {held : List (Option (List ℕ))} {outcome : Outcome} → Hold old (files_read command rows) held
+  given : {command : Text} {held : List (Option (List ℕ))} {outcome : Result (ℕ × List ℕ) Refusal} → Hold old (files_read command rows) held
       → Gives chosen (steps_of rows) command held outcome → new ≡ old → CarriesOut chosen rows old new command outcome
   -- the file of an image is written, or cannot be
   made : {command : Text} {file : List ℕ} {image : Image} → Hold old (files_read command rows) (Some file ∷ [])
-      → Makes chosen command file image → CanWrite old (value (codes "IMAGE") rows) true
+      → Makes chosen command file image → ((f : FileSystem) → old ≡ Some f → f.takes (value (codes "IMAGE") rows) ≡ true)
       → Leaves old new (λ name held. if bytes_eq name (value (codes "IMAGE") rows) then Some (file_of image) else held)
       → CarriesOut chosen rows old new command (Ok (0, []))
   unwritten : {command : Text} {file : List ℕ} {image : Image} → Hold old (files_read command rows) (Some file ∷ [])
-      → Makes chosen command file image → CanWrite old (value (codes "IMAGE") rows) false → Leaves old new (λ name held. held)
+      → Makes chosen command file image → ((f : FileSystem) → old ≡ Some f → f.takes (value (codes "IMAGE") rows) ≡ false)
+      → Leaves old new (λ name held. held)
       → CarriesOut chosen rows old new command (Err File)
   -- an allocation fails
   no_memory : {command : Text} → new ≡ old → CarriesOut chosen rows old new command (Err Memory)
