@@ -1,5 +1,5 @@
 -- Each code has one listing.
-use Rattle.disassembler.proofs.Prelude.{◌≡◌, ℕ, zero, suc, ◌<◌, ◌≤◌, List, [], ◌∷◌, length, refl, sym, ◌∙◌, ap, arith, SlotsAreFilled, Listing, Lists, after_statement, lines_text, statement_of, ended, place, Statement, OneListing}
+use Rattle.disassembler.proofs.Prelude.{◌≡◌, ℕ, zero, suc, ◌*◌, ◌<◌, ◌≤◌, List, [], ◌∷◌, length, length-drop, refl, sym, ◌∙◌, ap, arith, SlotsAreFilled, Listing, Lists, after_statement, lines_text, statement_of, statement_slots, ended, place, Statement, OneListing}
 use Rattle.disassembler.proofs.Going.{none_left, placed}
 
 -- a listing of code begins with the statement at its front
@@ -26,7 +26,10 @@ same (x ∷ xs) (y ∷ ys) (byte ∷ bytes) p q =
     cc
 
 goes_on : SlotsAreFilled → (byte : ℕ) (bytes : List ℕ) → length (after_statement (byte ∷ bytes)) < length (byte ∷ bytes)
-goes_on filled byte bytes = grind arith
+goes_on filled byte bytes =
+    let some = (filled.by_statement (statement_of (byte ∷ bytes))).some in
+    let long = length-drop (8 * statement_slots (statement_of (byte ∷ bytes))) (byte ∷ bytes) in
+    omega (arith, some, long)
 
 -- a listing of code with at most n bytes
 listed : SlotsAreFilled → (n : ℕ) (code : List ℕ) → length code ≤ n → (text : List ℕ) × Listing code text
