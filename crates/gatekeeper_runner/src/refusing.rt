@@ -9,12 +9,15 @@ ghost use Rattle.gatekeeper_runner.specs.Together.{label_view, refused_view};
 
 use crate::policy_label::PolicyLabel;
 use crate::refused::Refused;
-use crate::texts::text_at;
 use json::Writer;
-use policy_glue::parse_document;
 use std::alloc::{AllocError, Global};
+use value_table::text_at;
 
-/// The refusal of the review in a line, with the uid of its request if the line has one.
+/// The room in bytes that a refusal without long names takes.
+const ROOM: usize = 128;
+
+/// The refusal of the review in a line, with the uid of its request if the line has one. The line
+/// need not be a review; nothing but the uid is kept of it.
 pub fn line_refusal_text(
     alloc: Global,
     refused: &Refused,
@@ -22,8 +25,8 @@ pub fn line_refusal_text(
 ) -> Result<Vec<u8>, AllocError>
     ensures { IfOk result (λ text. text.items ≡ refusal_text (refused_view refused.now) (uid_shown (document_of line.now))) }
 {
-    let document = parse_document(alloc, line)?;
-    refusal_text(alloc, refused, text_at(&document, "request", "uid"))
+    let uid = text_at(alloc, line, "request", "uid")?;
+    refusal_text(alloc, refused, uid.as_deref())
 }
 
 /// The text of a refusal.
@@ -34,7 +37,7 @@ pub fn refusal_text(
 ) -> Result<Vec<u8>, AllocError>
     ensures { IfOk result (λ text. text.items ≡ refusal_text (refused_view refused.now) (option_map (λ s. s.now) uid.entry)) }
 {
-    let mut writer = Writer::new(Vec::new(alloc));
+    let mut writer = Writer::new(Vec::with_capacity(alloc, ROOM)?);
     write_refusal(&mut writer, refused, uid)?;
     Ok(writer.into_inner())
 }
