@@ -23,7 +23,7 @@ module _ (image : Image) (p : ℕ) (b : CpuState) where
   load_does depth k dst f below free =
       let place = ap (λ (w : ℕ). (w + cast_unsigned w64 (word_offset k)) % 2 ^ 64) f.pointer_is ∙ (omega arith) in
       let read : read_of b.memory ((b.registers R10 + cast_unsigned w64 (word_offset k)) % 2 ^ 64) bytes.Dw ≡ Ok (word_at depth k b) = read_word b.memory Stack (stack_index depth k) _ f.memory (has_word depth k b f below) place in
-      rw free (ap (λ (r : Result ℕ Fault). loaded dst r (at image p b)) read ∙ register_set image p b (p + 1) dst (word_at depth k b))
+      rw free (ap (λ (r : Result ℕ Fault). loaded dst (λ w. w) r (at image p b)) read ∙ register_set image p b (p + 1) dst (word_at depth k b))
 
   -- a word of the frame is stored through the frame pointer
   pub store_does : (depth k : ℕ) (src : Register) → Framed depth b → k < frame_words

@@ -72,7 +72,7 @@ text_is : (x : ValueOrError) → literal.text_part x ≡ text_part (outcome_view
 text_is x = grind arith
 
 pub test_is : (t : TextTest) (x y : ValueOrError) → text_test_of (Some t) x y ≡ truth_or_error (on_texts (holds_of t) (text_part (outcome_view x)) (text_part (outcome_view y)))
-test_is t x y = rw (text_is x, text_is y) (grind arith)
+test_is t x y = grind arith
 
 pub contains_texts : (a b : Option (List ℕ)) → on_texts row.contains a b ≡ on_texts meant.contains a b
 contains_texts a b = grind arith
