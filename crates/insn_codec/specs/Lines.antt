@@ -57,11 +57,11 @@ hex_digits (suc count) n = hex_digits count (n / 16) ++ hex_digit (n % 16) ∷ [
 abbrev pub wide_text : ℕ → List ℕ
 wide_text n = codes "0x" ++ hex_digits 16 n
 
--- the address of an access, as in a memory operand
+-- the address of an access: the base register + the offset in bytes
 abbrev pub address_text : Register → ℤ → List ℕ
 address_text base offset = register_text base ++ offset_text offset
 
--- a memory operand: the address, register + offset, between square brackets, the offset in bytes (RFC 9669, section 5.1)
+-- a memory operand: the address of an access between square brackets (RFC 9669, section 5.1)
 abbrev pub place_text : Register → ℤ → List ℕ
 place_text base offset = codes "[" ++ ((register_text base ++ offset_text offset) ++ codes "]")
 

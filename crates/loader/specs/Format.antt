@@ -41,8 +41,6 @@ is_bad_count slots = nat_eq slots 0 || nat_lt slot_limit slots
 abbrev pub is_too_long : ℕ → Bool
 is_too_long constants = nat_lt constants_limit constants
 
--- the causes for which a file is refused, in the order in which they are checked
-
 -- the version, the code and the constants of a file that is not refused
 abbrev pub contents_in : List ℕ → Image
 contents_in file = record {
@@ -52,7 +50,8 @@ contents_in file = record {
 }
 
 -- the image of a file, or the first cause for which the file is refused: it has fewer than the 16 bytes before the code; it
--- begins with the first bytes of no version; no image has as many slots, or bytes of constants; it has another length
+-- begins with the first bytes of no version; it states no slots or too many, or too many bytes of constants; it has
+-- another length
 unfoldable pub image_in : List ℕ → Result Image LoadError
 image_in file =
     if nat_lt (length file) 16 then Err TooShort
