@@ -1,6 +1,7 @@
 -- What an index contains, and which items a search may skip.
-use Rattle.value_table.proofs.Prelude.{◌≡◌, ℕ, zero, suc, ◌+◌, ◌<◌, ◌≤◌, min, List, [], ◌∷◌, ◌++◌, length, get_or, take, drop, set, Bool, true, false, cond, bytes_eq, Option, Some, None, slice_get, refl, sym, ap, ◌∙◌, subst, arith, true≢false, length-append, if◌then◌else◌, option_map, is_some, nat_le, ◌||◌, slice_index_or, get_by_text, update, drop-nil, false_from_ne_true, nat_tests, take_more, take-append-le, map-append, get_or-take, length-take-le, slice_get-get_or, bytes_eq-Decides as bytes_decides, get_or_from_slice_get, Value, json_text, equal, has_item, equal_decides, value_in, items_at, refs_at, grown, meaning, json_length, AreBelow, IsRange, AreCells, ExtendsBackings, place_among, index_text_limit, is_any_text, looked_up_by, texts_at, IsIndex, Covers, IsIndexed, AreIndexes, AreKnown, Cell, Index, Backings}
+use Rattle.value_table.proofs.Prelude.{◌≡◌, ◌≢◌, ℕ, zero, suc, ◌+◌, ◌<◌, ◌≤◌, min, List, [], ◌∷◌, ◌++◌, length, get_or, take, drop, set, Bool, true, false, cond, bytes_eq, Option, Some, None, slice_get, refl, sym, ap, ◌∙◌, subst, arith, true≢false, length-append, if◌then◌else◌, option_map, is_some, nat_le, ◌||◌, slice_index_or, get_by_text, update, drop-nil, false_from_ne_true, nat_tests, take_more, take-append-le, map-append, get_or-take, length-take-le, slice_get-get_or, bytes_eq-Decides as bytes_decides, get_or_from_slice_get, text_part, Value, json_text, equal, has_item, equal_decides, value_in, items_at, refs_at, grown, meaning, json_length, AreMeanings, Part, Content, AreBelow, IsRange, AreCells, ExtendsBackings, place_among, looked_up_by, texts_at, IsIndex, Covers, IsIndexed, AreIndexes, AreKnown, Cell, Index, Backings}
 use Rattle.value_store.specs.Value as kind
+use Rattle.value_table.specs.declared.content.Content.TheVariants as cell
 use Rattle.value_table.proofs.Growth.{mapped_stable, found, count_values}
 use Rattle.value_table.proofs.Walks.{below_here}
 use Rattle.value_table.proofs.Listed.{below_le, below_append}
@@ -192,24 +193,28 @@ at_slot bs vs xs s d h l = h.each s (get_or xs s d) (slice_get-get_or xs s d l)
 pub known_of : (bs : Backings) (cs : List Cell) → AreCells bs [] cs → AreKnown bs (grown bs [] cs) cs
 known_of bs cs h = record { meanings = meanings_of bs cs h; lengths = λ r c e. let f = found bs cs r c e h in f.json ∙ ap json_length (sym f.is); count = count_values bs cs }
 
-pub by_text : (v : Value) (n : ℕ) (b : Bool) → b ≡ is_any_text v || nat_le n index_text_limit → n ≡ json_length v → b ≡ true → json_text v ≡ looked_up_by v
+pub by_json : (v : Value) (n : ℕ) → text_part v ≡ None → n ≡ json_length v → n ≤ 512 → json_text v ≡ looked_up_by v
 unfolding looked_up_by
-by_text v n b e l h = let t : is_any_text v || nat_le (json_length v) index_text_limit ≡ true = subst (λ m. is_any_text v || nat_le m index_text_limit ≡ true) l (sym e ∙ h) in rw t refl
+by_json v n none e h = let b : nat_le (json_length v) 512 ≡ true = grind (arith, nat_tests, e, h) in rw (none, b) refl
 
-pub by_none : (v : Value) (n : ℕ) (b : Bool) → b ≡ is_any_text v || nat_le n index_text_limit → n ≡ json_length v → b ≡ false → [] ≡ looked_up_by v
+pub by_none : (v : Value) (n : ℕ) → text_part v ≡ None → n ≡ json_length v → 512 < n → [] ≡ looked_up_by v
 unfolding looked_up_by
-by_none v n b e l h = let t : is_any_text v || nat_le (json_length v) index_text_limit ≡ false = subst (λ m. is_any_text v || nat_le m index_text_limit ≡ false) l (sym e ∙ h) in rw t refl
+by_none v n none e h = let b : nat_le (json_length v) 512 ≡ false = grind (arith, nat_tests, e, h) in rw (none, b) refl
 
--- the cell at a place tells whether its value is looked up by its JSON text
-module _ (bs : Backings) (vs : List Value) (cs : List Cell) (r : ℕ) (c : Cell) (b : Bool) where
-  known : AreKnown bs vs cs → slice_get cs r ≡ Some c → b ≡ is_any_text (meaning bs vs c.content) || nat_le c.json index_text_limit
-      → b ≡ is_any_text (value_in vs r) || nat_le c.json index_text_limit
-  known k h e = e ∙ ap (λ w. is_any_text w || nat_le c.json index_text_limit) (sym (get_or_from_slice_get vs r (meaning bs vs c.content) kind.null (k.meanings r c h)))
+pub by_itself : (v : Value) (s : List ℕ) → Some s ≡ text_part v → s ≡ looked_up_by v
+unfolding looked_up_by
+by_itself v s some = rw (sym some) refl
 
-  pub by_cell_text : AreKnown bs vs cs → slice_get cs r ≡ Some c → b ≡ is_any_text (meaning bs vs c.content) || nat_le c.json index_text_limit
-      → b ≡ true → json_text (value_in vs r) ≡ looked_up_by (value_in vs r)
-  by_cell_text k h e t = by_text (value_in vs r) c.json b (known k h e) (k.lengths r c h) t
+-- ---- the text of a cell
 
-  pub by_cell_none : AreKnown bs vs cs → slice_get cs r ≡ Some c → b ≡ is_any_text (meaning bs vs c.content) || nat_le c.json index_text_limit
-      → b ≡ false → [] ≡ looked_up_by (value_in vs r)
-  by_cell_none k h e f = by_none (value_in vs r) c.json b (known k h e) (k.lengths r c h) f
+pub cell_text : (bs : Backings) (vs : List Value) (cs : List Cell) (r : ℕ) (c : Cell) → AreMeanings bs vs cs → slice_get cs r ≡ Some c
+    → text_part (meaning bs vs c.content) ≡ text_part (value_in vs r)
+cell_text bs vs cs r c m h = ap text_part (sym (get_or_from_slice_get vs r (meaning bs vs c.content) kind.null (m r c h)))
+
+pub no_text : (bs : Backings) (vs : List Value) (k : Content) → ((p : Part) → k ≢ cell.Text p) → None ≡ text_part (meaning bs vs k)
+no_text bs vs cell.Null h = refl
+no_text bs vs (cell.Bool b) h = refl
+no_text bs vs (cell.Int n) h = refl
+no_text bs vs (cell.Text p) h = absurd (h p refl)
+no_text bs vs (cell.List b n) h = refl
+no_text bs vs (cell.Map k b n) h = refl

@@ -1,5 +1,5 @@
 -- The names of the library, of the crates below and of the definitions that these proofs use. Declares nothing.
-pub use Rattle.std.proofs.Common.{Bool, Decides, Err, Global, IfSome, IsSome, List, None, Ok, Option, Result, Some}
+pub use Rattle.std.proofs.Common.{◌≢◌, Bool, Decides, Err, Global, IfSome, IsSome, List, None, Ok, Option, Result, Some}
 pub use Rattle.std.proofs.Common.{Vec, ℕ, [], add-one, ap, append-nil, append_assoc, ap₂, arith, bytes_eq, cond}
 pub use Rattle.std.proofs.Common.{decimal, drop, drop-cons, false, get_or, if◌then◌else◌, inl, inr, is_some, length}
 pub use Rattle.std.proofs.Common.{length-append, length-drop, length-take, map, max, min, nat_le, nat_lt, not}
@@ -55,7 +55,7 @@ pub use Rattle.value_store.specs.Equality.{equal}
 pub use Rattle.value_store.specs.Json.{comma_after, entries_text, items_text, json_text, shown_text}
 pub use Rattle.value_store.specs.Keys.{AreEntriesOrdered, AreItemsOrdered, AreOrdered, Ascend, IsDocumentOrdered}
 pub use Rattle.value_store.specs.Keys.{IsOrdered}
-pub use Rattle.value_store.specs.Lookup.{has_item, inserted, inserted_by, member, place_of_key}
+pub use Rattle.value_store.specs.Lookup.{has_item, inserted, inserted_by, member, place_of_key, text_part}
 pub use Rattle.value_store.specs.Placing.{Contents, first_values, is_appended, place, placed}
 pub use Rattle.value_store.specs.Plain.{charge_in, plain_entries, plain_items, plain_value, saturated}
 pub use Rattle.value_store.specs.Roots.{StoreStarts, items_have_other, members_have_other, start_contents}
@@ -77,7 +77,7 @@ pub use Rattle.value_table.specs.Heap.{Gains, IsUnchangedHeap, IsHeap, content_a
 pub use Rattle.value_table.specs.Heaps.{AddsValue, AreBelow, AreCells, AreKeys, AreSame, AreTexts, ExtendsBackings}
 pub use Rattle.value_table.specs.Heaps.{CellFound, HoldsItems, IsCell, IsContent, IsRange, IsText}
 pub use Rattle.value_table.specs.Held.{Held}
-pub use Rattle.value_table.specs.Index.{AreIndexes, AreKnown, Covers, IsIndex, IsIndexed, index_text_limit, is_any_text, texts_at}
+pub use Rattle.value_table.specs.Index.{AreIndexes, AreKnown, Covers, IsIndex, IsIndexed, texts_at}
 pub use Rattle.value_table.specs.Lengths.{commas, json_length}
 pub use Rattle.value_table.specs.Meaning.{entries_at, grown, items_at, key_in, keys_at, meaning, part_of}
 pub use Rattle.value_table.specs.Meaning.{reference_of, refs_at, value_in}

@@ -1,9 +1,10 @@
 -- The index of a backing.
-use Rattle.std.specs.Prelude.{◌≡◌, ℕ, ◌≤◌, ◌<◌, List, [], map, length, take, Some, slice_get, slice_index_or, Bool, true, false, ◌||◌, if◌then◌else◌, nat_le}
+use Rattle.std.specs.Prelude.{◌≡◌, ℕ, ◌≤◌, ◌<◌, List, [], map, length, take, Some, slice_get, slice_index_or, if◌then◌else◌, nat_le}
 use Rattle.std.specs.BTreeMap.{get_by_text}
-use Rattle.value_store.specs.Value as kind
+use Rattle.std.specs.Option.{unwrap_or}
 use Rattle.value_store.specs.Value.{Value}
 use Rattle.value_store.specs.Json.{json_text}
+use Rattle.value_store.specs.Lookup.{text_part}
 use Rattle.value_table.specs.Meaning.{value_in}
 use Rattle.value_table.specs.Lengths.{json_length}
 use Rattle.value_table.specs.Heaps.{AreBelow}
@@ -13,17 +14,14 @@ use Rattle.value_table.specs.declared.cell.Cell.{Cell}
 use Rattle.value_table.specs.declared.backings.Backings.{Backings}
 use Rattle.value_table.specs.declared.index.Index.{Index}
 
--- the longest JSON text of a list or a map, in bytes, that an index keeps
+-- the longest JSON text, in bytes, that an index keeps
 abbrev pub index_text_limit : ℕ
 index_text_limit = 512
 
-abbrev pub is_any_text : Value → Bool
-is_any_text (kind.text s) = true
-is_any_text _ = false
-
--- the text by which a value is looked up: its JSON text; the empty text if that is too long, unless it is a text
+-- the text by which a value is looked up: a text by itself, another value by its JSON text, or by the empty text if that
+-- is too long
 unfoldable pub looked_up_by : Value → List ℕ
-looked_up_by v = if is_any_text v || nat_le (json_length v) index_text_limit then json_text v else []
+looked_up_by v = unwrap_or (text_part v) (if nat_le (json_length v) index_text_limit then json_text v else [])
 
 abbrev pub texts_at : List Value → List ℕ → List (List ℕ)
 texts_at vs rs = map (λ r. looked_up_by (value_in vs r)) rs

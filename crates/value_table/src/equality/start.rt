@@ -1,12 +1,13 @@
 //! Where a search among the items of a list begins.
 
-ghost use Rattle.std.specs.Prelude.{◌≡◌, ◌≤◌, ◌<◌, ◌||◌, List, length, drop, nat_le, slice_get, Some, option_map, IfOk, OnOk, string_bytes};
+ghost use Rattle.std.specs.Prelude.{◌≡◌, ◌≤◌, ◌<◌, ℕ, List, length, drop, slice_get, Some, None, option_map, IfOk, OnOk, string_bytes};
 ghost use Rattle.value_store.specs.Value.{Value};
-ghost use Rattle.value_store.specs.Lookup.{has_item};
-ghost use Rattle.value_table.specs.Meaning.{meaning, value_in, items_at, refs_at};
+ghost use Rattle.value_store.specs.Lookup.{has_item, text_part};
+ghost use Rattle.value_table.specs.Meaning.{value_in, items_at, refs_at};
 ghost use Rattle.value_table.specs.Heaps.{IsRange};
-ghost use Rattle.value_table.specs.Equality.{AreContents};
-ghost use Rattle.value_table.specs.Index.{AreKnown, IsIndexed, AreIndexes, index_text_limit, is_any_text, looked_up_by};
+ghost use Rattle.value_table.specs.Equality.{AreContents, AreMeanings};
+ghost use Rattle.value_table.specs.Search.{place_among};
+ghost use Rattle.value_table.specs.Index.{AreKnown, IsIndex, IsIndexed, AreIndexes, looked_up_by};
 
 use crate::backings::Backings;
 use crate::cell::Cell;
@@ -14,34 +15,68 @@ use crate::content::Content;
 use crate::equality::walk::first;
 use crate::index::Index;
 use crate::sequence::Sequence;
+use crate::text::string;
 use crate::writing::json_at;
 use std::alloc::AllocError;
 
-/// The longest JSON text of a list or a map, in bytes, that is used to look it up.
+/// The longest JSON text, in bytes, by which a value is looked up.
 const INDEX_TEXT_LIMIT: u64 = 512;
 
-// Whether a value is looked up by its JSON text. A text is, whatever its length, since a list of long
-// texts is searched as often as one of short texts. Lists and maps would be copied at each level.
-fn is_looked_up(cell: Cell) -> bool
-    ensures { (bs : Backings) (vs : List Value) → result ≡ is_any_text (meaning bs vs cell.content) || nat_le cell.json index_text_limit }
+// The text at a place, if its value is one.
+fn own_text<'a>(cells: &Sequence<Cell>, backings: &'a Backings, place: u64) -> Option<&'a str>
+    requires contents { AreContents backings.now cells.now }
+    requires inside { place < length cells.now }
+    ensures { (vs : List Value) → AreMeanings backings.now vs cells.now → option_map (λ t. t.now) result ≡ text_part (value_in vs place) }
 {
-    match cell.content {
-        Content::Text(_) => true,
-        _ => cell.json <= INDEX_TEXT_LIMIT,
+    match cells.at(place as usize).content {
+        Content::Text(part) => Some(string(backings.bytes.items(), part)),
+        _ => None,
     }
 }
 
-// The text by which a value is looked up: its JSON text, or the empty text.
+// The text by which a value that is no text is looked up: its JSON text, or the empty text if that is
+// too long.
+#[tactic(auto, using(crate::proofs::Indexed::by_none, crate::proofs::Indexed::by_json))]
+fn short_json(cells: &Sequence<Cell>, backings: &Backings, place: u64) -> Result<String, AllocError>
+    requires contents { AreContents backings.now cells.now }
+    requires inside { place < length cells.now }
+    ensures { (vs : List Value) → AreKnown backings.now vs cells.now → text_part (value_in vs place) ≡ None → IfOk result (λ s. string_bytes s ≡ looked_up_by (value_in vs place)) }
+{
+    let alloc = backings.keys.alloc();
+    if cells.at(place as usize).json > INDEX_TEXT_LIMIT {
+        return Ok(String::new(alloc));
+    }
+    json_at(alloc, cells, backings, place)
+}
+
+// The text by which a value is looked up.
 fn text_of(cells: &Sequence<Cell>, backings: &Backings, place: u64) -> Result<String, AllocError>
     requires contents { AreContents backings.now cells.now }
     requires inside { place < length cells.now }
     ensures { (vs : List Value) → AreKnown backings.now vs cells.now → IfOk result (λ s. string_bytes s ≡ looked_up_by (value_in vs place)) }
 {
-    let alloc = backings.keys.alloc();
-    if !is_looked_up(cells.at(place as usize)) {
-        return Ok(String::new(alloc));
+    match own_text(cells, backings, place) {
+        Some(text) => String::from_str(backings.keys.alloc(), text),
+        None => short_json(cells, backings, place),
     }
-    json_at(alloc, cells, backings, place)
+}
+
+// The place of a value's text in an index. The text of a text is not copied.
+fn place_of(
+    index: &Index,
+    cells: &Sequence<Cell>,
+    backings: &Backings,
+    x: u64,
+) -> Result<Option<u64>, AllocError>
+    requires contents { AreContents backings.now cells.now }
+    requires inside { x < length cells.now }
+    ensures { (vs : List Value) (ts : List (List ℕ)) → AreKnown backings.now vs cells.now → IsIndex index.now ts → IfOk result (λ p. p ≡ place_among (looked_up_by (value_in vs x)) ts) }
+{
+    if let Some(text) = own_text(cells, backings, x) {
+        return Ok(index.place(text));
+    }
+    let text = short_json(cells, backings, x)?;
+    Ok(index.place(text.as_str()))
 }
 
 // Adds the first `count` items of a backing to its index.
@@ -69,7 +104,7 @@ fn enter(
 }
 
 // A place among the first `count` items of a backing; no earlier item equals the value at `x`. It
-// is the first item with the same JSON text, or the end.
+// is the first item with the same text, or the end.
 fn start_in(
     index: &mut Index,
     cells: &Sequence<Cell>,
@@ -88,9 +123,9 @@ fn start_in(
         → IfOk result (λ s. has_item (value_in vs x) (items_at vs (refs_at backings.now.lists backing count))
         ≡ has_item (value_in vs x) (items_at vs (drop s (refs_at backings.now.lists backing count)))) }
 {
-    let text = text_of(cells, backings, x)?;
     enter(index, cells, backings, backing, count)?;
-    match index.place(text.as_str()) {
+    let found = place_of(index, cells, backings, x)?;
+    match found {
         Some(place) => Ok(place.min(count)),
         None => Ok(count),
     }

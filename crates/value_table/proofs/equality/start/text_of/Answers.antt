@@ -1,15 +1,11 @@
--- Proofs of `equality::start::text_of`: the cell tells by which text its value is looked up.
+-- Proofs of `equality::start::text_of`: a text is looked up by itself.
 
-use Rattle.value_table.proofs.Prelude.{◌≡◌, ◌∙◌, string_bytes, json_text, value_in, looked_up_by}
+use Rattle.value_table.proofs.Prelude.{◌≡◌, ap, sym, ◌∙◌, option_map, string_bytes, value_in, looked_up_by}
 use Rattle.std.proofs.lemmas.Result.{IfOk-weaker}
-use Rattle.value_table.proofs.Indexed.{by_cell_text, by_cell_none}
+use Rattle.value_table.proofs.Indexed.{by_itself}
 use Rattle.value_table.proofs.equality.start.text_of.Goals as goal
 
-pub returns-then-not-is_looked_up : goal.returns-then-not-is_looked_up
-returns-then-not-is_looked_up c = λ vs k.
-    c.new.ensures.bytes ∙ by_cell_none c.args.backings.now vs c.args.cells.now c.args.place c.at.result c.is_looked_up.result k c.at.ensures.value (c.is_looked_up.ensures c.args.backings.now vs) c.if-not-is_looked_up.true
-
-pub returns : goal.returns
-returns c = λ vs k.
-    let e = by_cell_text c.args.backings.now vs c.args.cells.now c.args.place c.at.result c.is_looked_up.result k c.at.ensures.value (c.is_looked_up.ensures c.args.backings.now vs) c.if-not-is_looked_up.false in
-    IfOk-weaker c.json_at.result (λ s. string_bytes s ≡ json_text (value_in vs c.args.place)) (λ s. string_bytes s ≡ looked_up_by (value_in vs c.args.place)) (λ s h. h ∙ e) (c.json_at.ensures vs k.meanings)
+pub returns-in-Some : goal.returns-in-Some
+returns-in-Some c = λ vs k.
+    let some = ap (λ o. option_map (λ t. t.now) o) (sym c.in-Some.is) ∙ c.own_text.ensures vs k.meanings in
+    IfOk-weaker c.from_str.result (λ s. string_bytes s ≡ c.in-Some.text.now) (λ s. string_bytes s ≡ looked_up_by (value_in vs c.args.place)) (λ s h. h ∙ by_itself (value_in vs c.args.place) c.in-Some.text.now some) c.from_str.ensures.ok
