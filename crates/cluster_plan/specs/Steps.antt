@@ -1,6 +1,6 @@
 -- What a policy of a cluster does with a request, step by step (Kubernetes, dispatch of ValidatingAdmissionPolicies). The
 -- policy's expressions are not evaluated here.
-use Rattle.std.specs.Prelude.{◌≡◌, ℕ, Vec, Bool, true, false, not, List, [], ◌∷◌, map, Option, Some, None, Result, Ok, Err, bytes_eq, codes, filter, option_map, string_bytes}
+use Rattle.std.specs.Prelude.{◌≡◌, ℕ, Vec, Bool, true, false, not, List, [], ◌∷◌, map, Option, Some, None, Result, Ok, Err, codes, option_map, string_bytes}
 use Rattle.std.specs.Borrow.{Bor}
 use Rattle.std.specs.List.{concat, flat_map}
 use Rattle.std.specs.declared.alloc.Global.{Global}
@@ -16,6 +16,7 @@ use Rattle.admission_match.specs.declared.trouble.Trouble.TheVariants.{NoName, N
 use Rattle.admission_documents.specs.Documents.{field, field_of}
 use Rattle.admission_documents.specs.Requests.{Request}
 use Rattle.cluster_state.specs.Bindings.{Binding, ParamRef, binding_view}
+pub use Rattle.cluster_state.specs.Bindings.{bindings_of}
 use Rattle.cluster_state.specs.Objects.{Objects}
 use Rattle.cluster_state.specs.Params.{KnownKind, NamespaceObject, known_kind_view, missing, namespace_labels, namespace_object, no_object, object, param_error_text, params_of}
 use Rattle.cluster_state.specs.Policies.{BoundPolicy, policy_view}
@@ -110,10 +111,6 @@ abbrev pub binding_steps : ClusterState → AskedPolicy → Request → Binding 
 binding_steps s p q b = binding_answered s p q b (match_answer b.resources (namespace_labels s.objects) q.attributes)
 
 -- ---- a policy
-
--- the bindings of the policy of this name, in the order of their names
-abbrev pub bindings_of : List ℕ → List Binding → List Binding
-bindings_of name bs = filter (λ b. bytes_eq b.policy_name name) bs
 
 -- the steps of each binding of the policy among these
 abbrev pub bindings_steps : ClusterState → AskedPolicy → Request → List Binding → List PlannedStep

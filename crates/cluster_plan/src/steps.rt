@@ -28,13 +28,11 @@ impl<'a> AskedPolicy<'_, 'a> {
     ) -> Result<Vec<Step<'s, 'a>>, AllocError>
         ensures { IfOk result (λ v. map step_view v.items ≡ bindings_steps (state_view state.now) (asked_view self.now) (request_view request.now) (state_view state.now).bindings) }
     {
-        let bindings = state.bindings();
+        let bindings = state.bindings_of(alloc, self.policy.name)?;
         let mut steps = Vec::new(alloc);
         for binding in bindings {
-            if binding.policy_name == self.policy.name {
-                let mut more = self.binding_steps(alloc, state, request, binding)?;
-                steps.append(&mut more)?;
-            }
+            let mut more = self.binding_steps(alloc, state, request, binding)?;
+            steps.append(&mut more)?;
         }
         Ok(steps)
     }

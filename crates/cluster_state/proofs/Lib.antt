@@ -12,3 +12,4 @@ pub mod OnLiterals
 pub mod Orders
 pub mod Reordered
 pub mod Named
+pub mod Indexed

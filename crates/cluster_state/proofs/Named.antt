@@ -10,7 +10,7 @@ use Rattle.cluster_state.specs.Names.{HoldsPolicyNames}
 pub names_none : (names : BTreeSet (Bor (List ℕ))) → IsEmpty names → HoldsPolicyNames names []
 names_none names none name = ap (λ ks. list_any (λ k. is_eq (slice_cmp nat_cmp name.now k.now)) ks) none
 
-front_next : (all : List CodeBinding) (i : ℕ) (x : CodeBinding) → i < length all → x ≡ get_or all i x → take (i + 1) all ≡ take i all ++ x ∷ []
+pub front_next : (all : List CodeBinding) (i : ℕ) (x : CodeBinding) → i < length all → x ≡ get_or all i x → take (i + 1) all ≡ take i all ++ x ∷ []
 front_next all i x within is = take_more all i x within ∙ ap (λ y. take i all ++ y ∷ []) (sym is)
 
 pub names_more : (all : List CodeBinding) (i : ℕ) (x : CodeBinding) (names more : BTreeSet (Bor (List ℕ))) → i < length all → x ≡ get_or all i x

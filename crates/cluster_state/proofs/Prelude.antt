@@ -1,6 +1,7 @@
 -- The names of the library and of the definitions that these proofs use. Declares nothing.
 pub use Rattle.std.proofs.Common.{◌≡◌, ◌||◌, ◌∙◌, ◌++◌, ◌∷◌, ◌+◌, ◌&&◌, ℕ, Bool, true, false, not, List, [], Option, None, Some, Result, Ok, Err, ap, append-nil, append_assoc, arith, codes, cond, drop, length, map, refl, sym, string_bytes, rules, if◌then◌else◌}
 pub use Rattle.std.proofs.lemmas.List.{map-append}
+pub use Rattle.std.proofs.lemmas.Result.{IfOk-weaker}
 pub use Rattle.std.proofs.lemmas.Map.Text.{is_eq-slice_cmp}
 pub use Rattle.std.proofs.lemmas.Str.{IsUtf8-from_is_utf8, is_utf8-from_IsUtf8}
 pub use Rattle.std.specs.BTreeMap.{BTreeMap, get_by, insert_entry, is_at, UpdatesBy}

@@ -1,6 +1,6 @@
 -- Bindings (Kubernetes, ValidatingAdmissionPolicyBinding of admissionregistration.k8s.io/v1), with the API server's defaults.
 use Rattle.std.specs.Prelude.{ℕ, ◌&&◌, ◌==◌, Bool, true, false, not, List, [], ◌∷◌, Option, Some, None, Result, Ok, Err, bytes_eq, codes, length, nat_le, option_map, if◌then◌else◌}
-use Rattle.std.specs.List.{list_any}
+use Rattle.std.specs.List.{filter, list_any}
 use Rattle.serde_json.specs.Data as json
 use Rattle.label_selectors.specs.Selectors.{LabelSelector, selector_view}
 use Rattle.admission_match.specs.Matching.{MatchResources, match_view}
@@ -168,6 +168,10 @@ binding_before name (Some b) (Err e) = Err e
 abbrev pub bindings_in : Named → Result (List Binding) Refusal
 bindings_in [] = Ok []
 bindings_in (o ∷ os) = binding_before o.0 (binding_in o.0 o.1) (bindings_in os)
+
+-- the bindings of the policy of this name, in the order of their names
+abbrev pub bindings_of : List ℕ → List Binding → List Binding
+bindings_of name bs = filter (λ b. bytes_eq b.policy_name name) bs
 
 -- ---- values of the code
 

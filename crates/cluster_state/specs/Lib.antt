@@ -10,3 +10,4 @@ pub mod Refusals
 pub mod Rows
 pub mod State
 pub mod Names
+pub mod Indexes

@@ -72,7 +72,7 @@ abbrev pub state_view : CodeState → ClusterState
 state_view s = record {
   items = map item_view s.items.items;
   objects = objects_view s.objects;
-  bindings = map binding_view s.bindings.items;
+  bindings = map binding_view s.bindings;
   policies = map policy_view s.policies.items;
 }
 

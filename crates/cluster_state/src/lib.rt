@@ -4,6 +4,7 @@
 mod action;
 mod actions;
 mod binding;
+mod bindings;
 mod item;
 mod kinds;
 mod known_kind;

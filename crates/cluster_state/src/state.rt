@@ -1,11 +1,12 @@
 //! The state of a cluster.
-ghost use Rattle.std.specs.Prelude.{◌≡◌, map};
+ghost use Rattle.std.specs.Prelude.{◌≡◌, map, IfOk};
 ghost use Rattle.serde_json.specs.View.{view};
 ghost use Rattle.cluster_state.specs.State.{StateReads, state_of, state_view};
-ghost use Rattle.cluster_state.specs.Bindings.{binding_view};
+ghost use Rattle.cluster_state.specs.Bindings.{binding_view, bindings_of};
 ghost use Rattle.cluster_state.specs.Policies.{policy_view};
 
 use crate::binding::Binding;
+use crate::bindings::Bindings;
 use crate::item::Item;
 use crate::lists::items;
 use crate::objects::Objects;
@@ -13,14 +14,14 @@ use crate::policy::Policy;
 use crate::reading::{bindings, objects, policies};
 use crate::state_error::StateError;
 use serde_json::Value;
-use std::alloc::Global;
+use std::alloc::{AllocError, Global};
 
 /// The contents of a cluster, borrowed from the lists.
 #[derive(Debug, Drop)]
 pub struct State<'a> {
     pub(crate) items: Vec<Item<'a>>,
     pub(crate) objects: Objects<'a>,
-    pub(crate) bindings: Vec<Binding<'a>>,
+    pub(crate) bindings: Bindings<'a>,
     pub(crate) policies: Vec<Policy<'a>>,
 }
 
@@ -37,6 +38,7 @@ impl<'a> State<'a> {
         let objects = objects(alloc, &items)?;
         let bindings = bindings(alloc, &objects)?;
         let policies = policies(alloc, &objects, &bindings)?;
+        let bindings = Bindings::new(alloc, bindings)?;
         Ok(State {
             items,
             objects,
@@ -49,7 +51,14 @@ impl<'a> State<'a> {
     pub fn bindings(&self) -> &[Binding<'a>]
         ensures { map binding_view result.now ≡ (state_view self.now).bindings }
     {
-        &self.bindings
+        self.bindings.all()
+    }
+
+    /// The bindings of the policy with this name, in the order of their names.
+    pub fn bindings_of(&self, alloc: Global, policy: &str) -> Result<Vec<&Binding<'a>>, AllocError>
+        ensures { IfOk result (λ v. map (λ b. binding_view b.now) v.items ≡ bindings_of policy.now (state_view self.now).bindings) }
+    {
+        self.bindings.bound_to(alloc, policy)
     }
 
     /// The policies that have a binding, in the order of their names.
