@@ -4,9 +4,8 @@ ghost use Rattle.serde_json.specs.View.{view};
 ghost use Rattle.cli.specs.Refusals.{policy_text};
 ghost use Rattle.cluster_state.specs.Policies.{param_kind_view, BoundPolicy};
 ghost use Rattle.cluster_state.specs.State.{state_view, ClusterState};
-ghost use Rattle.cluster_state.specs.Bindings.{binding_view, Binding};
+ghost use Rattle.cluster_state.specs.Bindings.{binding_view};
 ghost use Rattle.cluster_gate.specs.Gates.{AreGatesFor, IsGateFor};
-ghost use Rattle.cluster_plan.specs.Steps.{bindings_of};
 ghost use Rattle.gatekeeper_runner.specs.ClusterStarting.{cause_code, cause_text};
 ghost use Rattle.gatekeeper_runner.specs.ClusterTelling.{block_text, cause_of, params_text, policy_line, spaced, TellsPolicies};
 
@@ -49,26 +48,21 @@ fn policy_line(
     let mut line = Vec::from_slice(alloc, b"celbpf: policy ")?;
     line.extend_from_slice(policy.name.as_bytes())?;
     line.extend_from_slice(b", bindings")?;
-    add_bindings(&mut line, state.bindings(), policy.name)?;
+    let bindings = state.bindings_of(alloc, policy.name)?;
+    add_bindings(&mut line, bindings)?;
     add_params(alloc, &mut line, lists, &policy.param_kind)?;
     add_standing(alloc, &mut line, &gate.standing)?;
     line.extend_from_slice(b"\n")?;
     Ok(line)
 }
 
-/// Adds the names of the bindings of the policy of this name.
-fn add_bindings(
-    line: &mut Vec<u8>,
-    bindings: &[Binding<'_>],
-    policy: &str,
-) -> Result<(), AllocError>
-    ensures { OnOk result (line.new.items ≡ line.old.items ++ spaced (map (λ b. b.name) (bindings_of policy.now (map binding_view bindings.now)))) }
+/// Adds the names of the bindings.
+fn add_bindings(line: &mut Vec<u8>, bindings: Vec<&Binding<'_>>) -> Result<(), AllocError>
+    ensures { OnOk result (line.new.items ≡ line.old.items ++ spaced (map (λ b. b.name) (map (λ b. binding_view b.now) bindings.entry.items))) }
 {
     for binding in bindings {
-        if binding.policy_name == policy {
-            line.extend_from_slice(b" ")?;
-            line.extend_from_slice(binding.name.as_bytes())?;
-        }
+        line.extend_from_slice(b" ")?;
+        line.extend_from_slice(binding.name.as_bytes())?;
     }
     Ok(())
 }
