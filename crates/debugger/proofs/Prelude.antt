@@ -27,7 +27,7 @@ pub use Rattle.std.specs.List.Sorted.{IsBinarySearchResult}
 pub use Rattle.std.specs.Ordering.{nat_cmp}
 pub use Rattle.std.specs.Str.{bytes_eq}
 unfoldable pub use Rattle.std.specs.Fmt.{digits}
-pub use Rattle.bpf_machine.specs.Access.{loaded, loaded_signed, stored}
+pub use Rattle.bpf_machine.specs.Access.{loaded, stored}
 pub use Rattle.bpf_machine.specs.Atomics.{exchanged, taken_and_stored, taken_by, where_stores}
 pub use Rattle.bpf_machine.specs.Decoding.{fetched, slot_count}
 pub use Rattle.bpf_machine.specs.HelperCalls.{answered}
@@ -65,7 +65,6 @@ pub use Rattle.insn_codec.specs.declared.insn.Insn.{Insn}
 pub use Rattle.insn_codec.specs.declared.insn.Insn.TheVariants.{Atomic, Call, CallLocal, Exit, Jump, JumpLong, Load}
 pub use Rattle.insn_codec.specs.declared.insn.Insn.TheVariants.{LoadSigned, Store, StoreImm}
 pub use Rattle.insn_codec.specs.declared.register.Register.{Register}
-pub use Rattle.insn_codec.specs.declared.signed_size.SignedSize.{SignedSize}
 pub use Rattle.insn_codec.specs.declared.width.Width.{Width}
 unfoldable pub use Rattle.insn_codec.specs.Candidate.{arithmetic_at, branch_at, candidate_at, jump_at, memory_at}
 unfoldable pub use Rattle.insn_codec.specs.Candidate.{wide_at}

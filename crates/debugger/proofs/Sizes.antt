@@ -1,5 +1,5 @@
 -- The sizes that every state of a run has.
-use Rattle.debugger.proofs.Prelude.{◌≡◌, ℕ, zero, suc, ◌/◌, Bool, length, Option, Some, Result, Ok, Err, ℤ, refl, ap, arith, length-append, length-drop, nat_lt, if◌then◌else◌, nat_tests, length-take-le, write_of, Memory, start_memory, low_bytes, CallEnd, Insn, Jump, JumpLong, Call, CallLocal, Exit, Load, LoadSigned, StoreImm, Store, Atomic, AtomicOp, Register, SignedSize, Width, Image, load_row, load_signed_row, load_wide_row, loaded, loaded_signed, store_row, stored, alu_row, byte_swap_row, neg_row, sign_extend_row, atomic_row, exchanged, taken_and_stored, taken_by, where_stores, fetched, answered, call_row, branch_row, call_local_row, called, exit_row, jump_row, newest, returned, jumped, next_slot, stopped_by, State, start_state, by_status, executed, next_state, stepped, state_after, Frame, Status, Running, HasRegions, IsSized, StaysSized}
+use Rattle.debugger.proofs.Prelude.{◌≡◌, ℕ, zero, suc, ◌/◌, Bool, length, Option, Some, Result, Ok, Err, ℤ, refl, ap, arith, length-append, length-drop, nat_lt, if◌then◌else◌, nat_tests, length-take-le, write_of, Memory, start_memory, low_bytes, CallEnd, Insn, Jump, JumpLong, Call, CallLocal, Exit, Load, LoadSigned, StoreImm, Store, Atomic, AtomicOp, Register, Width, Image, load_row, load_signed_row, load_wide_row, loaded, store_row, stored, alu_row, byte_swap_row, neg_row, sign_extend_row, atomic_row, exchanged, taken_and_stored, taken_by, where_stores, fetched, answered, call_row, branch_row, call_local_row, called, exit_row, jump_row, newest, returned, jumped, next_slot, stopped_by, State, start_state, by_status, executed, next_state, stepped, state_after, Frame, Status, Running, HasRegions, IsSized, StaysSized}
 use Rattle.std.proofs.lemmas.List.{length-take}
 use Rattle.guest_memory.specs.declared.fault.Fault as fault
 use Rattle.guest_memory.specs.declared.size.Size as memory
@@ -20,11 +20,8 @@ write_sized m after address word size has e = grind (arith, nat_tests, length-lo
 -- ---- rows
 
 module _ (s : State) (is : IsSized s) where
-  loaded_sized : (dst : Register) (r : Result ℕ fault.Fault) → IsSized (loaded dst r s)
-  loaded_sized dst r = grind arith
-
-  signed_sized : (size : SignedSize) (dst : Register) (r : Result ℕ fault.Fault) → IsSized (loaded_signed size dst r s)
-  signed_sized size dst r = grind arith
+  loaded_sized : (dst : Register) (extend : ℕ → ℕ) (r : Result ℕ fault.Fault) → IsSized (loaded dst extend r s)
+  loaded_sized dst extend r = grind arith
 
   stored_sized : (r : Result Memory fault.Fault) → ((m : Memory) → r ≡ Ok m → HasRegions m) → IsSized (stored r s)
   stored_sized r kept = grind arith
@@ -58,8 +55,8 @@ module _ (s : State) (is : IsSized s) where
   executed_sized (Call helper) = answered_sized _
   executed_sized (CallLocal offset) = called_sized offset _ refl
   executed_sized Exit = returned_sized (newest s.records)
-  executed_sized (Load size dst src offset) = either IsSized _ _ _ is (loaded_sized dst _)
-  executed_sized (LoadSigned size dst src offset) = either IsSized _ _ _ is (signed_sized size dst _)
+  executed_sized (Load size dst src offset) = either IsSized _ _ _ is (loaded_sized dst _ _)
+  executed_sized (LoadSigned size dst src offset) = either IsSized _ _ _ is (loaded_sized dst _ _)
   executed_sized (StoreImm size dst offset imm) = stored_sized _ (λ m e. write_sized s.memory m _ _ _ is.regions e)
   executed_sized (Store size dst offset src) = stored_sized _ (λ m e. write_sized s.memory m _ _ _ is.regions e)
   executed_sized (Atomic op width dst offset src) = either IsSized _ _ _ is (where_sized _ _ (exchanged_sized op width src _ _))

@@ -23,8 +23,8 @@ reads_once text a b r s =
 
 -- a text that is an expression is not refused as unreadable
 not_unread : (text : List ℕ) (a : Tree) (e : ReadError) → ReadsTree text a → IsUnreadable text e → ⊥
-not_unread text a e r refused =
-    let is = refused_result text e refused in
+not_unread text a e r why =
+    let is = refused_result text e why in
     is.some (ap Err (only_of text (Err e) is.answers r.0 a r.1 r.2))
 
 -- ---- judged texts

@@ -1,5 +1,5 @@
 -- What is proved of a policy's code as a list of instructions.
-use Rattle.std.specs.Prelude.{◌≡◌, ℕ, ◌+◌, ◌<◌, ◌≤◌, All, Bool, true, List, [], ◌∷◌, ◌++◌, length, map, if◌then◌else◌}
+use Rattle.std.specs.Prelude.{◌≡◌, ℕ, ◌+◌, ◌<◌, ◌≤◌, All, Bool, true, List, [], ◌∷◌, ◌++◌, length, map, is_none, if◌then◌else◌}
 use Rattle.insn_codec.specs.declared.insn.Insn.{Insn, TheVariants.Exit}
 use Rattle.insn_codec.specs.declared.register.Register.TheVariants.{R0}
 use Rattle.loader.specs.Contents as loader
@@ -15,7 +15,6 @@ use Rattle.expression_code.specs.Programs.{start_body, total}
 use Rattle.expression_code.specs.Scopes.{Variable, bindings, first_steps, scope_setting}
 use Rattle.expression_code.specs.Variables.{routine_context}
 use Rattle.policy_glue.specs.Policy.{part_limit}
-use Rattle.policy_glue.specs.Budget.{is_running}
 use Rattle.policy_glue.specs.Layout.{IsLayout, outcome_word}
 use Rattle.policy_glue.specs.Program.{conditions_code, policy_code, routines_code}
 use Rattle.policy_glue.specs.ProgramParts.{ConditionsGive, Part, ValidationPart, ValidationsGive, codes_of, conditions_charge, conditions_steps}
@@ -30,7 +29,7 @@ pub record LeavesVerdict (f : FailurePolicy) (v : Verdict) (b : CpuState) : Type
 
 -- whether the conditions let the policy run
 abbrev pub passes : FailurePolicy → List Part → Bool
-passes f conditions = is_running (decided_before f (map truth_of (values_given conditions)))
+passes f conditions = is_none (decided_before f (map truth_of (values_given conditions)))
 
 -- the steps of the program without its exit and without the first uses of variables; validations count if the policy
 -- runs

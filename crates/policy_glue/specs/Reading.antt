@@ -40,7 +40,7 @@ allows Identifier n = is_identifier n
 -- a match condition or a variable, if its name is allowed
 abbrev pub named_in : NameRule → json.Data → Option NamedExpression
 named_in rule d =
-    if has_only named_keys d then named_parts d >>= λ n. if allows rule n.name then Some n else None
+    if has_only named_keys d then (named_parts d >>= λ n. if allows rule n.name then Some n else None)
     else None
 
 -- no two names are equal

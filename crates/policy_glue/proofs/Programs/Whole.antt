@@ -1,5 +1,6 @@
 -- The code of a policy, from its start to its exit.
-use Rattle.policy_glue.proofs.Prelude.{◌≡◌, ℕ, ◌+◌, ◌<◌, ◌≤◌, List, [], ◌∷◌, ◌++◌, length, Option, Some, None, true, refl, ap, ◌∙◌, subst, sym, arith, append_assoc, All, map, pos, if◌then◌else◌, list_any, ints, start_memory, Insn, Exit, Contents, ValueOrError, Roots, DecodesSpelling, fetched, State, state_after, Frame, CpuState, Context, HasValues, RunContext, RunsTo, ExitsOrRunsOut, ja, IsCodeAt, size, start_body, bindings, scope_setting, routine_context, comes_to_exit, size-append, size-cons, stands_back, stands_first, stands_front, stands_rest, halts_into, start_fits, start_is, steps-most, word_in-zeros, and_then, done, looser, to_place, spelled_stands, is_none, part_limit, conditions_code, decided_code, outcome_tail, policy_code, routines_code, validations_code, LeavesVerdict, PolicyDecides, conditions_place, program_charge, program_steps, validations_place, ConditionsGive, Part, ValidationPart, ValidationsGive, codes_of, conditions_charge, conditions_steps, found, codes_of_validations, values_of_validations, validations_charge, validations_steps, values_given, Denied, Admitted, Finding, Outcome, Verdict, decided, decided_before, finding_of, is_denial, judged_by, truth_of, verdict_of, FailurePolicy}
+use Rattle.policy_glue.proofs.Prelude.{◌≡◌, ℕ, ◌+◌, ◌<◌, ◌≤◌, List, [], ◌∷◌, ◌++◌, length, Option, Some, None, true, refl, ap, ◌∙◌, subst, sym, arith, append_assoc, All, map, pos, if◌then◌else◌, list_any, ints, start_memory, Insn, Exit, Contents, ValueOrError, Roots, DecodesSpelling, fetched, State, state_after, Frame, CpuState, Context, HasValues, RunContext, RunsTo, ExitsOrRunsOut, ja, IsCodeAt, size, start_body, bindings, scope_setting, routine_context, comes_to_exit, size-append, size-cons, stands_back, stands_first, stands_front, stands_rest, halts_into, start_fits, start_is, steps-most, word_in-zeros, and_then, done, looser, to_place, spelled_stands, part_limit, conditions_code, decided_code, outcome_tail, policy_code, routines_code, validations_code, LeavesVerdict, PolicyDecides, conditions_place, program_charge, program_steps, validations_place, ConditionsGive, Part, ValidationPart, ValidationsGive, codes_of, conditions_charge, conditions_steps, found, codes_of_validations, values_of_validations, validations_charge, validations_steps, values_given, Denied, Admitted, Finding, Outcome, Verdict, decided, decided_before, finding_of, is_denial, judged_by, truth_of, verdict_of, FailurePolicy}
+use Rattle.std.specs.Prelude.{is_none}
 use Rattle.loader.specs.Contents as loader
 use Rattle.expression_code.proofs.Steps as step
 use Rattle.policy_glue.proofs.Programs.Conditions.{Ends, Exits, conditions_end, conditions_pass, decided_size, truths_of}

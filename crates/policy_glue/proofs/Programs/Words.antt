@@ -181,7 +181,7 @@ module _ (image : Image) (p : ℕ) (b : CpuState) (i j w : ℕ) (is : IsMemory b
   load_does dst src e free =
       let place : (b.registers src + cast_unsigned w64 (pos (8 * j))) % 2 ^ 64 ≡ base_of VerdictRegion + 8 * w = omega arith in
       let read = read_word b.memory VerdictRegion w _ is (has_verdict w b.memory is below) place in
-      rw (free, operand_is image p b (Reg src)) (ap (λ (t : Result ℕ Fault). loaded dst t (at image p b)) read ∙ register_set image p b (p + 1) dst (verdict_at w b))
+      rw (free, operand_is image p b (Reg src)) (ap (λ (t : Result ℕ Fault). loaded dst (λ v. v) t (at image p b)) read ∙ register_set image p b (p + 1) dst (verdict_at w b))
 
   put_does : (dst : Register) (n : ℤ) → b.registers dst ≡ verdict_address i
       → store_row Dw dst (pos (8 * j)) (Imm n) (at image p b) ≡ at image (p + 1) (set_verdict w (cast_unsigned w64 n) b)
