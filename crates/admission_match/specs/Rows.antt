@@ -175,6 +175,8 @@ pub record ExemptRowsHold : Type 0 where
   pub own_access : is_exempt (resource (codes "authorization.k8s.io") (codes "v1") (codes "selfsubjectaccessreviews")) ≡ true
   pub own_rules : is_exempt (resource (codes "authorization.k8s.io") (codes "v1") (codes "selfsubjectrulesreviews")) ≡ true
   pub access : is_exempt (resource (codes "authorization.k8s.io") (codes "v1") (codes "subjectaccessreviews")) ≡ true
+  pub other_of_authorization : is_exempt (resource (codes "authorization.k8s.io") (codes "v1") (codes "tokenreviews")) ≡ false
+  pub other_of_authentication : is_exempt (resource (codes "authentication.k8s.io") (codes "v1") (codes "subjectaccessreviews")) ≡ false
   pub other_group : is_exempt (resource (codes "example.com") (codes "v1") (codes "tokenreviews")) ≡ false
   pub pods : is_exempt core_pods ≡ false
 
