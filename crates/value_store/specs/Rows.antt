@@ -101,6 +101,14 @@ pub record StoreRowsHold : Type 0 where
   pub equal_lists : equal (list (item null no_items)) (list no_items) ≡ false
   pub equal_nested : equal nested nested ≡ true
   pub equal_signs : equal (int (negsuc 0)) (int (pos 0)) ≡ false
+  pub equal_falsehoods : equal (boolean false) (boolean false) ≡ true
+  pub equal_truths : equal (boolean true) (boolean true) ≡ true
+  pub truth_and_falsehood : equal (boolean true) (boolean false) ≡ false
+  pub falsehood_and_truth : equal (boolean false) (boolean true) ≡ false
+  pub one_key_two_values : equal (kind.map (entry (codes "a") null no_entries)) (kind.map (entry (codes "a") (boolean true) no_entries)) ≡ false
+  pub one_value_two_keys : equal (kind.map (entry (codes "a") null no_entries)) (kind.map (entry (codes "b") null no_entries)) ≡ false
+  pub equal_ints_below_zero : equal (int (negsuc 1)) (int (negsuc 1)) ≡ true
+  pub unequal_ints_below_zero : equal (int (negsuc 1)) (int (negsuc 0)) ≡ false
   pub less_ints : less least greatest ≡ Some true
   pub less_negative : less (int (negsuc 0)) (int (pos 0)) ≡ Some true
   pub less_truths : less (boolean false) (boolean true) ≡ Some true
@@ -163,6 +171,8 @@ pub record StoreRowsHold : Type 0 where
   pub root_null : root_of 4 json.null ≡ Ok null
   pub root_object : root_of 4 replicas_document ≡ Ok replicas
   pub root_number : root_of 7 (json.number (json.unsigned 1)) ≡ Err (NotAnObject 7)
+  pub root_truth : root_of 4 (with_a (json.boolean true)) ≡ Ok (kind.map (entry (codes "a") (boolean true) no_entries))
+  pub root_falsehood : root_of 4 (with_a (json.boolean false)) ≡ Ok (kind.map (entry (codes "a") (boolean false) no_entries))
   pub root_list : root_of 5 (json.array json.no_items) ≡ Err (NotAnObject 5)
   -- 1.5 and -0 are floats
   pub root_float : (x : Float) → root_of 4 (with_a (json.number (json.float x))) ≡ Err (NumberOutOfInt64 4)
