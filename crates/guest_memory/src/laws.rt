@@ -44,7 +44,7 @@ pub fn words_are_accessed()
 {}
 
 /// Loads and stores worked out by hand.
-#[tactic(auto, unfolding(crate::specs::Access::read_of, crate::specs::Access::stores_of, crate::specs::Access::write_of, crate::specs::Memory::start_memory))]
+#[tactic(auto, unfolding(crate::specs::Access::read_of, crate::specs::Access::stores_of, crate::specs::Access::write_of, crate::specs::Memory::start_memory, crate::specs::RegionWords::word_in))]
 pub fn rows_stand()
     ensures { MemoryRowsHold }
 {}
