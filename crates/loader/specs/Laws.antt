@@ -35,6 +35,9 @@ pub record ImageFileRowsHold : Type 0 where
   pub other_magic : image_in (codes "CELBPF03" ++ (3 ∷ 0 ∷ 0 ∷ 0 ∷ 0 ∷ 0 ∷ 0 ∷ 0 ∷ three_slots)) ≡ Err UnknownMagic
   pub no_slots : image_in (codes "CELBPF01" ++ (0 ∷ 0 ∷ 0 ∷ 0 ∷ 0 ∷ 0 ∷ 0 ∷ 0 ∷ [])) ≡ Err BadSlotCount
   pub many_slots : image_in (codes "CELBPF01" ++ (1 ∷ 0 ∷ 1 ∷ 0 ∷ 0 ∷ 0 ∷ 0 ∷ 0 ∷ [])) ≡ Err BadSlotCount
+  -- all four bytes of both numbers count
+  pub highest_byte_of_slots : image_in (codes "CELBPF01" ++ (1 ∷ 0 ∷ 0 ∷ 1 ∷ 0 ∷ 0 ∷ 0 ∷ 0 ∷ three_slots)) ≡ Err BadSlotCount
+  pub highest_byte_of_constants : image_in (codes "CELBPF01" ++ (3 ∷ 0 ∷ 0 ∷ 0 ∷ 0 ∷ 0 ∷ 0 ∷ 1 ∷ three_slots)) ≡ Err ConstantsTooLong
   pub long_constants : image_in (codes "CELBPF01" ++ (1 ∷ 0 ∷ 0 ∷ 0 ∷ 1 ∷ 0 ∷ 0x10 ∷ 0 ∷ [])) ≡ Err ConstantsTooLong
   pub second_file : file_of (record { version = Second; code = three_slots; constants = [] })
       ≡ codes "CELBPF02" ++ (3 ∷ 0 ∷ 0 ∷ 0 ∷ 0 ∷ 0 ∷ 0 ∷ 0 ∷ three_slots)
