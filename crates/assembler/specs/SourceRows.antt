@@ -1,5 +1,5 @@
 -- Sources worked out by hand: the items of their lines, numbers in and out of range, and the targets of labels.
-use Rattle.std.specs.Prelude.{◌≡◌, ℤ, pos, negsuc, true, false, List, [], ◌∷◌, Ok, Err, codes}
+use Rattle.std.specs.Prelude.{◌≡◌, ℤ, pos, negsuc, true, false, List, [], ◌∷◌, Some, Ok, Err, codes}
 use Rattle.insn_codec.specs.declared.alu_op.AluOp.TheVariants.{Mov}
 use Rattle.insn_codec.specs.declared.comparison.Comparison.TheVariants.{Eq}
 use Rattle.insn_codec.specs.declared.insn.Insn.TheVariants.{Alu, Exit, LoadWide}
@@ -13,7 +13,7 @@ use Rattle.assembler.specs.Jumps.{reaches}
 use Rattle.assembler.specs.Labels.{IsFree, label_slot}
 use Rattle.assembler.specs.SecondPass.{code_bytes}
 use Rattle.assembler.specs.Source.{EachSays}
-use Rattle.assembler.specs.declared.asm_error.AsmError.TheVariants.{UnknownLabel}
+use Rattle.assembler.specs.declared.asm_error.AsmError.TheVariants.{JumpTooFar, UnknownLabel}
 use Rattle.assembler.specs.declared.lines.jump.Jump.TheVariants.{Near, Long, CallLocal, Branch}
 
 -- mov64 r0, a number
@@ -45,6 +45,9 @@ pub record SourceRowsHold : Type 0 where
       ∷ 0x85 ∷ 0x10 ∷ 0 ∷ 0 ∷ 0xfc ∷ 0xff ∷ 0xff ∷ 0xff ∷ 0x15 ∷ 0 ∷ 0xfb ∷ 0xff ∷ 0 ∷ 0 ∷ 0 ∷ 0 ∷ [])
   -- `mov64 r0, 4294967296` has a line, but its number is out of range
   pub wide_has_line : HasLine (move_of (pos 4294967296))
+  -- `lddw` has a number of 64 bits
+  pub widest_has_line : HasLine (statement (Insn (LoadWide R0 0xffff_ffff_ffff_ffff)))
+  pub wider_has_none : HasLine (statement (Insn (LoadWide R0 0x1_0000_0000_0000_0000))) → ⊥
   pub wide_is_out : InRange (move_of (pos 4294967296)) → ⊥
   pub past_the_greatest : InRange (move_of (pos 2147483648)) → ⊥
   pub greatest : InRange (move_of (pos 2147483647))
@@ -56,6 +59,9 @@ pub record SourceRowsHold : Type 0 where
   pub named_once : IsFree (label (codes "a") ∷ []) (label (codes "b"))
   -- `ja away` without that label, and a label that is too far away
   pub unknown : code_bytes (label_slot (jump Near (codes "away") ∷ [])) 1 0 (jump Near (codes "away") ∷ []) ≡ Err (UnknownLabel 1)
+  pub too_far_for_code : code_bytes (λ name. Some 32769) 1 0 (jump Near (codes "a") ∷ []) ≡ Err (JumpTooFar 1)
+  pub far_enough_for_code : code_bytes (λ name. Some 32768) 1 0 (jump Near (codes "a") ∷ [])
+      ≡ Ok (0x05 ∷ 0 ∷ 0xff ∷ 0x7f ∷ 0 ∷ 0 ∷ 0 ∷ 0 ∷ [])
   pub farthest : reaches Near (pos 32767) ≡ true
   pub too_far : reaches Near (pos 32768) ≡ false
   pub farthest_back : reaches Near (negsuc 32767) ≡ true
