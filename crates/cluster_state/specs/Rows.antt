@@ -84,8 +84,12 @@ pub record StateRowsHold : Type 0 where
   pub no_name : refusal (one_list (prod ∷ codes "{\"apiVersion\":\"v1\",\"kind\":\"Pod\",\"metadata\":{\"name\":\"\"}}" ∷ [])) ≡ Some (invalid_item 1)
   pub number_as_label : refusal (one_list (codes "{\"apiVersion\":\"v1\",\"kind\":\"Pod\",\"metadata\":{\"name\":\"web\",\"labels\":{\"n\":1}}}" ∷ [])) ≡ Some (invalid_item 0)
   pub other_version : refusal (one_list (codes "{\"apiVersion\":\"admissionregistration.k8s.io/v1beta1\",\"kind\":\"ValidatingAdmissionPolicy\",\"metadata\":{\"name\":\"p\"}}" ∷ [])) ≡ Some (invalid_item 0)
+  pub policy_of_another_group : refusal (one_list (codes "{\"apiVersion\":\"x.io/v1\",\"kind\":\"ValidatingAdmissionPolicy\",\"metadata\":{\"name\":\"p\"}}" ∷ prod ∷ [])) ≡ None
   pub twice : refusal (listing prod ∷ listing prod ∷ []) ≡ Some (duplicate_item (codes "prod"))
   pub lists_before_items : refusal (listing (codes "{}") ∷ codes "{}" ∷ []) ≡ Some (not_a_list 1)
+  -- items are counted through the lists in their order
+  pub second_of_two_lists : refusal (listing prod ∷ listing (codes "{}") ∷ []) ≡ Some (invalid_item 1)
+  pub first_of_two_lists : refusal (listing (codes "{}") ∷ listing prod ∷ []) ≡ Some (invalid_item 0)
   pub none : refusal (one_list []) ≡ Some no_namespace
   pub namespaces_before_bindings : refusal (one_list (binding (codes "p") (codes "[]") ∷ [])) ≡ Some no_namespace
   pub deny_with_warn : refusal (one_list (binding (codes "p") (codes "[\"Deny\",\"Warn\"]") ∷ prod ∷ [])) ≡ Some (invalid_binding (codes "b"))
@@ -187,12 +191,19 @@ named_document None = []
 abbrev pub definition : List ℕ → Named
 definition scope = named_document (read (codes "{\"spec\":{\"group\":\"x.io\",\"names\":{\"kind\":\"Limit\"},\"scope\":\"" ++ (scope ++ codes "\",\"versions\":[{\"name\":\"v1\",\"served\":true},{\"name\":\"v2\",\"served\":false}]}}")))
 
+-- the same in no version
+abbrev pub without_versions : Named
+without_versions = named_document (read (codes "{\"spec\":{\"group\":\"x.io\",\"names\":{\"kind\":\"Limit\"},\"scope\":\"Cluster\"}}"))
+
 pub record KindRowsHold : Type 0 where
   pub by_objects : scope_by config_kind things [] ≡ Some Namespaced
   pub by_objects_of_the_cluster : scope_by limit_kind things [] ≡ Some Cluster
+  pub of_another_kind : scope_by limit_kind (thing (codes "x.io/v1") (codes "Other") (codes "prod") (codes "o") ∷ []) [] ≡ None
+  pub of_another_version : scope_by limit_kind (thing (codes "x.io/v2") (codes "Limit") (codes "prod") (codes "o") ∷ []) [] ≡ None
   pub by_definition : scope_by limit_kind [] (definition (codes "Namespaced")) ≡ Some Namespaced
   pub definition_first : scope_by limit_kind things (definition (codes "Namespaced")) ≡ Some Namespaced
   pub version_that_is_not_served : scope_by (record limit_kind { api_version = codes "x.io/v2" }) [] (definition (codes "Cluster")) ≡ None
+  pub without_version : scope_by limit_kind [] without_versions ≡ None
   pub other_group : scope_by (record limit_kind { api_version = codes "y.io/v1" }) [] (definition (codes "Cluster")) ≡ None
   pub not_listed : known_kind config_kind [] no_objects ≡ None
   pub known : known_kind limit_kind things held ≡ Some limits_kind

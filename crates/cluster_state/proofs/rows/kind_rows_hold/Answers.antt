@@ -9,9 +9,12 @@ unfolding lists_on_literals
 returns c = record {
   by_objects = refl;
   by_objects_of_the_cluster = refl;
+  of_another_kind = refl;
+  of_another_version = refl;
   by_definition = refl;
   definition_first = refl;
   version_that_is_not_served = refl;
+  without_version = refl;
   other_group = refl;
   not_listed = refl;
   known = refl;
