@@ -71,6 +71,9 @@ pub record CostRows : Type 0 where
   pub no_range : work_of (method (call "dyn" (num 1 ∷ [])) "all" (name "x" ∷ yes ∷ [])) review ≡ 3
   -- has(object.spec) is two nodes: 8 * 2, results of sizes 1 and 17, and a field name of 5 bytes
   pub has_spent : spent_of (call "has" (dot (name "object") "spec" ∷ [])) five ≡ 39
+  -- a text and a field name build no list and no map
+  pub shallow_text : IsShallowAt (str "ab") 0
+  pub shallow_selection : IsShallowAt (dot (name "object") "ab") 0
   -- 'ab': one node with a result of size 3, and a text of size 3
   pub text_spent : spent_of (str "ab") review ≡ 14
   -- variables.one is one node with a result of size 1
