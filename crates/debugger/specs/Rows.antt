@@ -3,8 +3,8 @@ use Rattle.std.specs.Prelude.{◌≡◌, ℕ, true, false, List, [], ◌∷◌, 
 use Rattle.bpf_machine.specs.State.{State, null_values, start_state}
 use Rattle.bpf_machine.specs.Rows.{start_of}
 use Rattle.loader.specs.declared.version.Version.{Version, TheVariants.First, TheVariants.Second}
-use Rattle.debugger.specs.Answers.{Line, SessionState, answer_to}
-use Rattle.debugger.specs.Breakpoints.{in_order}
+use Rattle.debugger.specs.Answers.{Line, SessionState, answer_to, can_go_on, can_go_to}
+use Rattle.debugger.specs.Breakpoints.{in_order, with_breakpoint}
 use Rattle.debugger.specs.Commands.{command_of}
 use Rattle.debugger.specs.Session.{Dialogue, dialogue_of, granted, says_memory, session_text}
 use Rattle.streams.specs.Lines.{cut}
@@ -113,6 +113,15 @@ pub record SessionRowsHold : Type 0 where
       ≡ codes "step 10 pc 10 exited 0x0000000000000000\nverdict 3 1\nvalidation 0 257\nvalidation 63 2\nmessage 0 9\nmessage 63 18446744073709551615\n"
   pub refuses_verdicts : (dialogue_of five ((codes "w", true) ∷ (codes "w", false) ∷ [])).text ≡ codes "? memory\nverdict 0 0\n"
   pub reads_addresses : command_of (codes "m 0x00000003000000ff 5") ≡ MemoryAt 0x3000000ff 5
+  pub goes_to_the_last_place : can_go_to 1000000000 ≡ true
+  pub goes_to_no_later_place : can_go_to 1000000001 ≡ false
+  pub goes_on_to_the_last_place : can_go_on 999999999 1 ≡ true
+  pub goes_on_to_no_later_place : can_go_on 1000000000 1 ≡ false
+  pub set_below : with_breakpoint 1 (2 ∷ []) ≡ 1 ∷ 2 ∷ []
+  pub set_above : with_breakpoint 3 (2 ∷ []) ≡ 2 ∷ 3 ∷ []
+  pub set_again : with_breakpoint 2 (2 ∷ []) ≡ 2 ∷ []
+  pub reads_letters : command_of (codes "m 0xabcdef 5") ≡ MemoryAt 0xabcdef 5
+  pub reads_no_letter_past_f : command_of (codes "m 0x3000000g0 5") ≡ Unknown
   pub refuses_values :
       (dialogue_of five
       ((codes "v 3", true) ∷ (codes "v 9", true) ∷ (codes "v 18446744073709551616", true) ∷ (codes "m 0x300000000 1", true)
