@@ -115,7 +115,11 @@ pub record CheckingRowsStand : Type 0 where
   pub in_condition : expression_judged [] (variable "v0") ≡ Err (Untyped MisusedVariables)
   pub in_validation : expression_judged (scope_after (chained 1)) (binary Equal (variable "v0") (num 1)) ≡ Ok type.Bool
   pub number : expression_judged [] (binary Add (num 1) (num 1)) ≡ Ok type.Int
+  pub bool_is_truth : allowed truths type.Bool ≡ true
+  pub text_is_no_truth : allowed truths type.String ≡ false
   pub number_is_no_truth : allowed truths type.Int ≡ false
+  pub text_is_text : allowed texts type.String ≡ true
+  pub bool_is_no_text : allowed texts type.Bool ≡ false
   pub number_is_no_text : allowed texts type.Int ≡ false
   pub unknown_is_truth : allowed truths type.Dyn ≡ true
   pub unknown_is_text : allowed texts type.Dyn ≡ true

@@ -6,7 +6,7 @@ use Rattle.policy_glue.specs.Policy.{Validation}
 use Rattle.policy_glue.specs.Rows.{plain_validation, policy_with, rejected, skipped}
 use Rattle.policy_glue.specs.Verdict.{CheckResult, Finding, Holds, Fails, Errs}
 use Rattle.policy_glue.specs.declared.failure_policy.FailurePolicy.{FailurePolicy, TheVariants.Fail, TheVariants.Ignore}
-use Rattle.policy_glue.specs.declared.outcome.Outcome.TheVariants.{Admitted, Denied}
+use Rattle.policy_glue.specs.declared.outcome.Outcome.TheVariants.{Admitted, Denied, Skipped}
 use Rattle.policy_glue.specs.declared.reason.Reason.{Reason, TheVariants.Forbidden, TheVariants.Invalid}
 
 -- the validation `a`, with a message that has a space at both ends, and a reason
@@ -72,4 +72,5 @@ pub record FindingRowsStand : Type 0 where
   -- other outcomes
   pub was_rejected : findings_of (policy_with Fail (with_message ∷ [])) rejected ≡ finding (codes "match conditions not decided") Invalid
   pub was_skipped : findings_of (policy_with Fail (with_message ∷ [])) skipped ≡ []
+  pub was_skipped_after_results : findings_of (policy_with Fail (with_message ∷ [])) (record { outcome = Skipped; findings = bare_result Fails ∷ [] }) ≡ []
   pub admitted : findings_of (policy_with Fail (with_message ∷ [])) (record { outcome = Admitted; findings = bare_result Holds ∷ [] }) ≡ []

@@ -49,9 +49,14 @@ pub record PolicyRowsStand : Type 0 where
   pub two_of_a_name :
       said (codes "{\"variables\":[{\"name\":\"v\",\"expression\":\"a\"},{\"name\":\"v\",\"expression\":\"b\"}],\"validations\":[{\"expression\":\"a\"}]}")
       ≡ Err InvalidField
+  pub name_with_dash : said (codes "{\"variables\":[{\"name\":\"a-b\",\"expression\":\"a\"}],\"validations\":[]}") ≡ Err InvalidField
+  pub name_from_digit : said (codes "{\"variables\":[{\"name\":\"1a\",\"expression\":\"a\"}],\"validations\":[]}") ≡ Err InvalidField
+  pub empty_name : said (codes "{\"variables\":[{\"name\":\"\",\"expression\":\"a\"}],\"validations\":[]}") ≡ Err InvalidField
   pub reserved_name : said (codes "{\"variables\":[{\"name\":\"if\",\"expression\":\"a\"}],\"validations\":[]}") ≡ Err InvalidField
   pub no_validations : said (codes "{}") ≡ Err InvalidField
   pub empty_validations : said (codes "{\"validations\":[]}") ≡ Err NoValidations
+  pub later_line_feed : said (codes "{\"validations\":[{\"expression\":\"a\"},{\"expression\":\"a\",\"message\":\"a\\nb\"}]}")
+      ≡ Err MessageWithLineBreak
   pub line_feed : said (codes "{\"validations\":[{\"expression\":\"a\",\"message\":\"a\\nb\"}]}") ≡ Err MessageWithLineBreak
 
 -- ---- verdicts
