@@ -1,12 +1,18 @@
 """Feeds a gatekeeper reviews that are made to stall it, and prints the costliest.
 
 usage: tools/hostile [--seed N] [--count N] [--keep FOLDER] [--program PROGRAM]
+       tools/hostile --loops [--seed N] [--count N] [--keep FOLDER] [--program PROGRAM]
+       tools/hostile --rows [--keep FOLDER] [--program PROGRAM]
 
 Each review is one of `examples/policies` or of a policy from a seed, of up to three mebibytes, with texts, lists or
 maps that are made large. A gatekeeper is started for it, with the policy and the default number of steps. It has to
 answer with one line, within 1 s of processor time and 200 MB. It prints the ten that took most time and the ten that
 took most memory, and ends with status 1 if one took more than that, or was not answered. With `--keep` the
 documents of those are written to a folder. An interrupt ends it early, with what it found so far. It builds nothing.
+
+With --loops the policies are loops that read large parts of a document in each turn, and values that are alike but
+for one place. A gatekeeper gets 25 reviews, one after another. With --rows it is given the documents that once
+stalled it, of celbpf_tools/hostile/rows.py.
 """
 
 import argparse
@@ -18,15 +24,20 @@ from typing import Any, Iterator
 
 from ..entry import usage_of
 from ..home import built
-from ..hostile.costs import cost_of, worst
+from ..hostile import loops
+from ..hostile.costs import Cost, cost_of, worst
 from ..hostile.reviews import hostile
-from ..seeded.cases import case_of, wanted
+from ..hostile.rows import rows
+from ..hostile.watched import Watched
+from ..seeded.cases import Case, case_of, wanted
 from ..seeded.examples import examples
 from ..seeded.numbers import Numbers
 
 # policies from the seed, beside those of the examples
 SEEDED = 40
 NAMES = ("policy", "namespace", "params")
+# reviews that a gatekeeper gets with --loops
+LINES = 25
 
 
 def words() -> argparse.Namespace:
@@ -35,6 +46,9 @@ def words() -> argparse.Namespace:
     parser.add_argument("--count", type=int, default=5_000)
     parser.add_argument("--keep", type=Path)
     parser.add_argument("--program", default=built("gatekeeper"))
+    forms = parser.add_mutually_exclusive_group()
+    forms.add_argument("--loops", action="store_true")
+    forms.add_argument("--rows", action="store_true")
     return parser.parse_args()
 
 
@@ -78,6 +92,10 @@ def hold(folder: Path, case: Any) -> list:
 
 def tell(title: str, found: list) -> None:
     print(title)
+    tell_each(found)
+
+
+def tell_each(found: list) -> None:
     for (name, length), cost in found:
         print(f"  {name:48} {length:9,} bytes {cost.seconds:6.2f} s {cost.megabytes:7.1f} MB {cost.answer[:40]!r}")
 
@@ -93,28 +111,63 @@ class Attack:
 
     def give(self, folder: Path, name: str, case: Any) -> None:
         """Gives a gatekeeper a review that is made from a case's."""
-        place = len(self.costs)
         line = hostile(self.numbers, json.loads(case.review))
-        cost = cost_of(self.asked.program, hold(folder, case), line)
+        self.keep(name, case, line, cost_of(self.asked.program, hold(folder, case), line))
+
+    def give_loops(self, folder: Path) -> None:
+        """Gives a gatekeeper with a policy of loops some reviews."""
+        policy = loops.policy(self.numbers)
+        case = Case(json.dumps(policy).encode(), b"")
+        name = " ".join(one["expression"] for one in policy["spec"]["validations"])
+        watched = Watched(self.asked.program, hold(folder, case))
+        try:
+            for _ in range(LINES):
+                line = loops.line(self.numbers)
+                self.keep(name, case, line, watched.give(line))
+        finally:
+            watched.end()
+
+    def give_rows(self, folder: Path) -> None:
+        """Gives gatekeepers the documents that once stalled one."""
+        for name, policy, review in rows():
+            case = Case(json.dumps(policy).encode(), b"")
+            line = json.dumps(review, separators=(",", ":")).encode() + b"\n"
+            self.keep(name, case, line, cost_of(self.asked.program, hold(folder, case), line))
+            tell_each(self.costs[-1:])
+
+    def keep(self, name: str, case: Any, line: bytes, cost: Cost) -> None:
+        """Keeps what a review took, and tells of it if that is too much."""
+        place = len(self.costs)
         self.costs.append(((f"{place} {name}", len(line)), cost))
         if cost.is_within() and cost.is_answered():
             return
         self.bad += 1
-        tell("exceeds the bounds:", self.costs[-1:])
+        if not self.asked.rows:
+            tell("exceeds the bounds:", self.costs[-1:])
         if self.asked.keep:
             kept = self.asked.keep / str(place)
             kept.mkdir(parents=True, exist_ok=True)
             hold(kept, case)
             (kept / "line.jsonl").write_bytes(line)
 
+    def attack(self, folder: Path) -> None:
+        """All reviews of the form that is asked for."""
+        if self.asked.rows:
+            self.give_rows(folder)
+            return
+        found = [] if self.asked.loops else cases(self.numbers)
+        while len(self.costs) < self.asked.count:
+            if self.asked.loops:
+                self.give_loops(folder)
+            else:
+                self.give(folder, *self.numbers.pick(found))
+
     def run(self) -> None:
         """All of them, or those until an interrupt, which a shell lets its background jobs ignore."""
         signal.signal(signal.SIGINT, signal.default_int_handler)
-        found = cases(self.numbers)
         with tempfile.TemporaryDirectory() as folder:
             try:
-                for _ in range(self.asked.count):
-                    self.give(Path(folder), *self.numbers.pick(found))
+                self.attack(Path(folder))
             except KeyboardInterrupt:
                 pass
 
@@ -122,8 +175,9 @@ class Attack:
 def main() -> int:
     attack = Attack(words())
     attack.run()
-    tell("most time:", worst(attack.costs, lambda cost: cost.seconds))
-    tell("most memory:", worst(attack.costs, lambda cost: cost.megabytes))
+    if not attack.asked.rows:
+        tell("most time:", worst(attack.costs, lambda cost: cost.seconds))
+        tell("most memory:", worst(attack.costs, lambda cost: cost.megabytes))
     count = len(attack.costs)
     print(f"{count - attack.bad} of {count} reviews were answered within the bounds")
     return 1 if attack.bad else 0

@@ -2,5 +2,7 @@
 
     shapes                   texts, lists and maps that are made large, and where they are put
     reviews                  the reviews of example policies with such parts
-    costs                    runs of a gatekeeper, with their processor time and memory
+    alike, loops             values that are alike but for one place, and policies that compare them in loops
+    rows                     documents that stalled a gatekeeper
+    costs, watched           runs of a gatekeeper, with their processor time and memory
 """

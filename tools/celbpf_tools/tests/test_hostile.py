@@ -4,6 +4,7 @@ import json
 import unittest
 from typing import Any
 
+from ..hostile import alike, loops, rows
 from ..hostile.costs import Cost, worst
 from ..hostile.reviews import MOST, hostile
 from ..hostile.shapes import at, changed, large, long_text, many, nested, places, put, size, wide_map
@@ -69,6 +70,38 @@ class Reviews(unittest.TestCase):
 
     def test_same_seed_same_line(self) -> None:
         self.assertEqual(hostile(Numbers(9), REVIEW), hostile(Numbers(9), REVIEW))
+
+
+class Loops(unittest.TestCase):
+    def test_alike_values_differ(self) -> None:
+        for seed in range(8):
+            for form in (alike.lists, alike.maps, alike.towers):
+                made = form(Numbers(seed), 3, 60)
+                self.assertEqual(len({json.dumps(value) for value in made}), 3)
+
+    def test_lines_are_reviews_within_the_bound(self) -> None:
+        for seed in range(4):
+            line = loops.line(Numbers(seed))
+            self.assertLessEqual(len(line), MOST + 1)
+            self.assertEqual(json.loads(line)["request"]["uid"], "u")
+
+    def test_policies_name_what_is_there(self) -> None:
+        for seed in range(200):
+            for one in loops.policy(Numbers(seed))["spec"]["validations"]:
+                self.assertNotRegex(one["expression"], r"\b[PQR]\b")
+
+    def test_rows_are_within_the_bound(self) -> None:
+        for part in (rows.membership, rows.equality, rows.memory):
+            for name, policy, review in part():
+                length = len(json.dumps(review, separators=(",", ":")))
+                self.assertLess(length, MOST, name)
+                self.assertTrue(policy["spec"]["validations"])
+
+    def test_near_parts_do_not_occur(self) -> None:
+        [text] = rows.letters(1, 3_000)
+        for part in rows.near_parts(text, 5, 60):
+            self.assertIn(part[1:], text)
+            self.assertNotIn(part, text)
 
 
 class Costs(unittest.TestCase):
