@@ -24,11 +24,11 @@ unfoldable pub word_lines : List ℕ → Memory → ℕ → ℕ → List ℕ
 word_lines name m from zero = []
 word_lines name m from (suc i) = word_lines name m from i ++ word_line name i (verdict_word m (from + 8 * i))
 
--- the lines of messages, which only programs of images of version 2 write
+-- the lines of messages, the 64 words from byte 528 on, which only programs of images of version 2 write
 abbrev pub message_lines : ℕ → Memory → List ℕ
 message_lines version m = if nat_eq version 2 then word_lines (codes "message") m 528 64 else []
 
--- the lines of a verdict: outcome and denials, the validations, and the messages
+-- the lines of a verdict: outcome and denials, the validations, which are the 64 words from byte 16 on, and the messages
 unfoldable pub verdict_lines : ℕ → Memory → List ℕ
 verdict_lines version m = verdict_line m ++ (word_lines (codes "validation") m 16 64 ++ message_lines version m)
 
