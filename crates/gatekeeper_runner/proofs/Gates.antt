@@ -1,5 +1,11 @@
 -- The decisions of the gates, one after the other.
-use Rattle.gatekeeper_runner.proofs.Prelude.{◌≡◌, ℕ, zero, suc, ◌+◌, ◌<◌, ◌≤◌, List, [], ◌∷◌, ◌++◌, Ok, Err, Some, None, Result, String, Global, string_bytes, length, take, refl, sym, ap, ◌∙◌, subst, arith, get_or, map-append, take_all, take_more, document_of, OneImage, Decision, RunError, DecideTogether, AreGates, AreResults, AreValuesOf, AreTallied, AddsResult, IsGateOf, IsResult, DecidesAlone, Gatekeeper, NamedGate, PolicyFile, PolicyResult, Refused, Tally, decided, ending_of, joined, label_view, uid_in}
+use Rattle.gatekeeper_runner.proofs.Prelude.{◌≡◌, ℕ, zero, suc, ◌+◌, ◌<◌, ◌≤◌, List, [], ◌∷◌, ◌++◌, Ok, Err, Some, None, Result, String}
+use Rattle.gatekeeper_runner.proofs.Prelude.{Global, string_bytes, length, take, refl, sym, ap, ◌∙◌, subst, arith, get_or, map-append}
+use Rattle.gatekeeper_runner.proofs.Prelude.{take_all, take_more, document_of, OneImage, Decision, RunError, DecideTogether, AreGates}
+use Rattle.gatekeeper_runner.proofs.Prelude.{AreResults, AreValuesOf, AreTallied, AddsResult, IsGateOf, IsResult, DecidesAlone}
+use Rattle.gatekeeper_runner.proofs.Prelude.{Gatekeeper, NamedGate, PolicyFile, PolicyResult, Refused, Tally, IsTallyOf, decided}
+use Rattle.gatekeeper_runner.proofs.Prelude.{ending_of, joined, label_view, uid_in}
+use Rattle.std.proofs.Common.{length-append}
 use Rattle.std.specs.Prelude.{option_and_then}
 use Rattle.value_store.specs.Documents.{document_given}
 use Rattle.value_store.specs.Placing.{Contents}
@@ -55,32 +61,67 @@ results_more t review [] r are is = (is, tt)
 results_more t review (x ∷ xs) r are is = (are.0, results_more t review xs r are.1 is)
 
 -- the gates so far were asked
-module _ (t : Gatekeeper) (review : List ℕ) (gates : List NamedGate) (are : AreGates t.policies gates) (i : ℕ) (before : Tally) (so_far : AreTallied OneImage t review (take i t.policies) before) where
-  pub tallied_all : length gates ≤ i → AreTallied OneImage t review t.policies before
-  tallied_all past = subst (λ (ps : List PolicyFile). AreTallied OneImage t review ps before) (take_all i t.policies (let many = as_many t.policies gates are in omega (arith, past, many))) so_far
+module _ (t : Gatekeeper) (review : List ℕ) (asked : List PolicyFile) (gates : List NamedGate) (are : AreGates asked gates)
+    (i : ℕ) (before : Tally) (so_far : AreTallied OneImage t review (take i asked) before) where
+  pub tallied_all : length gates ≤ i → AreTallied OneImage t review asked before
+  tallied_all past =
+      let many = as_many asked gates are in
+      subst (λ (ps : List PolicyFile). AreTallied OneImage t review ps before) (take_all i asked (omega (arith, past, many))) so_far
 
   module _ (gate : NamedGate) (within : i < length gates) (is : gate ≡ get_or gates i gate) where
-    inside : i < length t.policies
-    inside = let many = as_many t.policies gates are in omega (arith, within, many)
+    inside : i < length asked
+    inside = let many = as_many asked gates are in omega (arith, within, many)
 
     policy : PolicyFile
-    policy = get_or t.policies i no_file
+    policy = get_or asked i no_file
 
     its_policy : IsGateOf policy gate
     unfolding policy
-    its_policy = subst (IsGateOf (get_or t.policies i no_file)) (sym is) (gate_at t.policies gates i gate are within)
+    its_policy = subst (IsGateOf (get_or asked i no_file)) (sym is) (gate_at asked gates i gate are within)
 
     pub tallied_more : (result : Result Decision RunError) (after : Tally) → ((p : PolicyFile) → IsGateOf p gate → DecidesAlone OneImage t p.document review result)
-        → AddsResult (label_view gate.label) result before after → AreTallied OneImage t review (take (i + 1) t.policies) after
+        → AddsResult (label_view gate.label) result before after → AreTallied OneImage t review (take (i + 1) asked) after
     unfolding policy
     tallied_more result after decides adds = record {
       results = so_far.results ++ record { policy = policy; result = result } ∷ [];
       of_policies = map-append (λ (r : PolicyResult). r.policy) so_far.results (record { policy = policy; result = result } ∷ [])
           ∙ ap (λ (ps : List PolicyFile). ps ++ policy ∷ []) so_far.of_policies
-          ∙ sym (take_more t.policies i no_file inside);
+          ∙ sym (take_more asked i no_file inside);
       are = results_more t review so_far.results (record { policy = policy; result = result }) so_far.are (record { decides = decides policy its_policy; no_memory = adds.no_memory });
       tallied = adds.adds so_far.results policy its_policy.label so_far.tallied;
     }
+
+-- the gates before the last one belong to the policies before the last one
+front_gates : (policies : List PolicyFile) (gates : List NamedGate) (last : NamedGate) → AreGates policies (gates ++ last ∷ [])
+    → AreGates (take (length gates) policies) gates
+front_gates policies [] last are = tt
+front_gates (p ∷ ps) (g ∷ gs) last are = (are.0, front_gates ps gs last are.1)
+front_gates [] (g ∷ gs) last are = absurd are
+
+last_gate : (gates : List NamedGate) (last : NamedGate) → last ≡ get_or (gates ++ last ∷ []) (length gates) last
+last_gate [] last = refl
+last_gate (g ∷ gs) last = last_gate gs last
+
+-- the gates before the last one were asked, and then the last one
+pub tallied_last : (t : Gatekeeper) (review : List ℕ) (others : List NamedGate) (last : NamedGate)
+    → AreGates t.policies (others ++ last ∷ []) → (before after : Tally)
+    → ((asked : List PolicyFile) → AreGates asked others → AreTallied OneImage t review asked before)
+    → (result : Result Decision RunError) → ((p : PolicyFile) → IsGateOf p last → DecidesAlone OneImage t p.document review result)
+    → AddsResult (label_view last.label) result before after → AreTallied OneImage t review t.policies after
+tallied_last t review others last are before after so_far result decides adds =
+    let all = others ++ last ∷ [] in
+    let many : length all ≡ length others + 1 = length-append others (last ∷ []) in
+    let front = so_far (take (length others) t.policies) (front_gates t.policies others last are) in
+    let more = tallied_more t review t.policies all are (length others) before front last
+    (omega (arith, many)) (last_gate others last) result after decides adds in
+    tallied_all t review t.policies all are (length others + 1) after more (omega (arith, many))
+
+-- there are no gates
+pub tallied_none : (t : Gatekeeper) (review : List ℕ) (gates : List NamedGate) (tally : Tally) → AreGates t.policies gates
+    → length gates ≡ 0 → IsTallyOf [] tally → AreTallied OneImage t review t.policies tally
+tallied_none t review gates tally are none is =
+    tallied_all t review t.policies gates are 0 tally
+    (record { results = []; of_policies = refl; are = tt; tallied = is }) (omega (arith, none))
 
 -- all gates were asked
 pub all_decided : (t : Gatekeeper) (review : List ℕ) (values : Contents) (uid : String Global) (tally : Tally) (r : Result Decision Refused) → AreValuesOf t review values (string_bytes uid)

@@ -1,9 +1,10 @@
 //! Decides reviews under several policies.
-ghost use Rattle.std.specs.Prelude.{◌≡◌, ◌≢◌, ℕ, List, None, Err, IfOk, string_bytes};
+ghost use Rattle.std.specs.Prelude.{◌≡◌, ◌≢◌, ◌++◌, ◌∷◌, [], ℕ, List, None, Err, IfOk, string_bytes};
 ghost use Rattle.value_table.specs.Held.{held_contents};
 ghost use Rattle.policy_glue.specs.OneImage.{OneImage};
 ghost use Rattle.admission.specs.Decisions.{decision_view};
 ghost use Rattle.admission.specs.declared.run_error.RunError.TheVariants.{Memory};
+ghost use Rattle.gatekeeper_runner.specs.Tally.{AreTallied};
 ghost use Rattle.gatekeeper_runner.specs.Together.{gatekeeper_of, together_view, AreGates, AreValuesOf, DecidesAlone, DecideTogether, IsGateOf, PolicyFile};
 
 use crate::errors::is_memory;
@@ -40,38 +41,68 @@ impl Gatekeeper {
         ensures { IfOk result (λ r. (policies : List PolicyFile) → AreGates policies self.now.gates.items → DecideTogether OneImage (gatekeeper_of policies self.now) review.now (together_view r)) }
     {
         match self.documents.table_of(review) {
-            Ok((table, uid)) => self.decision_on(&table, uid),
+            Ok((table, uid)) => self.decision_on(table, uid),
             Err(error) => refused_first(RunError::from(error)),
         }
     }
 
-    /// The decision on the review with this uid whose roots are in the table.
+    /// The decision on the review with this uid whose roots are in the table. The last policy's
+    /// program runs on the table itself.
     fn decision_on(
         &self,
-        table: &Table,
+        table: Table,
         uid: String,
     ) -> Result<Result<Decision, Refused>, AllocError>
         ensures { IfOk result (λ r. (policies : List PolicyFile) (review : List ℕ) → AreGates policies self.now.gates.items
-            → AreValuesOf (gatekeeper_of policies self.now) review (held_contents table.now) (string_bytes uid)
+            → AreValuesOf (gatekeeper_of policies self.now) review (held_contents table) (string_bytes uid)
             → DecideTogether OneImage (gatekeeper_of policies self.now) review (together_view r)) }
     {
-        let mut tally = Tally::new();
-        let gates = self.gates.as_slice();
-        for gate in gates {
-            let decision = self.decision_by(gate, table, uid.as_str());
-            tally = tally.with(self.alloc, &gate.label, decision)?;
+        match self.gates.split_last() {
+            Some((last, others)) => self.decision_with(others, last, table, uid),
+            None => Ok(Tally::new().ending(uid)),
         }
-        Ok(tally.ending(uid))
     }
 
-    /// The decision of one policy on this review. Its program runs on a copy of the table, which
-    /// shares the table's values.
-    fn decision_by(&self, gate: &NamedGate, table: &Table, uid: &str) -> Result<Decision, RunError>
-        ensures { (policies : List PolicyFile) (policy : PolicyFile) (review : List ℕ) → IsGateOf policy gate.now
+    /// The decision of these policies and a last one on such a review.
+    fn decision_with(
+        &self,
+        others: &[NamedGate],
+        last: &NamedGate,
+        table: Table,
+        uid: String,
+    ) -> Result<Result<Decision, Refused>, AllocError>
+        ensures { IfOk result (λ r. (policies : List PolicyFile) (review : List ℕ) → AreGates policies (others.now ++ last.now ∷ [])
+            → AreValuesOf (gatekeeper_of policies self.now) review (held_contents table) (string_bytes uid)
+            → DecideTogether OneImage (gatekeeper_of policies self.now) review (together_view r)) }
+    {
+        let first = self.tally_of(others, &table, uid.as_str())?;
+        let decision = self.decision_by(last, table, uid.as_str());
+        let all = first.with(self.alloc, &last.label, decision)?;
+        Ok(all.ending(uid))
+    }
+
+    /// The results of these policies. Each program runs on a copy of the table, which shares the
+    /// table's values.
+    fn tally_of(&self, gates: &[NamedGate], table: &Table, uid: &str) -> Result<Tally, AllocError>
+        ensures { IfOk result (λ tally. (policies asked : List PolicyFile) (review : List ℕ) → AreGates asked gates.now
             → AreValuesOf (gatekeeper_of policies self.now) review (held_contents table.now) uid.now
+            → AreTallied OneImage (gatekeeper_of policies self.now) review asked tally) }
+    {
+        let mut tally = Tally::new();
+        for gate in gates {
+            let decision = self.decision_by(gate, table.copy()?, uid);
+            tally = tally.with(self.alloc, &gate.label, decision)?;
+        }
+        Ok(tally)
+    }
+
+    /// The decision of one policy on this review.
+    fn decision_by(&self, gate: &NamedGate, table: Table, uid: &str) -> Result<Decision, RunError>
+        ensures { (policies : List PolicyFile) (policy : PolicyFile) (review : List ℕ) → IsGateOf policy gate.now
+            → AreValuesOf (gatekeeper_of policies self.now) review (held_contents table) uid.now
             → DecidesAlone OneImage (gatekeeper_of policies self.now) policy.document review (decision_view result) }
     {
-        gate.gate.decision_on(table.copy()?, uid, self.steps)
+        gate.gate.decision_on(table, uid, self.steps)
     }
 }
 

@@ -6,6 +6,7 @@ use Rattle.gatekeeper_runner.proofs.gatekeeper.Gatekeeper.decision_by.Goals as g
 pub returns : goal.returns
 returns c policies policy review of given =
     let d = under (gatekeeper_of policies c.args.self.now) policy.document review in (
-      c.decision_on.ensures.says d of.policy (record { contents = rw (c.in_ok-copy.ensures.values, c.in_ok-copy.ensures.charge) given.values_are; uid_is = given.uid_is }),
-      of_one d _ _ _ _ of.policy.0 of.image (c.decision_on.ensures.runs d of.policy (record { contents = rw (c.in_ok-copy.ensures.values, c.in_ok-copy.ensures.charge) given.values_are; uid_is = given.uid_is })),
+      c.decision_on.ensures.says d of.policy (record { contents = given.values_are; uid_is = given.uid_is }),
+      of_one d _ _ _ _ of.policy.0 of.image
+          (c.decision_on.ensures.runs d of.policy (record { contents = given.values_are; uid_is = given.uid_is })),
     )
