@@ -12,7 +12,9 @@ use Rattle.serde_json.specs.Find.{get, get_member}
 use Rattle.value_store.specs.Documents.{equals_string}
 use Rattle.value_store.specs.Reviews.{without}
 use Rattle.policy_glue.specs.Policy.{NamedExpression, Policy, Validation}
-use Rattle.policy_glue.specs.Reading.{failure_in, has_head, has_spec_form, has_top_form, judged, policy_in, policy_of, policy_parts_in, spec_in, spec_parts}
+use Rattle.policy_glue.specs.Reading.{failure_in, has_head, has_spec_form, has_top_form, judged, named_list_in, policy_in, policy_of, policy_parts_in, spec_in, spec_parts, validation_in}
+use Rattle.policy_glue.specs.declared.name_rule.NameRule.TheVariants.{NotEmpty, Identifier}
+use Rattle.policy_glue.specs.Documents.{list_in}
 use Rattle.policy_glue.specs.declared.failure_policy.FailurePolicy.{FailurePolicy, TheVariants.Fail, TheVariants.Ignore}
 use Rattle.policy_glue.specs.declared.policy_error.PolicyError.{PolicyError, TheVariants.InvalidField, TheVariants.MessageWithLineBreak, TheVariants.NoValidations, TheVariants.NotAPolicy, TheVariants.NotJson, TheVariants.TooManyParts}
 use Rattle.admission_documents.specs.Documents.{field, field_of, present}
@@ -102,7 +104,9 @@ first_part (Some f) (Some cs) (Some vs) (Some rs) q e =
 
 failure_is : (d : json.Data) (q : Policy) → spec_parts d ≡ Some q → failure_in (get (codes "failurePolicy") d) ≡ Some q.failure_policy
 unfolding spec_parts
-failure_is d q e = first_part _ _ _ _ q e
+failure_is d q e =
+    first_part (failure_in (get (codes "failurePolicy") d)) (named_list_in NotEmpty (get (codes "matchConditions") d))
+    (named_list_in Identifier (get (codes "variables") d)) (list_in validation_in (get (codes "validations") d)) q e
 
 -- a specification is present
 shown : (d : json.Data) → has_spec_form d ≡ true → present (Some d) ≡ Some d
