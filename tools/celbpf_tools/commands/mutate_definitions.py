@@ -1,33 +1,39 @@
 """Changes definitions one at a time, and lists the changes that no row and no law notices.
 
-usage: tools/mutate-definitions [--seed N].. [--count N] [--crate NAME].. [--above N] [--again FILE] [--list | --unpinned] [FILE NAME]
+usage: tools/mutate-definitions [--seed N].. [--count N] [--crate NAME].. [--above N] [--again FILE]
+                                [--list | --unpinned | --computed] [FILE NAME]
 
 From each seed it draws --count changes out of the definitions that tools/belief lists, those of FILE and NAME alone if
 they are given. A change moves a number by one, takes `<` for `<=`, true for false, one variant or argument for another,
 exchanges or merges results of cases, exchanges tests, or leaves out a case, a premise, a field or a part of a
-statement. For each the prover checks the rows and laws of the definition's crate that rest on it, which follow no code,
-on a copy of the crates, and then the rows of the --above (1) nearest crates above that rest on it. Changes without a
-meaning are not counted. Each gets a line, with the time that it took: killed, by rows or by laws; survived; equivalent,
-where the file `equivalent` of tools/data/mutate-definitions says why it means the same as what it replaces, and then it
-is not tried; or undecided, where laws alone are not proved any more and the file `false-laws` does not say how the
-change makes one false: that may be its proof alone. --again tries the changes that survived or were undecided by the
-lines of FILE, what an earlier run printed. --list prints changes and tries none; --unpinned prints the
-definitions on which no literal row rests. It ends with status 1 where a change survived.
+statement. The prover reads the changed definitions of a crate in one run; changes without a meaning are not counted.
+Then the literal rows of all crates are computed in Python (`computing`) over each change, those alone that run the
+definition; as they stand, all that have an answer there are true. Where none is false, the prover checks the rows and
+laws of the definition's crate that rest on it, which follow no code, on a copy of the crates, and then the rows of the
+--above (1) nearest crates above that rest on it. Each change gets a line: killed, by rows or by laws; survived;
+equivalent, where the file `equivalent` of tools/data/mutate-definitions says why it means the same as what it replaces,
+and then it is not tried; or undecided, where laws alone are not proved any more and the file `false-laws` does not say
+how the change makes one false: that may be its proof alone. A table has the counts of each crate. --again tries the
+changes that survived or were undecided by the lines of FILE, what an earlier run printed. --computed asks no prover:
+what no computed row refuses is left, also without a meaning. --list prints changes and tries none; --unpinned prints
+the definitions on which no literal row rests. It ends with status 1 where a change survived.
 """
 
 import argparse
+import time
 from collections import Counter
 from itertools import islice
 from pathlib import Path
 from tempfile import TemporaryDirectory
 from typing import Iterator
 
-from ..definitions import Module
+from ..computing.rows import Rows
+from ..definitions import CRATES, Module
 from ..entry import Stop, usage_of
 from ..mutating import known
 from ..mutating.drawing import Drawn, again, believed, changes, drawn, read_all
 from ..mutating.pins import Pin, all_pins
-from ..mutating.trying import Sources, workshop
+from ..mutating.trying import Sources, Workshop, with_imports, workshop
 from ..mutating.verdicts import MEANT, VERDICTS, Outcome, decided
 
 
@@ -39,6 +45,7 @@ def words() -> argparse.Namespace:
     parser.add_argument("--above", type=int, default=1)
     parser.add_argument("--again", type=Path)
     parser.add_argument("--list", action="store_true")
+    parser.add_argument("--computed", action="store_true")
     parser.add_argument("--unpinned", action="store_true")
     parser.add_argument("definition", nargs="*", metavar="FILE NAME")
     given = parser.parse_args()
@@ -55,18 +62,41 @@ def by_crate(changes: list[Drawn]) -> dict[str, list[Drawn]]:
     return found
 
 
+class Computed:
+    """The rows of all crates, which are computed over a change."""
+
+    def __init__(self, seconds: float = 2):
+        self.rows, self.seconds = Rows(), seconds
+        for row in self.rows.all:
+            self.rows.compute(row, seconds)
+        answers = Counter(row.answer for row in self.rows.all)
+        print(f"{answers[True]} rows are true as computed, {answers[None]} have no answer, {answers[False]} are false", flush=True)
+        if answers[False]:
+            raise Stop("rows that are proved are false as computed", 1)
+
+    def outcome(self, one: Drawn) -> Outcome:
+        """What the rows say of a change: killed, or left."""
+        began = time.process_time()
+        whole = (CRATES / one.file).read_text(encoding="utf-8")
+        text = with_imports(one.change.applied(whole), one.change.new)
+        row, count = self.rows.against(one.definition, one.crate, text, self.seconds)
+        seconds = time.process_time() - began
+        return Outcome("killed", [row.told], seconds=seconds) if row else Outcome("left", [f"{count} rows"], seconds=seconds)
+
+
 class Run:
-    """A run: what is known of changes, what notices them, and what came of them so far."""
+    """A run: what is known of changes, what notices them, and what came of them so far, by crates."""
 
     def __init__(self, pins: list[Pin], sources: Sources, most_above: int):
         self.pins, self.sources, self.most_above = pins, sources, most_above
         self.same, self.false_laws = known.read(known.EQUIVALENT), known.read(known.FALSE_LAWS)
-        self.counts, self.seconds = Counter(), []
+        self.computed, self.counts, self.seconds = Computed(), {}, []
 
     def tell(self, one: Drawn, outcome: Outcome) -> None:
         """Counts an outcome, and prints its line."""
-        self.counts[outcome.verdict] += 1
-        self.counts["by rows"] += bool(outcome.rows)
+        counts = self.counts.setdefault(one.crate, Counter())
+        counts[outcome.verdict] += 1
+        counts["by rows"] += outcome.verdict == "killed" and bool(outcome.rows)
         if outcome.verdict in MEANT and outcome.verdict != "equivalent":
             self.seconds.append(outcome.seconds)
         print(f"{outcome.told}: {one.told}", flush=True)
@@ -75,13 +105,17 @@ class Run:
         """What comes of changes; those that are known to mean the same are not tried."""
         for one in changes:
             if one.told in self.same:
-                yield one, Outcome("equivalent")
+                yield one, Outcome("equivalent", reason=self.same[one.told])
         for crate, of_crate in by_crate([one for one in changes if one.told not in self.same]).items():
             with workshop(crate, self.pins, self.sources, self.most_above) as place:
-                if not place.stands(of_crate[0].definition[0]):
-                    raise Stop(f"{crate}: its rows and laws are not proved as they stand", 1)
+                without = place.ill_typed(of_crate)
                 for one in of_crate:
-                    yield one, decided(place.tried(one), self.false_laws.get(one.told, ""))
+                    outcome = Outcome("ill-typed") if one in without else self.computed.outcome(one)
+                    yield one, self.by_prover(place, one) if outcome.verdict == "left" else outcome
+
+    def by_prover(self, place: Workshop, one: Drawn) -> Outcome:
+        """What comes of a change by the prover."""
+        return decided(place.tried(one), self.false_laws.get(one.told, ""))
 
     def try_until(self, changes: Iterator[Drawn], count: int) -> None:
         """Tries changes until so many had a meaning, or there are no more."""
@@ -92,12 +126,24 @@ class Run:
                 left -= outcome.verdict in MEANT
 
     @property
+    def table(self) -> str:
+        """The counts of each crate."""
+        heads = ["crate", *VERDICTS, "by rows"]
+        rows = [[crate, *(str(counts[head]) for head in heads[1:])] for crate, counts in sorted(self.counts.items())]
+        return "\n".join("".join(cell.ljust(22 if at == 0 else 12) for at, cell in enumerate(row)).rstrip() for row in [heads, *rows])
+
+    @property
     def told(self) -> str:
         """The counts of all verdicts, and the time of a change."""
-        meant = sum(self.counts[verdict] for verdict in MEANT)
-        told = ", ".join(f"{self.counts[verdict]} {verdict}" for verdict in VERDICTS)
+        counts = sum(self.counts.values(), Counter())
+        meant = sum(counts[verdict] for verdict in MEANT)
+        told = ", ".join(f"{counts[verdict]} {verdict}" for verdict in VERDICTS)
         mean = sum(self.seconds) / len(self.seconds) if self.seconds else 0
-        return f"{meant} changes: {told}; {self.counts['by rows']} by rows; {mean:.0f} s each, {max(self.seconds, default=0):.0f} s at most"
+        return f"{meant} changes: {told}; {counts['by rows']} by rows; {mean:.1f} s each, {max(self.seconds, default=0):.0f} s at most"
+
+    @property
+    def has_survivors(self) -> bool:
+        return any(counts["survived"] for counts in self.counts.values())
 
 
 def print_unpinned(read: dict[str, Module], pins: list[Pin], crates: list[str]) -> None:
@@ -110,6 +156,13 @@ def print_unpinned(read: dict[str, Module], pins: list[Pin], crates: list[str]) 
         print(f"{'laws ' if one.definition in laws else 'code '}{one.file} {one.name}")
     told = sum(one.definition in laws for one in without)
     print(f"{len(of)} definitions, {len(without)} without a row: {told} with laws, {len(without) - told} with the contracts of code alone")
+
+
+def print_computed(changes: list[Drawn]) -> None:
+    """What the computed rows alone say of changes."""
+    computed = Computed()
+    for one in changes:
+        print(f"{computed.outcome(one).told}: {one.told}", flush=True)
 
 
 def drawings(given: argparse.Namespace, read: dict[str, Module]) -> list[Iterator[Drawn]]:
@@ -127,6 +180,9 @@ def main() -> int:
     if given.list:
         print(*(one.told for draw in draws for one in islice(draw, given.count)), sep="\n")
         return 0
+    if given.computed:
+        print_computed([one for draw in draws for one in islice(draw, given.count)])
+        return 0
     pins = all_pins(read)
     if given.unpinned:
         print_unpinned(read, pins, given.crate)
@@ -135,5 +191,5 @@ def main() -> int:
         run = Run(pins, Sources(Path(folder), pins), given.above)
         for draw in draws:
             run.try_until(draw, given.count)
-    print(run.told)
-    return 1 if run.counts["survived"] else 0
+    print(run.table, run.told, sep="\n")
+    return 1 if run.has_survivors else 0

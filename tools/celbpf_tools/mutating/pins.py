@@ -9,7 +9,7 @@ from ..commands.belief import WORD, rests_on
 from ..definitions import CRATES, USE, Module
 
 LAW = re.compile(r"^pub fn (\w+)\(\)\n((?:    .*\n)+)\{", re.M)
-ROWS = re.compile(r"stands?$|_hold$")
+ROWS = re.compile(r"stands?$|_holds?$")
 FILES = ("laws.rt", "rows.rt")
 
 

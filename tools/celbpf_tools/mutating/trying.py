@@ -18,15 +18,17 @@ from ..home import ROOT
 from . import above
 from .drawing import Drawn
 from .pins import Pin
-from .verdicts import Outcome, judged
+from .verdicts import Outcome, judged, refused_files
 
 SECONDS = 600
 # what a changed line may name that its file did not, and the module that has it
 PRELUDE = "nat_lt nat_le int_lt int_le take drop min max true false bit_and bit_or".split()
 NEEDED = {word: f"Prelude.{{{word}}}" for word in PRELUDE} | {word: f"List.{{{word}}}" for word in ("list_any", "list_all")}
 NEEDED |= {sign: f"Prelude.{{◌{sign}◌}}" for sign in ("<", "≤", "&&", "||", "×", "⊎", "+", "-", "*", "/", "%", "+ℤ", "-ℤ")}
-# has the module of a definition read, whether or not a row or a law rests on it
-READER = "//! Reads a module of definitions.\nghost use {module} as read_it;\n\n/// Nothing.\npub fn read() {{}}\n"
+# has modules of definitions read, whether or not a row or a law rests on them
+READER = "//! Reads modules of definitions.\n{uses}\n\n/// Nothing.\npub fn read() {{}}\n"
+# a module of definitions that names those below it
+NODE = re.compile(r"^(?:pub )?mod \w+$", re.M)
 NICE = ["nice", "-n", "10"]
 
 
@@ -44,6 +46,12 @@ def with_imports(text: str, change: tuple[str, ...]) -> str:
 def lines_of(root: Path, names: list[str]) -> list[str]:
     """The lines of `crates.txt` of these crates, as rt wants a folder for each line."""
     return [line for line in (root / "crates.txt").read_text().splitlines(True) if line.partition(":")[0].strip() in names]
+
+
+def output(command: list[str], folder: Path) -> str:
+    """What a check in a folder says."""
+    it = subprocess.run([*NICE, *command], cwd=folder, capture_output=True, text=True, errors="replace")
+    return it.stdout + it.stderr
 
 
 def ran(command: list[str], folder: Path, seconds: int = SECONDS) -> Outcome:
@@ -118,9 +126,34 @@ class Workshop:
         lib.write_text(lib.read_text(encoding="utf-8") + "mod reader_of_definitions;\n", encoding="utf-8")
         self.reader = lib.with_name("reader_of_definitions.rt")
 
+    def read(self, modules: list[str]) -> None:
+        """Has these modules read by the next check."""
+        uses = "\n".join(f"ghost use {module} as read_{place};" for place, module in enumerate(modules))
+        self.reader.write_text(READER.format(uses=uses), encoding="utf-8")
+
+    def ill_typed(self, changes: list[Drawn]) -> set[Drawn]:
+        """The changes without a meaning: all are read in one check, each in a copy of its file."""
+        folder = self.folder / "crates" / self.crate / "specs"
+        names, library = {}, (folder / "Lib.antt").read_text(encoding="utf-8")
+        for place, one in enumerate(changes):
+            whole = (self.folder / "crates" / one.file).read_text(encoding="utf-8")
+            names[f"changed_{place}"] = one
+            copy = NODE.sub("", with_imports(one.change.applied(whole), one.change.new))
+            (folder / f"changed_{place}.antt").write_text(copy, encoding="utf-8")
+        (folder / "Lib.antt").write_text(library + "".join(f"pub mod {name}\n" for name in names), encoding="utf-8")
+        self.read([f"Rattle.{self.crate}.specs.{name}" for name in names])
+        try:
+            words = ["rt", "check", "--jobs", "1", "--only", "reader_of_definitions::read"]
+            said = output(words, self.folder / "crates" / self.crate)
+        finally:
+            (folder / "Lib.antt").write_text(library, encoding="utf-8")
+            for name in names:
+                (folder / f"{name}.antt").unlink()
+        return {names[name] for name in refused_files(said) if name in names}
+
     def check(self, pins: list[Pin], module: str) -> Outcome:
         """Checks these rows and laws of the crate, and that a module of it has a meaning."""
-        self.reader.write_text(READER.format(module=module), encoding="utf-8")
+        self.read([module])
         paths = ["reader_of_definitions::read", *(pin.path for pin in pins)]
         return ran(["rt", "check", "--jobs", "1", *(word for path in paths for word in ("--only", path))], self.folder / "crates" / self.crate)
 

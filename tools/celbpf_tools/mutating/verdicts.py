@@ -32,6 +32,11 @@ class Outcome:
         return f"{self.verdict} {self.seconds:.0f} s" + (f" by {by}" if by else "")
 
 
+def refused_files(said: str) -> set[str]:
+    """The names of the files of definitions that a check refuses."""
+    return {line.split(".antt:")[0].rpartition("/")[2] for line in REFUSED.findall(said)}
+
+
 def judged(said: str, status: int) -> Outcome:
     """What the lines of a check come to; where laws alone fail it is undecided."""
     if REFUSED.search(said):

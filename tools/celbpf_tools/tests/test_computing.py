@@ -1,0 +1,143 @@
+"""Definitions that are computed: how they are read, what their values are, and what rows say of a change."""
+
+import tempfile
+import unittest
+from pathlib import Path
+
+from ..computing.deciding import is_true
+from ..computing.names import Names
+from ..computing.program import Program
+from ..computing.rows import Rows
+from ..computing.sources import items, parameters
+from ..computing.syntax import STRENGTHS, Reader
+from ..computing.tokens import Token, meant, tokens, without_comment
+from ..computing.values import Unknown, elements, force
+
+SPECS = """use Rattle.std.specs.Prelude.{ℕ, ◌+◌, ◌-◌, ◌≡◌, true, false, List, [], ◌∷◌, ◌++◌, map, codes, nat_lt}
+use Rattle.a.specs.declared.kind.Kind.TheVariants as kind
+
+-- a sentence with "a text" in it
+infixl 30 ◌and◌
+abbrev pub ◌and◌ : ℕ → ℕ → ℕ
+a and b = a + b + 1
+
+pub data Shape : Type 0 where
+  round : ℕ → Shape
+  flat : Shape
+
+abbrev pub size : Shape → ℕ
+size (round n) = n
+size flat = 0
+
+-- the name of a later constructor is a variable here
+abbrev pub kept : ℕ → ℕ
+kept late = late
+
+pub data Later : Type 0 where
+  late : Later
+
+abbrev pub count : List ℕ → ℕ
+count [] = 0
+count (x ∷ xs) = 1 + count xs
+
+abbrev pub half : ℕ → ℕ
+half zero = 0
+half (suc zero) = 0
+half (suc (suc n)) = half n + 1
+
+abbrev pub name_of : kind.Kind → List ℕ
+name_of kind.Near = codes "near"
+name_of _ = codes "far\\n"
+
+pub record Pair : Type 0 where
+  pub left : ℕ
+  pub right : ℕ
+
+abbrev pub pair : Pair
+pair = record { left = 1; right = 2 }
+
+abbrev pub other : Pair
+other = record pair {
+  right = if nat_lt pair.left 2 then 7 else 8;
+}
+
+abbrev pub doubled : List ℕ
+doubled = map (λ x. let y = x + x in y) (1 ∷ 2 ∷ [])
+
+pub record RowsHold : Type 0 where
+  pub sum : 1 and 2 and 3 ≡ 8
+  pub size_of_round : size (round 5) ≡ 5
+  pub no_size : size flat ≡ 0
+  pub text : name_of kind.Near ++ name_of kind.Far ≡ codes "nearfar\\n"
+  pub updated : other.left + other.right ≡ 8
+  pub list : doubled ≡ 2 ∷ 4 ∷ []
+  pub half_of_seven : half 7 ≡ 3
+  pub of_three : count (1 ∷ 2 ∷ 3 ∷ []) ≡ 3
+  pub unequal : kept 3 ≡ 4 → 1 ≡ 2
+  pub for_all : (n : ℕ) → half n ≡ half n
+"""
+LAWS = """ghost use Rattle.a.specs.Shapes.{RowsHold, size, flat};
+ghost use Rattle.std.specs.Prelude.{◌≡◌};
+
+/// Rows.
+pub fn rows_hold()
+    ensures rows { RowsHold }
+    ensures alone { size flat ≡ 0 }
+{}
+"""
+
+
+class Reading(unittest.TestCase):
+    def test_tokens(self):
+        self.assertEqual(tokens('f (a.b).c 0x1f "x\\"y" λ x. x')[0], Token("name", "f"))
+        self.assertEqual([it.value for it in tokens("(a.b).c.d 0x1f 1_0")], ["(", ("a", "b"), ")", "c", "d", 31, 10])
+        self.assertEqual(without_comment('f "--" -- a comment'), 'f "--"')
+        self.assertEqual(meant("\\u{e9}\\x41\\n"), "éA\n")
+
+    def test_expressions(self):
+        def read(text: str) -> tuple:
+            return Reader(tokens(text), STRENGTHS).whole()
+
+        self.assertEqual(read("a + b * c"), ("operator", "+", ("name", "a"), ("operator", "*", ("name", "b"), ("name", "c"))))
+        self.assertEqual(read("f x {A} λ y. y"), ("apply", ("name", "f"), [("name", "x"), ("function", ["y"], ("name", "y"))]))
+        self.assertEqual(read("(a, b)"), ("tuple", [("name", "a"), ("name", "b")]))
+        self.assertEqual(read("(x : A) → B"), ("all",))
+        self.assertEqual(read("a → b"), ("implies", ("name", "a"), ("name", "b")))
+
+    def test_items(self):
+        self.assertEqual(list(items(["a =", "  b", "c = {", "}", ""], 0)), [["a =", "  b"], ["c = {", "}"]])
+        self.assertEqual(parameters(tokens("{A : B} (x y : C) : D")), ["x", "y"])
+
+
+class Computing(unittest.TestCase):
+    def setUp(self):
+        folder = tempfile.TemporaryDirectory()
+        self.addCleanup(folder.cleanup)
+        self.crates = Path(folder.name)
+        for part, name, text in (("specs", "Shapes.antt", SPECS), ("src", "laws.rt", LAWS)):
+            (self.crates / "a" / part).mkdir(parents=True)
+            (self.crates / "a" / part / name).write_text(text, encoding="utf-8")
+
+    def test_values(self):
+        program = Program(Names(self.crates))
+        found = program.value("Rattle.a.specs.Shapes", "doubled")
+        self.assertEqual([force(it) for it in elements(found)], [2, 4])
+        rows = program.value("Rattle.a.specs.Shapes", "RowsHold")
+        self.assertEqual([is_true(it) for it in rows.parts], [True] * 9 + [None])
+        self.assertRaises(Unknown, Program.unread("no reason"))
+
+    def test_rows(self):
+        rows = Rows(self.crates)
+        for row in rows.all:
+            rows.compute(row, 5)
+        self.assertEqual([row.answer for row in rows.all], [True] * 9 + [None, True])
+        size = ("Rattle.a.specs.Shapes", "size")
+        row, count = rows.against(size, "a", SPECS.replace("size flat = 0", "size flat = 1"), 5)
+        self.assertEqual((row and row.told, count), ("a RowsHold.no_size", 3))
+        self.assertEqual(rows.against(size, "a", SPECS, 5), (None, 3))
+        late = rows.against(("Rattle.a.specs.Shapes", "half"), "a", SPECS.replace("half n + 1", "half n + 2"), 5)
+        self.assertEqual(late[0] and late[0].told, "a RowsHold.half_of_seven")
+
+
+if __name__ == "__main__":
+    unittest.main()
