@@ -24,7 +24,7 @@ pub(crate) fn ask<'a>(
     alloc: Global,
     state: &State<'a>,
     gate: &PolicyGate<'_, 'a>,
-    case: &Case<'_, '_, 'a>,
+    case: &Case<'_, '_, '_>,
     events: &mut Events,
 ) -> Result<bool, AllocError>
     ensures { IfOk result (λ ended. (s : ClusterState) (p : BoundPolicy) → state_view state.now ≡ s → IsGateFor s p gate.now
@@ -70,7 +70,7 @@ fn ask_matched<'a>(
     alloc: Global,
     state: &State<'a>,
     gate: &PolicyGate<'_, 'a>,
-    case: &Case<'_, '_, 'a>,
+    case: &Case<'_, '_, '_>,
     events: &mut Events,
 ) -> Result<bool, AllocError>
     ensures { IfOk result (λ ended. (s : ClusterState) (p : BoundPolicy) → state_view state.now ≡ s → IsGateFor s p gate.now
@@ -94,9 +94,9 @@ fn ask_matched<'a>(
     }
 }
 
-impl<'a> PolicyRun<'_, '_, '_, '_, 'a> {
+impl PolicyRun<'_, '_, '_, '_, '_> {
     /// Adds the events of the bindings of the policy, which is compiled.
-    fn run_bindings(
+    fn run_bindings<'a>(
         &self,
         state: &State<'a>,
         asked: &AskedPolicy<'_, 'a>,

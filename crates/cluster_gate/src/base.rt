@@ -9,8 +9,6 @@ use value_table::DocumentPool;
 pub(crate) struct Base<'a> {
     pub(crate) pool: DocumentPool,
     pub(crate) documents: Vec<ReadDocument<'a>>,
-    /// The length in bytes of what was read, with something for what keeps it.
-    pub(crate) length: usize,
 }
 
 impl<'a> Model for Base<'a> {

@@ -8,31 +8,22 @@ use crate::read_document::ReadDocument;
 use crate::texts::text_of;
 use serde_json::Value;
 use std::alloc::{AllocError, Global};
-use std::cell::Cell;
 use value_table::{DocumentPool, ReviewError};
 
-/// What a base counts for beside the texts that were read.
-const BASE_LENGTH: usize = 1024;
-
 impl<'a> Base<'a> {
-    /// A base without documents, whose name has this length.
-    pub(crate) fn of(alloc: Global, pool: DocumentPool, length: usize) -> Base<'a> {
-        Base {
-            pool,
+    /// A base without documents.
+    pub(crate) fn new(alloc: Global) -> Result<Base<'a>, AllocError> {
+        Ok(Base {
+            pool: DocumentPool::new(alloc)?,
             documents: Vec::new(alloc),
-            length: length.saturating_add(BASE_LENGTH),
-        }
+        })
     }
 
     /// A copy that shares the values.
     pub(crate) fn copy(&self, alloc: Global) -> Result<Base<'a>, AllocError> {
         let pool = self.pool.copy()?;
         let documents = copied(alloc, &self.documents)?;
-        Ok(Base {
-            pool,
-            documents,
-            length: self.length,
-        })
+        Ok(Base { pool, documents })
     }
 
     /// The base with one more document, or a copy if the document's text is not read.
@@ -42,17 +33,12 @@ impl<'a> Base<'a> {
         document: &'a Value,
     ) -> Result<Base<'a>, AllocError> {
         let text = text_of(alloc, document)?;
-        let length = self.length.saturating_add(text.len());
         let before = self.pool.copy()?;
         match before.with_document(text.as_slice()) {
             Ok((pool, pooled)) => {
                 let mut documents = copied(alloc, &self.documents)?;
                 documents.push(ReadDocument { document, pooled })?;
-                Ok(Base {
-                    pool,
-                    documents,
-                    length,
-                })
+                Ok(Base { pool, documents })
             }
             Err(ReviewError::Memory) => Err(AllocError),
             Err(_) => self.copy(alloc),
@@ -66,17 +52,9 @@ impl<'a> Base<'a> {
     ) -> Result<Option<OpenedReview<'a, 'r>>, AllocError>
         ensures { IfOk result (λ o. IfSome o (λ r. r ≡ review.now)) }
     {
-        let Base {
-            pool,
-            documents,
-            length: _,
-        } = self;
+        let Base { pool, documents } = self;
         match pool.open(review) {
-            Ok(review) => Ok(Some(OpenedReview {
-                review,
-                documents,
-                wanted: Cell::new(None),
-            })),
+            Ok(review) => Ok(Some(OpenedReview { review, documents })),
             Err(ReviewError::Memory) => Err(AllocError),
             Err(_) => Ok(None),
         }

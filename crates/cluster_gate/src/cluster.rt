@@ -13,7 +13,6 @@ ghost use Rattle.value_store.specs.Documents.{document_of};
 use crate::asking::ask;
 use crate::case::Case;
 use crate::cluster_error::ClusterError;
-use crate::kept_bases::KeptBases;
 use crate::opening::open_gates;
 use crate::policy_gate::PolicyGate;
 use crate::review_request::review_request;
@@ -30,7 +29,6 @@ pub struct Cluster<'s, 'a> {
     pub(crate) state: &'s State<'a>,
     /// In the order of the policies' names.
     pub(crate) gates: Vec<PolicyGate<'s, 'a>>,
-    pub(crate) kept: KeptBases<'a>,
 }
 
 impl<'s, 'a> Cluster<'s, 'a> {
@@ -53,7 +51,6 @@ impl<'s, 'a> Cluster<'s, 'a> {
             alloc,
             state,
             gates,
-            kept: KeptBases::new(alloc)?,
         })
     }
 
@@ -105,17 +102,16 @@ impl<'s, 'a> Cluster<'s, 'a> {
     }
 
     /// The answer to a request with this uid.
-    fn answer(&self, case: &Case<'_, '_, 'a>, uid: &str) -> Result<Vec<u8>, AllocError>
+    fn answer(&self, case: &Case<'_, '_, '_>, uid: &str) -> Result<Vec<u8>, AllocError>
         ensures { IfOk result (λ b. (s : ClusterState) → IsClusterFor s self.now → AnswersCase OneImage s case.now.review.now case.now.steps (request_view case.now.request.now) uid.now b.items) }
     {
         let events = self.events(case)?;
-        self.keep_wanted(case);
         let text = response(self.alloc, case.request, uid, &events)?;
         Ok(text)
     }
 
     /// The events of the dispatch of a request.
-    fn events(&self, case: &Case<'_, '_, 'a>) -> Result<Events, AllocError>
+    fn events(&self, case: &Case<'_, '_, '_>) -> Result<Events, AllocError>
         ensures { IfOk result (λ e. (s : ClusterState) → IsClusterFor s self.now
             → GivesEvents OneImage s case.now.review.now case.now.steps (request_view case.now.request.now) (policies_asked s (request_view case.now.request.now)) e) }
     {
@@ -128,7 +124,7 @@ impl<'s, 'a> Cluster<'s, 'a> {
     }
 
     /// The events of all policies, up to the one that ends the dispatch.
-    fn dispatch(&self, case: &Case<'_, '_, 'a>) -> Result<Events, AllocError>
+    fn dispatch(&self, case: &Case<'_, '_, '_>) -> Result<Events, AllocError>
         ensures { IfOk result (λ e. (s : ClusterState) → IsClusterFor s self.now
             → GivesEvents OneImage s case.now.review.now case.now.steps (request_view case.now.request.now) s.policies e) }
     {

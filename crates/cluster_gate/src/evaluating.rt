@@ -26,12 +26,12 @@ use value_table::{ReviewError, Table};
 /// # Errors
 ///
 /// An allocation failed, which says nothing of the review.
-pub(crate) fn evaluate<'a>(
+pub(crate) fn evaluate(
     alloc: Global,
     gate: &Gate,
-    case: &Case<'_, '_, 'a>,
-    params: Option<&'a Value>,
-    namespace: Option<&'a Value>,
+    case: &Case<'_, '_, '_>,
+    params: Option<&Value>,
+    namespace: Option<&Value>,
 ) -> Result<Result<Vec<Finding>, ClusterRefusal>, AllocError>
     ensures { IfOk result (λ r. (p : BoundPolicy) → IsAskedGate p gate.now
         → FindsOrRefuses OneImage case.now.review.now case.now.steps p (option_map (λ v. view v.now) params.entry) (option_map (λ v. view v.now) namespace.entry) r) }

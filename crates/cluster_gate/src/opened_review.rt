@@ -1,8 +1,6 @@
 //! Reviews that are read once for all evaluations.
 
 use crate::read_document::ReadDocument;
-use serde_json::Value;
-use std::cell::Cell;
 use std::marker::Model;
 use value_table::OpenReview;
 
@@ -12,8 +10,6 @@ use value_table::OpenReview;
 pub(crate) struct OpenedReview<'a, 'r> {
     pub(crate) review: OpenReview<'r>,
     pub(crate) documents: Vec<ReadDocument<'a>>,
-    /// A document that was not among them when a table needed it.
-    pub(crate) wanted: Cell<Option<&'a Value>>,
 }
 
 impl<'a, 'r> Model for OpenedReview<'a, 'r> {

@@ -12,13 +12,9 @@ use crate::same::is_same;
 use crate::texts::text_of;
 use serde_json::Value;
 use std::alloc::Global;
-use std::cell::Cell;
 use value_table::{OpenReview, PooledDocument, ReviewError, Table};
 
-/// The largest length in bytes of a document that is wanted before later reviews.
-const WANTED_LENGTH: usize = 65_536;
-
-impl<'a> OpenedReview<'a, '_> {
+impl<'r> OpenedReview<'_, 'r> {
     /// The table of the roots of the review with these params and this namespace, each null if it is
     /// none. The documents that are not read yet are read beside it.
     ///
@@ -28,27 +24,25 @@ impl<'a> OpenedReview<'a, '_> {
     pub(crate) fn table(
         &self,
         alloc: Global,
-        params: Option<&'a Value>,
-        namespace: Option<&'a Value>,
+        params: Option<&Value>,
+        namespace: Option<&Value>,
     ) -> Result<Table, ReviewError>
         ensures { SharesTable self.now (option_map (λ v. view v.now) params.entry) (option_map (λ v. view v.now) namespace.entry) result }
     {
         let review = self.review.copy()?;
-        let wanted = &self.wanted;
-        let (review, namespace) = with_place(alloc, &self.documents, wanted, review, namespace)?;
-        let (review, params) = with_place(alloc, &self.documents, wanted, review, params)?;
+        let (review, namespace) = with_place(alloc, &self.documents, review, namespace)?;
+        let (review, params) = with_place(alloc, &self.documents, review, params)?;
         review.table(namespace, params)
     }
 }
 
 /// Where the document is beside the review, among these or else read now.
 #[tactic(auto, using(crate::proofs::Places::place_none, crate::proofs::Places::place_found))]
-fn with_place<'a, 'r>(
+fn with_place<'r>(
     alloc: Global,
     documents: &[ReadDocument<'_>],
-    wanted: &Cell<Option<&'a Value>>,
     review: OpenReview<'r>,
-    document: Option<&'a Value>,
+    document: Option<&Value>,
 ) -> Result<(OpenReview<'r>, Option<PooledDocument>), ReviewError>
     requires { AreReadHere review.values documents.now }
     ensures { PlaceReturns review.entry (option_map (λ v. view v.now) document.entry) result }
@@ -58,7 +52,7 @@ fn with_place<'a, 'r>(
     };
     match found(documents, document) {
         Some(pooled) => Ok((review, Some(pooled))),
-        None => read_beside(alloc, wanted, review, document),
+        None => read_beside(alloc, review, document),
     }
 }
 
@@ -74,19 +68,15 @@ fn found(documents: &[ReadDocument<'_>], document: &Value) -> Option<PooledDocum
     None
 }
 
-/// Reads the document beside the review, and tells that it is wanted unless it is long.
-fn read_beside<'a, 'r>(
+/// Reads the document beside the review.
+fn read_beside<'r>(
     alloc: Global,
-    wanted: &Cell<Option<&'a Value>>,
     review: OpenReview<'r>,
-    document: &'a Value,
+    document: &Value,
 ) -> Result<(OpenReview<'r>, Option<PooledDocument>), ReviewError>
     ensures { PlaceReturns review.entry (Some (view document.now)) result }
 {
     let text = text_of(alloc, document)?;
     let (review, pooled) = review.with_document(text.as_slice())?;
-    if text.len() <= WANTED_LENGTH {
-        wanted.set(Some(document));
-    }
     Ok((review, Some(pooled)))
 }

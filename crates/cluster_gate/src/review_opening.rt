@@ -2,7 +2,7 @@
 
 ghost use Rattle.std.specs.Prelude.{◌≡◌, IfOk, IfSome};
 
-use crate::case::Case;
+use crate::base::Base;
 use crate::cluster::Cluster;
 use crate::opened_review::OpenedReview;
 use crate::standing::Standing;
@@ -23,8 +23,7 @@ impl<'a> Cluster<'_, 'a> {
         if request.attributes.resource.is_exempt() || !self.evaluates(request) {
             return Ok(None);
         }
-        let base = self.kept.base(self.state, request.attributes.namespace)?;
-        base.open(review)
+        self.base(request.attributes.namespace)?.open(review)
     }
 
     /// Whether some policy is compiled and matches the request.
@@ -40,15 +39,12 @@ impl<'a> Cluster<'_, 'a> {
         false
     }
 
-    /// Keeps what an evaluation had to read beside the review, for reviews that come later.
-    pub(crate) fn keep_wanted(&self, case: &Case<'_, '_, 'a>) {
-        if let Some(opened) = case.opened {
-            if let Some(document) = opened.wanted.get() {
-                let request = case.request;
-                let name = request.attributes.namespace;
-                // After a failure it is read again.
-                drop(self.kept.keep(self.state, name, document));
-            }
+    /// The documents that are read before a review of a request in this namespace.
+    fn base(&self, namespace: &str) -> Result<Base<'a>, AllocError> {
+        let base = Base::new(self.alloc)?;
+        match self.state.namespace(namespace) {
+            Some(document) => base.with_document(self.alloc, document),
+            None => Ok(base),
         }
     }
 }

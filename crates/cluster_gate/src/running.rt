@@ -17,13 +17,13 @@ use cluster_state::Binding;
 use serde_json::Value;
 use std::alloc::AllocError;
 
-impl<'a> PolicyRun<'_, '_, '_, '_, 'a> {
+impl PolicyRun<'_, '_, '_, '_, '_> {
     /// Adds the events of the steps, up to the first that is the last of the policy. Returns whether
     /// the dispatch ends.
     pub(crate) fn run(
         &self,
         events: &mut Events,
-        steps: &[Step<'_, 'a>],
+        steps: &[Step<'_, '_>],
     ) -> Result<bool, AllocError>
         ensures { IfOk result (λ ended. (p : BoundPolicy) → IsRunOf p self.now → AddsSteps p self.now (map step_view steps.now) events.old events.new ended) }
     {
@@ -38,7 +38,7 @@ impl<'a> PolicyRun<'_, '_, '_, '_, 'a> {
     }
 
     /// Adds the events of a step. Returns how the dispatch goes on.
-    fn run_step(&self, events: &mut Events, step: &Step<'_, 'a>) -> Result<Progress, AllocError>
+    fn run_step(&self, events: &mut Events, step: &Step<'_, '_>) -> Result<Progress, AllocError>
         ensures { IfOk result (λ progress. (p : BoundPolicy) → IsRunOf p self.now → AddsStep p self.now (step_view step.now) events.old events.new progress) }
     {
         match step {
@@ -64,8 +64,8 @@ impl<'a> PolicyRun<'_, '_, '_, '_, 'a> {
         &self,
         events: &mut Events,
         binding: &Binding<'_>,
-        params: Option<&'a Value>,
-        namespace: Option<&'a Value>,
+        params: Option<&Value>,
+        namespace: Option<&Value>,
     ) -> Result<Progress, AllocError>
         ensures { IfOk result (λ progress. (p : BoundPolicy) → IsRunOf p self.now
             → AddsStep p self.now (evaluates (binding_view binding.now) (option_map (λ v. view v.now) params.entry) (option_map (λ v. view v.now) namespace.entry)) events.old events.new progress) }
