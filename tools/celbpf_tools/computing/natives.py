@@ -226,6 +226,7 @@ NATIVES |= {
     "&&": lambda a, b: force(a) and force(b),
     "||": lambda a, b: force(a) or force(b),
     "T": lambda a: Statement("holds", a),
+    "FitsSigned": lambda a, b: Statement("holds", Later(lambda: -(2 ** (bits(a) - 1)) <= integer(b) < 2 ** (bits(a) - 1))),
     "suc": lambda a: force(a) + 1,
     "pred": lambda a: minus(force(a), 1),
     "min": lambda a, b: min(force(a), force(b)),
