@@ -1,5 +1,6 @@
 """Definitions that are computed: how they are read, what their values are, and what rows say of a change."""
 
+import sys
 import tempfile
 import unittest
 from pathlib import Path
@@ -127,6 +128,8 @@ class Computing(unittest.TestCase):
         self.assertRaises(Unknown, Program.unread("no reason"))
 
     def test_rows(self):
+        # the rows of all crates recurse deeply, which other tests must not
+        self.addCleanup(sys.setrecursionlimit, sys.getrecursionlimit())
         rows = Rows(self.crates)
         for row in rows.all:
             rows.compute(row, 5)
