@@ -130,7 +130,8 @@ impl<'a> AskedPolicy<'_, 'a> {
         trouble: Trouble,
         namespace: &str,
     ) -> Result<Vec<Step<'s, 'a>>, AllocError>
-        ensures { IfOk result (λ v. map step_view v.items ≡ error_steps (fails_closed (asked_view self.now).policy.document) (option_map (λ s. s.now) binding.entry) (trouble_text trouble namespace.now)) }
+        ensures { let is_closed = fails_closed (asked_view self.now).policy.document in
+            IfOk result (λ v. map step_view v.items ≡ error_steps is_closed (option_map (λ s. s.now) binding.entry) (trouble_text trouble namespace.now)) }
     {
         let message = trouble_text(alloc, trouble, namespace)?;
         self.error_steps(alloc, binding, message.as_str())
@@ -238,7 +239,8 @@ fn evaluations_in<'s, 'a>(
     namespace: Option<&'a Value>,
     params: &[Option<&'a Value>],
 ) -> Result<Vec<Step<'s, 'a>>, AllocError>
-    ensures { IfOk result (λ v. map step_view v.items ≡ map (λ p. evaluates (binding_view binding.now) p (option_map (λ d. view d.now) namespace.entry)) (map (option_map (λ d. view d.now)) params.now)) }
+    ensures { let documents = map (option_map (λ d. view d.now)) params.now in
+        IfOk result (λ v. map step_view v.items ≡ map (λ p. evaluates (binding_view binding.now) p (option_map (λ d. view d.now) namespace.entry)) documents) }
 {
     let mut steps = Vec::new(alloc);
     for given in params {

@@ -209,7 +209,8 @@ fn extend_at(
     requires rows { AreRows pool.now rows.old.value.items }
     requires inside { place < length rows.old.value.items }
     ensures rows { AreRows pool.now rows.new.value.items }
-    ensures ok { OnOk result (rows_items pool.now rows.new.value.items ≡ slice_set (rows_items pool.now rows.old.value.items) place (slice_index_or (rows_items pool.now rows.old.value.items) place [] ++ items.now)) }
+    ensures ok { let before = rows_items pool.now rows.old.value.items in
+        OnOk result (rows_items pool.now rows.new.value.items ≡ slice_set before place (slice_index_or before place [] ++ items.now)) }
     ensures err { OnErr result (rows_items pool.now rows.new.value.items ≡ rows_items pool.now rows.old.value.items) }
 {
     let rows = Rc::make_mut(rows)?;

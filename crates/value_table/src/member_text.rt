@@ -140,7 +140,8 @@ fn text_in_members<'a>(
     rest: &[&str],
     depth: usize,
 ) -> Result<Option<&'a str>, Invalid>
-    ensures found { IfOk result (λ t. FindsAmong key.now (map (λ s. s.now) rest.now) (option_map (λ s. s.now) t) (converted (λ ms. of_members ms no_members) (members (value depth) (length reader.old) reader.old)) reader.new) }
+    ensures found { let read = converted (λ ms. of_members ms no_members) (members (value depth) (length reader.old) reader.old) in
+        IfOk result (λ t. FindsAmong key.now (map (λ s. s.now) rest.now) (option_map (λ s. s.now) t) read reader.new) }
     ensures shorter { OnOk result (length reader.new < length reader.old) }
     ensures refused { OnErr result (converted (λ ms. of_members ms no_members) (members (value depth) (length reader.old) reader.old) ≡ None) }
 {
@@ -161,7 +162,8 @@ fn text_in_next<'a>(
     depth: usize,
     before: Option<&'a str>,
 ) -> Result<Option<&'a str>, Invalid>
-    ensures found { IfOk result (λ t. FindsNext has_key (map (λ s. s.now) rest.now) (option_map (λ s. s.now) before.entry) (option_map (λ s. s.now) t) (converted of_json (value depth reader.old)) reader.new) }
+    ensures found { let read = converted of_json (value depth reader.old) in
+        IfOk result (λ t. FindsNext has_key (map (λ s. s.now) rest.now) (option_map (λ s. s.now) before.entry) (option_map (λ s. s.now) t) read reader.new) }
     ensures shorter { OnOk result (length reader.new < length reader.old) }
     ensures refused { OnErr result (converted of_json (value depth reader.old) ≡ None) }
 {
