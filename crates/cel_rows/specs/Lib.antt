@@ -1,0 +1,3 @@
+-- Literal rows by the crate whose definitions they pin: the list of their modules.
+pub mod TokenRows
+pub mod ReaderRows
