@@ -1,10 +1,10 @@
 -- The rows of cel-spec's grammar, its operators, its marks and its words, each by its own name.
-use Rattle.std.specs.Prelude.{◌≡◌, true, false, pos, [], ◌∷◌, ◌++◌, Some, None, codes}
+use Rattle.std.specs.Prelude.{◌≡◌, true, false, pos, [], ◌∷◌, Some, None, codes}
 use Rattle.cel_tokens.specs.Token.{name, int, text, mark}
 use Rattle.cel_tokens.specs.Lexis.{lexeme}
 use Rattle.cel_tokens.specs.declared.mark.Mark.TheVariants as marks
 use Rattle.cel_reader.specs.Answers.{place_at}
-use Rattle.cel_reader.specs.Grammar.{Infix, Unary, below}
+use Rattle.cel_reader.specs.Grammar.{Infix, OptionalComma, Unary, below}
 use Rattle.cel_reader.specs.Limits.{open_limit}
 use Rattle.cel_reader.specs.Look.{openings, opens, opens_mark, words_only}
 use Rattle.cel_reader.specs.Tree as tree
@@ -23,6 +23,11 @@ pub record GrammarRowsStand : Type 0 where
   pub of_relation : below level.Relation ≡ Infix level.Sum
   pub of_sum : below level.Sum ≡ Infix level.Product
   pub of_product : below level.Product ≡ Unary
+
+-- a comma may be at the end of a list or map literal (cel-spec, syntax: ExprList and MapInits)
+pub record CommaRowsStand : Type 0 where
+  pub comma : OptionalComma (mark marks.Comma ∷ mark marks.CloseBracket ∷ []) (mark marks.CloseBracket ∷ [])
+  pub no_comma : OptionalComma (mark marks.CloseBracket ∷ []) (mark marks.CloseBracket ∷ [])
 
 -- the operator of each mark, and its row (cel-spec, syntax: ConditionalOr, ConditionalAnd, Relop, Addition, Multiplication)
 pub record OperatorRowsStand : Type 0 where

@@ -1,11 +1,11 @@
 -- Fronts of texts at which one byte more or less would make another token, worked by hand from the lexis of cel-spec.
-use Rattle.std.specs.Prelude.{◌≡◌, true, false, pos, [], Some, None, codes}
+use Rattle.std.specs.Prelude.{◌≡◌, true, false, pos, [], ◌∷◌, Some, None, codes}
 use Rattle.cel_tokens.specs.Bytes.{between, opens_comment}
 use Rattle.cel_tokens.specs.Ints.{hex_begins, int_at}
 use Rattle.cel_tokens.specs.Lexed.{front, signed_int_begins, space, word}
 use Rattle.cel_tokens.specs.Lexis.{lexeme}
 use Rattle.cel_tokens.specs.Marks.{mark_at}
-use Rattle.cel_tokens.specs.Texts.{escape, opening}
+use Rattle.cel_tokens.specs.Texts.{escape, opening, piece}
 use Rattle.cel_tokens.specs.Token.{name, int, mark}
 use Rattle.cel_tokens.specs.declared.mark.Mark.TheVariants as marks
 
@@ -49,6 +49,10 @@ pub record OpeningRowsStand : Type 0 where
   pub prefix_and_name : opening (codes "ra") ≡ None
   pub name_and_quote : opening (codes "a'") ≡ None
   pub raw_quote : opening (codes "r'") ≡ Some (true, 39)
+  -- the first piece of a text has one byte, also a backslash in a raw one, and a line feed is none
+  pub first_piece : piece false (codes "ab") ≡ Some (1, codes "a")
+  pub raw_backslash : piece true (codes "\\n") ≡ Some (1, 92 ∷ [])
+  pub line_feed : piece true (codes "\n") ≡ None
 
 -- escapes with more digits behind them (ESCAPE)
 pub record EscapeRowsStand : Type 0 where

@@ -1,6 +1,10 @@
 //! Rows by the crate whose definitions they pin; each function is empty, and its contract is the rows.
 ghost use Rattle.cel_rows.specs.TokenRows.{CommentRowsStand, IntRowsStand, OpeningRowsStand, EscapeRowsStand};
-ghost use Rattle.cel_rows.specs.ReaderRows.{GrammarRowsStand, OperatorRowsStand, NestingRowsStand, WordRowsStand, SequenceRowsStand};
+ghost use Rattle.cel_rows.specs.ReaderRows.{GrammarRowsStand, OperatorRowsStand, CommaRowsStand, NestingRowsStand, WordRowsStand, SequenceRowsStand};
+ghost use Rattle.cel_rows.specs.MacroRows.{ExpansionRowsStand, CalleeRowsStand, FaultRowsStand};
+ghost use Rattle.cel_rows.specs.TypeRows.{OperandRowsStand, BinaryRowsStand, CallRowsStand, MacroTypesStand, AgreementRowsStand, ThreeArgumentRowsStand};
+ghost use Rattle.cel_rows.specs.MeasureRows.{NeedRowsStand, DepthRowsStand};
+ghost use Rattle.cel_rows.specs.CodeRows.{CodeLimitRowsStand, TextRowsStand, ConstantRowsStand, KeptRowsStand, ConditionalRowsStand};
 
 /// Blanks, comments, ints and marks at the front of a text.
 #[tactic(auto, unfolding(cel_tokens::specs::Bytes::run, cel_tokens::specs::Bytes::between, cel_tokens::specs::Ints::number_from, cel_tokens::specs::Lexed::front))]
@@ -22,10 +26,61 @@ pub fn grammar_rows_stand()
     ensures operators { OperatorRowsStand }
 {}
 
+/// The comma that may end a literal.
+pub fn comma_rows_stand()
+    ensures { CommaRowsStand }
+{}
+
 /// Words, the marks that open something, and sequences of expressions.
 #[tactic(auto, unfolding(cel_reader::specs::Words::is_reserved))]
 pub fn word_rows_stand()
     ensures openings { NestingRowsStand }
     ensures words { WordRowsStand }
     ensures sequences { SequenceRowsStand }
+{}
+
+/// Expansions, callees and faults of macros.
+#[tactic(auto, unfolding(cel_macros::specs::Environment::is_root, cel_macros::specs::Functions::function_named, cel_macros::specs::Functions::test_named, cel_macros::specs::Macros::macro_named, cel_macros::specs::Macros::is_map, cel_macros::specs::Macros::is_has, cel_macros::specs::Macros::is_variables, cel_macros::specs::CoreTree::expanded, cel_macros::specs::Callee::callee_named))]
+pub fn macro_rows_stand()
+    ensures expansions { ExpansionRowsStand }
+    ensures callees { CalleeRowsStand }
+    ensures faults { FaultRowsStand }
+{}
+
+/// The table of types.
+#[tactic(auto, unfolding(cel_macros::specs::Environment::is_root, cel_types::specs::Scope::name_type, cel_types::specs::Scope::variable_type))]
+pub fn type_rows_stand()
+    ensures operands { OperandRowsStand }
+    ensures binary { BinaryRowsStand }
+    ensures calls { CallRowsStand }
+    ensures macros { MacroTypesStand }
+    ensures agreement { AgreementRowsStand }
+{}
+
+/// Types of calls with several arguments.
+#[tactic(auto, unfolding(cel_macros::specs::Environment::is_root, cel_macros::specs::Functions::function_named, cel_macros::specs::Functions::test_named, cel_macros::specs::Macros::macro_named, cel_macros::specs::Macros::is_map, cel_macros::specs::Macros::is_has, cel_macros::specs::Macros::is_variables, cel_types::specs::Scope::name_type, cel_types::specs::Scope::variable_type, cel_types::specs::Typing::typing))]
+pub fn typing_rows_stand()
+    ensures { ThreeArgumentRowsStand }
+{}
+
+/// Nodes, stack words and depths.
+#[tactic(auto, unfolding(cel_measures::specs::Measures::nodes, cel_measures::specs::Measures::need, cel_measures::specs::Measures::deepest))]
+pub fn measure_rows_stand()
+    ensures needs { NeedRowsStand }
+    ensures depths { DepthRowsStand }
+{}
+
+/// Limits and texts of code, and costs of what a macro keeps.
+#[tactic(auto, unfolding(codegen::specs::Code::Expressions::texts_of))]
+pub fn code_rows_stand()
+    ensures limits { CodeLimitRowsStand }
+    ensures texts { TextRowsStand }
+    ensures constants { ConstantRowsStand }
+    ensures costs { KeptRowsStand }
+{}
+
+/// Costs of conditionals.
+#[tactic(auto, unfolding(cel_macros::specs::Environment::is_root, cel_macros::specs::Functions::function_named, cel_macros::specs::Functions::test_named, cel_macros::specs::Macros::macro_named, cel_macros::specs::Macros::is_map, cel_macros::specs::Macros::is_has, cel_macros::specs::Macros::is_variables, cel_macros::specs::Environment::name_value, cel_macros::specs::Environment::variable_value, cel_macros::specs::Meaning::meaning, codegen::specs::Cost::cost))]
+pub fn cost_rows_stand()
+    ensures { ConditionalRowsStand }
 {}
