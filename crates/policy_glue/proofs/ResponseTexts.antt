@@ -1,32 +1,32 @@
 -- The text of a response consists of its tokens.
-use Rattle.policy_glue.proofs.Prelude.{◌≡◌, ℕ, List, [], ◌∷◌, ◌++◌, Option, Some, None, Result, Ok, Err, OnOk}
-use Rattle.policy_glue.proofs.Prelude.{ap, ◌∙◌, append_assoc, Rejection, rejection_tree, response_text}
-use Rattle.json.specs.Print.{print}
-use Rattle.json.specs.Token.{Token}
+use Rattle.policy_glue.proofs.Prelude.{◌≡◌, ℕ, List, [], ◌∷◌, ◌++◌, Option, Some, None, codes}
+use Rattle.std.specs.Prelude.{decimal}
+use Rattle.policy_glue.proofs.Prelude.{refl, ap, ◌∙◌, append_assoc, append-nil, Result, Ok, Rejection, rejection_tree, response_text}
+use Rattle.json.specs.Print.{escape_byte, print, print_from, quoted}
+use Rattle.json.specs.Token.{number, string}
 use Rattle.json.specs.Written.{Writes, Written}
 use Rattle.serde_json.proofs.Texts.{print-outline}
 use Rattle.serde_json.specs.Written.{compact_text}
 use Rattle.policy_glue.specs.Response.{review_tree}
-use Rattle.policy_glue.specs.ResponseTokens.{AddsTokens, rejection_tokens, review_tokens}
+use Rattle.policy_glue.specs.ResponseTokens.{allowed_tokens, denied_tokens, rejection_tokens, review_tokens, start_text}
+use Rattle.policy_glue.specs.Policy.{reason_code, reason_name}
 
-pub then : {a b c : Written} {xs ys : List Token}
-    → AddsTokens a b xs → AddsTokens b c ys → AddsTokens a c (xs ++ ys)
-then {a} {b} {c} {xs} {ys} first second = record {
-  before = second.before ∙ first.before;
-  added = second.added ∙ ap (λ (ts : List Token). ts ++ ys) first.added ∙ append_assoc a.tokens xs ys;
-}
+-- a text that is written behind others
+pub text_added : {E : Type 0} (old new : Written) (bytes s : List ℕ)
+    → old.before ≡ bytes → old.tokens ≡ [] → Writes {E = E} (Ok tt) old new (string s) → new.before ++ print new.tokens ≡ bytes ++ quoted s
+unfolding print_from
+text_added old new bytes s b t w =
+    (λ i. (w.room.0 ∙ b) i ++ print ((w.ok ∙ ap (λ ts. ts ++ string s ∷ []) t) i))
+    ∙ ap (λ (xs : List ℕ). bytes ++ xs) (append-nil (quoted s))
 
--- one token
-pub one : {E : Type 0} {a b : Written} {t : Token} → Writes {E = E} (Ok tt) a b t → AddsTokens a b (t ∷ [])
-one writes = record { before = writes.room.0; added = writes.ok }
-
--- one more token, if writing it succeeds
-pub last : {E : Type 0} {a b c : Written} {ts : List Token} {t : Token} (r : Result (Unit {0}) E)
-    → AddsTokens a b ts → Writes r b c t → OnOk r (AddsTokens a c (ts ++ t ∷ []))
-last {E} {a} {b} {c} {ts} {t} (Ok u) adds writes =
-    let more : AddsTokens b c (t ∷ []) = record { before = writes.room.0; added = writes.ok } in
-    then adds more
-last (Err e) adds writes = tt
+-- a number that is written behind others
+pub number_added : {E : Type 0} (old new : Written) (bytes digits : List ℕ)
+    → old.before ≡ bytes → old.tokens ≡ [] → Writes {E = E} (Ok tt) old new (number digits)
+    → new.before ++ print new.tokens ≡ bytes ++ digits
+unfolding print_from
+number_added old new bytes digits b t w =
+    (λ i. (w.room.0 ∙ b) i ++ print ((w.ok ∙ ap (λ ts. ts ++ number digits ∷ []) t) i))
+    ∙ ap (λ (xs : List ℕ). bytes ++ xs) (append-nil digits)
 
 response_is : (said : Option Rejection) (uid : List ℕ)
     → print (review_tokens (rejection_tokens said uid)) ≡ compact_text (review_tree (rejection_tree said uid))
@@ -34,12 +34,52 @@ unfolding review_tree
 response_is None uid = print-outline (review_tree (rejection_tree None uid))
 response_is (Some o) uid = print-outline (review_tree (rejection_tree (Some o) uid))
 
--- the text that is written to an empty buffer
-pub text_written : (said : Option Rejection) (uid : List ℕ) (old new : Written)
-    → old.before ≡ [] → old.tokens ≡ [] → AddsTokens old new (review_tokens (rejection_tokens said uid))
-    → new.before ++ print new.tokens ≡ response_text said uid
+-- one more part
+pub part : (old new more before : List ℕ) → new ≡ old ++ more → old ≡ before → new ≡ before ++ more
+part old new more before e f = e ∙ ap (λ (text : List ℕ). text ++ more) f
+
+-- the parts of a response that allows the request
+allowed_is : (uid : List ℕ)
+    → start_text ++ (codes "true,\"uid\":" ++ (quoted uid ++ codes "}}")) ≡ print (review_tokens (allowed_tokens uid))
+unfolding escape_byte print_from
+allowed_is uid = refl
+
+pub allowed_written : (uid : List ℕ) → ((start_text ++ codes "true,\"uid\":") ++ quoted uid) ++ codes "}}" ≡ response_text None uid
 unfolding response_text
-text_written said uid old new empty none adds =
-    let tokens = adds.added ∙ ap (λ (ts : List Token). ts ++ review_tokens (rejection_tokens said uid)) none in
-    (λ i. (adds.before ∙ empty) i ++ print (tokens i))
-    ∙ response_is said uid
+allowed_written uid =
+    append_assoc (start_text ++ codes "true,\"uid\":") (quoted uid) (codes "}}")
+    ∙ append_assoc start_text (codes "true,\"uid\":") (quoted uid ++ codes "}}")
+    ∙ allowed_is uid
+    ∙ response_is None uid
+
+-- the parts of a response that denies the request
+denied_is : (o : Rejection) (uid : List ℕ)
+    → start_text ++ (codes "false,\"status\":{\"code\":" ++ (decimal (reason_code o.reason) ++ (codes ",\"message\":"
+    ++ (quoted o.message ++ (codes ",\"reason\":" ++ (quoted (reason_name o.reason)
+    ++ (codes "},\"uid\":" ++ (quoted uid ++ codes "}}"))))))))
+    ≡ print (review_tokens (denied_tokens uid o))
+unfolding escape_byte print_from
+denied_is o uid = refl
+
+nested : (a b c d e f g h i j : List ℕ)
+    → ((((((((a ++ b) ++ c) ++ d) ++ e) ++ f) ++ g) ++ h) ++ i) ++ j ≡ a ++ (b ++ (c ++ (d ++ (e ++ (f ++ (g ++ (h ++ (i ++ j))))))))
+nested a b c d e f g h i j =
+    append_assoc (((((((a ++ b) ++ c) ++ d) ++ e) ++ f) ++ g) ++ h) i j
+    ∙ append_assoc ((((((a ++ b) ++ c) ++ d) ++ e) ++ f) ++ g) h (i ++ j)
+    ∙ append_assoc (((((a ++ b) ++ c) ++ d) ++ e) ++ f) g (h ++ (i ++ j))
+    ∙ append_assoc ((((a ++ b) ++ c) ++ d) ++ e) f (g ++ (h ++ (i ++ j)))
+    ∙ append_assoc (((a ++ b) ++ c) ++ d) e (f ++ (g ++ (h ++ (i ++ j))))
+    ∙ append_assoc ((a ++ b) ++ c) d (e ++ (f ++ (g ++ (h ++ (i ++ j)))))
+    ∙ append_assoc (a ++ b) c (d ++ (e ++ (f ++ (g ++ (h ++ (i ++ j))))))
+    ∙ append_assoc a b (c ++ (d ++ (e ++ (f ++ (g ++ (h ++ (i ++ j)))))))
+
+pub denied_written : (o : Rejection) (uid : List ℕ)
+    → ((((((((start_text ++ codes "false,\"status\":{\"code\":") ++ decimal (reason_code o.reason))
+    ++ codes ",\"message\":") ++ quoted o.message) ++ codes ",\"reason\":")
+    ++ quoted (reason_name o.reason)) ++ codes "},\"uid\":") ++ quoted uid) ++ codes "}}" ≡ response_text (Some o) uid
+unfolding response_text
+denied_written o uid =
+    nested start_text (codes "false,\"status\":{\"code\":") (decimal (reason_code o.reason)) (codes ",\"message\":") (quoted o.message)
+    (codes ",\"reason\":") (quoted (reason_name o.reason)) (codes "},\"uid\":") (quoted uid) (codes "}}")
+    ∙ denied_is o uid
+    ∙ response_is (Some o) uid

@@ -35,6 +35,10 @@ review_tokens response =
     object_tokens (text_tokens (codes "apiVersion") (codes "admission.k8s.io/v1")
     ++ (text_tokens (codes "kind") (codes "AdmissionReview") ++ (key (codes "response") ∷ response)))
 
+-- the start of a response, up to whether it allows the request
+abbrev pub start_text : List ℕ
+start_text = codes "{\"apiVersion\":\"admission.k8s.io/v1\",\"kind\":\"AdmissionReview\",\"response\":{\"allowed\":"
+
 -- these tokens are written after the earlier ones
 pub record AddsTokens (old new : Written) (tokens : List Token) : Type 0 where
   pub before : new.before ≡ old.before

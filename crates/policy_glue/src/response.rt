@@ -1,11 +1,12 @@
 //! Responses to reviews.
 
-ghost use Rattle.std.specs.Prelude.{◌≡◌, option_map, IfOk, OnOk};
+ghost use Rattle.std.specs.Prelude.{◌≡◌, ◌++◌, decimal, option_map, IfOk, None, Some};
+ghost use Rattle.json.specs.Print.{quoted};
 ghost use Rattle.policy_glue.specs.Verdict as decided;
 ghost use Rattle.policy_glue.specs.Layout.{words_view, Encodes};
 ghost use Rattle.policy_glue.specs.Rejections.{rejection_view, response_text};
 ghost use Rattle.policy_glue.specs.Response.{response_of};
-ghost use Rattle.policy_glue.specs.ResponseTokens.{allowed_tokens, denied_tokens, rejection_tokens, review_tokens, status_tokens, text_tokens, AddsTokens};
+ghost use Rattle.policy_glue.specs.ResponseTokens.{start_text};
 
 use crate::policy::Policy;
 use crate::rejecting::rejection_of;
@@ -41,72 +42,65 @@ pub fn response_text(
 ) -> Result<Vec<u8>, AllocError>
     ensures { IfOk result (λ bytes. bytes.items ≡ response_text (option_map rejection_view said.now) uid.now) }
 {
-    let mut writer = Writer::new(Vec::with_capacity(alloc, ROOM)?);
-    write_review(&mut writer, said, uid)?;
-    Ok(writer.into_inner())
-}
-
-fn write_review(writer: &mut Writer, said: &Option<Rejection>, uid: &str) -> Result<(), AllocError>
-    ensures { OnOk result (AddsTokens writer.old writer.new (review_tokens (rejection_tokens (option_map rejection_view said.now) uid.now))) }
-{
-    writer.begin_object()?;
-    write_text(writer, "apiVersion", "admission.k8s.io/v1")?;
-    write_text(writer, "kind", "AdmissionReview")?;
-    writer.key("response")?;
-    write_response(writer, said, uid)?;
-    writer.end_object()
-}
-
-fn write_response(
-    writer: &mut Writer,
-    said: &Option<Rejection>,
-    uid: &str,
-) -> Result<(), AllocError>
-    ensures { OnOk result (AddsTokens writer.old writer.new (rejection_tokens (option_map rejection_view said.now) uid.now)) }
-{
     match said {
-        Some(rejection) => write_denied(writer, uid, rejection),
-        None => write_allowed(writer, uid),
+        Some(rejection) => denied_text(alloc, rejection, uid),
+        None => allowed_text(alloc, uid),
     }
 }
 
-fn write_allowed(writer: &mut Writer, uid: &str) -> Result<(), AllocError>
-    ensures { OnOk result (AddsTokens writer.old writer.new (allowed_tokens uid.now)) }
+/// The text of the response that allows the request.
+#[tactic(auto, using(crate::proofs::ResponseTexts::allowed_written))]
+fn allowed_text(alloc: Global, uid: &str) -> Result<Vec<u8>, AllocError>
+    ensures { IfOk result (λ bytes. bytes.items ≡ response_text None uid.now) }
 {
-    writer.begin_object()?;
-    writer.key("allowed")?;
-    writer.boolean(true)?;
-    write_text(writer, "uid", uid)?;
-    writer.end_object()
+    let mut text = start(alloc)?;
+    text.extend_from_slice(b"true,\"uid\":")?;
+    let mut text = with_text(text, uid)?;
+    text.extend_from_slice(b"}}")?;
+    Ok(text)
 }
 
-fn write_denied(writer: &mut Writer, uid: &str, rejection: &Rejection) -> Result<(), AllocError>
-    ensures { OnOk result (AddsTokens writer.old writer.new (denied_tokens uid.now (rejection_view rejection.now))) }
+/// The text of the response that denies the request.
+fn denied_text(alloc: Global, rejection: &Rejection, uid: &str) -> Result<Vec<u8>, AllocError>
+    ensures { IfOk result (λ bytes. bytes.items ≡ response_text (Some (rejection_view rejection.now)) uid.now) }
 {
-    writer.begin_object()?;
-    writer.key("allowed")?;
-    writer.boolean(false)?;
-    writer.key("status")?;
-    write_status(writer, rejection)?;
-    write_text(writer, "uid", uid)?;
-    writer.end_object()
+    let mut text = start(alloc)?;
+    text.extend_from_slice(b"false,\"status\":{\"code\":")?;
+    let mut text = with_number(text, rejection.reason.code())?;
+    text.extend_from_slice(b",\"message\":")?;
+    let mut text = with_text(text, rejection.message.as_str())?;
+    text.extend_from_slice(b",\"reason\":")?;
+    let mut text = with_text(text, rejection.reason.name())?;
+    text.extend_from_slice(b"},\"uid\":")?;
+    let mut text = with_text(text, uid)?;
+    text.extend_from_slice(b"}}")?;
+    Ok(text)
 }
 
-fn write_status(writer: &mut Writer, rejection: &Rejection) -> Result<(), AllocError>
-    ensures { OnOk result (AddsTokens writer.old writer.new (status_tokens (rejection_view rejection.now))) }
+/// The start of a response, up to whether it allows the request.
+fn start(alloc: Global) -> Result<Vec<u8>, AllocError>
+    ensures { IfOk result (λ text. text.items ≡ start_text) }
 {
-    writer.begin_object()?;
-    writer.key("code")?;
-    writer.u64(rejection.reason.code())?;
-    write_text(writer, "message", rejection.message.as_str())?;
-    write_text(writer, "reason", rejection.reason.name())?;
-    writer.end_object()
+    let mut text = Vec::with_capacity(alloc, ROOM)?;
+    text.extend_from_slice(b"{\"apiVersion\":\"admission.k8s.io/v1\",")?;
+    text.extend_from_slice(b"\"kind\":\"AdmissionReview\",\"response\":{\"allowed\":")?;
+    Ok(text)
 }
 
-/// Writes a member whose value is a text.
-fn write_text(writer: &mut Writer, name: &str, text: &str) -> Result<(), AllocError>
-    ensures { OnOk result (AddsTokens writer.old writer.new (text_tokens name.now text.now)) }
+/// Appends a text in JSON.
+fn with_text(bytes: Vec<u8>, text: &str) -> Result<Vec<u8>, AllocError>
+    ensures { IfOk result (λ more. more.items ≡ bytes.items ++ quoted text.now) }
 {
-    writer.key(name)?;
-    writer.string(text)
+    let mut writer = Writer::new(bytes);
+    writer.string(text)?;
+    Ok(writer.into_inner())
+}
+
+/// Appends a number in decimal.
+fn with_number(bytes: Vec<u8>, n: u64) -> Result<Vec<u8>, AllocError>
+    ensures { IfOk result (λ more. more.items ≡ bytes.items ++ decimal n) }
+{
+    let mut writer = Writer::new(bytes);
+    writer.u64(n)?;
+    Ok(writer.into_inner())
 }
