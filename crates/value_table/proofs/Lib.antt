@@ -37,3 +37,4 @@ pub mod RootsInOrder
 pub mod ReviewTables
 pub mod Pools
 pub mod MemberTexts
+mod Membered

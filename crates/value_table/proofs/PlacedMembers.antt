@@ -13,13 +13,11 @@ use Rattle.value_store.specs.Size.{size_of, entries_size}
 use Rattle.value_store.specs.Roots.{value_of, members_value}
 use Rattle.value_table.specs.Reading.{IsPlacedValue, PlacesValue, AddsPlaced, PlacedEntry, entry_keys, AreSoundEntries, placed_entries, AreMembers}
 use Rattle.value_table.specs.declared.placed.Placed.{Placed}
+use Rattle.value_table.specs.Members.{str_cmp}
 use Rattle.value_table.proofs.Growing.{KeysStand, keys_step}
 use Rattle.value_table.proofs.Heads.{entries_built}
 use Rattle.value_table.proofs.Listed.{below_append}
 use Rattle.value_table.proofs.PlacedValues.{answers_stay, put_gained, put_on}
-
-abbrev pub str_cmp : Bor (List ℕ) → Bor (List ℕ) → Ordering
-str_cmp x y = slice_cmp nat_cmp x.now y.now
 
 pub members_stay : (us vs : List Value) (es : List PlacedEntry) (ms : json.Members) → HasGrown us vs → AreMembers us es ms → AreMembers vs es ms
 members_stay us vs [] json.no_members g h = tt

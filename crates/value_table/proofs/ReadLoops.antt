@@ -14,7 +14,8 @@ use Rattle.value_table.specs.declared.placed.Placed.{Placed}
 use Rattle.value_table.specs.declared.pending_list.PendingList.{PendingList}
 use Rattle.value_table.proofs.Conversion.{array_item, array_item_refused, array_end, object_member, object_member_refused, object_key_refused, object_end, items_after, items_after-no_items, one_more_after, none_after, whole, document_read, document_and_more}
 use Rattle.value_table.proofs.PlacedValues.{RowStands, row_step, row_starts, row_ends, put_on}
-use Rattle.value_table.proofs.PlacedMembers.{str_cmp, members_stay, member_put, members_are}
+use Rattle.value_table.specs.Members.{str_cmp}
+use Rattle.value_table.proofs.PlacedMembers.{members_stay, member_put, members_are}
 
 -- ---- lists
 

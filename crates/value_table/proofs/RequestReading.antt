@@ -15,14 +15,12 @@ use Rattle.value_store.specs.Documents.{is_text}
 use Rattle.value_store.specs.Reviews.{without, member_or_null, parts_of}
 use Rattle.value_table.specs.ReviewReading.{is_text_value, IsPlacedRequest, IsRequestOf, TakesMember, MakesRequest, IsUid}
 use Rattle.value_table.specs.declared.placed.Placed.{Placed}
+use Rattle.value_table.specs.Members.{key_at}
 use Rattle.value_table.proofs.PlacedValues.{answers_stay}
 use Rattle.value_table.proofs.PlacedMembers.{members_stay, members_are}
 use Rattle.value_table.proofs.Growing.{grown_more, grown_none, stands_on}
 
 -- ---- look-ups
-
-abbrev pub key_at : List ℕ → Bor (List ℕ) → Ordering
-key_at key k = slice_cmp nat_cmp key k.now
 
 abbrev pub IsFound : List Value → Option (Option Placed) → Option json.Data → Type 0
 IsFound vs None None = Unit {0}

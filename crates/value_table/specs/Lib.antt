@@ -26,3 +26,4 @@ pub mod OtherRoots
 pub mod ReviewTable
 pub mod DocumentPool
 pub mod MemberText
+pub mod Members

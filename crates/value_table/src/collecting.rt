@@ -7,13 +7,13 @@ ghost use Rattle.value_table.specs.Heap.{heap_values, IsHeap};
 ghost use Rattle.value_table.specs.Reading.{AddsPlaced, IsPendingList, pending_value, AreSoundEntries, placed_entries};
 
 use crate::heap::Heap;
+use crate::members::Members;
 use crate::part::Part;
 use crate::pending_list::PendingList;
 use crate::pending_map::PendingMap;
 use crate::placed::Placed;
 use crate::small::small;
 use std::alloc::AllocError;
-use std::collections::BTreeMap;
 use std::mem::replace;
 
 /// Adds the list of these items; `None` if one of them has no value.
@@ -36,7 +36,7 @@ pub(crate) fn add_pending(
 /// Adds the map of these members; `None` if one of them has no value.
 pub(crate) fn add_members(
     heap: &mut Heap,
-    found: &BTreeMap<&str, Option<Placed>>,
+    found: &Members<'_>,
 ) -> Result<Option<Placed>, AllocError>
     requires heap { IsHeap heap.old }
     requires sound { AreSoundEntries (heap_values heap.old) found.now.entries }
@@ -52,7 +52,7 @@ pub(crate) fn add_members(
 // `add_members` with the two vectors to use. Their contents are dropped first.
 fn collect(
     heap: &mut Heap,
-    found: &BTreeMap<&str, Option<Placed>>,
+    found: &Members<'_>,
     keys: &mut Vec<Part>,
     places: &mut Vec<u32>,
 ) -> Result<Option<Placed>, AllocError>
@@ -63,7 +63,7 @@ fn collect(
     keys.clear();
     places.clear();
     let mut size = 1u64;
-    for (key, member) in found.iter() {
+    for (key, member) in found.entries() {
         let Some(member) = *member else {
             return Ok(None);
         };

@@ -11,14 +11,15 @@ ghost use Rattle.serde_json.specs.Read.{read as read_text};
 ghost use Rattle.value_table.specs.Reading.{ReadsEntries, ReadsValue, AddsPlaced, ReadsDocument};
 
 use crate::collecting::{add_members, add_pending};
+use crate::found_members::FoundMembers;
 use crate::heap::Heap;
+use crate::members::Members;
 use crate::numbers::number;
 use crate::pending_list::{PendingList, add_item};
 use crate::placed::Placed;
 use crate::read_error::ReadError;
 use json::{Reader, Scratch, Token};
 use std::alloc::AllocError;
-use std::collections::BTreeMap;
 
 /// How deep lists and maps may nest, as in `serde_json`.
 pub(crate) const MAX_DEPTH: usize = 127;
@@ -126,18 +127,18 @@ pub(crate) fn gather_members<'a>(
     heap: &mut Heap,
     reader: &mut Reader<'a>,
     depth: usize,
-) -> Result<BTreeMap<&'a str, Option<Placed>>, ReadError>
+) -> Result<Members<'a>, ReadError>
     requires { IsHeap heap.old }
     ensures read { IfOk result (λ m. ReadsEntries heap.old heap.new m.entries (converted (λ ms. of_members ms no_members) (members (value depth) (length reader.old) reader.old)) reader.new) }
     ensures shorter { OnOk result (length reader.new < length reader.old) }
     ensures refused { result ≡ Err ReadError.Invalid → converted (λ ms. of_members ms no_members) (members (value depth) (length reader.old) reader.old) ≡ None }
 {
-    let mut found = BTreeMap::new(heap.cells.alloc());
+    let mut found = FoundMembers::new(heap.cells.alloc());
     'members: while let Some(key) = reader.next_key()? {
         let member = read_value(heap, reader, depth)?;
-        drop(found.insert(key, member)?);
+        found.insert(key, member)?;
     }
-    Ok(found)
+    Ok(found.finish(heap.cells.alloc())?)
 }
 
 /// Adds a null.

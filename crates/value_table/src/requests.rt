@@ -1,7 +1,7 @@
 //! Builds requests from their members.
 
 ghost use Rattle.std.specs.Prelude.{◌≡◌, ◌<◌, length, IfOk};
-ghost use Rattle.serde_json.specs.Data.{Members};
+ghost use Rattle.serde_json.specs.Data as json;
 ghost use Rattle.value_table.specs.Meaning.{value_in};
 ghost use Rattle.value_table.specs.Heap.{heap_values, IsHeap};
 ghost use Rattle.value_table.specs.Reading.{AreMembers, AreSomeMembers};
@@ -10,21 +10,21 @@ ghost use Rattle.value_table.specs.ReviewReading.{is_text_value, IsUidOf, MakesR
 use crate::collecting::add_members;
 use crate::content::Content;
 use crate::heap::Heap;
+use crate::members::Members;
 use crate::placed::Placed;
 use crate::placed_request::PlacedRequest;
 use crate::reading::add_null;
 use std::alloc::AllocError;
-use std::collections::BTreeMap;
 
 /// The parts of a request with these members, if its `uid` is a text. The members other than
 /// `object` and `oldObject` become a map.
 pub(crate) fn request_of(
     heap: &mut Heap,
-    found: BTreeMap<&str, Option<Placed>>,
+    found: Members<'_>,
 ) -> Result<Option<PlacedRequest>, AllocError>
     requires heap { IsHeap heap.old }
     requires found { AreSomeMembers (heap_values heap.old) found.entries }
-    ensures { IfOk result (λ r. (ms : Members) → AreMembers (heap_values heap.old) found.entry.entries ms → MakesRequest heap.old heap.new r ms) }
+    ensures { IfOk result (λ r. (ms : json.Members) → AreMembers (heap_values heap.old) found.entry.entries ms → MakesRequest heap.old heap.new r ms) }
 {
     let Some(uid) = find_uid(heap, &found) else {
         return Ok(None);
@@ -42,10 +42,10 @@ pub(crate) fn request_of(
 }
 
 // The place of the member `uid`, if it is a text.
-fn find_uid(heap: &Heap, found: &BTreeMap<&str, Option<Placed>>) -> Option<u64>
+fn find_uid(heap: &Heap, found: &Members<'_>) -> Option<u64>
     requires heap { IsHeap heap.now }
     requires found { AreSomeMembers (heap_values heap.now) found.now.entries }
-    ensures { (ms : Members) → AreMembers (heap_values heap.now) found.now.entries ms → IsUidOf (heap_values heap.now) result ms }
+    ensures { (ms : json.Members) → AreMembers (heap_values heap.now) found.now.entries ms → IsUidOf (heap_values heap.now) result ms }
 {
     match found.get("uid") {
         Some(member) => match *member {
@@ -70,13 +70,9 @@ fn is_text_at(heap: &Heap, place: u64) -> bool
 }
 
 // Removes the member with this key; null if there is none.
-fn take(
-    heap: &mut Heap,
-    found: &mut BTreeMap<&str, Option<Placed>>,
-    key: &str,
-) -> Result<Option<Placed>, AllocError>
+fn take(heap: &mut Heap, found: &mut Members<'_>, key: &str) -> Result<Option<Placed>, AllocError>
     requires heap { IsHeap heap.old }
-    ensures { IfOk result (λ p. (ms : Members) → AreMembers (heap_values heap.old) found.old.entries ms → TakesMember heap.old heap.new key.now found.old.entries found.new.entries p ms) }
+    ensures { IfOk result (λ p. (ms : json.Members) → AreMembers (heap_values heap.old) found.old.entries ms → TakesMember heap.old heap.new key.now found.old.entries found.new.entries p ms) }
 {
     match found.remove(key) {
         Some(member) => Ok(member),

@@ -1,6 +1,6 @@
 -- Loop invariant of `collecting::collect`.
 
-use Rattle.value_table.proofs.Prelude.{◌≡◌, heap_values, IsHeap}
+use Rattle.value_table.proofs.Prelude.{◌≡◌, drop, heap_values, IsHeap}
 use Rattle.value_table.proofs.PlacedMembers.{Collects}
 use Rattle.value_table.proofs.collecting.collect.Given as goal
 
@@ -8,5 +8,5 @@ abbrev pub invariant-loop-key : goal.invariant-loop-key
 invariant-loop-key l = record {
   heap : IsHeap l.heap;
   values : heap_values l.heap ≡ heap_values l.fn.heap;
-  members : Collects l.initial.key-iterator (heap_values l.fn.heap) l.heap.backings.bytes l.keys.items l.places.items l.size l.key-iterator;
+  members : Collects l.found.entries (heap_values l.fn.heap) l.heap.backings.bytes l.keys.items l.places.items l.size (drop l.key-index l.found.entries);
 }

@@ -8,12 +8,12 @@ use Rattle.json.specs.Json.{parse_map, after_end_array, read_key, items, members
 use Rattle.json.specs.Reads.{token_of}
 use Rattle.json.proofs.Grammar.{value_is, value-begin_array, value-begin_object}
 use Rattle.serde_json.specs.Data as json
-use Rattle.serde_json.specs.Read.{number_of, of_json, converted}
+use Rattle.serde_json.specs.Read.{number_of, of_json, of_members, converted}
 use Rattle.serde_json.specs.Find.{as_i64}
 use Rattle.value_store.specs.Value as kind
 use Rattle.value_table.proofs.Conversion.{converted_array, converted_object, mapped_some, mapped_none}
 use Rattle.value_table.specs.Heap.{heap_values}
-use Rattle.value_table.specs.Reading.{ReadsValue, AddsPlaced}
+use Rattle.value_table.specs.Reading.{ReadsEntries, ReadsValue, AddsPlaced}
 use Rattle.value_table.proofs.Growing.{grown_more}
 use Rattle.value_table.proofs.PlacedMembers.{members_sound}
 use Rattle.value_table.proofs.PlacedValues.{read_as, read_alone}
@@ -60,7 +60,7 @@ pub gather_members-members-init : goal.gather_members-members-init
 gather_members-members-init t c = record {
   heap = c.requires;
   grown = ([], sym (append-nil (heap_values c.args.heap.now)));
-  members = members_start c.args.depth c.args.reader.now (heap_values c.args.heap.now) c.new-found.result.entries c.new-found.ensures.empty;
+  members = members_start c.args.depth c.args.reader.now (heap_values c.args.heap.now) c.new-found.result.entries c.new-found.ensures;
 }
 
 pub gather_members-returns-in_err-key-clause-refused : goal.gather_members-returns-in_err-key-clause-refused
@@ -82,14 +82,16 @@ gather_members-members-preserved t c =
     record {
       heap = done.read.puts.heap;
       grown = grown_more _ _ _ l.invariant.grown done.read.puts.grown;
-      members = members_turn c.args.depth c.args.reader.now l.reader c.next_key.new.self c.read_value.new.reader l.heap c.read_value.new.heap c.in-Some.key c.in_ok-member.member l.found.entries c.insert.new.self.entries l.invariant.members named done.read done.shorter c.in_ok-insert.ensures.entries;
+      members = members_turn c.args.depth c.args.reader.now l.reader c.next_key.new.self c.read_value.new.reader l.heap c.read_value.new.heap c.in-Some.key c.in_ok-member.member l.found.entries c.insert.new.self.entries l.invariant.members named done.read done.shorter c.in_ok-insert.ensures;
     }
 
 pub gather_members-returns-clause-read : goal.gather_members-returns-clause-read
 gather_members-returns-clause-read t c =
     let l = c.members in
     let over : read_key l.reader ≡ Some (None, c.next_key.new.self) = grind arith in
-    members_gathered c.args.depth c.args.reader.now l.reader c.next_key.new.self c.args.heap.now l.heap l.found.entries l.invariant.members over l.invariant.heap l.invariant.grown
+    let got = members_gathered c.args.depth c.args.reader.now l.reader c.next_key.new.self c.args.heap.now l.heap l.found.entries l.invariant.members over l.invariant.heap l.invariant.grown in
+    let due = converted (λ ms. of_members ms json.no_members) (members (value c.args.depth) (length c.args.reader.now) c.args.reader.now) in
+    subst (λ es. ReadsEntries c.args.heap.now l.heap es due c.next_key.new.self) (sym c.in_ok-finish.ensures) got
 
 pub read_members-add_members-requires-clause-sound : goal.read_members-add_members-requires-clause-sound
 read_members-add_members-requires-clause-sound t c =

@@ -1,0 +1,141 @@
+//! The members of an object that was read.
+
+ghost use Rattle.std.specs.Prelude.{◌≡◌, ◌≤◌, [], length, IfOk, OnErr, OnOk, option_copied};
+ghost use Rattle.std.specs.BTreeMap.{insert_entry, is_at};
+ghost use Rattle.std.specs.List.{insert};
+ghost use Rattle.std.specs.List.Sorted.{IsStrictlySortedBy};
+ghost use Rattle.std.specs.Map.{keys_of, lookup, remove_entry};
+ghost use Rattle.value_table.specs.Members.{key_at, str_cmp, PlaceIs};
+
+use crate::placed::Placed;
+use std::alloc::{AllocError, Global};
+use std::cmp::Ordering;
+use std::collections::BTreeMap;
+use std::marker::Model;
+
+/// The number of members for which a first member reserves capacity.
+const FIRST: usize = 8;
+
+/// Members in the order of their keys.
+#[derive(Drop)]
+pub(crate) struct Members<'a> {
+    entries: Vec<(&'a str, Option<Placed>)>,
+}
+
+impl<'a> Model for Members<'a> {
+    ghost use Rattle.std.specs.List.Sorted.{IsStrictlySortedBy};
+    ghost use Rattle.std.specs.Map.{keys_of};
+    ghost use Rattle.value_table.specs.Members.{ReadMembers, str_cmp};
+
+    ghost Value = { ReadMembers };
+
+    ghost view = { λ m. record { entries = m.entries.items } };
+
+    ghost invariant = { λ m. IsStrictlySortedBy str_cmp (keys_of m.entries.items) };
+}
+
+impl<'a> Members<'a> {
+    /// No members.
+    pub(crate) fn new(alloc: Global) -> Members<'a>
+        ensures { result.entries ≡ [] }
+    {
+        Members {
+            entries: Vec::new(alloc),
+        }
+    }
+
+    /// The members of a map.
+    pub(crate) fn of_map(
+        alloc: Global,
+        map: &BTreeMap<&'a str, Option<Placed>>,
+    ) -> Result<Members<'a>, AllocError>
+        ensures { IfOk result (λ m. m.entries ≡ map.now.entries) }
+    {
+        let mut entries = Vec::with_capacity(alloc, map.len())?;
+        for (key, value) in map {
+            entries.push((*key, *value))?;
+        }
+        Ok(Members { entries })
+    }
+
+    /// The members in the order of their keys.
+    pub(crate) fn entries(&self) -> &[(&'a str, Option<Placed>)]
+        ensures value { result.now ≡ self.now.entries }
+        ensures ordered { IsStrictlySortedBy str_cmp (keys_of result.now) }
+    {
+        &self.entries[..]
+    }
+
+    /// Adds a member. If the key is there, its value is replaced.
+    pub(crate) fn insert(&mut self, key: &'a str, value: Option<Placed>) -> Result<(), AllocError>
+        ensures { OnOk result (self.new.entries ≡ insert_entry str_cmp self.old.entries key.entry value) }
+    {
+        match place(&self.entries[..], key) {
+            Ok(at) => {
+                self.entries[at].1 = value;
+                Ok(())
+            }
+            Err(at) => put(&mut self.entries, at, (key, value)),
+        }
+    }
+
+    /// The value of a key.
+    pub(crate) fn get(&self, key: &str) -> Option<&Option<Placed>>
+        ensures { option_copied result ≡ lookup (is_at (key_at key.now)) self.now.entries }
+    {
+        match place(&self.entries[..], key) {
+            Ok(at) => Some(&self.entries[at].1),
+            Err(_) => None,
+        }
+    }
+
+    /// Removes the member with a key, and returns its value.
+    pub(crate) fn remove(&mut self, key: &str) -> Option<Option<Placed>>
+        ensures value { result ≡ lookup (is_at (key_at key.now)) self.old.entries }
+        ensures entries { self.new.entries ≡ remove_entry (is_at (key_at key.now)) self.old.entries }
+    {
+        match place(&self.entries[..], key) {
+            Ok(at) => {
+                let (_, value) = self.entries.remove(at);
+                Some(value)
+            }
+            Err(_) => None,
+        }
+    }
+}
+
+// Where a key is, or else where it belongs. Keys often come in order, so the last one is the first
+// to be compared.
+fn place(entries: &[(&str, Option<Placed>)], key: &str) -> Result<usize, usize>
+    requires { IsStrictlySortedBy str_cmp (keys_of entries.now) }
+    ensures { PlaceIs (key_at key.now) entries.now result }
+{
+    let mut at = entries.len();
+    while at > 0 {
+        match key.cmp(entries[at - 1].0) {
+            Ordering::Less => at -= 1,
+            Ordering::Equal => return Ok(at - 1),
+            Ordering::Greater => return Err(at),
+        }
+    }
+    Err(0)
+}
+
+// Inserts an entry at this place.
+fn put<'a>(
+    entries: &mut Vec<(&'a str, Option<Placed>)>,
+    at: usize,
+    entry: (&'a str, Option<Placed>),
+) -> Result<(), AllocError>
+    requires { at ≤ length entries.old.items }
+    ensures ok { OnOk result (entries.new.items ≡ insert entries.old.items at entry.entry) }
+    ensures err { OnErr result (entries.new.items ≡ entries.old.items) }
+{
+    if entries.is_empty() {
+        entries.reserve(FIRST)?;
+    }
+    match entries.insert(at, entry) {
+        Ok(()) => Ok(()),
+        Err(_) => Err(AllocError),
+    }
+}
