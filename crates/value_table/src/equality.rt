@@ -19,6 +19,7 @@ mod walk;
 use crate::content::Content;
 use crate::equality::member::is_among;
 use crate::equality::start::start_at;
+use crate::equality::unlike::MOST;
 use crate::equality::walk::first;
 pub(crate) use crate::equality::walk::parts_of;
 use crate::heap::Heap;
@@ -51,6 +52,7 @@ impl Heap {
             &mut self.hints,
             a,
             b,
+            MOST,
         )
     }
 

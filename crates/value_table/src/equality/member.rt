@@ -9,6 +9,7 @@ ghost use Rattle.value_table.specs.Equality.{AreContents, AreMeanings};
 
 use crate::backings::Backings;
 use crate::cell::Cell;
+use crate::equality::unlike::MOST;
 use crate::equality::walk::equal;
 use crate::hints::Hints;
 use crate::sequence::Sequence;
@@ -29,7 +30,7 @@ pub(crate) fn is_among(
     ensures { (vs : List Value) → AreMeanings backings.now vs cells.now → AreSame vs same.old → AreSame vs same.new × (result ≡ has_item (value_in vs x) (items_at vs places.now)) }
 {
     for i in 0..places.len() {
-        if equal(cells, backings, same, hints, x, places[i] as u64) {
+        if equal(cells, backings, same, hints, x, places[i] as u64, MOST) {
             return true;
         }
     }
