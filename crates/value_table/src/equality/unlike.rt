@@ -71,7 +71,11 @@ fn next_parts(
     ensures inside { IfSome result (λ p. (p.0 < length cells.now) × (p.1 < length cells.now)) }
     ensures parts { IfSome result (λ p. (vs : List Value) → AreMeanings backings.now vs cells.now → slice_get vs a ≡ slice_get vs b → slice_get vs p.0 ≡ slice_get vs p.1) }
 {
-    let left = parts_name(cells.at(a as usize).content);
+    let whole = cells.at(a as usize).content;
+    if has_one_part(whole) {
+        return parts_at(cells, backings, a, b, 0);
+    }
+    let left = parts_name(whole);
     let right = parts_name(cells.at(b as usize).content);
     let last = parts_at(cells, backings, a, b, hints.start(left, left));
     if let Some((p, q)) = last {
@@ -82,6 +86,14 @@ fn next_parts(
         }
     }
     parts_at(cells, backings, a, b, hints.start(left, right))
+}
+
+// Whether a value has one part, so that no other can differ.
+fn has_one_part(content: Content) -> bool {
+    match content {
+        Content::List(_, count) | Content::Map(_, _, count) => count == 1,
+        _ => false,
+    }
 }
 
 // The parts of two cells at a place, if both have one.
