@@ -75,7 +75,7 @@ impl Heap {
     }
 
     // Whether one of the first items of a backing equals the value at `x`.
-    #[tactic(auto, using(crate::proofs::Comparisons::contents_of, crate::proofs::Growth::count_values, crate::proofs::Comparisons::meanings_of, crate::proofs::Indexed::below_drop, std::proofs::lemmas::List::take_rest, std::proofs::lemmas::List::with_items_is))]
+    #[tactic(auto, using(crate::proofs::Comparisons::contents_of, crate::proofs::Growth::count_values, crate::proofs::Indexed::known_of, crate::proofs::Indexed::below_drop, std::proofs::lemmas::List::take_rest, std::proofs::lemmas::List::with_items_is))]
     fn has_item(&mut self, x: u64, backing: u64, count: u64) -> bool
         requires heap { IsHeap self.old }
         requires value { x < length (heap_values self.old) }

@@ -1,22 +1,17 @@
 -- Proofs of `equality::member::is_among`: the result meets the contract; each turn of the loop keeps the invariant.
 
-use Rattle.value_table.proofs.Prelude.{length, sym, ◌∙◌, arith, value_in}
-use Rattle.value_table.proofs.Walks.{below_here}
-use Rattle.value_table.proofs.Comparisons.{answer_is, item_step}
+use Rattle.value_table.proofs.Prelude.{sym, ◌∙◌, arith, value_in}
+use Rattle.value_table.proofs.Comparisons.{item_step}
 use Rattle.value_table.proofs.equality.member.is_among.Goals as goal
 
-pub returns-then-equal : goal.returns-then-equal
-returns-then-equal c = λ vs m s.
-    let inv = c.loop-i.invariant vs m s in
-    let here = c.equal.ensures vs m inv.0 in
-    let below = below_here (length c.args.cells.now) c.args.places.now c.loop-i.i 0 c.requires.places (omega arith) in
-    let answer = answer_is _ vs c.args.cells.now _ _ _ m c.requires.value below here.right in
-    (here.known, sym (inv.1 ∙ item_step vs (value_in vs c.args.x) c.args.places.now c.loop-i.i _ (omega arith) (sym c.if-equal.true ∙ answer)))
+pub returns-then-are_equal : goal.returns-then-are_equal
+returns-then-are_equal c = λ vs k s.
+    let inv = c.loop-i.invariant vs k s in
+    let here = c.are_equal.ensures vs k inv.0 in
+    (here.0, sym (inv.1 ∙ item_step vs (value_in vs c.args.x) c.args.places.now c.loop-i.i _ (omega arith) (sym c.if-are_equal.true ∙ here.1)))
 
 pub loop-i-preserved : goal.loop-i-preserved
-loop-i-preserved c = λ vs m s.
-    let inv = c.loop-i.invariant vs m s in
-    let here = c.equal.ensures vs m inv.0 in
-    let below = below_here (length c.args.cells.now) c.args.places.now c.loop-i.i 0 c.requires.places (omega arith) in
-    let answer = answer_is _ vs c.args.cells.now _ _ _ m c.requires.value below here.right in
-    (here.known, inv.1 ∙ item_step vs (value_in vs c.args.x) c.args.places.now c.loop-i.i _ (omega arith) (sym c.if-equal.false ∙ answer))
+loop-i-preserved c = λ vs k s.
+    let inv = c.loop-i.invariant vs k s in
+    let here = c.are_equal.ensures vs k inv.0 in
+    (here.0, inv.1 ∙ item_step vs (value_in vs c.args.x) c.args.places.now c.loop-i.i _ (omega arith) (sym c.if-are_equal.false ∙ here.1))
