@@ -5,3 +5,5 @@ pub mod MacroRows
 pub mod TypeRows
 pub mod MeasureRows
 pub mod CodeRows
+pub mod PolicyRows
+pub mod PartRows

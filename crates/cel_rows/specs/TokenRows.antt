@@ -1,12 +1,12 @@
 -- Fronts of texts at which one byte more or less would make another token, worked by hand from the lexis of cel-spec.
-use Rattle.std.specs.Prelude.{◌≡◌, true, false, pos, [], ◌∷◌, Some, None, codes}
+use Rattle.std.specs.Prelude.{◌≡◌, true, false, [], ◌∷◌, Some, None, codes}
 use Rattle.cel_tokens.specs.Bytes.{between, opens_comment}
 use Rattle.cel_tokens.specs.Ints.{hex_begins, int_at}
 use Rattle.cel_tokens.specs.Lexed.{front, signed_int_begins, space, word}
 use Rattle.cel_tokens.specs.Lexis.{lexeme}
 use Rattle.cel_tokens.specs.Marks.{mark_at}
 use Rattle.cel_tokens.specs.Texts.{escape, opening, piece}
-use Rattle.cel_tokens.specs.Token.{name, int, mark}
+use Rattle.cel_tokens.specs.Token.{name}
 use Rattle.cel_tokens.specs.declared.mark.Mark.TheVariants as marks
 
 -- blanks and comments (COMMENT: two slashes up to the end of the line)

@@ -5,6 +5,8 @@ ghost use Rattle.cel_rows.specs.MacroRows.{ExpansionRowsStand, CalleeRowsStand, 
 ghost use Rattle.cel_rows.specs.TypeRows.{OperandRowsStand, BinaryRowsStand, CallRowsStand, MacroTypesStand, AgreementRowsStand, ThreeArgumentRowsStand};
 ghost use Rattle.cel_rows.specs.MeasureRows.{NeedRowsStand, DepthRowsStand};
 ghost use Rattle.cel_rows.specs.CodeRows.{CodeLimitRowsStand, TextRowsStand, ConstantRowsStand, KeptRowsStand, ConditionalRowsStand};
+ghost use Rattle.cel_rows.specs.PolicyRows.{DocumentRowsStand, FieldRowsStand, FormRowsStand};
+ghost use Rattle.cel_rows.specs.PartRows.{JudgedRowsStand, ErrorRowsStand, TreeRowsStand, DepthOfPolicyRowsStand};
 
 /// Blanks, comments, ints and marks at the front of a text.
 #[tactic(auto, unfolding(cel_tokens::specs::Bytes::run, cel_tokens::specs::Bytes::between, cel_tokens::specs::Ints::number_from, cel_tokens::specs::Lexed::front))]
@@ -83,4 +85,21 @@ pub fn code_rows_stand()
 #[tactic(auto, unfolding(cel_macros::specs::Environment::is_root, cel_macros::specs::Functions::function_named, cel_macros::specs::Functions::test_named, cel_macros::specs::Macros::macro_named, cel_macros::specs::Macros::is_map, cel_macros::specs::Macros::is_has, cel_macros::specs::Macros::is_variables, cel_macros::specs::Environment::name_value, cel_macros::specs::Environment::variable_value, cel_macros::specs::Meaning::meaning, codegen::specs::Cost::cost))]
 pub fn cost_rows_stand()
     ensures { ConditionalRowsStand }
+{}
+
+/// Documents of policies.
+#[tactic(auto, unfolding(crate::proofs::OnLiterals::documents_on_literals))]
+pub fn document_rows_stand()
+    ensures documents { DocumentRowsStand }
+    ensures fields { FieldRowsStand }
+    ensures forms { FormRowsStand }
+{}
+
+/// Parts of policies, and errors.
+#[tactic(auto, unfolding(crate::proofs::OnLiterals::policies_on_literals, policy_glue::specs::Naming::names))]
+pub fn part_rows_stand()
+    ensures judged { JudgedRowsStand }
+    ensures errors { ErrorRowsStand }
+    ensures trees { TreeRowsStand }
+    ensures deep { DepthOfPolicyRowsStand }
 {}

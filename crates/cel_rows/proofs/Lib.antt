@@ -1,0 +1,3 @@
+-- The proofs of `cel_rows`.
+
+pub mod OnLiterals
