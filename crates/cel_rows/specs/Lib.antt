@@ -7,3 +7,4 @@ pub mod MeasureRows
 pub mod CodeRows
 pub mod PolicyRows
 pub mod PartRows
+pub mod KubernetesRows

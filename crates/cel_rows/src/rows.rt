@@ -1,4 +1,5 @@
 //! Rows by the crate whose definitions they pin; each function is empty, and its contract is the rows.
+ghost use Rattle.cel_rows.specs.KubernetesRows.{AuthorizerRowsStand, KubernetesRowsStand};
 ghost use Rattle.cel_rows.specs.TokenRows.{CommentRowsStand, IntRowsStand, OpeningRowsStand, EscapeRowsStand};
 ghost use Rattle.cel_rows.specs.ReaderRows.{GrammarRowsStand, OperatorRowsStand, CommaRowsStand, NestingRowsStand, WordRowsStand, SequenceRowsStand};
 ghost use Rattle.cel_rows.specs.MacroRows.{ExpansionRowsStand, CalleeRowsStand, FaultRowsStand};
@@ -102,4 +103,16 @@ pub fn part_rows_stand()
     ensures errors { ErrorRowsStand }
     ensures trees { TreeRowsStand }
     ensures deep { DepthOfPolicyRowsStand }
+{}
+
+/// Policies that a cluster refuses and that are taken here.
+#[tactic(auto, unfolding(crate::proofs::OnLiterals::documents_on_literals))]
+pub fn kubernetes_rows_stand()
+    ensures { KubernetesRowsStand }
+{}
+
+/// A name that a cluster has and that is unknown here.
+#[tactic(auto, unfolding(cel_macros::specs::Environment::is_root, cel_types::specs::Scope::name_type, cel_types::specs::Typing::typing))]
+pub fn authorizer_rows_stand()
+    ensures { AuthorizerRowsStand }
 {}
