@@ -55,6 +55,6 @@ pub record OpeningRowsStand : Type 0 where
   pub line_feed : piece true (codes "\n") ≡ None
 
 -- escapes with more digits behind them (ESCAPE)
-pub record EscapeRowsStand : Type 0 where
+pub record TextEscapeRowsStand : Type 0 where
   pub hex_of_two_digits : escape (codes "x413") ≡ Some (0x41, 3)
   pub octal_of_three_digits : escape (codes "1012") ≡ Some (0x41, 3)

@@ -1,6 +1,6 @@
 //! Rows by the crate whose definitions they pin; each function is empty, and its contract is the rows.
 ghost use Rattle.cel_rows.specs.KubernetesRows.{AuthorizerRowsStand, KubernetesRowsStand};
-ghost use Rattle.cel_rows.specs.TokenRows.{CommentRowsStand, IntRowsStand, OpeningRowsStand, EscapeRowsStand};
+ghost use Rattle.cel_rows.specs.TokenRows.{CommentRowsStand, IntRowsStand, OpeningRowsStand, TextEscapeRowsStand};
 ghost use Rattle.cel_rows.specs.ReaderRows.{GrammarRowsStand, OperatorRowsStand, CommaRowsStand, NestingRowsStand, WordRowsStand, SequenceRowsStand};
 ghost use Rattle.cel_rows.specs.MacroRows.{ExpansionRowsStand, CalleeRowsStand, FaultRowsStand};
 ghost use Rattle.cel_rows.specs.TypeRows.{OperandRowsStand, BinaryRowsStand, CallRowsStand, MacroTypesStand, AgreementRowsStand, ThreeArgumentRowsStand};
@@ -20,7 +20,7 @@ pub fn token_rows_stand()
 #[tactic(auto, unfolding(cel_tokens::specs::Bytes::run, cel_tokens::specs::Ints::number_from, cel_tokens::specs::Texts::escape))]
 pub fn text_rows_stand()
     ensures openings { OpeningRowsStand }
-    ensures escapes { EscapeRowsStand }
+    ensures escapes { TextEscapeRowsStand }
 {}
 
 /// The rows of the grammar, and the operators of each.
