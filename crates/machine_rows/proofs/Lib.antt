@@ -1,0 +1,2 @@
+-- Proofs of machine_rows: the list of their modules.
+pub mod Lengths

@@ -1,0 +1,10 @@
+//! Literal rows over the definitions of the machine's crates. They stand apart from the crates whose definitions they
+//! pin, so that a further row proves no crate above these again.
+#![tactic(auto)]
+
+mod rows;
+
+pub use rows::{
+    helper_rows_stand, image_rows_stand, instruction_rows_stand, memory_rows_stand, run_rows_stand,
+    session_rows_stand, source_rows_stand, stream_rows_stand, value_rows_stand, word_rows_stand,
+};
