@@ -4,4 +4,5 @@ pub mod Prelude
 pub mod Texts
 pub mod Candidates
 pub mod Orders
+pub mod Covered
 pub mod Servers

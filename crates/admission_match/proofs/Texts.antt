@@ -23,6 +23,9 @@ fit_in_views q x rs = any_of_map (λ r. fits r q x) rule_view rs
 pub may_fit_in_views : (q : Attributes) (rs : List CodeRule) → list_any (λ r. may_fit (rule_view r) q) rs ≡ list_any (λ r. may_fit r q) (map rule_view rs)
 may_fit_in_views q rs = any_of_map (λ r. may_fit r q) rule_view rs
 
+pub covered_in_views : (x sub : List ℕ) (rs : List CodeRule) → list_any (λ r. covers_one (rule_view r).resources x sub) rs ≡ list_any (λ r. covers_one r.resources x sub) (map rule_view rs)
+covered_in_views x sub rs = any_of_map (λ r. covers_one r.resources x sub) rule_view rs
+
 pub or_none : (b : Bool) → (b || false) ≡ b
 or_none true = refl
 or_none false = refl

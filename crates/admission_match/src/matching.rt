@@ -2,7 +2,7 @@
 ghost use Rattle.std.specs.Prelude.{◌≡◌, map, option_map};
 ghost use Rattle.admission_match.specs.Matching.{after_rules, at_rules, beside_namespace, labels_in, match_answer, match_view, namespace_answer, object_passes, passes_if, selects_object};
 ghost use Rattle.admission_match.specs.Requests.{attributes_view, resource_view};
-ghost use Rattle.admission_match.specs.Rules.{fits, may_fit, rule_view, rules_answer};
+ghost use Rattle.admission_match.specs.Rules.{covers_one, fits, may_fit, rule_view, rules_answer};
 ghost use Rattle.std.specs.List.{list_any};
 ghost use Rattle.label_selectors.specs.Selectors.{selector_view, selects};
 
@@ -13,6 +13,7 @@ use crate::match_policy::MatchPolicy;
 use crate::match_resources::MatchResources;
 use crate::namespace_answer::NamespaceAnswer;
 use crate::namespaces::Namespaces;
+use crate::patterns::covers_one;
 use crate::rule::Rule;
 use crate::rules_answer::RulesAnswer;
 use crate::trouble::Trouble;
@@ -128,7 +129,8 @@ fn selects_object<L: Labels>(selector: &LabelSelector, object: &Option<L>) -> bo
     }
 }
 
-/// The answer of a list of rules.
+/// The answer of a list of rules. Most policies are for other resources, which is tested first.
+#[tactic(auto, using(crate::proofs::Covered::none_covered))]
 fn rules_answer<L: Labels>(
     policy: MatchPolicy,
     rules: &[Rule],
@@ -136,6 +138,9 @@ fn rules_answer<L: Labels>(
 ) -> RulesAnswer
     ensures { result ≡ rules_answer policy (map rule_view rules.now) (attributes_view L.map request.now) }
 {
+    if !one_covers(rules, request) {
+        return RulesAnswer::NoneFits;
+    }
     match policy {
         MatchPolicy::Exact => {
             if one_fits(rules, request) {
@@ -154,6 +159,25 @@ fn rules_answer<L: Labels>(
             }
         }
     }
+}
+
+/// Whether a rule covers the request's resource. Otherwise none fits, and none may fit.
+fn one_covers<L: Labels>(rules: &[Rule], request: &Attributes<'_, L>) -> bool
+    ensures { result ≡ list_any (λ r. covers_one r.resources request.now.resource.resource.now request.now.subresource.now) (map rule_view rules.now) }
+{
+    some_covers(rules, request)
+}
+
+fn some_covers<L: Labels>(rules: &[Rule], request: &Attributes<'_, L>) -> bool
+    ensures { result ≡ list_any (λ r. covers_one (rule_view r).resources request.now.resource.resource.now request.now.subresource.now) rules.now }
+{
+    rules.iter().any(|rule| {
+        covers_one(
+            &rule.resources,
+            request.resource.resource,
+            request.subresource,
+        )
+    })
 }
 
 /// Whether a rule fits the request.
