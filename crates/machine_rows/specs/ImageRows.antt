@@ -20,7 +20,7 @@ pub record ImageRowsHold : Type 0 where
   pub many_slots : image_from First (replicate 458760 0) [] ≡ Ok (record { version = First; code = replicate 458760 0; constants = [] })
 
 -- code without a listing: a part of a slot, which is seen first, or more than 65,536 slots
-pub record ListingRowsHold : Type 0 where
+pub record CodeListingsHold : Type 0 where
   pub no_code : refusal_of [] ≡ None
   pub one_slot : refusal_of (replicate 8 0) ≡ None
   pub seven_bytes : refusal_of (replicate 7 0) ≡ Some listing.PartialSlot

@@ -90,7 +90,7 @@ pub record FrameRowsHold : Type 0 where
 
 -- the words of R1 and R2 after one instruction on them, the instructions at the slots of code, and states that have
 -- stopped (sections 4.1, 4.2 and 5.4)
-pub record StepRowsHold : Type 0 where
+pub record RunStepsHold : Type 0 where
   pub negates : (executed (Neg W64 R1) counting).registers
       ≡ 0x70 ∷ 0xffff_ffff_ffff_ffff ∷ 0x82 ∷ 3 ∷ 4 ∷ 5 ∷ 6 ∷ 7 ∷ 8 ∷ 9 ∷ 0x8000_0000_0000_0400 ∷ []
   pub extends : (executed (SignExtend From8To64 R1 R2) counting).registers

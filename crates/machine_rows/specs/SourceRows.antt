@@ -12,7 +12,7 @@ use Rattle.assembler.specs.Reading.{ReadsLine, says}
 use Rattle.assembler.specs.Source.{EachSays}
 
 -- names of labels with the first and the last of the bytes allowed, and with the bytes beside them
-pub record NameRowsHold : Type 0 where
+pub record SourceLabelsHold : Type 0 where
   pub letters : HasLine (label (codes "azAZ"))
   pub one_small_letter : HasLine (label (codes "a"))
   pub last_small_letter : HasLine (label (codes "z"))

@@ -10,7 +10,7 @@ use Rattle.insn_codec.specs.declared.signed_size.SignedSize.TheVariants.{B, H, W
 use Rattle.insn_codec.specs.declared.swap_width.SwapWidth.TheVariants.{Bits16, Bits32, Bits64}
 
 -- sums, and quotients and remainders by one (section 4.1)
-pub record WordRowsHold : Type 0 where
+pub record SumRowsHold : Type 0 where
   pub sum : alu64_of Add 2 3 ≡ 5
   pub sum_of_halves : alu32_of Add 2 3 ≡ 5
   pub div_by_one : alu64_of Div 5 1 ≡ 5

@@ -1,18 +1,18 @@
 //! Rows worked out by hand, each record of them a clause of an empty function.
 ghost use Rattle.machine_rows.specs.HelperRows.{BoundRowsHold, CallRowsHold};
-ghost use Rattle.machine_rows.specs.ImageRows.{ImageRowsHold, ListingRowsHold};
+ghost use Rattle.machine_rows.specs.ImageRows.{ImageRowsHold, CodeListingsHold};
 ghost use Rattle.machine_rows.specs.InstructionRows.{FieldRowsHold, RegisterRowsHold, StatementRowsHold};
 ghost use Rattle.machine_rows.specs.MemoryRows.{AccessRowsHold, FaultCodesHold, RegionRowsHold};
-ghost use Rattle.machine_rows.specs.RunRows.{AddressRowsHold, FrameRowsHold, StepRowsHold};
+ghost use Rattle.machine_rows.specs.RunRows.{AddressRowsHold, FrameRowsHold, RunStepsHold};
 ghost use Rattle.machine_rows.specs.SessionRows.{CommandRowsHold, MarkRowsHold, ShownRowsHold};
-ghost use Rattle.machine_rows.specs.SourceRows.{LineRowsHold, NameRowsHold};
+ghost use Rattle.machine_rows.specs.SourceRows.{LineRowsHold, SourceLabelsHold};
 ghost use Rattle.machine_rows.specs.StreamRows.{StreamRowsHold, TextRowsHold};
 ghost use Rattle.machine_rows.specs.ValueRows.{DocumentRowsHold, EqualityRowsHold, OutlineRowsHold, SizeRowsHold};
-ghost use Rattle.machine_rows.specs.WordRows.{OrderRowsHold, SwapRowsHold, WordRowsHold};
+ghost use Rattle.machine_rows.specs.WordRows.{OrderRowsHold, SwapRowsHold, SumRowsHold};
 
 /// Arithmetic, byte orders and comparisons of words.
 pub fn word_rows_stand()
-    ensures arithmetic { WordRowsHold }
+    ensures arithmetic { SumRowsHold }
     ensures swaps { SwapRowsHold }
     ensures order { OrderRowsHold }
 {}
@@ -34,7 +34,7 @@ pub fn memory_rows_stand()
 /// Image files, and code without a listing.
 pub fn image_rows_stand()
     ensures images { ImageRowsHold }
-    ensures listings { ListingRowsHold }
+    ensures listings { CodeListingsHold }
 {}
 
 /// Failures of streams, and texts of documents.
@@ -45,7 +45,7 @@ pub fn stream_rows_stand()
 
 /// Labels and lines of sources.
 pub fn source_rows_stand()
-    ensures names { NameRowsHold }
+    ensures names { SourceLabelsHold }
     ensures lines { LineRowsHold }
 {}
 
@@ -67,7 +67,7 @@ pub fn helper_rows_stand()
 pub fn run_rows_stand()
     ensures addresses { AddressRowsHold }
     ensures frames { FrameRowsHold }
-    ensures steps { StepRowsHold }
+    ensures steps { RunStepsHold }
 {}
 
 /// Lines of sessions, and what they show.
