@@ -2,11 +2,11 @@
 use Rattle.value_table.proofs.Prelude.{◌≡◌, ℕ, zero, suc, ◌<◌, ◌≤◌, List, [], ◌∷◌, length, take, drop, get_or, Bool, true, false, cond, Ordering, Less, Greater, Option, Some, None, Result, Ok, Err, refl, sym, ap, ◌∙◌, subst, arith, AllByRecursion, slice_set}
 use Rattle.std.proofs.Common.{OnOk, OnErr, ap₂, drop-cons, ◌+◌}
 use Rattle.std.specs.declared.cmp.Ordering.TheVariants.{Equal}
-use Rattle.std.specs.Ordering.{match_ordering, is_eq, ordering_reverse}
+use Rattle.std.specs.Ordering.{match_ordering, MatchOrdering, is_eq, nat_cmp, ordering_reverse, ordering_then}
 use Rattle.std.specs.BTreeMap.{is_at, insert_entry}
 use Rattle.std.specs.Borrow.{Bor}
-use Rattle.std.specs.Cmp.{IsTotalOrder}
-use Rattle.std.specs.Cmp.Lexicographic.{nat_list_cmp_total}
+use Rattle.std.specs.Cmp.{IsTotalOrder, ranked}
+use Rattle.std.specs.Cmp.Lexicographic.{nat_list_cmp_total, slice_cmp}
 use Rattle.std.specs.List.{insert, remove}
 use Rattle.std.specs.List.Sorted.{IsStrictlySortedBy}
 use Rattle.std.specs.Map.{keys_of, lookup, remove_entry}
@@ -45,6 +45,22 @@ less_at : (x : Key) (es : List PlacedEntry) (i : ℕ) (d : PlacedEntry) → i < 
 less_at x [] i d l a = absurd (omega (arith, l))
 less_at x (e ∷ es) zero d l a = a.0
 less_at x (e ∷ es) (suc i) d l a = less_at x es i d (omega arith) a.1
+
+-- ---- the first bytes
+
+first_tells : (x y : ℕ) (o r : Ordering) → MatchOrdering o (x < y) (x ≡ y) (y < x) → (x ≡ y → ⊥) → o ≡ ordering_then o r
+first_tells x y Less r m n = refl
+first_tells x y Equal r m n = absurd (n m)
+first_tells x y Greater r m n = refl
+
+by_first : (us vs : List ℕ) → 0 < length us → 0 < length vs → (get_or us 0 0 ≡ get_or vs 0 0 → ⊥) → nat_cmp (get_or us 0 0) (get_or vs 0 0) ≡ slice_cmp nat_cmp us vs
+by_first [] vs l m n = absurd (omega (arith, l))
+by_first (x ∷ xs) [] l m n = absurd (omega (arith, m))
+by_first (x ∷ xs) (y ∷ ys) l m n = first_tells x y (nat_cmp x y) (slice_cmp nat_cmp xs ys) (ranked x y (nat_cmp x y) refl) n
+
+-- two texts are in the order of their first bytes if these differ
+pub first_decides : (us vs ks ls : List ℕ) (r : Ordering) → us ≡ ks → vs ≡ ls → 0 < length us → 0 < length vs → (get_or us 0 0 ≡ get_or vs 0 0 → ⊥) → r ≡ nat_cmp (get_or us 0 0) (get_or vs 0 0) → r ≡ slice_cmp nat_cmp ks ls
+first_decides us vs ks ls r e f l m n h = h ∙ by_first us vs l m n ∙ ap₂ (λ xs ys. slice_cmp nat_cmp xs ys) e f
 
 -- ---- the search from the last key
 

@@ -2,9 +2,11 @@
 
 ghost use Rattle.std.specs.Prelude.{◌≡◌, ◌≤◌, [], length, IfOk, OnErr, OnOk, option_copied};
 ghost use Rattle.std.specs.BTreeMap.{insert_entry, is_at};
+ghost use Rattle.std.specs.Cmp.Lexicographic.{slice_cmp};
 ghost use Rattle.std.specs.List.{insert};
 ghost use Rattle.std.specs.List.Sorted.{IsStrictlySortedBy};
 ghost use Rattle.std.specs.Map.{keys_of, lookup, remove_entry};
+ghost use Rattle.std.specs.Ordering.{nat_cmp};
 ghost use Rattle.value_table.specs.Members.{key_at, str_cmp, PlaceIs};
 
 use crate::placed::Placed;
@@ -112,13 +114,24 @@ fn place(entries: &[(&str, Option<Placed>)], key: &str) -> Result<usize, usize>
 {
     let mut at = entries.len();
     while at > 0 {
-        match key.cmp(entries[at - 1].0) {
+        match key_order(key, entries[at - 1].0) {
             Ordering::Less => at -= 1,
             Ordering::Equal => return Ok(at - 1),
             Ordering::Greater => return Err(at),
         }
     }
     Err(0)
+}
+
+// How a key stands to another. The first bytes of most keys differ.
+fn key_order(key: &str, other: &str) -> Ordering
+    ensures { result ≡ slice_cmp nat_cmp key.now other.now }
+{
+    let (a, b) = (key.as_bytes(), other.as_bytes());
+    if a.len() == 0 || b.len() == 0 || a[0] == b[0] {
+        return key.cmp(other);
+    }
+    a[0].cmp(&b[0])
 }
 
 // Inserts an entry at this place.

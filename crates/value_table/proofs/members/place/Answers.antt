@@ -15,20 +15,20 @@ loop-at-init c = record {
 pub loop-at-preserved : goal.loop-at-preserved
 loop-at-preserved c = record {
   inside = omega arith;
-  less = answers_here (key_at c.args.key.now) c.args.entries.now _ _ _ (sym c.cmp.ensures ∙ c.in-Less.is);
+  less = answers_here (key_at c.args.key.now) c.args.entries.now _ _ _ (sym c.key_order.ensures ∙ c.in-Less.is);
 }
 
 pub returns-in-Equal : goal.returns-in-Equal
 returns-in-Equal c = record {
   inside = omega arith;
-  above = above_before c.args.key c.args.entries.now _ _ c.requires (omega arith) (sym c.cmp.ensures ∙ c.in-Equal.is);
-  equal = answers_here (key_at c.args.key.now) c.args.entries.now _ _ _ (sym c.cmp.ensures ∙ c.in-Equal.is);
+  above = above_before c.args.key c.args.entries.now _ _ c.requires (omega arith) (sym c.key_order.ensures ∙ c.in-Equal.is);
+  equal = answers_here (key_at c.args.key.now) c.args.entries.now _ _ _ (sym c.key_order.ensures ∙ c.in-Equal.is);
 }
 
 pub returns-in-Greater : goal.returns-in-Greater
 returns-in-Greater c = record {
   inside = c.loop-at.invariant.inside;
-  above = above_up_to c.args.key c.args.entries.now _ c.loop-at.at _ c.requires (omega arith) (omega arith) (sym c.cmp.ensures ∙ c.in-Greater.is);
+  above = above_up_to c.args.key c.args.entries.now _ c.loop-at.at _ c.requires (omega arith) (omega arith) (sym c.key_order.ensures ∙ c.in-Greater.is);
   less = c.loop-at.invariant.less;
 }
 
