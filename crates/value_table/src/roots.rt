@@ -16,8 +16,9 @@ use crate::sequence::Sequence;
 use serde_json::Value;
 use std::alloc::AllocError;
 
-/// The number of places of null, false, true and the roots.
-const FIRST_PLACES: usize = 8;
+/// The number of places for which capacity is reserved: those of null, false, true and the roots, and
+/// as many for values that the program creates.
+const FIRST_PLACES: usize = 16;
 
 /// The places of null, false, true and the roots. The roots are dropped as their values are added.
 pub(crate) fn start_places(heap: &mut Heap, roots: [Value; 5]) -> Result<Sequence<u64>, AllocError>
