@@ -1,9 +1,10 @@
 -- Lines of sessions and what they show, by hand from the table of a session's commands.
-use Rattle.std.specs.Prelude.{◌≡◌, true, false, [], ◌∷◌, ◌++◌, Some, codes, length, replicate}
+use Rattle.std.specs.Prelude.{◌≡◌, negsuc, true, false, [], ◌∷◌, ◌++◌, Some, codes, length, replicate}
 use Rattle.guest_memory.specs.Memory.{start_memory}
 use Rattle.debugger.specs.Answers.{can_go_back, can_go_on, is_slot}
 use Rattle.debugger.specs.Commands.{command_of}
 use Rattle.debugger.specs.Inspection.{frames_text, memory_text, shown_bytes}
+use Rattle.debugger.specs.Listing.{is_inside}
 use Rattle.debugger.specs.Rows.{five, five_registers, open_ended}
 use Rattle.debugger.specs.Session.{dialogue_of, has_quit, says_memory}
 use Rattle.debugger.specs.declared.command.Command.TheVariants.{MemoryAt, Unknown}
@@ -29,6 +30,7 @@ pub record CommandRowsHold : Type 0 where
   pub too_many_steps_back : can_go_back 2000000 1000001 ≡ false
   pub last_slot : is_slot 65535 ≡ true
   pub past_the_last_slot : is_slot 65536 ≡ false
+  pub before_the_first_slot : is_inside [] (negsuc 0) ≡ false
 
 -- moves, searches and verdicts need memory, unless their number is out of range; registers, and a place outside the
 -- code, do not
