@@ -25,3 +25,4 @@ pub mod FailurePolicies
 pub mod ShallowStates
 pub mod Places
 pub mod Integers
+pub mod KnownSteps

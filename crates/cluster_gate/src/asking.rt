@@ -2,10 +2,12 @@
 ghost use Rattle.std.specs.Prelude.{◌≡◌, false, IfOk};
 ghost use Rattle.admission_documents.specs.Requests.{request_view};
 ghost use Rattle.policy_glue.specs.OneImage.{OneImage};
+ghost use Rattle.cluster_state.specs.Params.{namespace_named};
 ghost use Rattle.cluster_state.specs.Policies.{policy_view, BoundPolicy};
 ghost use Rattle.cluster_state.specs.State.{state_view, ClusterState};
 ghost use Rattle.cluster_plan.specs.Steps.{asked_view};
 ghost use Rattle.cluster_gate.specs.Gates.{asked_policy, IsGateFor};
+ghost use Rattle.cluster_gate.specs.Opened.{IsBesideIf};
 ghost use Rattle.cluster_gate.specs.Running.{AddsMatched, AddsPolicy, AddsRun, AddsTrouble, IsRunOf};
 
 use crate::case::Case;
@@ -24,9 +26,10 @@ pub(crate) fn ask<'a>(
     alloc: Global,
     state: &State<'a>,
     gate: &PolicyGate<'_, 'a>,
-    case: &Case<'_, '_, '_>,
+    case: &Case<'_, '_, 'a>,
     events: &mut Events,
 ) -> Result<bool, AllocError>
+    requires { IsBesideIf case.now.opened case.now.place (namespace_named (request_view case.now.request.now).attributes.namespace (state_view state.now).objects) }
     ensures { IfOk result (λ ended. (s : ClusterState) (p : BoundPolicy) → state_view state.now ≡ s → IsGateFor s p gate.now
         → AddsPolicy OneImage s case.now.review.now case.now.steps (request_view case.now.request.now) p events.old events.new ended) }
 {
@@ -70,9 +73,10 @@ fn ask_matched<'a>(
     alloc: Global,
     state: &State<'a>,
     gate: &PolicyGate<'_, 'a>,
-    case: &Case<'_, '_, '_>,
+    case: &Case<'_, '_, 'a>,
     events: &mut Events,
 ) -> Result<bool, AllocError>
+    requires { IsBesideIf case.now.opened case.now.place (namespace_named (request_view case.now.request.now).attributes.namespace (state_view state.now).objects) }
     ensures { IfOk result (λ ended. (s : ClusterState) (p : BoundPolicy) → state_view state.now ≡ s → IsGateFor s p gate.now
         → AddsMatched OneImage s case.now.review.now case.now.steps (request_view case.now.request.now) p events.old events.new ended) }
 {
@@ -94,14 +98,15 @@ fn ask_matched<'a>(
     }
 }
 
-impl PolicyRun<'_, '_, '_, '_, '_> {
+impl<'a> PolicyRun<'_, '_, '_, '_, 'a> {
     /// Adds the events of the bindings of the policy, which is compiled.
-    fn run_bindings<'a>(
+    fn run_bindings(
         &self,
         state: &State<'a>,
         asked: &AskedPolicy<'_, 'a>,
         events: &mut Events,
     ) -> Result<bool, AllocError>
+        requires { IsBesideIf self.now.case.now.opened self.now.case.now.place (namespace_named (request_view self.now.case.now.request.now).attributes.namespace (state_view state.now).objects) }
         ensures { IfOk result (λ ended. (s : ClusterState) (p : BoundPolicy) → state_view state.now ≡ s → asked_view asked.now ≡ asked_policy s p
             → IsRunOf p self.now → AddsRun s (request_view self.now.case.now.request.now) p self.now events.old events.new ended) }
     {

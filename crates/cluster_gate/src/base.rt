@@ -9,6 +9,8 @@ use value_table::DocumentPool;
 pub(crate) struct Base<'a> {
     pub(crate) pool: DocumentPool,
     pub(crate) documents: Vec<ReadDocument<'a>>,
+    /// The length in bytes of what was read, with something for what keeps it.
+    pub(crate) length: usize,
 }
 
 impl<'a> Model for Base<'a> {

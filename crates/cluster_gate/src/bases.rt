@@ -4,26 +4,35 @@ ghost use Rattle.std.specs.Prelude.{◌≡◌, IfOk, IfSome};
 
 use crate::base::Base;
 use crate::opened_review::OpenedReview;
-use crate::read_document::ReadDocument;
+use crate::read_document::{ReadDocument, name_of};
 use crate::texts::text_of;
 use serde_json::Value;
 use std::alloc::{AllocError, Global};
+use std::cell::Cell;
 use value_table::{DocumentPool, ReviewError};
 
+/// What a base counts for beside the texts that were read.
+const BASE_LENGTH: usize = 1024;
+
 impl<'a> Base<'a> {
-    /// A base without documents.
-    pub(crate) fn new(alloc: Global) -> Result<Base<'a>, AllocError> {
-        Ok(Base {
-            pool: DocumentPool::new(alloc)?,
+    /// A base without documents, whose name has this length.
+    pub(crate) fn of(alloc: Global, pool: DocumentPool, length: usize) -> Base<'a> {
+        Base {
+            pool,
             documents: Vec::new(alloc),
-        })
+            length: length.saturating_add(BASE_LENGTH),
+        }
     }
 
     /// A copy that shares the values.
     pub(crate) fn copy(&self, alloc: Global) -> Result<Base<'a>, AllocError> {
         let pool = self.pool.copy()?;
         let documents = copied(alloc, &self.documents)?;
-        Ok(Base { pool, documents })
+        Ok(Base {
+            pool,
+            documents,
+            length: self.length,
+        })
     }
 
     /// The base with one more document, or a copy if the document's text is not read.
@@ -33,12 +42,22 @@ impl<'a> Base<'a> {
         document: &'a Value,
     ) -> Result<Base<'a>, AllocError> {
         let text = text_of(alloc, document)?;
+        let length = self.length.saturating_add(text.len());
+        let name = name_of(document);
         let before = self.pool.copy()?;
         match before.with_document(text.as_slice()) {
             Ok((pool, pooled)) => {
                 let mut documents = copied(alloc, &self.documents)?;
-                documents.push(ReadDocument { document, pooled })?;
-                Ok(Base { pool, documents })
+                documents.push(ReadDocument {
+                    name,
+                    document,
+                    pooled,
+                })?;
+                Ok(Base {
+                    pool,
+                    documents,
+                    length,
+                })
             }
             Err(ReviewError::Memory) => Err(AllocError),
             Err(_) => self.copy(alloc),
@@ -50,11 +69,19 @@ impl<'a> Base<'a> {
         self,
         review: &'r [u8],
     ) -> Result<Option<OpenedReview<'a, 'r>>, AllocError>
-        ensures { IfOk result (λ o. IfSome o (λ r. r ≡ review.now)) }
+        ensures { IfOk result (λ o. IfSome o (λ r. r.review ≡ review.now)) }
     {
-        let Base { pool, documents } = self;
+        let Base {
+            pool,
+            documents,
+            length: _,
+        } = self;
         match pool.open(review) {
-            Ok(review) => Ok(Some(OpenedReview { review, documents })),
+            Ok(review) => Ok(Some(OpenedReview {
+                review,
+                documents,
+                wanted: Cell::new(None),
+            })),
             Err(ReviewError::Memory) => Err(AllocError),
             Err(_) => Ok(None),
         }

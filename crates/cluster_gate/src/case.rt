@@ -5,6 +5,7 @@ ghost use Rattle.std.proofs.Props.{props};
 
 use crate::opened_review::OpenedReview;
 use admission_documents::Request;
+use value_table::PooledDocument;
 
 /// A review, its request, and the most steps of an evaluation.
 #[derive(Drop)]
@@ -14,5 +15,7 @@ pub(crate) struct Case<'c, 'x, 's> {
     pub(crate) steps: u64,
     /// The review, if it was read for all evaluations.
     pub(crate) opened: Option<&'c OpenedReview<'s, 'x>>,
-    ghost same: { IfSome opened (λ o. o.now ≡ review.now) } by { Prim.hlevel props },
+    /// Where the request's namespace is beside the review, if it was read.
+    pub(crate) place: Option<PooledDocument>,
+    ghost same: { IfSome opened (λ o. o.now.review ≡ review.now) } by { Prim.hlevel props },
 }

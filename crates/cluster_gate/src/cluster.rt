@@ -2,9 +2,11 @@
 ghost use Rattle.std.specs.Prelude.{IfOk, option_map};
 ghost use Rattle.admission_documents.specs.Requests.{request_view};
 ghost use Rattle.policy_glue.specs.OneImage.{OneImage};
+ghost use Rattle.cluster_state.specs.Params.{namespace_named};
 ghost use Rattle.cluster_state.specs.State.{state_view, ClusterState};
 ghost use Rattle.cluster_gate.specs.Dispatch.{policies_asked, DecidesInCluster};
 ghost use Rattle.cluster_gate.specs.Gates.{AreGatesFor, ClusterOpens, IsClusterFor};
+ghost use Rattle.cluster_gate.specs.Opened.{IsBesideIf};
 ghost use Rattle.cluster_gate.specs.Running.{AnswersCase, GivesEvents};
 ghost use Rattle.std.specs.Prelude.{◌≡◌, Some};
 ghost use Rattle.serde_json.specs.View.{view};
@@ -13,6 +15,7 @@ ghost use Rattle.value_store.specs.Documents.{document_of};
 use crate::asking::ask;
 use crate::case::Case;
 use crate::cluster_error::ClusterError;
+use crate::kept_bases::KeptBases;
 use crate::opening::open_gates;
 use crate::policy_gate::PolicyGate;
 use crate::review_request::review_request;
@@ -21,6 +24,7 @@ use cluster_response::{Events, response};
 use cluster_state::{State, parse};
 use serde_json::Value;
 use std::alloc::{AllocError, Global};
+use std::rc::Rc;
 
 /// The state of a cluster, and its bound policies, each compiled or blocked. No review changes it.
 #[derive(Drop)]
@@ -29,6 +33,7 @@ pub struct Cluster<'s, 'a> {
     pub(crate) state: &'s State<'a>,
     /// In the order of the policies' names.
     pub(crate) gates: Vec<PolicyGate<'s, 'a>>,
+    pub(crate) kept: Rc<KeptBases<'a>>,
 }
 
 impl<'s, 'a> Cluster<'s, 'a> {
@@ -51,6 +56,7 @@ impl<'s, 'a> Cluster<'s, 'a> {
             alloc,
             state,
             gates,
+            kept: KeptBases::shared(alloc)?,
         })
     }
 
@@ -89,11 +95,13 @@ impl<'s, 'a> Cluster<'s, 'a> {
                 None => Ok(None),
                 Some(request) => {
                     let opened = self.opened(review, &request)?;
+                    let opened = opened.as_ref();
                     let case = Case {
                         review,
                         request: &request,
                         steps: n,
-                        opened: opened.as_ref(),
+                        opened,
+                        place: self.place(&request, opened),
                     };
                     Ok(Some(self.answer(&case, found.uid)?))
                 }
@@ -102,16 +110,19 @@ impl<'s, 'a> Cluster<'s, 'a> {
     }
 
     /// The answer to a request with this uid.
-    fn answer(&self, case: &Case<'_, '_, '_>, uid: &str) -> Result<Vec<u8>, AllocError>
+    fn answer(&self, case: &Case<'_, '_, 'a>, uid: &str) -> Result<Vec<u8>, AllocError>
+        requires { IsBesideIf case.now.opened case.now.place (namespace_named (request_view case.now.request.now).attributes.namespace (state_view self.now.state.now).objects) }
         ensures { IfOk result (λ b. (s : ClusterState) → IsClusterFor s self.now → AnswersCase OneImage s case.now.review.now case.now.steps (request_view case.now.request.now) uid.now b.items) }
     {
         let events = self.events(case)?;
+        self.keep_wanted(case);
         let text = response(self.alloc, case.request, uid, &events)?;
         Ok(text)
     }
 
     /// The events of the dispatch of a request.
-    fn events(&self, case: &Case<'_, '_, '_>) -> Result<Events, AllocError>
+    fn events(&self, case: &Case<'_, '_, 'a>) -> Result<Events, AllocError>
+        requires { IsBesideIf case.now.opened case.now.place (namespace_named (request_view case.now.request.now).attributes.namespace (state_view self.now.state.now).objects) }
         ensures { IfOk result (λ e. (s : ClusterState) → IsClusterFor s self.now
             → GivesEvents OneImage s case.now.review.now case.now.steps (request_view case.now.request.now) (policies_asked s (request_view case.now.request.now)) e) }
     {
@@ -124,7 +135,8 @@ impl<'s, 'a> Cluster<'s, 'a> {
     }
 
     /// The events of all policies, up to the one that ends the dispatch.
-    fn dispatch(&self, case: &Case<'_, '_, '_>) -> Result<Events, AllocError>
+    fn dispatch(&self, case: &Case<'_, '_, 'a>) -> Result<Events, AllocError>
+        requires { IsBesideIf case.now.opened case.now.place (namespace_named (request_view case.now.request.now).attributes.namespace (state_view self.now.state.now).objects) }
         ensures { IfOk result (λ e. (s : ClusterState) → IsClusterFor s self.now
             → GivesEvents OneImage s case.now.review.now case.now.steps (request_view case.now.request.now) s.policies e) }
     {

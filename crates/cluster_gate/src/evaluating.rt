@@ -9,6 +9,7 @@ ghost use Rattle.admission.specs.Lent.{documents_lent};
 ghost use Rattle.admission.specs.Standing.{RunAgrees};
 ghost use Rattle.cluster_state.specs.Policies.{BoundPolicy};
 ghost use Rattle.cluster_gate.specs.Gates.{IsAskedGate};
+ghost use Rattle.cluster_gate.specs.Opened.{IsBesideIf};
 ghost use Rattle.cluster_gate.specs.Running.{FindsOrRefuses, HasFound};
 ghost use Rattle.cluster_gate.specs.Tables.{GivesTable, IsTableOf};
 
@@ -26,20 +27,21 @@ use value_table::{ReviewError, Table};
 /// # Errors
 ///
 /// An allocation failed, which says nothing of the review.
-pub(crate) fn evaluate(
+pub(crate) fn evaluate<'a>(
     alloc: Global,
     gate: &Gate,
-    case: &Case<'_, '_, '_>,
-    params: Option<&Value>,
-    namespace: Option<&Value>,
+    case: &Case<'_, '_, 'a>,
+    params: Option<&'a Value>,
+    namespace: Option<&'a Value>,
 ) -> Result<Result<Vec<Finding>, ClusterRefusal>, AllocError>
+    requires { IsBesideIf case.now.opened case.now.place (option_map (λ v. view v.now) namespace) }
     ensures { IfOk result (λ r. (p : BoundPolicy) → IsAskedGate p gate.now
         → FindsOrRefuses OneImage case.now.review.now case.now.steps p (option_map (λ v. view v.now) params.entry) (option_map (λ v. view v.now) namespace.entry) r) }
 {
     let Some(opened) = case.opened else {
         return evaluate_alone(alloc, gate, case, params, namespace);
     };
-    match opened.table(alloc, params, namespace) {
+    match opened.table_by(alloc, params, namespace, case.place) {
         Ok(table) => evaluate_on(gate, case, Ok(table)),
         Err(ReviewError::RootRefused(place)) => {
             evaluate_on(gate, case, Err(ReviewError::RootRefused(place)))

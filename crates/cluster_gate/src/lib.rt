@@ -9,6 +9,7 @@ mod case;
 mod cluster;
 mod cluster_error;
 mod evaluating;
+mod kept_bases;
 pub mod laws;
 mod opened_review;
 mod opened_tables;

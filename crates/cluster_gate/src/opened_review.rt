@@ -1,6 +1,8 @@
 //! Reviews that are read once for all evaluations.
 
 use crate::read_document::ReadDocument;
+use serde_json::Value;
+use std::cell::Cell;
 use std::marker::Model;
 use value_table::OpenReview;
 
@@ -10,15 +12,20 @@ use value_table::OpenReview;
 pub(crate) struct OpenedReview<'a, 'r> {
     pub(crate) review: OpenReview<'r>,
     pub(crate) documents: Vec<ReadDocument<'a>>,
+    /// A document that was not among them when a table needed it.
+    pub(crate) wanted: Cell<Option<&'a Value>>,
 }
 
 impl<'a, 'r> Model for OpenedReview<'a, 'r> {
-    ghost use Rattle.std.specs.Prelude.{ℕ, List};
+    ghost use Rattle.std.specs.Coded.{codes};
+    ghost use Rattle.value_table.specs.DocumentPool.{OpenValues, coded_value};
     ghost use Rattle.cluster_gate.specs.Opened.{AreReadHere};
 
-    ghost Value = { List ℕ };
+    ghost Value = { OpenValues };
 
-    ghost view = { λ o. o.review.review };
+    ghost coded = { Prim.hlevel (codes, coded_value) };
+
+    ghost view = { λ o. o.review };
 
     ghost invariant = { λ o. AreReadHere o.review.values o.documents.items };
 }

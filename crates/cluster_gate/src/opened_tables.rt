@@ -1,48 +1,98 @@
 //! Tables of evaluations.
 
-ghost use Rattle.std.specs.Prelude.{List, Some, option_map, IfSome};
+ghost use Rattle.std.specs.Prelude.{◌≡◌, true, List, Some, option_map, IfSome};
+ghost use Rattle.serde_json.specs.Data.{Data};
 ghost use Rattle.serde_json.specs.View.{view};
 ghost use Rattle.value_store.specs.Value as kind;
-ghost use Rattle.cluster_gate.specs.Opened.{AreReadHere, IsReadHere};
+ghost use Rattle.cluster_gate.specs.Opened.{AreReadHere, IsAtIf, IsReadHere};
 ghost use Rattle.cluster_gate.specs.Tables.{PlaceReturns, SharesTable};
 
 use crate::opened_review::OpenedReview;
-use crate::read_document::ReadDocument;
+use crate::read_document::{ReadDocument, name_of};
 use crate::same::is_same;
 use crate::texts::text_of;
 use serde_json::Value;
 use std::alloc::Global;
+use std::cell::Cell;
 use value_table::{OpenReview, PooledDocument, ReviewError, Table};
 
-impl<'r> OpenedReview<'_, 'r> {
+/// The largest length in bytes of a document that is wanted before later reviews.
+const WANTED_LENGTH: usize = 65_536;
+
+impl<'a> OpenedReview<'a, '_> {
     /// The table of the roots of the review with these params and this namespace, each null if it is
-    /// none. The documents that are not read yet are read beside it.
+    /// none. The documents that are not read yet are read beside it. The namespace is at this place,
+    /// if one is known.
     ///
     /// # Errors
     ///
     /// As `Table::of_review`. `InvalidReview` and `InvalidDocument` say nothing.
-    pub(crate) fn table(
+    pub(crate) fn table_by(
         &self,
         alloc: Global,
-        params: Option<&Value>,
-        namespace: Option<&Value>,
+        params: Option<&'a Value>,
+        namespace: Option<&'a Value>,
+        place: Option<PooledDocument>,
     ) -> Result<Table, ReviewError>
-        ensures { SharesTable self.now (option_map (λ v. view v.now) params.entry) (option_map (λ v. view v.now) namespace.entry) result }
+        requires { IsAtIf self.now.values place (option_map (λ v. view v.now) namespace) }
+        ensures { SharesTable self.now.review (option_map (λ v. view v.now) params.entry) (option_map (λ v. view v.now) namespace.entry) result }
+    {
+        match namespace {
+            None => self.table(alloc, params, None),
+            Some(document) => match place {
+                None => self.table(alloc, params, Some(document)),
+                Some(pooled) => self.table_at(alloc, params, pooled),
+            },
+        }
+    }
+
+    /// Where the document is beside the review, if it was read.
+    pub(crate) fn place_of(&self, document: &Value) -> Option<PooledDocument>
+        ensures { IfSome result (λ p. IsReadHere self.now.values (view document.now) p) }
+    {
+        found(&self.documents, document)
+    }
+
+    /// The table with the namespace at this place.
+    fn table_at(
+        &self,
+        alloc: Global,
+        params: Option<&'a Value>,
+        namespace: PooledDocument,
+    ) -> Result<Table, ReviewError>
+        requires { (d : Data) × IsReadHere self.now.values d namespace }
+        ensures { (d : Data) → IsReadHere self.now.values d namespace → SharesTable self.now.review (option_map (λ v. view v.now) params.entry) (Some d) result }
     {
         let review = self.review.copy()?;
-        let (review, namespace) = with_place(alloc, &self.documents, review, namespace)?;
-        let (review, params) = with_place(alloc, &self.documents, review, params)?;
+        let (review, params) = with_place(alloc, &self.documents, &self.wanted, review, params)?;
+        review.table(Some(namespace), params)
+    }
+
+    /// The table with the namespace where it is found among the documents, or else read.
+    fn table(
+        &self,
+        alloc: Global,
+        params: Option<&'a Value>,
+        namespace: Option<&'a Value>,
+    ) -> Result<Table, ReviewError>
+        ensures { SharesTable self.now.review (option_map (λ v. view v.now) params.entry) (option_map (λ v. view v.now) namespace.entry) result }
+    {
+        let review = self.review.copy()?;
+        let wanted = &self.wanted;
+        let (review, namespace) = with_place(alloc, &self.documents, wanted, review, namespace)?;
+        let (review, params) = with_place(alloc, &self.documents, wanted, review, params)?;
         review.table(namespace, params)
     }
 }
 
 /// Where the document is beside the review, among these or else read now.
 #[tactic(auto, using(crate::proofs::Places::place_none, crate::proofs::Places::place_found))]
-fn with_place<'r>(
+fn with_place<'a, 'r>(
     alloc: Global,
     documents: &[ReadDocument<'_>],
+    wanted: &Cell<Option<&'a Value>>,
     review: OpenReview<'r>,
-    document: Option<&Value>,
+    document: Option<&'a Value>,
 ) -> Result<(OpenReview<'r>, Option<PooledDocument>), ReviewError>
     requires { AreReadHere review.values documents.now }
     ensures { PlaceReturns review.entry (option_map (λ v. view v.now) document.entry) result }
@@ -52,7 +102,7 @@ fn with_place<'r>(
     };
     match found(documents, document) {
         Some(pooled) => Ok((review, Some(pooled))),
-        None => read_beside(alloc, review, document),
+        None => read_beside(alloc, wanted, review, document),
     }
 }
 
@@ -60,23 +110,35 @@ fn with_place<'r>(
 fn found(documents: &[ReadDocument<'_>], document: &Value) -> Option<PooledDocument>
     ensures { (vs : List kind.Value) → AreReadHere vs documents.now → IfSome result (λ p. IsReadHere vs (view document.now) p) }
 {
+    let name = name_of(document);
     for read in documents {
-        if is_same(read.document, document) {
+        if is_read(read, name, document) {
             return Some(read.pooled);
         }
     }
     None
 }
 
-/// Reads the document beside the review.
-fn read_beside<'r>(
+/// Whether this document, which has this name, is the one that was read.
+fn is_read(read: &ReadDocument<'_>, name: &str, document: &Value) -> bool
+    ensures { result ≡ true → view read.now.document.now ≡ view document.now }
+{
+    read.name == name && is_same(read.document, document)
+}
+
+/// Reads the document beside the review, and tells that it is wanted unless it is long.
+fn read_beside<'a, 'r>(
     alloc: Global,
+    wanted: &Cell<Option<&'a Value>>,
     review: OpenReview<'r>,
-    document: &Value,
+    document: &'a Value,
 ) -> Result<(OpenReview<'r>, Option<PooledDocument>), ReviewError>
     ensures { PlaceReturns review.entry (Some (view document.now)) result }
 {
     let text = text_of(alloc, document)?;
     let (review, pooled) = review.with_document(text.as_slice())?;
+    if text.len() <= WANTED_LENGTH {
+        wanted.set(Some(document));
+    }
     Ok((review, Some(pooled)))
 }

@@ -1,14 +1,19 @@
 //! Reads a review for all evaluations.
 
 ghost use Rattle.std.specs.Prelude.{◌≡◌, IfOk, IfSome};
+ghost use Rattle.admission_documents.specs.Requests.{request_view};
+ghost use Rattle.cluster_state.specs.Params.{namespace_named};
+ghost use Rattle.cluster_state.specs.State.{state_view};
+ghost use Rattle.cluster_gate.specs.Opened.{IsAtIf, IsBesideIf};
 
-use crate::base::Base;
+use crate::case::Case;
 use crate::cluster::Cluster;
 use crate::opened_review::OpenedReview;
 use crate::standing::Standing;
 use admission_documents::Request;
 use admission_match::Answer;
 use std::alloc::AllocError;
+use value_table::PooledDocument;
 
 impl<'a> Cluster<'_, 'a> {
     /// The review, read for all evaluations, with the namespace of its request. None if there are
@@ -18,12 +23,37 @@ impl<'a> Cluster<'_, 'a> {
         review: &'r [u8],
         request: &Request<'_>,
     ) -> Result<Option<OpenedReview<'a, 'r>>, AllocError>
-        ensures { IfOk result (λ o. IfSome o (λ r. r ≡ review.now)) }
+        ensures { IfOk result (λ o. IfSome o (λ r. r.review ≡ review.now)) }
     {
         if request.attributes.resource.is_exempt() || !self.evaluates(request) {
             return Ok(None);
         }
-        self.base(request.attributes.namespace)?.open(review)
+        let base = self.kept.base(self.state, request.attributes.namespace)?;
+        base.open(review)
+    }
+
+    /// Where the request's namespace is beside the review, if it was read.
+    pub(crate) fn place(
+        &self,
+        request: &Request<'_>,
+        opened: Option<&OpenedReview<'a, '_>>,
+    ) -> Option<PooledDocument>
+        ensures { IsBesideIf opened.entry result (namespace_named (request_view request.now).attributes.namespace (state_view self.now.state.now).objects) }
+    {
+        match opened {
+            Some(opened) => self.place_in(opened, request.attributes.namespace),
+            None => None,
+        }
+    }
+
+    /// Where the namespace of this name is, if it was read.
+    fn place_in(&self, opened: &OpenedReview<'a, '_>, name: &str) -> Option<PooledDocument>
+        ensures { IsAtIf opened.now.values result (namespace_named name.now (state_view self.now.state.now).objects) }
+    {
+        match self.state.namespace(name) {
+            Some(document) => opened.place_of(document),
+            None => None,
+        }
     }
 
     /// Whether some policy is compiled and matches the request.
@@ -39,12 +69,15 @@ impl<'a> Cluster<'_, 'a> {
         false
     }
 
-    /// The documents that are read before a review of a request in this namespace.
-    fn base(&self, namespace: &str) -> Result<Base<'a>, AllocError> {
-        let base = Base::new(self.alloc)?;
-        match self.state.namespace(namespace) {
-            Some(document) => base.with_document(self.alloc, document),
-            None => Ok(base),
+    /// Keeps what an evaluation had to read beside the review, for reviews that come later.
+    pub(crate) fn keep_wanted(&self, case: &Case<'_, '_, 'a>) {
+        if let Some(opened) = case.opened {
+            if let Some(document) = opened.wanted.get() {
+                let request = case.request;
+                let name = request.attributes.namespace;
+                // After a failure it is read again.
+                drop(self.kept.keep(name, document));
+            }
         }
     }
 }

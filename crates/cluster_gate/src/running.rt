@@ -1,9 +1,11 @@
 //! The steps of a policy, one after another.
+ghost use Rattle.std.specs.List.{All};
 ghost use Rattle.std.specs.Prelude.{◌≡◌, [], ◌∷◌, map, option_map, IfOk};
 ghost use Rattle.serde_json.specs.View.{view};
 ghost use Rattle.cluster_plan.specs.Steps.{evaluates, step_view};
 ghost use Rattle.cluster_state.specs.Bindings.{binding_view};
 ghost use Rattle.cluster_state.specs.Policies.{BoundPolicy};
+ghost use Rattle.cluster_gate.specs.Opened.{HasKnownNamespace, IsBesideIf};
 ghost use Rattle.cluster_gate.specs.Running.{Adds, AddsStep, AddsSteps, IsRunOf};
 ghost use Rattle.cluster_gate.specs.Dispatch.{undecided_event};
 ghost use Rattle.cluster_gate.specs.declared.progress.Progress.TheVariants.{NextPolicy};
@@ -17,14 +19,15 @@ use cluster_state::Binding;
 use serde_json::Value;
 use std::alloc::AllocError;
 
-impl PolicyRun<'_, '_, '_, '_, '_> {
+impl<'a> PolicyRun<'_, '_, '_, '_, 'a> {
     /// Adds the events of the steps, up to the first that is the last of the policy. Returns whether
     /// the dispatch ends.
     pub(crate) fn run(
         &self,
         events: &mut Events,
-        steps: &[Step<'_, '_>],
+        steps: &[Step<'_, 'a>],
     ) -> Result<bool, AllocError>
+        requires { All (HasKnownNamespace self.now.case.now.opened self.now.case.now.place) (map step_view steps.now) }
         ensures { IfOk result (λ ended. (p : BoundPolicy) → IsRunOf p self.now → AddsSteps p self.now (map step_view steps.now) events.old events.new ended) }
     {
         for step in steps {
@@ -38,7 +41,8 @@ impl PolicyRun<'_, '_, '_, '_, '_> {
     }
 
     /// Adds the events of a step. Returns how the dispatch goes on.
-    fn run_step(&self, events: &mut Events, step: &Step<'_, '_>) -> Result<Progress, AllocError>
+    fn run_step(&self, events: &mut Events, step: &Step<'_, 'a>) -> Result<Progress, AllocError>
+        requires { HasKnownNamespace self.now.case.now.opened self.now.case.now.place (step_view step.now) }
         ensures { IfOk result (λ progress. (p : BoundPolicy) → IsRunOf p self.now → AddsStep p self.now (step_view step.now) events.old events.new progress) }
     {
         match step {
@@ -64,9 +68,10 @@ impl PolicyRun<'_, '_, '_, '_, '_> {
         &self,
         events: &mut Events,
         binding: &Binding<'_>,
-        params: Option<&Value>,
-        namespace: Option<&Value>,
+        params: Option<&'a Value>,
+        namespace: Option<&'a Value>,
     ) -> Result<Progress, AllocError>
+        requires { IsBesideIf self.now.case.now.opened self.now.case.now.place (option_map (λ v. view v.now) namespace) }
         ensures { IfOk result (λ progress. (p : BoundPolicy) → IsRunOf p self.now
             → AddsStep p self.now (evaluates (binding_view binding.now) (option_map (λ v. view v.now) params.entry) (option_map (λ v. view v.now) namespace.entry)) events.old events.new progress) }
     {

@@ -14,7 +14,7 @@ invariant_of-result c =
     let pool = c.in-Ok.pool in
     let before = c.in_ok-before.before in
     let held = c.self.inside.documents.items in
-    let last : ReadDocument = record { document = c.args.document; pooled = c.in-Ok.pooled } in
+    let last : ReadDocument = record { name = c.name_of-name.result; document = c.args.document; pooled = c.in-Ok.pooled } in
     let read = subst (λ (t : List ℕ). IsPooledAfter before pool c.in-Ok.pooled (document_of t)) c.as_slice.ensures.value c.in-Ok.ensures in
     let grown = subst (λ (us : List kind.Value). HasGrown us pool) c.in_ok-before.ensures read.grown in
     let items = c.in_ok-push-in-Ok.ensures.items ∙ ap (λ (ds : List ReadDocument). ds ++ last ∷ []) (c.in_ok-documents-in-Ok.ensures ∙ c.deref.ensures.value) in

@@ -23,6 +23,6 @@ pub returns : goal.returns
 returns c =
     let namespace = option_map (λ v. view v.now) c.args.namespace in
     let params = option_map (λ v. view v.now) c.args.params in
-    subst (λ (review : List ℕ). SharesTable review params namespace c.table.result) (ap (λ (o : OpenValues). o.review) c.in_ok-review.ensures ∙ c.self.view_is)
+    subst (λ (review : List ℕ). SharesTable review params namespace c.table.result) (ap (λ (o : OpenValues). o.review) (c.in_ok-review.ensures ∙ c.self.view_is))
     (shares_table c.in_ok-review.review c.in_ok-review-2.review c.in_ok-review-3.review params namespace c.in_ok-review-3.params c.in_ok-review-2.namespace c.table.result
     c.in_ok-review-2.ensures c.in_ok-review-3.ensures c.table.ensures)

@@ -1,7 +1,14 @@
 -- Proof obligations of `policy_run::PolicyRun::run`.
+use Rattle.cluster_gate.proofs.KnownSteps.{all_at}
 use Rattle.cluster_gate.proofs.Prelude.{◌+◌, drop, map, step_view}
 use Rattle.cluster_gate.proofs.Runs.{added_end, added_last, added_step, at_last, at_step}
+use Rattle.cluster_gate.specs.Opened.{HasKnownNamespace}
 use Rattle.cluster_gate.proofs.policy_run.PolicyRun.run.Goals as goal
+
+pub run_step-requires : goal.run_step-requires
+run_step-requires c =
+    all_at (HasKnownNamespace c.args.self.now.case.now.opened c.args.self.now.case.now.place) c.args.steps.now c.loop-step.step-index c.step-item.result
+    c.loop-step-test.true c.step-item.is c.requires
 
 pub returns-in-NextPolicy : goal.returns-in-NextPolicy
 returns-in-NextPolicy c p of =

@@ -1,7 +1,16 @@
 -- Proof obligations of `policy_run::PolicyRun::run_bindings`.
-use Rattle.cluster_gate.proofs.Prelude.{◌∙◌, List, IfOk-weaker, ap, asked_policy, asked_view, map, request_view, state_view, step_view, subst, AddsSteps, PlannedStep}
+use Rattle.std.specs.List.{All}
+use Rattle.cluster_gate.specs.Opened.{HasKnownNamespace}
+use Rattle.cluster_gate.proofs.KnownSteps.{steps_are_known}
+use Rattle.cluster_gate.proofs.Prelude.{◌∙◌, List, sym, IfOk-weaker, ap, asked_policy, asked_view, map, request_view, state_view, step_view, subst, AddsSteps, PlannedStep}
 use Rattle.cluster_gate.proofs.Asked.{bound_steps}
 use Rattle.cluster_gate.proofs.policy_run.PolicyRun.run_bindings.Goals as goal
+
+pub run-requires : goal.run-requires
+run-requires c =
+    let case = c.args.self.now.case.now in
+    subst (All (HasKnownNamespace case.opened case.place)) (sym (ap (map step_view) c.as_slice.ensures.value ∙ c.in_ok-steps.ensures))
+    (steps_are_known case.opened case.place (state_view c.args.state.now) (asked_view c.args.asked.now) (request_view case.request.now) c.requires)
 
 pub returns : goal.returns
 returns c =

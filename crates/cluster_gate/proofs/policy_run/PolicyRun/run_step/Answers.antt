@@ -1,7 +1,11 @@
 -- Proof obligations of `policy_run::PolicyRun::run_step`.
 use Rattle.cluster_gate.proofs.Prelude.{IfOk-weaker, ap, option_map, step_view, string_bytes, subst, sym, AddsStep, PlannedStep}
 use Rattle.cluster_gate.proofs.Runs.{denied_step, end_step, unknown_step}
+use Rattle.cluster_gate.specs.Opened.{HasKnownNamespace}
 use Rattle.cluster_gate.proofs.policy_run.PolicyRun.run_step.Goals as goal
+
+pub evaluate-requires : goal.evaluate-requires
+evaluate-requires c = subst (HasKnownNamespace c.args.self.now.case.now.opened c.args.self.now.case.now.place) (ap step_view c.in-Evaluation.is) c.requires
 
 pub returns-in_ok-add_configuration_error-in-Denial : goal.returns-in_ok-add_configuration_error-in-Denial
 returns-in_ok-add_configuration_error-in-Denial c p of =
