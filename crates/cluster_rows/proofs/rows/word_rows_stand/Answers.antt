@@ -1,0 +1,46 @@
+-- Proofs of `rows::word_rows_stand`: the results meet the contract.
+
+use Rattle.std.proofs.Common.{refl}
+use Rattle.clap.proofs.OnLiterals.{clap_on_literals}
+use Rattle.cli.specs.Arguments.{option_rule, steps_rule, with_documents}
+use Rattle.cli.specs.Number.{number_of}
+use Rattle.gatekeeper_runner.specs.About.{help_text, version_text}
+use Rattle.gatekeeper_runner.specs.Orders.{cluster_from, entered, faults, files_rule, gatekeeper_app, max_line_rule, partial_rule, policies_app, policies_from}
+use Rattle.cluster_rows.proofs.rows.word_rows_stand.Goals as goal
+
+pub returns-clause-orders : goal.returns-clause-orders
+unfolding clap_on_literals gatekeeper_app policies_app max_line_rule files_rule partial_rule with_documents option_rule steps_rule entered faults policies_from cluster_from number_of help_text version_text
+returns-clause-orders c = record {
+  policy = refl;
+  more = refl;
+  cluster = refl;
+  partial = refl;
+}
+
+pub returns-clause-faults : goal.returns-clause-faults
+unfolding clap_on_literals gatekeeper_app policies_app max_line_rule files_rule partial_rule with_documents option_rule steps_rule entered faults policies_from cluster_from number_of help_text version_text
+returns-clause-faults c = record {
+  policy_taken = refl;
+  partial_taken = refl;
+  partial_twice = λ e. cc;
+  partial_policy = λ e. cc;
+  both = λ e. cc;
+  cluster_with_namespace = λ e. cc;
+  cluster_with_params = λ e. cc;
+  neither = λ e. cc;
+  longest = refl;
+  longer = λ e. cc;
+  shortest = refl;
+  no_bytes = λ e. cc;
+}
+
+pub returns-clause-help : goal.returns-clause-help
+unfolding clap_on_literals gatekeeper_app policies_app max_line_rule files_rule partial_rule with_documents option_rule steps_rule entered faults policies_from cluster_from number_of help_text version_text
+returns-clause-help c = record {
+  help = refl;
+  help_before_others = refl;
+  help_after_others = refl;
+  other_word = refl;
+  no_word = refl;
+  no_words = refl;
+}

@@ -1,0 +1,72 @@
+-- The program gatekeeper: its command lines, with what they ask for by the pages on it, and its help.
+use Rattle.std.specs.Prelude.{◌≡◌, true, false, List, [], ◌∷◌, ◌++◌, Some, None, Ok, Err, codes}
+use Rattle.clap.specs.Words.{Text}
+use Rattle.host.specs.declared.order_error.OrderError.TheVariants.{InvalidArguments}
+use Rattle.gatekeeper_runner.specs.About.{text_asked}
+use Rattle.gatekeeper_runner.specs.Orders.{by_cluster, by_policies, entered, faults, order_from}
+
+-- gatekeeper --policy a.json
+abbrev pub under_policy : List Text
+under_policy = codes "gatekeeper" ∷ codes "--policy" ∷ codes "a.json" ∷ []
+
+-- gatekeeper --cluster c.json
+abbrev pub as_cluster : List Text
+as_cluster = codes "gatekeeper" ∷ codes "--cluster" ∷ codes "c.json" ∷ []
+
+-- gatekeeper --policy a.json --max-line N
+abbrev pub with_line : Text → List Text
+with_line number = under_policy ++ codes "--max-line" ∷ number ∷ []
+
+-- what command lines ask for: 10,000,000 steps and lines of 16 MiB, if they do not say so
+pub record OrderRowsHold : Type 0 where
+  pub policy : order_from (entered under_policy)
+      ≡ by_policies (record { policies = codes "a.json" ∷ []; namespace = None; params = None; steps = 10000000; max_line = 16777216 })
+  pub more : order_from
+      (entered (under_policy ++ codes "--policy" ∷ codes "b.json" ∷ codes "--namespace" ∷ codes "n.json" ∷ codes "--steps" ∷ codes "5" ∷ []))
+      ≡ by_policies (record { policies = codes "a.json" ∷ codes "b.json" ∷ []; namespace = Some (codes "n.json"); params = None; steps = 5; max_line = 16777216 })
+  pub cluster : order_from (entered as_cluster)
+      ≡ by_cluster (record { files = codes "c.json" ∷ []; partial = false; steps = 10000000; max_line = 16777216 })
+  pub partial : order_from (entered (as_cluster ++ codes "--partial" ∷ []))
+      ≡ by_cluster (record { files = codes "c.json" ∷ []; partial = true; steps = 10000000; max_line = 16777216 })
+
+-- words that go together, and others
+pub record FaultRowsHold : Type 0 where
+  pub policy_taken : faults under_policy ≡ []
+  pub partial_taken : faults (as_cluster ++ codes "--partial" ∷ []) ≡ []
+  -- --partial is a switch, and goes with --cluster alone
+  pub partial_twice : faults (as_cluster ++ codes "--partial" ∷ codes "--partial" ∷ []) ≡ [] → ⊥
+  pub partial_policy : faults (under_policy ++ codes "--partial" ∷ []) ≡ [] → ⊥
+  pub both : faults (as_cluster ++ codes "--policy" ∷ codes "a.json" ∷ []) ≡ [] → ⊥
+  pub cluster_with_namespace : faults (as_cluster ++ codes "--namespace" ∷ codes "n.json" ∷ []) ≡ [] → ⊥
+  pub cluster_with_params : faults (as_cluster ++ codes "--params" ∷ codes "p.json" ∷ []) ≡ [] → ⊥
+  pub neither : faults (codes "gatekeeper" ∷ []) ≡ [] → ⊥
+  -- a line may have 1 to 16,777,216 bytes
+  pub longest : faults (with_line (codes "16777216")) ≡ []
+  pub longer : faults (with_line (codes "16777217")) ≡ [] → ⊥
+  pub shortest : faults (with_line (codes "1")) ≡ []
+  pub no_bytes : faults (with_line (codes "0")) ≡ [] → ⊥
+
+-- the usage that the program prints
+abbrev pub usage : Text
+usage =
+    codes "usage: gatekeeper --policy F [--policy F ..] [--namespace F] [--params F]\n                  [--steps N] [--max-line N]\n"
+    ++ (codes "       gatekeeper --cluster F [--cluster F ..] [--partial]\n                  [--steps N] [--max-line N]\n\n"
+    ++ (codes "Compiles the policies, and answers each review on standard input, a JSON document\n"
+    ++ (codes "a line, with a line on standard output.\n\n"
+    ++ (codes "  --policy F     a ValidatingAdmissionPolicy; once or more\n  --namespace F  the namespace of the requests\n"
+    ++ (codes "  --params F     the params of the policies\n"
+    ++ (codes "  --cluster F    a List of what a cluster holds, as kubectl get -o json prints it;\n                 once or more\n"
+    ++ (codes "  --partial      a policy of the cluster that is refused does not end the start;\n"
+    ++ (codes "                 the requests that it matches are refused, if none denies them\n"
+    ++ (codes "  --steps N      the most steps of a policy's program; 10000000 if not given\n"
+    ++ (codes "  --max-line N   the most bytes of a line; 16777216 if not given\n"
+    ++ codes "  --help         prints this text\n  --version      prints the version\n"))))))))))
+
+-- the first word after the program's name asks for a text
+pub record HelpRowsHold : Type 0 where
+  pub help : text_asked (Ok (codes "gatekeeper" ∷ codes "--help" ∷ [])) ≡ Some usage
+  pub help_before_others : text_asked (Ok (codes "gatekeeper" ∷ codes "--help" ∷ codes "--policy" ∷ [])) ≡ Some usage
+  pub help_after_others : text_asked (Ok (under_policy ++ codes "--help" ∷ [])) ≡ None
+  pub other_word : text_asked (Ok under_policy) ≡ None
+  pub no_word : text_asked (Ok (codes "gatekeeper" ∷ [])) ≡ None
+  pub no_words : text_asked (Err InvalidArguments) ≡ None

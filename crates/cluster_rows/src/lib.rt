@@ -1,0 +1,5 @@
+//! Literal rows over the definitions of clusters, reviews and both programs. They are apart from the crates whose
+//! definitions they pin, so that one row more proves no crate above these again.
+#![tactic(auto)]
+
+pub mod rows;
