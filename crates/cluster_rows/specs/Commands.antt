@@ -28,7 +28,7 @@ abbrev pub without_policy : List Text
 without_policy = codes "celbpf" ∷ codes "review" ∷ codes "--review" ∷ codes "r.json" ∷ []
 
 -- a command needs its files and a number of steps may be 0; there is no run without a command
-pub record WordRowsHold : Type 0 where
+pub record CommandWordsHold : Type 0 where
   pub no_file : faults without_file ≡ [] → ⊥
   pub no_command : faults without_command ≡ [] → ⊥
   pub no_policy : faults without_policy ≡ [] → ⊥

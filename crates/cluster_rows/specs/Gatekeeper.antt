@@ -37,7 +37,7 @@ use Rattle.gatekeeper_runner.specs.declared.cluster_fault.ClusterFault.TheVarian
 abbrev pub no_review : RefusedReview
 no_review = record { error = run_error.ReviewRefused; policy = None }
 
-pub record LineRowsHold : Type 0 where
+pub record GatekeeperLinesHold : Type 0 where
   pub refused : refusal_text no_review (Some (codes "u1")) ≡ codes "{\"refused\":\"N2\",\"uid\":\"u1\"}"
   pub refused_without_uid : refusal_text (record { error = run_error.NamespaceOrParamsRefused; policy = None }) None ≡ codes "{\"refused\":\"N3\"}"
   pub refused_by_policy : refusal_text

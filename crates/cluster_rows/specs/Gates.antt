@@ -52,7 +52,7 @@ pub record ErrorRowsHold : Type 0 where
 -- ---- documents
 
 -- a text of a value is compact, and is there exactly if the value is
-pub record TextRowsHold : Type 0 where
+pub record JsonTextsHold : Type 0 where
   pub none : IsJsonTextIf None None
   pub text_of_none : IsJsonTextIf None (Some (codes "null")) → ⊥
   pub no_text : IsJsonTextIf (Some json.null) None → ⊥

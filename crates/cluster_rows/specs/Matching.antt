@@ -88,7 +88,7 @@ abbrev pub create_deployment : Attributes
 create_deployment = request Create (deployments (codes "apps")) [] (codes "prod") (codes "web")
 
 -- Equivalent: what a rule may fit in another version or group
-pub record EquivalentRowsHold : Type 0 where
+pub record EquivalentAnswersHold : Type 0 where
   -- only namespaces have another scope in another version, and `*` has all versions
   pub namespaces_of_any_version : answer_by Equivalent (on_namespaces Namespaced ∷ []) update_namespace ≡ Unknown
   pub beta_namespaces_of_any_version : answer_by Equivalent (on_namespaces Cluster ∷ []) update_beta_namespace ≡ Unknown
@@ -110,11 +110,11 @@ pub record EquivalentRowsHold : Type 0 where
   pub shared_without_versions : answer_by Equivalent (record on_deployments { api_versions = [] } ∷ []) create_deployment ≡ No
 
 -- policies of another group are not exempt
-pub record ExemptRowsHold : Type 0 where
+pub record ExemptGroupsHold : Type 0 where
   pub policies_of_another_group : is_exempt (resource (codes "example.com") v1 (codes "validatingadmissionpolicies")) ≡ false
   pub bindings_of_another_group : is_exempt (resource [] v1 (codes "validatingadmissionpolicybindings")) ≡ false
 
 -- a namespace that is not selected keeps a request out, whatever equivalent resources the server knows
-pub record NamespaceRowsHold : Type 0 where
+pub record NamespaceAnswersHold : Type 0 where
   pub before_rules_that_may_fit : match_answer (matching no_env everything (on_widgets v1 ∷ []) []) one_namespace create_widget ≡ No
   pub before_excludes_that_may_fit : match_answer (matching no_env everything all_rules (on_widgets v1 ∷ [])) one_namespace create_widget ≡ No

@@ -9,7 +9,7 @@ use Rattle.admission.specs.declared.policy_refusal.PolicyRefusal.TheVariants as 
 use Rattle.admission.specs.declared.run_error.RunError.TheVariants as run_error
 use Rattle.cli.specs.Refusals.{cause_text, policy_text, program_text, run_text, uncompiled_text}
 
-pub record MemoryRowsHold : Type 0 where
+pub record MemoryRefusalsHold : Type 0 where
   pub program : program_text asm_error.Memory ≡ codes "memory"
   pub text_of_an_expression : cause_text (expression.Unread read_error.Memory) ≡ codes "memory"
   pub macros_of_an_expression : cause_text (expression.Unexpanded macro_error.Memory) ≡ codes "memory"

@@ -11,7 +11,7 @@ use Rattle.cluster_response.specs.declared.cluster_refusal.ClusterRefusal.TheVar
 abbrev pub q_is_undecided : Undecided
 q_is_undecided = record { policy = codes "q"; refusal = OutOfSteps }
 
-pub record EventRowsHold : Type 0 where
+pub record EventAnswerRowsHold : Type 0 where
   pub warning_after_denial : answer (under (Deny ∷ []) twice ++ under (Warn ∷ []) (found 0 (codes "n") Invalid ∷ []))
       ≡ reviewed (codes "{\"allowed\":false,\"status\":{\"code\":403,\"message\":\"deployments.apps \\\"web\\\" is forbidden: ValidatingAdmissionPolicy 'p' with binding 'b' denied request: m\""
       ++ (codes ",\"reason\":\"Forbidden\"},\"uid\":\"u1\",\"warnings\":["

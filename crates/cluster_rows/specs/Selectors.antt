@@ -28,5 +28,5 @@ pub record PrefixRowsHold : Type 0 where
   pub dash_at_the_start : is_label_key (codes "-a/name") ≡ false
 
 -- DoesNotExist takes no values (Kubernetes, LabelSelectorRequirement)
-pub record OperatorRowsHold : Type 0 where
+pub record SelectorOperatorsHold : Type 0 where
   pub absence : checked_requirement (codes "env") (codes "DoesNotExist") [] ≡ Ok DoesNotExist

@@ -78,7 +78,7 @@ abbrev pub definition_in : List ℕ → Named
 definition_in versions =
     named_document (read (codes "{\"spec\":{\"group\":\"x.io\",\"names\":{\"kind\":\"Limit\"},\"scope\":\"Cluster\",\"versions\":[" ++ (versions ++ codes "]}}")))
 
-pub record ParamRowsHold : Type 0 where
+pub record ParamAnswersHold : Type 0 where
   pub of_the_cluster : scope_by limit_kind [] (definition (codes "Cluster")) ≡ Some Cluster
   pub of_no_scope : scope_by limit_kind [] (definition (codes "Node")) ≡ None
   pub of_another_kind : scope_by (record limit_kind { kind = codes "Other" }) [] (definition (codes "Cluster")) ≡ None

@@ -18,7 +18,7 @@ abbrev pub with_line : Text → List Text
 with_line number = under_policy ++ codes "--max-line" ∷ number ∷ []
 
 -- what command lines ask for: 10,000,000 steps and lines of 16 MiB, if they do not say so
-pub record OrderRowsHold : Type 0 where
+pub record CommandOrdersHold : Type 0 where
   pub policy : order_from (entered under_policy)
       ≡ by_policies (record { policies = codes "a.json" ∷ []; namespace = None; params = None; steps = 10000000; max_line = 16777216 })
   pub more : order_from

@@ -1,21 +1,21 @@
 //! Rows worked out by hand, each record of them a clause of an empty function.
-ghost use Rattle.cluster_rows.specs.Commands.{EndRowsHold, HeldRowsHold, WordRowsHold};
-ghost use Rattle.cluster_rows.specs.Gatekeeper.{FaultLineRowsHold, FaultNameRowsHold, LineRowsHold, TellingRowsHold, TogetherRowsHold};
-ghost use Rattle.cluster_rows.specs.Gates.{BlockRowsHold, ErrorRowsHold, TextRowsHold};
+ghost use Rattle.cluster_rows.specs.Commands.{EndRowsHold, HeldRowsHold, CommandWordsHold};
+ghost use Rattle.cluster_rows.specs.Gatekeeper.{FaultLineRowsHold, FaultNameRowsHold, GatekeeperLinesHold, TellingRowsHold, TogetherRowsHold};
+ghost use Rattle.cluster_rows.specs.Gates.{BlockRowsHold, ErrorRowsHold, JsonTextsHold};
 ghost use Rattle.cluster_rows.specs.Lines.{BlankRowsHold};
-ghost use Rattle.cluster_rows.specs.Matching.{EquivalentRowsHold, ExactRowsHold, ExemptRowsHold, NamespaceRowsHold, RuleRowsHold, SharedRowsHold};
-ghost use Rattle.cluster_rows.specs.Refusals.{MemoryRowsHold};
-ghost use Rattle.cluster_rows.specs.Responses.{EventRowsHold};
+ghost use Rattle.cluster_rows.specs.Matching.{EquivalentAnswersHold, ExactRowsHold, ExemptGroupsHold, NamespaceAnswersHold, RuleRowsHold, SharedRowsHold};
+ghost use Rattle.cluster_rows.specs.Refusals.{MemoryRefusalsHold};
+ghost use Rattle.cluster_rows.specs.Responses.{EventAnswerRowsHold};
 ghost use Rattle.cluster_rows.specs.Reviews.{CodeRowsHold, OutcomeRowsHold, RootRowsHold};
-ghost use Rattle.cluster_rows.specs.Selectors.{OperatorRowsHold, PrefixRowsHold, ValueRowsHold};
-ghost use Rattle.cluster_rows.specs.State.{ActionRowsHold, DueNameRowsHold, DueRowsHold, ListRowsHold, ParamRowsHold};
-ghost use Rattle.cluster_rows.specs.Words.{FaultRowsHold, HelpRowsHold, OrderRowsHold};
+ghost use Rattle.cluster_rows.specs.Selectors.{SelectorOperatorsHold, PrefixRowsHold, ValueRowsHold};
+ghost use Rattle.cluster_rows.specs.State.{ActionRowsHold, DueNameRowsHold, DueRowsHold, ListRowsHold, ParamAnswersHold};
+ghost use Rattle.cluster_rows.specs.Words.{FaultRowsHold, HelpRowsHold, CommandOrdersHold};
 
 /// Characters of keys and values of labels, and an operator without values.
 pub fn selector_rows_stand()
     ensures values { ValueRowsHold }
     ensures prefixes { PrefixRowsHold }
-    ensures operators { OperatorRowsHold }
+    ensures operators { SelectorOperatorsHold }
 {}
 
 /// Rules on requests, under Exact and under Equivalent.
@@ -23,9 +23,9 @@ pub fn matching_rows_stand()
     ensures rules { RuleRowsHold }
     ensures shared { SharedRowsHold }
     ensures exact { ExactRowsHold }
-    ensures equivalent { EquivalentRowsHold }
-    ensures exempt { ExemptRowsHold }
-    ensures namespaces { NamespaceRowsHold }
+    ensures equivalent { EquivalentAnswersHold }
+    ensures exempt { ExemptGroupsHold }
+    ensures namespaces { NamespaceAnswersHold }
 {}
 
 /// Lists, bindings and kinds of params of a cluster's state.
@@ -34,7 +34,7 @@ pub fn state_rows_stand()
     ensures refusals { DueRowsHold }
     ensures named { DueNameRowsHold }
     ensures actions { ActionRowsHold }
-    ensures kinds { ParamRowsHold }
+    ensures kinds { ParamAnswersHold }
 {}
 
 /// Blank lines, and the ends of lines.
@@ -44,7 +44,7 @@ pub fn line_rows_stand()
 
 /// Answers by events in another order.
 pub fn response_rows_stand()
-    ensures { EventRowsHold }
+    ensures { EventAnswerRowsHold }
 {}
 
 /// Outcomes that allow, refusals of roots, and the codes of errors.
@@ -56,33 +56,33 @@ pub fn review_rows_stand()
 
 /// Texts of refusals where an allocation fails.
 pub fn refusal_rows_stand()
-    ensures { MemoryRowsHold }
+    ensures { MemoryRefusalsHold }
 {}
 
 /// Blocked policies, refusals of evaluations, and texts of documents.
 pub fn gate_rows_stand()
     ensures blocks { BlockRowsHold }
     ensures errors { ErrorRowsHold }
-    ensures texts { TextRowsHold }
+    ensures texts { JsonTextsHold }
 {}
 
 /// Command lines of celbpf, statuses of runs, and ends of sessions.
 pub fn command_rows_stand()
-    ensures lines { WordRowsHold }
+    ensures lines { CommandWordsHold }
     ensures ends { EndRowsHold }
     ensures held { HeldRowsHold }
 {}
 
 /// Command lines of the gatekeeper with what they ask for, and its help.
 pub fn word_rows_stand()
-    ensures orders { OrderRowsHold }
+    ensures orders { CommandOrdersHold }
     ensures faults { FaultRowsHold }
     ensures help { HelpRowsHold }
 {}
 
 /// What the gatekeeper writes: answers to lines, joined decisions, and lines on a cluster's policies.
 pub fn gatekeeper_rows_stand()
-    ensures lines { LineRowsHold }
+    ensures lines { GatekeeperLinesHold }
     ensures together { TogetherRowsHold }
     ensures refusals { FaultLineRowsHold }
     ensures named { FaultNameRowsHold }
