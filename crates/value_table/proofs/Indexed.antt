@@ -1,8 +1,8 @@
 -- What an index contains, and which items a search may skip.
-use Rattle.value_table.proofs.Prelude.{◌≡◌, ◌≢◌, ℕ, zero, suc, ◌+◌, ◌<◌, ◌≤◌, min, List, [], ◌∷◌, ◌++◌, length, get_or, take, drop, set, Bool, true, false, cond, bytes_eq, Option, Some, None, slice_get, refl, sym, ap, ◌∙◌, subst, arith, true≢false, length-append, if◌then◌else◌, option_map, is_some, nat_le, ◌||◌, slice_index_or, get_by_text, update, drop-nil, false_from_ne_true, nat_tests, take_more, take-append-le, map-append, get_or-take, length-take-le, slice_get-get_or, bytes_eq-Decides as bytes_decides, get_or_from_slice_get, text_part, Value, json_text, equal, has_item, equal_decides, value_in, items_at, refs_at, grown, meaning, json_length, AreMeanings, Part, Content, AreBelow, IsRange, AreCells, ExtendsBackings, place_among, looked_up_by, texts_at, IsIndex, Covers, IsIndexed, AreIndexes, AreKnown, Cell, Index, Backings}
+use Rattle.value_table.proofs.Prelude.{◌≡◌, ◌≢◌, ℕ, zero, suc, ◌+◌, ◌<◌, ◌≤◌, min, List, [], ◌∷◌, ◌++◌, length, get_or, take, drop, set, Bool, true, false, cond, bytes_eq, Option, Some, None, slice_get, refl, sym, ap, ◌∙◌, subst, arith, true≢false, length-append, if◌then◌else◌, option_map, is_some, nat_le, nat_lt, ◌||◌, slice_index_or, get_by_text, update, drop-nil, false_from_ne_true, nat_tests, take_more, take-append-le, map-append, get_or-take, length-take-le, slice_get-get_or, bytes_eq-Decides as bytes_decides, get_or_from_slice_get, text_part, Value, json_text, equal, has_item, equal_decides, value_in, items_at, refs_at, grown, meaning, json_length, AreMeanings, Part, Content, AreBelow, IsRange, AreCells, ExtendsBackings, place_among, looked_up_by, is_long, with_long, long_if, HasLongs, texts_at, IsIndex, Covers, IsIndexed, AreIndexes, AreKnown, Cell, Index, Backings}
 use Rattle.value_store.specs.Value as kind
 use Rattle.value_table.specs.declared.content.Content.TheVariants as cell
-use Rattle.value_table.proofs.Growth.{mapped_stable, found, count_values}
+use Rattle.value_table.proofs.Growth.{mapped_stable, items_stable, found, count_values}
 use Rattle.value_table.proofs.Walks.{below_here}
 use Rattle.value_table.proofs.Listed.{below_le, below_append}
 use Rattle.value_table.proofs.Comparisons.{meanings_of}
@@ -73,6 +73,52 @@ pub skips_from : (vs : List Value) (x : Value) (rs : List ℕ) (n k s : ℕ) (o 
     → s ≡ start_of o n → has_item x (items_at vs (take n rs)) ≡ has_item x (items_at vs (drop s (take n rs)))
 skips_from vs x rs n k s o h e f = skips vs x rs n k h ∙ ap (λ i. has_item x (items_at vs (drop i (take n rs)))) (ap (λ p. start_of p n) (sym e) ∙ sym f)
 
+-- ---- long values
+
+or_false : (b : Bool) → b ≡ b || false
+or_false true = refl
+or_false false = refl
+
+or_each : (a b c : Bool) → a || (b || c) ≡ (a || b) || c
+or_each true b c = refl
+or_each false b c = refl
+
+item_after : (x : Value) (vs : List Value) (rs : List ℕ) (r : ℕ) → has_item x (items_at vs (rs ++ r ∷ [])) ≡ has_item x (items_at vs rs) || equal x (value_in vs r)
+item_after x vs [] r = sym (or_false (equal x (value_in vs r)))
+item_after x vs (s ∷ rs) r =
+    ap (λ b. equal x (value_in vs s) || b) (item_after x vs rs r) ∙ or_each (equal x (value_in vs s)) (has_item x (items_at vs rs)) (equal x (value_in vs r))
+
+-- a long value is equal to no other
+apart : (x v : Value) → is_long x ≡ true → is_long v ≡ false → equal x v ≡ false
+apart x v l s = false_from_ne_true (equal x v) (λ e. absurd (true≢false (sym l ∙ ap is_long ((equal_decides x v).0 e) ∙ s)))
+
+long_step : (vs : List Value) (rs ls : List ℕ) (r : ℕ) (b : Bool) → is_long (value_in vs r) ≡ b → r < length vs → HasLongs vs rs ls
+    → HasLongs vs (rs ++ r ∷ []) (if b then ls ++ r ∷ [] else ls)
+long_step vs rs ls r true e low h = record {
+  below = below_append (length vs) ls (r ∷ []) h.below (low, tt);
+  members = λ x l. item_after x vs ls r ∙ ap (λ b. b || equal x (value_in vs r)) (h.members x l) ∙ sym (item_after x vs rs r);
+}
+long_step vs rs ls r false e low h = record {
+  below = h.below;
+  members = λ x l. h.members x l ∙ or_false (has_item x (items_at vs rs)) ∙ ap (λ b. has_item x (items_at vs rs) || b) (sym (apart x (value_in vs r) l e)) ∙ sym (item_after x vs rs r);
+}
+
+longs_more : (vs : List Value) (rs : List ℕ) (old new : Index) (d : ℕ) → HasLongs vs (take old.count rs) old.longs.items → old.count < length rs
+    → get_or rs old.count d < length vs → new.count ≡ old.count + 1
+    → new.longs.items ≡ with_long (value_in vs (get_or rs old.count d)) (get_or rs old.count d) old.longs.items
+    → HasLongs vs (take new.count rs) new.longs.items
+longs_more vs rs old new d h inside low n is =
+    let r = get_or rs old.count d in
+    let t : take new.count rs ≡ take old.count rs ++ r ∷ [] = ap (λ c. take c rs) n ∙ take_more rs old.count d inside in
+    let s = long_step vs (take old.count rs) old.longs.items r (is_long (value_in vs r)) refl low h in
+    subst (λ ps. HasLongs vs ps new.longs.items) (sym t) (subst (HasLongs vs (take old.count rs ++ r ∷ [])) (sym is) s)
+
+longs_stable : (vs ws : List Value) (rs ls : List ℕ) → AreBelow (length vs) rs → HasLongs vs rs ls → HasLongs (vs ++ ws) rs ls
+longs_stable vs ws rs ls b h = record {
+  below = below_le (length vs) (length (vs ++ ws)) ls (omega (arith, length-append vs ws)) h.below;
+  members = λ x l. ap (has_item x) (items_stable vs ws ls h.below) ∙ h.members x l ∙ sym (ap (has_item x) (items_stable vs ws rs b));
+}
+
 -- ---- one more item
 
 -- an index with one more text
@@ -106,11 +152,35 @@ indexed_kept bs cs vs ws x e h =
     let longer = length-append vs ws in
     let t : take x.count (get_or cs.lists x.backing []) ≡ take x.count old = ap (take x.count) m.1 ∙ take-append-le x.count old m.0 h.covers.long in
     let u = ap (texts_at (vs ++ ws)) t ∙ mapped_stable looked_up_by vs ws (take x.count old) h.covers.below in
-    grind (arith, length-append, below_le)
+    let ls = longs_stable vs ws (take x.count old) x.longs.items h.covers.below h.longs in
+    record {
+      inside = omega (arith, e.lists, h.inside);
+      covers = grind (arith, length-append, below_le);
+      longs = subst (λ ps. HasLongs (vs ++ ws) ps x.longs.items) (sym t) ls;
+    }
 
 -- a new index
-pub new_indexed : (bs : Backings) (vs : List Value) (x : Index) (b : ℕ) → b < length bs.lists → x.backing ≡ b → IsIndex x [] → IsIndexed bs vs x
-new_indexed bs vs x b inside is h = grind arith
+pub new_indexed : (bs : Backings) (vs : List Value) (x : Index) (b : ℕ) → b < length bs.lists → x.backing ≡ b → IsIndex x [] → x.longs.items ≡ []
+    → IsIndexed bs vs x
+new_indexed bs vs x b inside is h none = record {
+  inside = omega arith;
+  covers = grind arith;
+  longs = rw (none, h.count) (record { below = tt; members = λ y l. refl });
+}
+
+-- an index that is unchanged
+pub indexed_same : (bs : Backings) (vs : List Value) (old new : Index) → new.backing ≡ old.backing → ((ts : List (List ℕ)) → IsIndex old ts → IsIndex new ts)
+    → new.longs.items ≡ old.longs.items → IsIndexed bs vs old → IsIndexed bs vs new
+indexed_same bs vs old new at same longs h =
+    let covers = h.covers in
+    let n = same _ covers.index in
+    let e : new.count ≡ old.count = n.count ∙ sym covers.index.count in
+    let both : take new.count (get_or bs.lists new.backing []) ≡ take old.count (get_or bs.lists old.backing []) = rw (e, at) refl in
+    record {
+      inside = rw at h.inside;
+      covers = record { long = rw (e, at) covers.long; below = rw (e, at) covers.below; index = subst (λ ps. IsIndex new (texts_at vs ps)) (sym both) n };
+      longs = rw (e, at, longs) h.longs;
+    }
 
 -- the index covers fewer than the first `n` items of its backing
 pub record IsFilling (bs : Backings) (vs : List Value) (index : Index) (i b n : ℕ) : Type 0 where
@@ -120,10 +190,11 @@ pub record IsFilling (bs : Backings) (vs : List Value) (index : Index) (i b n : 
   pub at : index.backing ≡ b
   pub left : index.count < n
 
--- one more text is added
-pub entered : (bs : Backings) (vs : List Value) (old new : Index) (i b n : ℕ) (k : List ℕ) → IsFilling bs vs old i b n
-    → k ≡ looked_up_by (value_in vs (get_or (refs_at bs.lists b n) old.count 0)) → AddsText old new k → IsIndexed bs vs new
-entered bs vs old new i b n k fills is adds =
+-- one more item is added
+pub entered : (bs : Backings) (vs : List Value) (old new : Index) (i b n r : ℕ) → IsFilling bs vs old i b n
+    → r ≡ get_or (refs_at bs.lists b n) old.count 0 → AddsText old new (looked_up_by (value_in vs r))
+    → new.longs.items ≡ with_long (value_in vs r) r old.longs.items → IsIndexed bs vs new
+entered bs vs old new i b n r fills is adds longs =
     let h = fills.indexed in
     let range = fills.range in
     let long = fills.long in
@@ -133,8 +204,17 @@ entered bs vs old new i b n k fills is adds =
     let more = adds.count in
     let it = item_at bs.lists i b n old.count 0 range lt in
     let c : Covers vs (get_or bs.lists b []) old = subst (λ j. Covers vs (get_or bs.lists j []) old) at h.covers in
-    let d = covers_more vs (get_or bs.lists b []) old new 0 k c it.2 (omega arith) (is ∙ ap (λ r. looked_up_by (value_in vs r)) it.0) adds in
-    grind arith
+    let rs = get_or bs.lists b [] in
+    let there : r ≡ get_or rs old.count 0 = is ∙ it.0 in
+    let d : Covers vs rs new = covers_more vs rs old new 0 _ c it.2 (omega arith) (ap (λ q. looked_up_by (value_in vs q)) there) adds in
+    let before : HasLongs vs (take old.count rs) old.longs.items = subst (λ j. HasLongs vs (take old.count (get_or bs.lists j [])) old.longs.items) at h.longs in
+    let ls = longs_more vs rs old new 0 before it.2 (omega arith) more (longs ∙ ap (λ q. with_long (value_in vs q) q old.longs.items) there) in
+    let now : new.backing ≡ b = same ∙ at in
+    record {
+      inside = rw now range.inside;
+      covers = subst (λ j. Covers vs (get_or bs.lists j []) new) (sym now) d;
+      longs = subst (λ j. HasLongs vs (take new.count (get_or bs.lists j [])) new.longs.items) (sym now) ls;
+    }
 
 -- the items that a search skips
 -- the place of a text in an index
@@ -218,3 +298,23 @@ no_text bs vs (cell.Int n) h = refl
 no_text bs vs (cell.Text p) h = absurd (h p refl)
 no_text bs vs (cell.List b n) h = refl
 no_text bs vs (cell.Map k b n) h = refl
+
+-- ---- whether a cell's value is long
+
+pub long_text : (bs : Backings) (vs : List Value) (cs : List Cell) (r : ℕ) (c : Cell) (p : Part) → AreKnown bs vs cs → slice_get cs r ≡ Some c
+    → c.content ≡ cell.Text p → false ≡ is_long (value_in vs r)
+unfolding is_long
+long_text bs vs cs r c p k h e =
+    ap (λ o. long_if o (json_length (value_in vs r))) (ap (λ d. text_part (meaning bs vs d)) (sym e) ∙ cell_text bs vs cs r c k.meanings h)
+
+pub long_other : (bs : Backings) (vs : List Value) (cs : List Cell) (r : ℕ) (c : Cell) → AreKnown bs vs cs → slice_get cs r ≡ Some c
+    → ((p : Part) → c.content ≢ cell.Text p) → nat_lt 512 c.json ≡ is_long (value_in vs r)
+unfolding is_long
+long_other bs vs cs r c k h e =
+    ap (λ o. long_if o c.json) (no_text bs vs c.content e ∙ cell_text bs vs cs r c k.meanings h) ∙ ap (λ n. long_if (text_part (value_in vs r)) n) (k.lengths r c h)
+
+-- ---- the long values of an index
+
+pub longs_at : (bs : Backings) (vs : List Value) (x : Index) (b n : ℕ) (ls : List ℕ) → IsIndexed bs vs x → x.backing ≡ b → x.count ≡ n → ls ≡ x.longs.items
+    → HasLongs vs (refs_at bs.lists b n) ls
+longs_at bs vs x b n ls h at count is = rw (is, ← at, ← count) h.longs

@@ -18,7 +18,7 @@ mod walk;
 
 use crate::content::Content;
 use crate::equality::member::is_among;
-use crate::equality::start::start_at;
+use crate::equality::start::{is_long_at, start_at};
 use crate::equality::unlike::MOST;
 use crate::equality::walk::first;
 pub(crate) use crate::equality::walk::parts_of;
@@ -85,6 +85,18 @@ impl Heap {
         ensures answer { result ≡ has_item (value_in (heap_values self.old) x) (items_at (heap_values self.old) (refs_at self.old.backings.lists backing count)) }
     {
         let start = self.start(x, backing, count);
+        if is_long_at(&self.cells, x) {
+            if let Some(longs) = self.indexes.longs(backing, count) {
+                return is_among(
+                    &self.cells,
+                    &self.backings,
+                    &mut self.same,
+                    &mut self.hints,
+                    x,
+                    longs,
+                );
+            }
+        }
         let items = &first(&self.backings, backing, count)[start as usize..];
         is_among(
             &self.cells,

@@ -49,6 +49,11 @@ def membership() -> Iterator[tuple]:
     maps = [{"name": f"{place:04}", "image": LONG} for place in range(1_300)]
     old = {"cs": [{"name": "x", "image": "r" * 520}, *[0] * 600_000]}
     yield "long maps in a list", policy("object.cs.filter(c, c in oldObject.cs) == []"), review({"cs": maps}, old)
+    same = {"cs": [{"name": "xxxx", "image": "r" * 520}, *[0] * 600_000]}
+    yield "long maps of one length", policy("object.cs.filter(c, c in oldObject.cs) == []"), review({"cs": maps}, same)
+    lists = {"cs": [[0] * 300 + [1_000 + place] for place in range(1_300)]}
+    ones = {"cs": [[1] * 303, *[0] * 600_000]}
+    yield "long lists in a list", policy("object.cs.filter(c, c in oldObject.cs) == []"), review(lists, ones)
     one = {"m": maps[0], "l": [0] * TURNS, "b": old["cs"]}
     yield "a long map in a list, again", policy("object.l.all(i, !(object.m in object.b))"), review(one)
     short = {"l": [f"{place:05}" for place in range(350_000)]}

@@ -1,13 +1,14 @@
 //! Where a search among the items of a list begins.
 
-ghost use Rattle.std.specs.Prelude.{◌≡◌, ◌≤◌, ◌<◌, ℕ, List, length, drop, slice_get, Some, None, option_map, IfOk, OnOk, string_bytes};
+ghost use Rattle.std.specs.Prelude.{◌≡◌, ◌≤◌, ◌<◌, ◌+◌, ◌^◌, [], ◌∷◌, ◌++◌, ℕ, List, length, drop, slice_get, Some, None, option_map, IfOk, OnOk, OnErr, string_bytes};
 ghost use Rattle.value_store.specs.Value.{Value};
 ghost use Rattle.value_store.specs.Lookup.{has_item, text_part};
 ghost use Rattle.value_table.specs.Meaning.{value_in, items_at, refs_at};
 ghost use Rattle.value_table.specs.Heaps.{IsRange};
 ghost use Rattle.value_table.specs.Equality.{AreContents, AreMeanings};
 ghost use Rattle.value_table.specs.Search.{place_among};
-ghost use Rattle.value_table.specs.Index.{AreKnown, IsIndex, IsIndexed, AreIndexes, looked_up_by};
+ghost use Rattle.value_table.specs.Index.{AreKnown, IsIndex, IsIndexed, AreIndexes, looked_up_by, is_long, with_long};
+ghost use Rattle.value_table.specs.declared.backings.Backings.{Backings};
 
 use crate::backings::Backings;
 use crate::cell::Cell;
@@ -21,6 +22,18 @@ use std::alloc::AllocError;
 
 /// The longest JSON text, in bytes, by which a value is looked up.
 const INDEX_TEXT_LIMIT: u64 = 512;
+
+/// Whether a value is long: it is no text, and has no text in an index.
+pub(crate) fn is_long_at(cells: &Sequence<Cell>, place: u64) -> bool
+    requires { place < length cells.now }
+    ensures { (bs : Backings) (vs : List Value) → AreKnown bs vs cells.now → result ≡ is_long (value_in vs place) }
+{
+    let cell = cells.at(place as usize);
+    match cell.content {
+        Content::Text(_) => false,
+        _ => cell.json > INDEX_TEXT_LIMIT,
+    }
+}
 
 // The text at a place, if its value is one.
 fn own_text<'a>(cells: &Sequence<Cell>, backings: &'a Backings, place: u64) -> Option<&'a str>
@@ -79,6 +92,32 @@ fn place_of(
     Ok(index.place(text.as_str()))
 }
 
+// Adds the item after those that an index covers.
+fn enter_item(
+    index: &mut Index,
+    cells: &Sequence<Cell>,
+    backings: &Backings,
+    item: u32,
+) -> Result<(), AllocError>
+    requires contents { AreContents backings.now cells.now }
+    requires inside { item < length cells.now }
+    requires short { index.old.count < 2 ^ 63 }
+    ensures backing { index.new.backing ≡ index.old.backing }
+    ensures count { OnOk result (index.new.count ≡ index.old.count + 1) }
+    ensures text { (vs : List Value) → AreKnown backings.now vs cells.now → (ts : List (List ℕ)) → IsIndex index.old ts → OnOk result (IsIndex index.new (ts ++ looked_up_by (value_in vs item) ∷ [])) }
+    ensures longs { (vs : List Value) → AreKnown backings.now vs cells.now → OnOk result (index.new.longs.items ≡ with_long (value_in vs item) item index.old.longs.items) }
+    ensures err { (ts : List (List ℕ)) → IsIndex index.old ts → OnErr result (IsIndex index.new ts) }
+    ensures kept { OnErr result (index.new.longs.items ≡ index.old.longs.items) }
+{
+    let text = text_of(cells, backings, item as u64)?;
+    if is_long_at(cells, item as u64) {
+        index.add_long(text, item)?;
+        return Ok(());
+    }
+    index.add(text)?;
+    Ok(())
+}
+
 // Adds the first `count` items of a backing to its index.
 fn enter(
     index: &mut Index,
@@ -96,9 +135,7 @@ fn enter(
 {
     let items = first(backings, backing, count);
     while index.count < count {
-        let place = items[index.count as usize] as u64;
-        let text = text_of(cells, backings, place)?;
-        index.add(text)?;
+        enter_item(index, cells, backings, items[index.count as usize])?;
     }
     Ok(())
 }
