@@ -3,7 +3,7 @@ use Rattle.std.specs.Prelude.{◌≡◌, true, false, List, [], ◌∷◌, ◌++
 use Rattle.clap.specs.Words.{Text}
 use Rattle.host.specs.declared.order_error.OrderError.TheVariants.{InvalidArguments}
 use Rattle.gatekeeper_runner.specs.About.{text_asked}
-use Rattle.gatekeeper_runner.specs.Orders.{by_cluster, by_policies, entered, faults, order_from}
+use Rattle.gatekeeper_runner.specs.Orders.{by_cluster, by_policies, entered, faults, is_partial, order_from}
 
 -- gatekeeper --policy a.json
 abbrev pub under_policy : List Text
@@ -33,6 +33,7 @@ pub record CommandOrdersHold : Type 0 where
 pub record FaultRowsHold : Type 0 where
   pub policy_taken : faults under_policy ≡ []
   pub partial_taken : faults (as_cluster ++ codes "--partial" ∷ []) ≡ []
+  pub not_partial : is_partial [] ≡ false
   -- --partial is a switch, and goes with --cluster alone
   pub partial_twice : faults (as_cluster ++ codes "--partial" ∷ codes "--partial" ∷ []) ≡ [] → ⊥
   pub partial_policy : faults (under_policy ++ codes "--partial" ∷ []) ≡ [] → ⊥

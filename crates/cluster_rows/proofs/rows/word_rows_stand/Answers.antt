@@ -22,6 +22,7 @@ unfolding clap_on_literals gatekeeper_app policies_app max_line_rule files_rule 
 returns-clause-faults c = record {
   policy_taken = refl;
   partial_taken = refl;
+  not_partial = refl;
   partial_twice = λ e. cc;
   partial_policy = λ e. cc;
   both = λ e. cc;
