@@ -1,5 +1,5 @@
 //! Rows by the crate whose definitions they pin; each function is empty, and its contract is the rows.
-ghost use Rattle.cel_rows.specs.KubernetesRows.{AuthorizerRowsStand, KubernetesRowsStand};
+ghost use Rattle.cel_rows.specs.KubernetesRows.{AuthorizerRowsStand, FieldNameRowsStand, KubernetesRowsStand};
 ghost use Rattle.cel_rows.specs.TokenRows.{CommentRowsStand, IntRowsStand, OpeningRowsStand, TextEscapeRowsStand};
 ghost use Rattle.cel_rows.specs.ReaderRows.{GrammarRowsStand, OperatorRowsStand, CommaRowsStand, NestingRowsStand, WordRowsStand, SequenceRowsStand};
 ghost use Rattle.cel_rows.specs.MacroRows.{ExpansionRowsStand, CalleeRowsStand, FaultRowsStand};
@@ -115,4 +115,10 @@ pub fn kubernetes_rows_stand()
 #[tactic(auto, unfolding(cel_macros::specs::Environment::is_root, cel_types::specs::Scope::name_type, cel_types::specs::Typing::typing))]
 pub fn authorizer_rows_stand()
     ensures { AuthorizerRowsStand }
+{}
+
+/// Fields have their own names, also those that a cluster writes as escapes.
+#[tactic(auto, unfolding(cel_macros::specs::Environment::is_root, cel_macros::specs::Functions::function_named, cel_macros::specs::Functions::test_named, cel_macros::specs::Macros::macro_named, cel_macros::specs::Macros::is_map, cel_macros::specs::Macros::is_has, cel_macros::specs::Macros::is_variables, cel_macros::specs::Environment::name_value, cel_macros::specs::Environment::variable_value, cel_macros::specs::Meaning::meaning, codegen::specs::Cost::cost))]
+pub fn field_names_stand()
+    ensures { FieldNameRowsStand }
 {}
