@@ -2,7 +2,7 @@
 use Rattle.std.specs.Prelude.{◌≡◌, true, false, [], ◌∷◌, Some, None, codes}
 use Rattle.cel_tokens.specs.Bytes.{between, opens_comment}
 use Rattle.cel_tokens.specs.Ints.{hex_begins, int_at}
-use Rattle.cel_tokens.specs.Lexed.{front, signed_int_begins, space, word}
+use Rattle.cel_tokens.specs.Lexed.{front, signed_int_begins, space}
 use Rattle.cel_tokens.specs.Lexis.{lexeme}
 use Rattle.cel_tokens.specs.Marks.{mark_at}
 use Rattle.cel_tokens.specs.Texts.{escape, opening, piece}
