@@ -1,5 +1,24 @@
 -- The definitions that rows of policies unfold.
-use Rattle.policy_glue.proofs.Prelude.{⊤, chars, cost, deepest, digits, document_of, encode_utf8, expanded, function_named, has_head, has_spec_form, has_top_form, is_has, is_map, is_reserved, is_root, is_utf8, is_variables, macro_fault, macro_named, meaning, name_type, name_value, named_keys, named_parts, need, nodes, policy_cost, policy_in, policy_nodes, policy_of, policy_texts, reason_in, role_of, spec_keys, spec_parts, test_named, texts_of, top_keys, typing, validation_keys, validation_parts, variable_type, variable_value}
+use Rattle.std.specs.Prelude.{⊤}
+use Rattle.std.specs.Str.{chars, is_utf8}
+use Rattle.codegen.specs.Cost.{cost}
+use Rattle.cel_measures.specs.Measures.{deepest, need, nodes}
+use Rattle.std.specs.Fmt.{digits}
+use Rattle.policy_glue.specs.Documents.{document_of}
+use Rattle.std.specs.Char.{encode_utf8}
+use Rattle.cel_macros.specs.CoreTree.{expanded}
+use Rattle.cel_macros.specs.Functions.{function_named, test_named}
+use Rattle.policy_glue.specs.Reading.{has_head, has_spec_form, has_top_form, named_keys, named_parts, policy_in, policy_of, reason_in, spec_keys, spec_parts, top_keys, validation_keys, validation_parts}
+use Rattle.cel_macros.specs.Macros.{is_has, is_map, is_variables, macro_named}
+use Rattle.cel_reader.specs.Words.{is_reserved, role_of}
+use Rattle.cel_macros.specs.Environment.{is_root, name_value, variable_value}
+use Rattle.cel_macros.specs.MacroFault.{macro_fault}
+use Rattle.cel_macros.specs.Meaning.{meaning}
+use Rattle.cel_types.specs.Scope.{name_type, variable_type}
+use Rattle.policy_glue.specs.Budget.{policy_cost}
+use Rattle.policy_glue.specs.Limits.{policy_nodes, policy_texts}
+use Rattle.codegen.specs.Code.Expressions.{texts_of}
+use Rattle.cel_types.specs.Typing.{typing}
 use Rattle.serde_json.proofs.OnLiterals.{serde_json_on_literals}
 
 -- what is unfolded to compute the policy in a literal document
