@@ -1,11 +1,15 @@
 -- Proofs of `rows::command_rows_stand`: the results meet the contract.
 
 use Rattle.std.proofs.Common.{refl}
-use Rattle.review_runner.proofs.Shape.{words_on_literals}
+use Rattle.clap.proofs.OnLiterals.{clap_on_literals}
+use Rattle.review_runner.specs.Commands.{celbpf_app, with_commands, commands, command, file_rule, faults, entered}
+use Rattle.cli.specs.Arguments.{option_rule, required_option_rule, steps_rule}
+use Rattle.review_runner.specs.Order.{assemble_in, compile_in, debug_in, list_in, review_in, run_image_in}
+use Rattle.cli.specs.Number.{number_of}
 use Rattle.cluster_rows.proofs.rows.command_rows_stand.Goals as goal
 
 pub returns-clause-lines : goal.returns-clause-lines
-unfolding words_on_literals
+unfolding clap_on_literals celbpf_app with_commands commands command file_rule option_rule required_option_rule steps_rule faults entered assemble_in compile_in debug_in list_in review_in run_image_in number_of
 returns-clause-lines c = record {
   no_file = λ e. cc;
   no_command = λ e. cc;
@@ -15,7 +19,6 @@ returns-clause-lines c = record {
 }
 
 pub returns-clause-ends : goal.returns-clause-ends
-unfolding words_on_literals
 returns-clause-ends c = record {
   exited = refl;
   exited_with_zero = refl;
@@ -29,7 +32,6 @@ returns-clause-ends c = record {
 }
 
 pub returns-clause-held : goal.returns-clause-held
-unfolding words_on_literals
 returns-clause-held c = record {
   no_names = tt;
   left_out = tt;
