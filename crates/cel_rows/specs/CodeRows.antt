@@ -14,7 +14,8 @@ use Rattle.codegen.specs.Code.Expressions.{literal_texts, texts_of, texts_of_eac
 use Rattle.codegen.specs.Constants.{joined, with_text, with_texts}
 use Rattle.codegen.specs.Cost.{kept_by, literal_cost, name_or_text, nothing, one_visit, selection_cost, spent_of}
 use Rattle.codegen.specs.CostRows.{nested}
-use Rattle.expression_code.specs.Limits.{charge_per_unit, memo_limit, node_limit, slots_per_node, steps_per_visit, variable_depth_limit, word_limit}
+use Rattle.expression_code.specs.Limits.{charge_per_unit, memo_limit, node_limit, slots_per_node, steps_per_visit}
+use Rattle.expression_code.specs.Limits.{variable_depth_limit, word_limit}
 
 -- the limits of docs/CEL.md and docs/CODE.md
 pub record CodeLimitRowsStand : Type 0 where
@@ -53,7 +54,8 @@ pub record TextRowsStand : Type 0 where
   pub index : texts_of (core.index a b) ≡ codes "a" ∷ codes "b" ∷ []
   -- g('a', 'b') and 'a'.g('b', 'c')
   pub call : texts_of (core.call (Unknown (codes "g")) (more_cores a (more_cores b no_cores))) ≡ codes "a" ∷ codes "b" ∷ []
-  pub method : texts_of (core.method a (Unknown (codes "g")) (more_cores b (more_cores c no_cores))) ≡ codes "a" ∷ codes "b" ∷ codes "c" ∷ []
+  pub method : texts_of (core.method a (Unknown (codes "g")) (more_cores b (more_cores c no_cores)))
+      ≡ codes "a" ∷ codes "b" ∷ codes "c" ∷ []
   pub operand : texts_of (core.unary unary.Not a) ≡ codes "a" ∷ []
   pub operands : texts_of (core.binary op.Add a b) ≡ codes "a" ∷ codes "b" ∷ []
   pub branches : texts_of (core.ternary a b c) ≡ codes "a" ∷ codes "b" ∷ codes "c" ∷ []

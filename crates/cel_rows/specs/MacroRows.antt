@@ -8,7 +8,8 @@ use Rattle.cel_macros.specs.CoreTree as core
 use Rattle.cel_macros.specs.CoreTree.{Core, expanded, more_cores, no_cores}
 use Rattle.cel_macros.specs.ErrorCodes.{macro_error_code}
 use Rattle.cel_macros.specs.Functions.{contains, holds_of}
-use Rattle.cel_macros.specs.MacroFault.{ArgumentCount, IterationName, NoSelection, fault_error, fold_fault, has_fault, name_fault, three_fault}
+use Rattle.cel_macros.specs.MacroFault.{ArgumentCount, IterationName, NoSelection, fault_error, fold_fault, has_fault}
+use Rattle.cel_macros.specs.MacroFault.{name_fault, three_fault}
 use Rattle.cel_macros.specs.Macros.{macro_named}
 use Rattle.cel_macros.specs.declared.function.Function.TheVariants as function
 use Rattle.cel_macros.specs.declared.macro_error.MacroError.TheVariants as error

@@ -3,10 +3,12 @@
 use Rattle.std.specs.Prelude.{◌≡◌, true, false, [], ◌∷◌, Some, None, Ok, Err, codes}
 use Prim.Native.String.{String}
 use Rattle.serde_json.specs.Data as json
-use Rattle.policy_glue.specs.Documents.{each, has_only, is_object_or_absent, keys_within, list_in, optional_list_in, optional_text_of, text_of}
+use Rattle.policy_glue.specs.Documents.{each, has_only, is_object_or_absent, keys_within, list_in, optional_list_in}
+use Rattle.policy_glue.specs.Documents.{optional_text_of, text_of}
 use Rattle.policy_glue.specs.Documents.{text_or_empty_of}
 use Rattle.policy_glue.specs.Policy.{NamedExpression, part_limit, reason_code, reason_name}
-use Rattle.policy_glue.specs.Reading.{allows, are_distinct, failure_in, has_broken_message, has_line_break, has_spec_form, has_top_form, judged}
+use Rattle.policy_glue.specs.Reading.{allows, are_distinct, failure_in, has_broken_message, has_line_break}
+use Rattle.policy_glue.specs.Reading.{has_spec_form, has_top_form, judged}
 use Rattle.policy_glue.specs.Reading.{policy_of, reason_in, validation_in}
 use Rattle.policy_glue.specs.LimitRows.{sized}
 use Rattle.policy_glue.specs.Rows.{plain_validation, said}
@@ -24,8 +26,12 @@ pub record DocumentRowsStand : Type 0 where
   pub no_keys : keys_within [] json.no_members ≡ true
   pub known_key : has_only (codes "b" ∷ codes "a" ∷ []) a ≡ true
   pub unknown_key : has_only (codes "b" ∷ []) a ≡ false
-  pub second_key_unknown : keys_within (codes "a" ∷ []) (json.member (codes "a") json.null (json.member (codes "b") json.null json.no_members)) ≡ false
-  pub first_key_unknown : keys_within (codes "b" ∷ []) (json.member (codes "a") json.null (json.member (codes "b") json.null json.no_members)) ≡ false
+  pub second_key_unknown :
+      keys_within (codes "a" ∷ []) (json.member (codes "a") json.null (json.member (codes "b") json.null json.no_members))
+      ≡ false
+  pub first_key_unknown :
+      keys_within (codes "b" ∷ []) (json.member (codes "a") json.null (json.member (codes "b") json.null json.no_members))
+      ≡ false
   pub text_has_no_keys : has_only (codes "a" ∷ []) (json.string (codes "a")) ≡ false
   pub null_has_no_keys : has_only (codes "a" ∷ []) json.null ≡ false
   pub absent : is_object_or_absent None ≡ true
@@ -88,7 +94,9 @@ pub record FieldRowsStand : Type 0 where
   pub line_feed : has_line_break (10 ∷ []) ≡ true
   pub carriage_return : has_line_break (97 ∷ 13 ∷ []) ≡ true
   pub vertical_tab_and_form_feed : has_line_break (9 ∷ 11 ∷ 12 ∷ 14 ∷ []) ≡ false
-  pub broken_message : has_broken_message (record (sized 0 0 1) { validations = record (plain_validation (codes "a")) { message = 13 ∷ [] } ∷ [] }) ≡ true
+  pub broken_message :
+      has_broken_message (record (sized 0 0 1) { validations = record (plain_validation (codes "a")) { message = 13 ∷ [] } ∷ [] })
+      ≡ true
   -- too many conditions are reported before a line break in a message
   pub too_many_first : judged (record (sized 65 0 1) { validations = record (plain_validation (codes "a")) { message = 10 ∷ [] } ∷ [] })
       ≡ Err TooManyParts

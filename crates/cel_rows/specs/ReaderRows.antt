@@ -9,7 +9,8 @@ use Rattle.cel_reader.specs.Limits.{open_limit}
 use Rattle.cel_reader.specs.Look.{openings, opens, opens_mark, words_only}
 use Rattle.cel_reader.specs.Tree as tree
 use Rattle.cel_reader.specs.Tree.{entries, entry_count, entry_list, tree_count, tree_list, trees}
-use Rattle.cel_reader.specs.Words.{is_identifier, is_one_of, is_reserved, is_selector, level_of, literal_of, operator_mark, operator_of, unary_mark}
+use Rattle.cel_reader.specs.Words.{is_identifier, is_one_of, is_reserved, is_selector, level_of, literal_of}
+use Rattle.cel_reader.specs.Words.{operator_mark, operator_of, unary_mark}
 use Rattle.cel_reader.specs.Written.{num, yes}
 use Rattle.cel_reader.specs.declared.level.Level.TheVariants as level
 use Rattle.cel_reader.specs.declared.operator.BinaryOperator.TheVariants as op

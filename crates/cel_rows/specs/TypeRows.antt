@@ -13,7 +13,8 @@ use Rattle.cel_types.specs.Rows.{Types}
 use Rattle.cel_types.specs.Scope.{is_known, name_type, variable_type}
 use Rattle.cel_types.specs.Types.{MisplacedVariables, NoOverload, UnknownName, agree, allowed, known_of, refused, same_type, typed}
 use Rattle.cel_types.specs.TypeTable.{binary_row, field_row, function_row, has_row, index_row, is_range, is_text_key, literal_type}
-use Rattle.cel_types.specs.TypeTable.{macro_row, macro_type, map_literal_row, map_row, method_row, part_allowed, ternary_row, test_row, unary_row}
+use Rattle.cel_types.specs.TypeTable.{macro_row, macro_type, map_literal_row, map_row, method_row, part_allowed}
+use Rattle.cel_types.specs.TypeTable.{ternary_row, test_row, unary_row}
 
 -- the types of literals, and of one operand
 pub record OperandRowsStand : Type 0 where

@@ -21,7 +21,9 @@ use Rattle.cluster_state.specs.Policies.{BoundPolicy}
 use Rattle.cluster_state.specs.Rows.{config_kind}
 use Rattle.cluster_state.specs.State.{ClusterState}
 use Rattle.cluster_state.specs.declared.action.Action.TheVariants.{Deny}
-use Rattle.cluster_state.specs.declared.state_error.StateError.TheVariants.{NotAList, InvalidItem, DuplicateItem, NoNamespace, InvalidBinding, InvalidPolicy, Memory}
+use Rattle.cluster_state.specs.declared.state_error.StateError.TheVariants.{NotAList, InvalidItem, DuplicateItem}
+use Rattle.cluster_state.specs.declared.state_error.StateError.TheVariants.{NoNamespace, InvalidBinding}
+use Rattle.cluster_state.specs.declared.state_error.StateError.TheVariants.{InvalidPolicy, Memory}
 use Rattle.cluster_gate.specs.declared.block_cause.BlockCause.TheVariants.{Refused, NamesNamespace, UnknownParamKind}
 use Rattle.gatekeeper_runner.specs.ClusterEnding.{ending_of}
 use Rattle.gatekeeper_runner.specs.ClusterLines.{decision_text}
@@ -39,7 +41,8 @@ no_review = record { error = run_error.ReviewRefused; policy = None }
 
 pub record GatekeeperLinesHold : Type 0 where
   pub refused : refusal_text no_review (Some (codes "u1")) ≡ codes "{\"refused\":\"N2\",\"uid\":\"u1\"}"
-  pub refused_without_uid : refusal_text (record { error = run_error.NamespaceOrParamsRefused; policy = None }) None ≡ codes "{\"refused\":\"N3\"}"
+  pub refused_without_uid : refusal_text (record { error = run_error.NamespaceOrParamsRefused; policy = None }) None
+      ≡ codes "{\"refused\":\"N3\"}"
   pub refused_by_policy : refusal_text
       (record { error = run_error.OutOfSteps; policy = Some (record { name = codes "a.json"; failure_policy = codes "Fail" }) }) (Some (codes "u1"))
       ≡ codes "{\"refused\":\"N4\",\"uid\":\"u1\",\"policy\":\"a.json\",\"failurePolicy\":\"Fail\"}"
@@ -89,7 +92,8 @@ pub record TogetherRowsHold : Type 0 where
   pub of_all : rejections (allowing ∷ rejecting (codes "b.json") (codes "m") Forbidden ∷ endless (codes "c.json") ∷ rejecting (codes "d.json") (codes "n") Invalid ∷ [])
       ≡ Some (rejects (codes "m; n") Forbidden)
   pub of_none : rejections (allowing ∷ endless (codes "c.json") ∷ []) ≡ None
-  pub first_refusal : first_refused (allowing ∷ endless (codes "b.json") ∷ endless (codes "c.json") ∷ []) ≡ Some (refused_by (codes "b.json"))
+  pub first_refusal : first_refused (allowing ∷ endless (codes "b.json") ∷ endless (codes "c.json") ∷ [])
+      ≡ Some (refused_by (codes "b.json"))
   pub no_refusal : first_refused (allowing ∷ []) ≡ None
   pub rejected : joined (Some first_reason) (Some no_review) (codes "u1") ≡ Ok (record { rejection = Some first_reason; uid = codes "u1" })
   pub refused : joined None (Some no_review) (codes "u1") ≡ Err no_review
@@ -118,7 +122,8 @@ pub record FaultNameRowsHold : Type 0 where
   pub policy : (name : String Global) → state_text (InvalidPolicy name) ≡ codes "C6 " ++ string_bytes name
   pub no_list : (name : String Global) → fault_text (NoList name) ≡ codes "C1 " ++ string_bytes name
   pub no_kind : (name : String Global) → fault_text (Blocked name UnknownParamKind) ≡ (codes "C8 " ++ string_bytes name) ++ []
-  pub named : (name : String Global) → fault_text (Blocked name NamesNamespace) ≡ (codes "C7 " ++ string_bytes name) ++ codes " namespaceObject"
+  pub named : (name : String Global) → fault_text (Blocked name NamesNamespace)
+      ≡ (codes "C7 " ++ string_bytes name) ++ codes " namespaceObject"
 
 -- two lists: two maps of configuration, and objects of another kind, of another version, and of neither
 abbrev pub listed : Option json.Data → Option json.Data → List json.Data

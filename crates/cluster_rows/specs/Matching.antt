@@ -3,7 +3,9 @@
 use Rattle.std.specs.Prelude.{◌≡◌, ℕ, true, false, List, [], ◌∷◌, codes}
 use Rattle.admission_match.specs.Matching.{match_answer}
 use Rattle.admission_match.specs.Requests.{Attributes, GroupVersionResource, is_exempt}
-use Rattle.admission_match.specs.Rows.{all_rules, core_namespaces, core_pods, create_pod, create_widget, deployments, everything, matching, no_env, one_namespace, request, resource, rule_for, rule_of, star}
+use Rattle.admission_match.specs.Rows.{all_rules, core_namespaces, core_pods, create_pod, create_widget, deployments}
+use Rattle.admission_match.specs.Rows.{everything, matching, no_env, one_namespace, request, resource, rule_for}
+use Rattle.admission_match.specs.Rows.{rule_of, star}
 use Rattle.admission_match.specs.Rules.{Rule, fits, is_shared, may_fit}
 use Rattle.admission_match.specs.declared.answer.Answer.{Answer}
 use Rattle.admission_match.specs.declared.answer.Answer.TheVariants.{No, Unknown, Yes}
@@ -102,7 +104,8 @@ pub record EquivalentAnswersHold : Type 0 where
   pub no_versions : answer_by Equivalent (record (on_widgets v1) { api_versions = [] } ∷ []) create_widget ≡ No
   pub other_operation : answer_by Equivalent (record (on_widgets v1) { operations = codes "DELETE" ∷ [] } ∷ []) create_widget ≡ No
   pub other_resource : answer_by Equivalent (rule_of (codes "example.com") v1 (codes "gadgets") ∷ []) create_widget ≡ No
-  pub one_of_two_may : answer_by Equivalent (on_widgets v1 ∷ rule_of (codes "example.com") v1 (codes "gadgets") ∷ []) create_widget ≡ Unknown
+  pub one_of_two_may : answer_by Equivalent (on_widgets v1 ∷ rule_of (codes "example.com") v1 (codes "gadgets") ∷ []) create_widget
+      ≡ Unknown
   -- groups that share a resource
   pub group_that_shares_another : answer_by Equivalent (rule_of (codes "apps") v1 (codes "widgets") ∷ []) create_widget ≡ No
   pub shared_without_a_namespace : answer_by Equivalent (record on_deployments { scope = Namespaced } ∷ []) deletion ≡ No
@@ -117,4 +120,5 @@ pub record ExemptGroupsHold : Type 0 where
 -- a namespace that is not selected keeps a request out, whatever equivalent resources the server knows
 pub record NamespaceAnswersHold : Type 0 where
   pub before_rules_that_may_fit : match_answer (matching no_env everything (on_widgets v1 ∷ []) []) one_namespace create_widget ≡ No
-  pub before_excludes_that_may_fit : match_answer (matching no_env everything all_rules (on_widgets v1 ∷ [])) one_namespace create_widget ≡ No
+  pub before_excludes_that_may_fit : match_answer (matching no_env everything all_rules (on_widgets v1 ∷ [])) one_namespace create_widget
+      ≡ No

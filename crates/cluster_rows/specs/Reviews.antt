@@ -8,7 +8,9 @@ use Rattle.admission.specs.Deciding.{is_allowed}
 use Rattle.admission.specs.ErrorCodes.{run_error_code}
 use Rattle.admission.specs.Reviews.{root_refusal}
 use Rattle.admission.specs.declared.policy_refusal.PolicyRefusal.TheVariants.{Unread}
-use Rattle.admission.specs.declared.run_error.RunError.TheVariants.{PolicyRefused, ReviewRefused, NamespaceOrParamsRefused, OutOfSteps, OverLimit, Memory}
+use Rattle.admission.specs.declared.run_error.RunError.TheVariants.{PolicyRefused, ReviewRefused}
+use Rattle.admission.specs.declared.run_error.RunError.TheVariants.{NamespaceOrParamsRefused, OutOfSteps, OverLimit}
+use Rattle.admission.specs.declared.run_error.RunError.TheVariants.{Memory}
 
 -- a policy that skips a request, or has nothing against it, allows it
 pub record OutcomeRowsHold : Type 0 where

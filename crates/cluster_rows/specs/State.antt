@@ -6,12 +6,16 @@ use Rattle.serde_json.specs.Read.{read}
 use Rattle.admission_documents.specs.Matching.{match_all}
 use Rattle.cluster_state.specs.Objects.{Named}
 use Rattle.cluster_state.specs.Params.{known_kind, param_error_text, params_of, scope_by}
-use Rattle.cluster_state.specs.Refusals.{Refusal, IsDueRefusal, duplicate_item, invalid_binding, invalid_item, invalid_policy, no_namespace, not_a_list}
-use Rattle.cluster_state.specs.Rows.{definition, held, is_binding, limit_kind, limits, limits_kind, named_document, one_list, prod, read_binding, refusal, texts_of, thing, things, to_name}
+use Rattle.cluster_state.specs.Refusals.{Refusal, IsDueRefusal, duplicate_item, invalid_binding, invalid_item}
+use Rattle.cluster_state.specs.Refusals.{invalid_policy, no_namespace, not_a_list}
+use Rattle.cluster_state.specs.Rows.{definition, held, is_binding, limit_kind, limits, limits_kind, named_document}
+use Rattle.cluster_state.specs.Rows.{one_list, prod, read_binding, refusal, texts_of, thing, things, to_name}
 use Rattle.cluster_state.specs.declared.action.Action.TheVariants.{Warn}
 use Rattle.cluster_state.specs.declared.param_error.ParamError.TheVariants as param_error
 use Rattle.cluster_state.specs.declared.param_scope.ParamScope.TheVariants.{Cluster}
-use Rattle.cluster_state.specs.declared.state_error.StateError.TheVariants.{NotAList, InvalidItem, DuplicateItem, NoNamespace, InvalidBinding, InvalidPolicy, Memory}
+use Rattle.cluster_state.specs.declared.state_error.StateError.TheVariants.{NotAList, InvalidItem, DuplicateItem}
+use Rattle.cluster_state.specs.declared.state_error.StateError.TheVariants.{NoNamespace, InvalidBinding}
+use Rattle.cluster_state.specs.declared.state_error.StateError.TheVariants.{InvalidPolicy, Memory}
 
 -- ---- lists
 
@@ -24,7 +28,9 @@ abbrev pub webhook : List ℕ
 webhook = codes "{\"apiVersion\":\"admissionregistration.k8s.io/v1beta1\",\"kind\":\"ValidatingWebhookConfiguration\",\"metadata\":{\"name\":\"w\"}}"
 
 pub record ListRowsHold : Type 0 where
-  pub list_as_labels : refusal (one_list (codes "{\"apiVersion\":\"v1\",\"kind\":\"Pod\",\"metadata\":{\"name\":\"web\",\"labels\":[\"n\"]}}" ∷ prod ∷ [])) ≡ Some (invalid_item 0)
+  pub list_as_labels :
+      refusal (one_list (codes "{\"apiVersion\":\"v1\",\"kind\":\"Pod\",\"metadata\":{\"name\":\"web\",\"labels\":[\"n\"]}}" ∷ prod ∷ []))
+      ≡ Some (invalid_item 0)
   pub webhook_of_another_version : refusal (one_list (webhook ∷ prod ∷ [])) ≡ None
   pub list_of_pods : refusal (codes "{\"apiVersion\":\"v1\",\"kind\":\"PodList\",\"items\":[]}" ∷ []) ≡ Some (not_a_list 0)
   pub list_of_another_version : refusal (codes "{\"apiVersion\":\"v2\",\"kind\":\"List\",\"items\":[]}" ∷ []) ≡ Some (not_a_list 0)
@@ -85,10 +91,13 @@ pub record ParamAnswersHold : Type 0 where
   -- `served` is a required truth
   pub without_served : scope_by limit_kind [] (definition_in (codes "{\"name\":\"v1\"}")) ≡ None
   pub text_as_served : scope_by limit_kind [] (definition_in (codes "{\"name\":\"v1\",\"served\":\"true\"}")) ≡ None
-  pub second_version : scope_by limit_kind [] (definition_in (codes "{\"name\":\"v2\",\"served\":true},{\"name\":\"v1\",\"served\":true}")) ≡ Some Cluster
+  pub second_version : scope_by limit_kind [] (definition_in (codes "{\"name\":\"v2\",\"served\":true},{\"name\":\"v1\",\"served\":true}"))
+      ≡ Some Cluster
   -- objects of another version count only if they are of the same group and kind
-  pub other_kind_of_the_group : known_kind limit_kind (thing (codes "x.io/v2") (codes "Other") [] (codes "m") ∷ things) held ≡ Some limits_kind
-  pub kind_of_another_group : known_kind limit_kind (thing (codes "y.io/v1") (codes "Limit") [] (codes "m") ∷ things) held ≡ Some limits_kind
+  pub other_kind_of_the_group : known_kind limit_kind (thing (codes "x.io/v2") (codes "Other") [] (codes "m") ∷ things) held
+      ≡ Some limits_kind
+  pub kind_of_another_group : known_kind limit_kind (thing (codes "y.io/v1") (codes "Limit") [] (codes "m") ∷ things) held
+      ≡ Some limits_kind
   -- params of the cluster need no namespace
   pub of_the_cluster_for_a_node : params_of held limits_kind (to_name (codes "l") []) [] ≡ Ok (texts_of (codes "l" ∷ []))
   -- an allocation that fails has no message of the API server

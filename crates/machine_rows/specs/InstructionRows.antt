@@ -9,7 +9,8 @@ use Rattle.insn_codec.specs.Statements.{IsStatement, after_statement, statement_
 use Rattle.insn_codec.specs.declared.alu_op.AluOp.TheVariants.{Mov}
 use Rattle.insn_codec.specs.declared.atomic_op.AtomicOp.TheVariants as atomic
 use Rattle.insn_codec.specs.declared.comparison.Comparison.TheVariants as comparison
-use Rattle.insn_codec.specs.declared.insn.Insn.TheVariants.{Alu, Jump, JumpLong, Branch, Call, CallLocal, Load, LoadSigned, StoreImm, Store, Atomic, LoadWide}
+use Rattle.insn_codec.specs.declared.insn.Insn.TheVariants.{Alu, Jump, JumpLong, Branch, Call, CallLocal, Load}
+use Rattle.insn_codec.specs.declared.insn.Insn.TheVariants.{LoadSigned, StoreImm, Store, Atomic, LoadWide}
 use Rattle.insn_codec.specs.declared.operand.Operand.TheVariants.{Imm, Reg}
 use Rattle.insn_codec.specs.declared.register.Register.TheVariants.{R0, R1, R4, R5, R6, R7, R8, R9, R10}
 use Rattle.insn_codec.specs.declared.signed_size.SignedSize.TheVariants as signed

@@ -20,7 +20,8 @@ pub record RegionRowsHold : Type 0 where
   pub scratch : bytes_in Scratch (memory_of (1 ∷ []) (2 ∷ []) (3 ∷ []) (4 ∷ [])) ≡ 2 ∷ []
   pub verdict : bytes_in Verdict (memory_of (1 ∷ []) (2 ∷ []) (3 ∷ []) (4 ∷ [])) ≡ 3 ∷ []
   pub constants : bytes_in Constants (memory_of (1 ∷ []) (2 ∷ []) (3 ∷ []) (4 ∷ [])) ≡ 4 ∷ []
-  pub other_stack : with_bytes Stack (9 ∷ []) (memory_of (1 ∷ []) (2 ∷ []) (3 ∷ []) (4 ∷ [])) ≡ memory_of (9 ∷ []) (2 ∷ []) (3 ∷ []) (4 ∷ [])
+  pub other_stack : with_bytes Stack (9 ∷ []) (memory_of (1 ∷ []) (2 ∷ []) (3 ∷ []) (4 ∷ []))
+      ≡ memory_of (9 ∷ []) (2 ∷ []) (3 ∷ []) (4 ∷ [])
   pub other_scratch : with_bytes Scratch (9 ∷ []) (memory_of (1 ∷ []) (2 ∷ []) (3 ∷ []) (4 ∷ []))
       ≡ memory_of (1 ∷ []) (9 ∷ []) (3 ∷ []) (4 ∷ [])
   pub other_verdict : with_bytes Verdict (9 ∷ []) (memory_of (1 ∷ []) (2 ∷ []) (3 ∷ []) (4 ∷ []))
