@@ -11,7 +11,7 @@ pub use Rattle.std.proofs.lemmas.Bool.Decides.{nat_tests}
 pub use Rattle.std.proofs.lemmas.Grind.{common_steps}
 pub use Rattle.std.proofs.lemmas.List.{ext_get_or, get_or-append_right, get_or-replicate, length-replicate}
 pub use Rattle.std.proofs.lemmas.List.{length-take, length-take-le, take-append-le, drop-append-le, drop_all}
-pub use Rattle.std.proofs.lemmas.List.{replicate-append-replicate, take_all}
+pub use Rattle.std.proofs.lemmas.List.{drop-replicate, replicate-append-replicate, take-replicate, take_all}
 pub use Rattle.std.proofs.lemmas.List.Elements.{All-append, All-cons, All-drop, All-head, All-nil, All-replicate}
 pub use Rattle.std.proofs.lemmas.List.Elements.{All-tail, All-take}
 pub use Rattle.std.proofs.lemmas.Option.{slice_get-get_or, slice_get_past}
@@ -27,6 +27,7 @@ pub use Rattle.guest_memory.specs.Word.{low_bytes, overlay, part, word_of}
 pub use Rattle.guest_memory.specs.declared.fault.Fault.TheVariants.{F3, F4}
 pub use Rattle.guest_memory.specs.declared.size.Size.{Size}
 pub use Rattle.guest_memory.specs.declared.size.Size.TheVariants.{Dw}
+pub use Rattle.guest_memory.specs.PageBytes.{bytes_or_zeros}
 pub use Rattle.guest_memory.specs.Pages.{joined}
 pub use Rattle.guest_memory.specs.declared.page.Page.{Page}
 unfoldable pub use Rattle.guest_memory.specs.Access.{constants_of, read_of, write_of}

@@ -4,6 +4,7 @@ pub mod Memory
 pub mod Word
 pub mod Access
 pub mod Answers
+pub mod PageBytes
 pub mod Pages
 pub mod PageSpans
 pub mod RegionWords

@@ -12,7 +12,6 @@ use crate::regions::Regions;
 use crate::size::Size;
 use crate::words::word_at;
 use crate::write_error::WriteError;
-use crate::zero_page::ZeroPage;
 use std::alloc::{AllocError, Global};
 use std::rc::Rc;
 
@@ -195,11 +194,10 @@ impl Regions for Guest {
     ghost bytes = { λ g. record { stack = g.stack; scratch = g.scratch; verdict = g.verdict; constants = g.constants.value.items } };
 
     fn of_constants(alloc: Global, constants: &[u8]) -> Result<Self, AllocError> {
-        let zero = ZeroPage::new(alloc)?;
         Ok(Guest {
-            stack: Region::zeroed(&zero)?,
-            scratch: Region::zeroed(&zero)?,
-            verdict: Region::zeroed(&zero)?,
+            stack: Region::zeroed(alloc),
+            scratch: Region::zeroed(alloc),
+            verdict: Region::zeroed(alloc),
             constants: shared(alloc, constants)?,
         })
     }

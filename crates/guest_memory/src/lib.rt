@@ -13,7 +13,6 @@ mod regions;
 mod size;
 mod words;
 mod write_error;
-mod zero_page;
 
 pub use fault::Fault;
 pub use guest::{CONSTANTS, Guest, SCRATCH, STACK, VERDICT};

@@ -8,8 +8,7 @@ use crate::page::{PAGE_LENGTH, Page};
 use crate::page_span::PageSpan;
 use crate::pages::{put_in, put_word, word_at, word_in};
 use crate::size::Size;
-use crate::zero_page::ZeroPage;
-use std::alloc::AllocError;
+use std::alloc::{AllocError, Global};
 use std::array;
 use std::marker::Model;
 
@@ -31,17 +30,13 @@ impl<const N: usize> Model for Region<N> {
 }
 
 impl<const N: usize> Region<N> {
-    /// A region of zeros, each page a clone of the given one.
-    ///
-    /// # Errors
-    ///
-    /// `AllocError` if no more clones can be counted.
-    pub fn zeroed(zero: &ZeroPage) -> Result<Region<N>, AllocError>
+    /// A region of zeros. Nothing is allocated.
+    pub fn zeroed(alloc: Global) -> Region<N>
         requires { N ≤ 256 }
-        ensures { IfOk result (λ region. region ≡ replicate (256 * N) 0) }
+        ensures { result ≡ replicate (256 * N) 0 }
     {
-        let pages = array::try_from_fn(|_page| zero.page())?;
-        Ok(Region { pages })
+        let pages = array::from_fn(|_page| Page::of_zeros(alloc));
+        Region { pages }
     }
 
     /// A copy that shares the pages.

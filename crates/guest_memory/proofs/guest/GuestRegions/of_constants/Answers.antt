@@ -3,4 +3,4 @@ use Rattle.guest_memory.proofs.Start.{started}
 use Rattle.guest_memory.proofs.guest.GuestRegions.of_constants.Goals as goal
 
 pub returns : goal.returns
-returns c = started _ _ _ _ _ c.in_ok-zeroed.ensures c.in_ok-zeroed-2.ensures c.in_ok-zeroed-3.ensures c.in_ok-shared.ensures
+returns c = started _ _ _ _ _ c.zeroed.ensures c.zeroed-2.ensures c.zeroed-3.ensures c.in_ok-shared.ensures

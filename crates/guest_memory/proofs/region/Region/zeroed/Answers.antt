@@ -4,4 +4,4 @@ use Rattle.guest_memory.proofs.PagedBytes.{joined_zeros}
 use Rattle.guest_memory.proofs.region.Region.zeroed.Goals as goal
 
 pub returns : goal.returns
-returns g c = joined_zeros _ _ c.in_ok-pages.ensures.ok.long (λ i e inside. let made = c.in_ok-pages.ensures.ok.at i e inside in search rules)
+returns g c = joined_zeros _ _ c.from_fn-pages.ensures.items.long (λ i e inside. let made = c.from_fn-pages.ensures.items.at i e inside in search rules)
