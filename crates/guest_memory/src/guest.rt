@@ -13,7 +13,7 @@ use crate::size::Size;
 use crate::words::word_at;
 use crate::write_error::WriteError;
 use std::alloc::{AllocError, Global};
-use std::rc::Rc;
+use std::sync::Arc;
 
 /// The first address of the stack.
 pub const STACK: u64 = 0x1_0000_0000;
@@ -33,7 +33,7 @@ pub struct Guest {
     stack: Region<16>,
     scratch: Region<16>,
     verdict: Region<8>,
-    constants: Rc<Vec<u8>>,
+    constants: Arc<Vec<u8>>,
 }
 
 /// The offset of `n` bytes at `addr` in a region of `len` bytes from `base` on, if all of them are in it.
@@ -53,11 +53,11 @@ fn place(base: u64, len: usize, addr: u64, n: u64) -> Option<usize>
 }
 
 /// The constants in shared ownership.
-fn shared(alloc: Global, constants: &[u8]) -> Result<Rc<Vec<u8>>, AllocError>
+fn shared(alloc: Global, constants: &[u8]) -> Result<Arc<Vec<u8>>, AllocError>
     ensures { IfOk result (λ block. block.value.items ≡ constants.now) }
 {
     let block = Vec::from_slice(alloc, constants)?;
-    let Ok(block) = Rc::new(alloc, block) else {
+    let Ok(block) = Arc::new(alloc, block) else {
         return Err(AllocError);
     };
     Ok(block)
@@ -194,12 +194,17 @@ impl Regions for Guest {
     ghost bytes = { λ g. record { stack = g.stack; scratch = g.scratch; verdict = g.verdict; constants = g.constants.value.items } };
 
     fn of_constants(alloc: Global, constants: &[u8]) -> Result<Self, AllocError> {
-        Ok(Guest {
+        let constants = shared(alloc, constants)?;
+        Ok(Guest::of_shared(alloc, constants))
+    }
+
+    fn of_shared(alloc: Global, constants: Arc<Vec<u8>>) -> Self {
+        Guest {
             stack: Region::zeroed(alloc),
             scratch: Region::zeroed(alloc),
             verdict: Region::zeroed(alloc),
-            constants: shared(alloc, constants)?,
-        })
+            constants,
+        }
     }
 
     fn copy(&self) -> Result<Self, AllocError> {

@@ -7,6 +7,7 @@ use crate::fault::Fault;
 use crate::size::Size;
 use crate::write_error::WriteError;
 use std::alloc::{AllocError, Global};
+use std::sync::Arc;
 
 /// The four regions of bytes that a program sees: the stack at 0x1_0000_0000 and the scratch at 0x2_0000_0000, each
 /// of 4,096 bytes, the verdict at 0x3_0000_0000, of 2,048 bytes, and the read-only constants at 0x4_0000_0000.
@@ -17,6 +18,10 @@ pub trait Regions: Drop {
     /// The memory at the start of a program: these constants, and zeros elsewhere.
     fn of_constants(alloc: Global, constants: &[u8]) -> Result<Self, AllocError>
         ensures { IfOk result (λ memory. bytes memory ≡ start_memory constants.now) };
+
+    /// `of_constants` of constants that are shared. Nothing is allocated.
+    fn of_shared(alloc: Global, constants: Arc<Vec<u8>>) -> Self
+        ensures { bytes result ≡ start_memory constants.value.items };
 
     /// A copy with memory of its own.
     fn copy(&self) -> Result<Self, AllocError>
