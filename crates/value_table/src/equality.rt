@@ -19,7 +19,6 @@ mod walk;
 use crate::content::Content;
 use crate::equality::member::is_among;
 use crate::equality::start::{is_long_at, start_at};
-use crate::equality::unlike::MOST;
 use crate::equality::walk::first;
 pub(crate) use crate::equality::walk::parts_of;
 use crate::heap::Heap;
@@ -45,6 +44,7 @@ impl Heap {
         ensures one { result ≡ true → AreOneClass self.new.same.items a b }
     {
         self.complete_words();
+        self.hints.look_at_wholes();
         walk::equal(
             &self.cells,
             &self.backings,
@@ -52,7 +52,6 @@ impl Heap {
             &mut self.hints,
             a,
             b,
-            MOST,
         )
     }
 

@@ -6,18 +6,43 @@ use std::alloc::Global;
 /// The number of hints that are kept.
 const COUNT: usize = 4096;
 
+/// The number of levels that are looked at below two values that a program compares.
+const MOST: u32 = 128;
+
+/// The same below two parts of these. All levels of two equal values are compared, so that many levels
+/// below each would take the square of their depth.
+const FEW: u32 = 8;
+
 /// Places at which two compared texts, lists or maps differ, stored by a hash of the two. A hint only
 /// says where a comparison begins; the result does not depend on it.
 #[derive(Drop)]
 pub(crate) struct Hints {
     places: Vec<u64>,
+    /// The number of levels that are looked at below the next two values.
+    levels: u32,
 }
 
 impl Hints {
     pub(crate) fn new(alloc: Global) -> Hints {
         Hints {
             places: Vec::new(alloc),
+            levels: MOST,
         }
+    }
+
+    /// At most this number of levels is looked at below two values.
+    pub(crate) fn levels(&self) -> u32 {
+        self.levels
+    }
+
+    /// The next two values are those that a program compares.
+    pub(crate) fn look_at_wholes(&mut self) {
+        self.levels = MOST;
+    }
+
+    /// The next two values are parts of those.
+    pub(crate) fn look_at_parts(&mut self) {
+        self.levels = FEW;
     }
 
     /// The place at which to begin comparing two texts, lists or maps, or the keys of two maps, by their

@@ -11,7 +11,6 @@ ghost use Rattle.value_table.specs.Index.{AreKnown};
 
 use crate::backings::Backings;
 use crate::cell::Cell;
-use crate::equality::unlike::MOST;
 use crate::equality::walk;
 use crate::hints::Hints;
 use crate::sequence::Sequence;
@@ -58,5 +57,6 @@ fn are_equal(
     if left != right {
         return false;
     }
-    walk::equal(cells, backings, same, hints, a, b, MOST)
+    hints.look_at_wholes();
+    walk::equal(cells, backings, same, hints, a, b)
 }

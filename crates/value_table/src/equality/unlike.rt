@@ -16,22 +16,14 @@ use crate::part::Part;
 use crate::sequence::Sequence;
 use crate::text::keys;
 
-/// The number of levels that are looked at below two values that a program compares.
-pub(crate) const MOST: u32 = 128;
-
-/// The same below two parts of these. All levels of two equal values are compared, so that many levels
-/// below each would take the square of their depth.
-pub(crate) const FEW: u32 = 8;
-
-/// Whether the values of two cells are seen to differ at the places of the hints. At most this number
-/// of levels is looked at, so false says nothing.
+/// Whether the values of two cells are seen to differ at the places of the hints. Few levels are looked
+/// at, so false says nothing.
 pub(crate) fn are_seen_to_differ(
     cells: &Sequence<Cell>,
     backings: &Backings,
     hints: &mut Hints,
     a: u64,
     b: u64,
-    most: u32,
 ) -> bool
     requires contents { AreContents backings.now cells.now }
     requires left { a < length cells.now }
@@ -40,7 +32,7 @@ pub(crate) fn are_seen_to_differ(
 {
     let mut x = a;
     let mut y = b;
-    for _ in 0..most {
+    for _ in 0..hints.levels() {
         let left = cells.at(x as usize).content;
         let right = cells.at(y as usize).content;
         if are_unlike(backings, hints, left, right) {

@@ -12,14 +12,14 @@ use crate::cell::Cell;
 use crate::content::Content;
 use crate::equality::alike::alike;
 use crate::equality::classes::{representative, unite};
-use crate::equality::unlike::{FEW, are_seen_to_differ};
+use crate::equality::unlike::are_seen_to_differ;
 use crate::hints::{Hints, parts_name};
 use crate::sequence::Sequence;
 
 /// Whether the values of two cells are equal. Each equal pair is remembered, so that values with
 /// shared parts take about as many steps as they have cells. Where two values differ is remembered
-/// too, and the next comparison looks there first, at most this number of levels below. The recursion
-/// is as deep as the values.
+/// too, and the next comparison looks there first, as many levels below as the hints say. The
+/// recursion is as deep as the values.
 #[tactic(auto, using(crate::proofs::Classes::both_found, crate::proofs::Walks::same_heads, crate::proofs::Walks::same_long))]
 pub(crate) fn equal(
     cells: &Sequence<Cell>,
@@ -28,7 +28,6 @@ pub(crate) fn equal(
     hints: &mut Hints,
     a: u64,
     b: u64,
-    most: u32,
 ) -> bool
     requires contents { AreContents backings.now cells.now }
     requires left { a < length cells.now }
@@ -40,7 +39,7 @@ pub(crate) fn equal(
     if x == y {
         return true;
     }
-    if are_seen_to_differ(cells, backings, hints, x, y, most) {
+    if are_seen_to_differ(cells, backings, hints, x, y) {
         return false;
     }
     let left = cells.at(x as usize);
@@ -48,18 +47,11 @@ pub(crate) fn equal(
     if !alike(backings, hints, left.content, right.content) {
         return false;
     }
+    hints.look_at_parts();
     let xs = parts_of(backings, left.content);
     let ys = parts_of(backings, right.content);
     for i in 0..xs.len() {
-        if !equal(
-            cells,
-            backings,
-            same,
-            hints,
-            xs[i] as u64,
-            ys[i] as u64,
-            FEW,
-        ) {
+        if !equal(cells, backings, same, hints, xs[i] as u64, ys[i] as u64) {
             note_parts(hints, left.content, right.content, i);
             return false;
         }
