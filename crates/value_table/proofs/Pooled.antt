@@ -10,6 +10,9 @@ use Rattle.value_table.proofs.Backed.{whole_behind}
 row_kept : (pool more : List ℕ) (r : Row) → IsPoolRow pool r → row_items (pool ++ more) r ≡ row_items pool r
 row_kept pool more (row.Own items) h = refl
 row_kept pool more (row.Pooled from count) h = range_kept pool more from (from + count) (omega arith) h
+row_kept pool more row.Empty h = refl
+row_kept pool more (row.One item) h = refl
+row_kept pool more (row.Two items) h = refl
 
 rows_kept : (pool more : List ℕ) (rows : List Row) → AreRows pool rows → rows_items (pool ++ more) rows ≡ rows_items pool rows
 rows_kept pool more [] h = refl
@@ -18,6 +21,10 @@ rows_kept pool more (r ∷ rs) h = ap₂ (λ x xs. x ∷ xs) (row_kept pool more
 -- a row with its own items is added
 pub rows_pushed : (pool : List ℕ) (rows : List Row) (items : List ℕ) → rows_items pool (rows ++ row.Own items ∷ []) ≡ rows_items pool rows ++ items ∷ []
 rows_pushed pool rows items = map-append (row_items pool) rows (row.Own items ∷ [])
+
+-- a row without items is added
+pub rows_begun : (pool : List ℕ) (rows : List Row) → rows_items pool (rows ++ row.Empty ∷ []) ≡ rows_items pool rows ++ [] ∷ []
+rows_begun pool rows = map-append (row_items pool) rows (row.Empty ∷ [])
 
 -- a row with the items that are appended to the pool is added
 pub rows_put : (pool items : List ℕ) (rows : List Row) → AreRows pool rows

@@ -97,6 +97,17 @@ impl Backings {
         Ok(place)
     }
 
+    /// Adds a backing without items.
+    pub(crate) fn add_empty(&mut self) -> Result<u32, AllocError>
+        ensures grown { ExtendsBackings self.old self.new }
+        ensures items { IfOk result (λ b. HoldsItems self.new.lists b 0 []) }
+        ensures kept { OnErr result (self.new ≡ self.old) }
+    {
+        let place = small(self.lists.len())?;
+        self.lists.add_empty()?;
+        Ok(place)
+    }
+
     /// Adds a backing with these items, stored in the pool.
     pub(crate) fn pool_items(&mut self, items: &[u32]) -> Result<u32, AllocError>
         ensures grown { ExtendsBackings self.old self.new }

@@ -26,9 +26,8 @@ impl Heap {
         requires { IsHeap self.old }
         ensures { Gains self.old (Some (map no_entries)) result self.new }
     {
-        let items = Backing::new(self.cells.alloc())?;
         let cells = room_for_cell(&mut self.cells, &mut self.same)?;
-        let backing = self.backings.add_items(items)?;
+        let backing = self.backings.add_empty()?;
         Ok(cells.append(Cell {
             content: Content::Map(0, backing, 0),
             depth: 1,

@@ -6,7 +6,6 @@ ghost use Rattle.value_store.specs.Calls.{push_of, join_of};
 ghost use Rattle.value_table.specs.Meaning.{value_in, list_part};
 ghost use Rattle.value_table.specs.Heap.{heap_values, IsHeap, Gains, SharesBacking};
 
-use crate::backing::Backing;
 use crate::cell::Cell;
 use crate::content::Content;
 use crate::heap::{Heap, room_for_cell};
@@ -20,9 +19,8 @@ impl Heap {
         requires { IsHeap self.old }
         ensures { Gains self.old (Some (list no_items)) result self.new }
     {
-        let items = Backing::new(self.cells.alloc())?;
         let cells = room_for_cell(&mut self.cells, &mut self.same)?;
-        let backing = self.backings.add_items(items)?;
+        let backing = self.backings.add_empty()?;
         Ok(cells.append(Cell {
             content: Content::List(backing, 0),
             depth: 1,

@@ -19,7 +19,7 @@ use std::rc::Rc;
 #[derive(Drop)]
 pub(crate) struct Lists {
     rows: Rc<Vec<Row>>,
-    /// The items of the rows without a vector: those that came from documents.
+    /// The items of the rows that are a range of it: those that came from documents.
     pool: Backing<u32>,
 }
 
@@ -86,6 +86,14 @@ impl Lists {
         ensures err { OnErr result (self.new ≡ self.old) }
     {
         add_row(&mut self.rows, Row::Own(backing))
+    }
+
+    /// Adds a row without items.
+    pub(crate) fn add_empty(&mut self) -> Result<(), AllocError>
+        ensures ok { OnOk result (self.new ≡ self.old ++ [] ∷ []) }
+        ensures err { OnErr result (self.new ≡ self.old) }
+    {
+        add_row(&mut self.rows, Row::Empty)
     }
 
     /// Adds a row whose items are appended to the pool.
