@@ -38,7 +38,8 @@ pub(crate) fn alike(backings: &Backings, hints: &mut Hints, left: Content, right
     }
 }
 
-// Whether two maps have the same keys. The place at which they differ is kept by their names.
+// Whether two maps have the same keys. The place at which they differ is kept by their names, for the two
+// and for the first with others.
 #[tactic(auto, using(crate::proofs::Maps::map_part, crate::proofs::Maps::map_more))]
 fn same_keys(
     bytes: &[u8],
@@ -57,6 +58,7 @@ fn same_keys(
     for i in 0..left.len() {
         if !same_texts(bytes, hints, left[i], right[i]) {
             hints.note(names.0, names.1, i);
+            hints.note(names.0, names.0, i);
             return false;
         }
     }

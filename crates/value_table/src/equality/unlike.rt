@@ -111,7 +111,7 @@ fn parts_at(
 }
 
 // Whether two cells are of two kinds, or have two simple values, or differ in the number of items or
-// entries, or in the key at which maps with these keys differed before.
+// entries, or in a key at which maps with these keys differed before.
 fn are_unlike(backings: &Backings, hints: &mut Hints, left: Content, right: Content) -> bool
     requires left { IsReadable backings.now left }
     requires right { IsReadable backings.now right }
@@ -120,13 +120,34 @@ fn are_unlike(backings: &Backings, hints: &mut Hints, left: Content, right: Cont
     match (left, right) {
         (Content::Map(k, _, m), Content::Map(l, _, n)) => {
             let all = backings.keys.items();
-            let place = hints.start(keys_name(k), keys_name(l));
             let left = keys(all, k as u64, m as u64);
             let right = keys(all, l as u64, n as u64);
-            are_unlike_at(backings.bytes.items(), hints, left, right, place)
+            let names = (keys_name(k), keys_name(l));
+            have_unlike_keys(backings.bytes.items(), hints, left, right, names)
         }
         _ => !alike(backings, hints, left, right),
     }
+}
+
+// Whether two lists of keys differ in their number or at a place where the two, or else the first and
+// another, differed.
+fn have_unlike_keys(
+    bytes: &[u8],
+    hints: &mut Hints,
+    left: &[Part],
+    right: &[Part],
+    names: (u64, u64),
+) -> bool
+    requires left { AreTexts bytes.now left.now }
+    requires right { AreTexts bytes.now right.now }
+    ensures { result ≡ true → texts_of bytes.now left.now ≢ texts_of bytes.now right.now }
+{
+    let last = hints.start(names.0, names.0);
+    if are_unlike_at(bytes, hints, left, right, last) {
+        return true;
+    }
+    let place = hints.start(names.0, names.1);
+    are_unlike_at(bytes, hints, left, right, place)
 }
 
 // Whether two lists of keys differ in their number or at a place.
