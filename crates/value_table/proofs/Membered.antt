@@ -1,5 +1,5 @@
 -- Where a key is among members, and the members after it is put or removed.
-use Rattle.value_table.proofs.Prelude.{◌≡◌, ℕ, zero, suc, ◌<◌, ◌≤◌, List, [], ◌∷◌, length, take, drop, get_or, Bool, true, false, cond, Ordering, Less, Greater, Option, Some, None, Result, Ok, Err, refl, sym, ap, ◌∙◌, subst, arith, AllByRecursion, slice_set}
+use Rattle.value_table.proofs.Prelude.{◌≡◌, ℕ, zero, suc, ◌<◌, ◌≤◌, List, [], ◌∷◌, ◌++◌, length, take, take_all, drop, drop_all, get_or, Bool, true, false, cond, Ordering, Less, Greater, Option, Some, None, Result, Ok, Err, refl, sym, ap, ◌∙◌, subst, arith, AllByRecursion, slice_set}
 use Rattle.std.proofs.Common.{OnOk, OnErr, ap₂, drop-cons, ◌+◌}
 use Rattle.std.specs.declared.cmp.Ordering.TheVariants.{Equal}
 use Rattle.std.specs.Ordering.{match_ordering, MatchOrdering, is_eq, nat_cmp, ordering_reverse, ordering_then}
@@ -263,3 +263,7 @@ pub next_member : (es us : List PlacedEntry) (i : ℕ) (d : PlacedEntry) (p : Pl
 next_member es us i d p e l h =
     let next : suc i ≡ i + 1 = omega arith in
     ap (λ zs. drop i zs) (sym e) ∙ drop-cons us i d l ∙ ap₂ (λ v zs. ((get_or us i d).0, v) ∷ zs) h (ap₂ (λ n zs. drop n zs) next e)
+
+-- an entry is put after all others
+pub put_last : {X : Type 0} (xs : List X) (at : ℕ) (x : X) → at ≡ length xs → xs ++ x ∷ [] ≡ insert xs at x
+put_last xs at x e = ap₂ (λ ys zs. ys ++ x ∷ zs) (sym (take_all at xs (omega (arith, e)))) (sym (drop_all at xs (omega (arith, e))))

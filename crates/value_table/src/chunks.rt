@@ -1,6 +1,6 @@
 //! Items in chunks that copies share.
 
-ghost use Rattle.std.specs.Prelude.{◌≡◌, ◌<◌, ◌+◌, ◌^◌, [], ◌∷◌, ◌++◌, length, slice_get, Some, IfOk, OnOk, OnErr};
+ghost use Rattle.std.specs.Prelude.{◌≡◌, ◌<◌, ◌+◌, ◌^◌, [], ◌∷◌, ◌++◌, length, vec_len, vec_capacity, slice_get, Some, IfOk, OnOk, OnErr};
 ghost use Rattle.value_table.specs.Chunks.{joined, AreChunks};
 
 use crate::backing::Backing;
@@ -88,8 +88,7 @@ impl<T: Copy> Chunks<T> {
         if self.last.len() == CHUNK && self.full.len() < MOST {
             close(&mut self.full, &mut self.last)?;
         }
-        self.last.reserve(1)?;
-        Ok(())
+        reserve_one(&mut self.last)
     }
 
     /// Reserves capacity for these further items, at most for those of a chunk.
@@ -118,6 +117,18 @@ impl<T: Copy> Chunks<T> {
         self.last.push_reserved(item);
         place
     }
+}
+
+// Capacity for one more item. Mostly there is some.
+#[inline(always)]
+fn reserve_one<T>(last: &mut Vec<T>) -> Result<(), AllocError>
+    ensures items { last.new.items ≡ last.old.items }
+    ensures room { OnOk result (vec_len last.new < vec_capacity last.new) }
+{
+    if last.len() < last.capacity() {
+        return Ok(());
+    }
+    last.reserve(1)
 }
 
 // Moves the last items, which fill a chunk, to the full chunks.

@@ -16,7 +16,7 @@ use std::collections::BTreeMap;
 use std::marker::Model;
 
 /// The number of members for which a first member reserves capacity.
-const FIRST: usize = 8;
+const FIRST: usize = 16;
 
 /// Members in the order of their keys.
 #[derive(Drop)]
@@ -134,7 +134,8 @@ fn key_order(key: &str, other: &str) -> Ordering
     a[0].cmp(&b[0])
 }
 
-// Inserts an entry at this place.
+// Inserts an entry at this place. Nothing is moved if it is the last.
+#[tactic(auto, using(crate::proofs::Membered::put_last))]
 fn put<'a>(
     entries: &mut Vec<(&'a str, Option<Placed>)>,
     at: usize,
@@ -146,6 +147,10 @@ fn put<'a>(
 {
     if entries.is_empty() {
         entries.reserve(FIRST)?;
+    }
+    if at == entries.len() {
+        entries.push(entry)?;
+        return Ok(());
     }
     match entries.insert(at, entry) {
         Ok(()) => Ok(()),
