@@ -14,7 +14,6 @@ use crate::pending_map::PendingMap;
 use crate::placed::Placed;
 use crate::small::small;
 use std::alloc::AllocError;
-use std::mem::replace;
 
 /// Adds the list of these items; `None` if one of them has no value.
 pub(crate) fn add_pending(
@@ -33,20 +32,17 @@ pub(crate) fn add_pending(
     Ok(Some(Placed { place, size }))
 }
 
-/// Adds the map of these members; `None` if one of them has no value.
+/// Adds the map of these members; `None` if one of them has no value. The vectors hold its entries.
 pub(crate) fn add_members(
     heap: &mut Heap,
     found: &Members<'_>,
+    kept: &mut PendingMap,
 ) -> Result<Option<Placed>, AllocError>
     requires heap { IsHeap heap.old }
     requires sound { AreSoundEntries (heap_values heap.old) found.now.entries }
     ensures { IfOk result (λ p. AddsPlaced heap.old heap.new p (option_map kind.map (placed_entries (heap_values heap.old) found.now.entries))) }
 {
-    let empty = PendingMap::new(heap.cells.alloc());
-    let mut pending = replace(&mut heap.pending, empty);
-    let placed = collect(heap, found, &mut pending.keys, &mut pending.places)?;
-    heap.pending = pending;
-    Ok(placed)
+    collect(heap, found, &mut kept.keys, &mut kept.places)
 }
 
 // `add_members` with the two vectors to use. Their contents are dropped first.

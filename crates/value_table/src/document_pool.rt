@@ -6,7 +6,7 @@ ghost use Rattle.value_table.specs.DocumentPool.{HoldsReview, OpenReturns, PoolR
 ghost use Rattle.value_table.specs.Heap.{heap_values};
 
 use crate::heap::Heap;
-use crate::kept_scratch::KeptScratch;
+use crate::kept_memory::KeptMemory;
 use crate::open_review::OpenReview;
 use crate::pooled_document::PooledDocument;
 use crate::reading::add_null;
@@ -20,7 +20,7 @@ use std::rc::Rc;
 #[derive(Drop)]
 pub struct DocumentPool {
     heap: Heap,
-    scratch: Rc<KeptScratch>,
+    memory: Rc<KeptMemory>,
 }
 
 impl Model for DocumentPool {
@@ -46,7 +46,7 @@ impl DocumentPool {
     {
         Ok(DocumentPool {
             heap: Heap::new(alloc)?,
-            scratch: KeptScratch::shared(alloc)?,
+            memory: KeptMemory::shared(alloc)?,
         })
     }
 
@@ -56,7 +56,7 @@ impl DocumentPool {
     {
         Ok(DocumentPool {
             heap: self.heap.copy()?,
-            scratch: self.scratch.clone()?,
+            memory: self.memory.clone()?,
         })
     }
 
@@ -68,11 +68,11 @@ impl DocumentPool {
     pub fn with_document(self, text: &[u8]) -> Result<(DocumentPool, PooledDocument), ReviewError>
         ensures { PoolReturns self result (document_of text.now) }
     {
-        let DocumentPool { mut heap, scratch } = self;
-        let mut reading = scratch.take(heap.cells.alloc())?;
+        let DocumentPool { mut heap, memory } = self;
+        let mut reading = memory.take(heap.cells.alloc())?;
         let placed = document_value(&mut heap, &mut reading, text)?;
-        scratch.keep(reading, text.len());
-        Ok((DocumentPool { heap, scratch }, PooledDocument { placed }))
+        memory.keep(reading, text.len());
+        Ok((DocumentPool { heap, memory }, PooledDocument { placed }))
     }
 
     /// Reads a review (AdmissionReview, `admission.k8s.io/v1`) beside the documents.
@@ -83,17 +83,17 @@ impl DocumentPool {
     pub fn open<'r>(self, review: &'r [u8]) -> Result<OpenReview<'r>, ReviewError>
         ensures { OpenReturns self result review.now }
     {
-        let DocumentPool { mut heap, scratch } = self;
-        let mut reading = scratch.take(heap.cells.alloc())?;
+        let DocumentPool { mut heap, memory } = self;
+        let mut reading = memory.take(heap.cells.alloc())?;
         let request = review_values(&mut heap, &mut reading, review)?;
-        scratch.keep(reading, review.len());
+        memory.keep(reading, review.len());
         let null = add_null(&mut heap)?;
         Ok(OpenReview {
             review,
             heap,
             request,
             null,
-            scratch,
+            memory,
         })
     }
 }

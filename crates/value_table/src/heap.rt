@@ -1,6 +1,6 @@
 //! Values as cells, each with a place.
 
-ghost use Rattle.std.specs.Prelude.{◌≡◌, ◌<◌, ◌≤◌, ◌+◌, ◌^◌, [], length, vec_capacity, slice_get, Some, IfOk};
+ghost use Rattle.std.specs.Prelude.{◌≡◌, ◌<◌, ◌≤◌, ◌+◌, ◌^◌, [], length, vec_capacity, slice_get, Some, IfOk, OnOk};
 ghost use Rattle.std.specs.Borrow.{sem};
 ghost use Rattle.value_store.specs.Value.{null, boolean, int};
 ghost use Rattle.value_table.specs.Meaning.{meaning};
@@ -14,7 +14,6 @@ use crate::content::Content;
 use crate::hints::Hints;
 use crate::indexes::Indexes;
 use crate::lengths::int_length;
-use crate::pending_map::PendingMap;
 use crate::sequence::Sequence;
 use std::alloc::{AllocError, Global};
 
@@ -30,8 +29,6 @@ pub(crate) struct Heap {
     pub(crate) indexes: Indexes,
     /// Where compared values differ. A copy starts without them.
     pub(crate) hints: Hints,
-    /// The vectors that collect the entries of a map.
-    pub(crate) pending: PendingMap,
 }
 
 impl Heap {
@@ -47,7 +44,6 @@ impl Heap {
             same: Vec::new(alloc),
             indexes: Indexes::new(alloc),
             hints: Hints::new(alloc),
-            pending: PendingMap::new(alloc),
         })
     }
 
@@ -71,7 +67,6 @@ impl Heap {
             same: Vec::with_capacity(self.cells.alloc(), words)?,
             indexes: Indexes::new(self.cells.alloc()),
             hints: Hints::new(self.cells.alloc()),
-            pending: PendingMap::new(self.cells.alloc()),
         })
     }
 
@@ -148,6 +143,19 @@ pub(crate) fn room_for_cell<'a>(
     ensures word { IfOk result (λ _. length cells.old + 1 ≤ vec_capacity words.new) }
 {
     let count = cells.len() + 1;
-    words.reserve(count.saturating_sub(words.len()))?;
+    reserve_words(words, count)?;
     cells.room()
+}
+
+// Capacity for this number of words. Mostly there is enough.
+#[inline(always)]
+fn reserve_words(words: &mut Vec<u64>, count: usize) -> Result<(), AllocError>
+    ensures words { words.new.items ≡ words.old.items }
+    ensures longer { vec_capacity words.old ≤ vec_capacity words.new }
+    ensures enough { OnOk result (count ≤ vec_capacity words.new) }
+{
+    if count <= words.capacity() {
+        return Ok(());
+    }
+    words.reserve(count.saturating_sub(words.len()))
 }

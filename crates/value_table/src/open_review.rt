@@ -9,7 +9,7 @@ ghost use Rattle.value_table.specs.Held.{held_contents};
 ghost use Rattle.value_table.specs.ReviewTable.{ReviewTableReturns};
 
 use crate::heap::Heap;
-use crate::kept_scratch::KeptScratch;
+use crate::kept_memory::KeptMemory;
 use crate::placed::Placed;
 use crate::placed_request::PlacedRequest;
 use crate::pooled_document::PooledDocument;
@@ -28,7 +28,7 @@ pub struct OpenReview<'r> {
     pub(crate) request: PlacedRequest,
     /// Where the null is that takes the place of a missing document.
     pub(crate) null: Placed,
-    pub(crate) scratch: Rc<KeptScratch>,
+    pub(crate) memory: Rc<KeptMemory>,
 }
 
 impl<'r> Model for OpenReview<'r> {
@@ -60,17 +60,17 @@ impl<'r> OpenReview<'r> {
             mut heap,
             request,
             null,
-            scratch,
+            memory,
         } = self;
-        let mut reading = scratch.take(heap.cells.alloc())?;
+        let mut reading = memory.take(heap.cells.alloc())?;
         let placed = document_value(&mut heap, &mut reading, text)?;
-        scratch.keep(reading, text.len());
+        memory.keep(reading, text.len());
         let opened = OpenReview {
             review,
             heap,
             request,
             null,
-            scratch,
+            memory,
         };
         Ok((opened, PooledDocument { placed }))
     }
@@ -84,7 +84,7 @@ impl<'r> OpenReview<'r> {
             heap: self.heap.copy()?,
             request: self.request,
             null: self.null,
-            scratch: self.scratch.clone()?,
+            memory: self.memory.clone()?,
         })
     }
 
@@ -105,7 +105,7 @@ impl<'r> OpenReview<'r> {
             heap,
             request,
             null,
-            scratch: _,
+            memory: _,
         } = self;
         let roots = [
             request.object,

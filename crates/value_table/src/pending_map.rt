@@ -1,7 +1,7 @@
 //! Maps that are being added.
 
 use crate::part::Part;
-use std::alloc::{AllocError, Global};
+use std::alloc::Global;
 
 /// The keys of a map, and the places of its values. The vectors are reused for the next map.
 #[derive(Drop)]
@@ -16,11 +16,5 @@ impl PendingMap {
             keys: Vec::new(alloc),
             places: Vec::new(alloc),
         }
-    }
-
-    /// Reserves capacity for this number of members.
-    pub(crate) fn reserve(&mut self, count: usize) -> Result<(), AllocError> {
-        self.keys.reserve(count)?;
-        self.places.reserve(count)
     }
 }

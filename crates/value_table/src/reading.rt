@@ -16,9 +16,11 @@ use crate::heap::Heap;
 use crate::members::Members;
 use crate::numbers::number;
 use crate::pending_list::{PendingList, add_item};
+use crate::pending_map::PendingMap;
 use crate::placed::Placed;
 use crate::read_error::ReadError;
-use json::{Reader, Scratch, Token};
+use crate::read_memory::ReadMemory;
+use json::{Reader, Token};
 use std::alloc::AllocError;
 
 /// How deep lists and maps may nest, as in `serde_json`.
@@ -28,14 +30,14 @@ pub(crate) const MAX_DEPTH: usize = 127;
 pub(crate) fn read_text(
     heap: &mut Heap,
     text: &str,
-    scratch: &mut Scratch,
+    memory: &mut ReadMemory,
 ) -> Result<Option<Placed>, ReadError>
     requires { IsHeap heap.old }
     ensures read { IfOk result (λ p. ReadsDocument heap.old heap.new p (read_text text.now)) }
     ensures refused { result ≡ Err ReadError.Invalid → read_text text.now ≡ None }
 {
-    let mut reader = Reader::new(text, scratch)?;
-    let value = read_value(heap, &mut reader, MAX_DEPTH)?;
+    let mut reader = Reader::new(text, &mut memory.scratch)?;
+    let value = read_value(heap, &mut reader, &mut memory.pending, MAX_DEPTH)?;
     if reader.next().is_some() {
         return Err(ReadError::Invalid);
     }
@@ -48,6 +50,7 @@ pub(crate) fn read_text(
 pub(crate) fn read_value(
     heap: &mut Heap,
     reader: &mut Reader<'_>,
+    kept: &mut PendingMap,
     depth: usize,
 ) -> Result<Option<Placed>, ReadError>
     requires { IsHeap heap.old }
@@ -69,13 +72,13 @@ pub(crate) fn read_value(
             if depth == 0 {
                 return Err(ReadError::Invalid);
             }
-            read_items(heap, reader, depth - 1)
+            read_items(heap, reader, kept, depth - 1)
         }
         Token::BeginObject => {
             if depth == 0 {
                 return Err(ReadError::Invalid);
             }
-            read_members(heap, reader, depth - 1)
+            read_members(heap, reader, kept, depth - 1)
         }
     }
 }
@@ -85,6 +88,7 @@ pub(crate) fn read_value(
 fn read_items(
     heap: &mut Heap,
     reader: &mut Reader<'_>,
+    kept: &mut PendingMap,
     depth: usize,
 ) -> Result<Option<Placed>, ReadError>
     requires { IsHeap heap.old }
@@ -98,7 +102,7 @@ fn read_items(
         whole: true,
     };
     'items: while !reader.take_end_array() {
-        let item = read_value(heap, reader, depth)?;
+        let item = read_value(heap, reader, kept, depth)?;
         add_item(&mut pending, item)?;
     }
     Ok(add_pending(heap, &pending)?)
@@ -109,6 +113,7 @@ fn read_items(
 fn read_members(
     heap: &mut Heap,
     reader: &mut Reader<'_>,
+    kept: &mut PendingMap,
     depth: usize,
 ) -> Result<Option<Placed>, ReadError>
     requires { IsHeap heap.old }
@@ -116,8 +121,8 @@ fn read_members(
     ensures shorter { OnOk result (length reader.new < length reader.old) }
     ensures refused { result ≡ Err ReadError.Invalid → converted (λ ms. of_members ms no_members) (members (value depth) (length reader.old) reader.old) ≡ None }
 {
-    let found = gather_members(heap, reader, depth)?;
-    Ok(add_members(heap, &found)?)
+    let found = gather_members(heap, reader, kept, depth)?;
+    Ok(add_members(heap, &found, kept)?)
 }
 
 /// Adds the values of the members that the reader reads next, and finds them by their keys. If a
@@ -126,6 +131,7 @@ fn read_members(
 pub(crate) fn gather_members<'a>(
     heap: &mut Heap,
     reader: &mut Reader<'a>,
+    kept: &mut PendingMap,
     depth: usize,
 ) -> Result<Members<'a>, ReadError>
     requires { IsHeap heap.old }
@@ -135,7 +141,7 @@ pub(crate) fn gather_members<'a>(
 {
     let mut found = FoundMembers::new(heap.cells.alloc());
     'members: while let Some(key) = reader.next_key()? {
-        let member = read_value(heap, reader, depth)?;
+        let member = read_value(heap, reader, kept, depth)?;
         found.insert(key, member)?;
     }
     Ok(found.finish(heap.cells.alloc())?)

@@ -11,6 +11,7 @@ use crate::collecting::add_members;
 use crate::content::Content;
 use crate::heap::Heap;
 use crate::members::Members;
+use crate::pending_map::PendingMap;
 use crate::placed::Placed;
 use crate::placed_request::PlacedRequest;
 use crate::reading::add_null;
@@ -21,6 +22,7 @@ use std::alloc::AllocError;
 pub(crate) fn request_of(
     heap: &mut Heap,
     found: Members<'_>,
+    kept: &mut PendingMap,
 ) -> Result<Option<PlacedRequest>, AllocError>
     requires heap { IsHeap heap.old }
     requires found { AreSomeMembers (heap_values heap.old) found.entries }
@@ -32,7 +34,7 @@ pub(crate) fn request_of(
     let mut rest = found;
     let object = take(heap, &mut rest, "object")?;
     let old_object = take(heap, &mut rest, "oldObject")?;
-    let rest = add_members(heap, &rest)?;
+    let rest = add_members(heap, &rest, kept)?;
     Ok(Some(PlacedRequest {
         uid,
         object,

@@ -9,12 +9,14 @@ ghost use Rattle.value_table.specs.ReviewReading.{ReadsMember, ReadsMembers, Rea
 
 use crate::checking::{check_token, check_value};
 use crate::heap::Heap;
+use crate::pending_map::PendingMap;
 use crate::placed_request::PlacedRequest;
 use crate::read_error::ReadError;
+use crate::read_memory::ReadMemory;
 use crate::reading::{MAX_DEPTH, gather_members};
 use crate::requests::request_of;
 use crate::review_fields::ReviewFields;
-use json::{Reader, Scratch, Token};
+use json::{Reader, Token};
 
 /// How deep lists and maps may nest in a member of a review.
 const MEMBER_DEPTH: usize = MAX_DEPTH - 1;
@@ -23,14 +25,14 @@ const MEMBER_DEPTH: usize = MAX_DEPTH - 1;
 pub(crate) fn read_review(
     heap: &mut Heap,
     text: &str,
-    scratch: &mut Scratch,
+    memory: &mut ReadMemory,
 ) -> Result<Option<PlacedRequest>, ReadError>
     requires { IsHeap heap.old }
     ensures read { IfOk result (λ r. ReadsReview heap.old heap.new r (read text.now)) }
     ensures refused { result ≡ Err ReadError.Invalid → read text.now ≡ None }
 {
-    let mut reader = Reader::new(text, scratch)?;
-    let request = read_whole(heap, &mut reader)?;
+    let mut reader = Reader::new(text, &mut memory.scratch)?;
+    let request = read_whole(heap, &mut reader, &mut memory.pending)?;
     if reader.next().is_some() {
         return Err(ReadError::Invalid);
     }
@@ -38,7 +40,11 @@ pub(crate) fn read_review(
 }
 
 // The request in the next value of the reader, if that is a review.
-fn read_whole(heap: &mut Heap, reader: &mut Reader<'_>) -> Result<Option<PlacedRequest>, ReadError>
+fn read_whole(
+    heap: &mut Heap,
+    reader: &mut Reader<'_>,
+    kept: &mut PendingMap,
+) -> Result<Option<PlacedRequest>, ReadError>
     requires { IsHeap heap.old }
     ensures read { IfOk result (λ r. ReadsReviewValue heap.old heap.new r (converted of_json (value max_depth reader.old)) reader.new) }
     ensures refused { result ≡ Err ReadError.Invalid → converted of_json (value max_depth reader.old) ≡ None }
@@ -46,7 +52,7 @@ fn read_whole(heap: &mut Heap, reader: &mut Reader<'_>) -> Result<Option<PlacedR
     let token = reader.next().ok_or(ReadError::Invalid)?;
     match token {
         Token::BeginObject => {
-            let found = read_members(heap, reader)?;
+            let found = read_members(heap, reader, kept)?;
             Ok(found.request_of_review())
         }
         _ => {
@@ -70,7 +76,11 @@ impl ReviewFields {
 }
 
 // Reads the members of a review.
-fn read_members(heap: &mut Heap, reader: &mut Reader<'_>) -> Result<ReviewFields, ReadError>
+fn read_members(
+    heap: &mut Heap,
+    reader: &mut Reader<'_>,
+    kept: &mut PendingMap,
+) -> Result<ReviewFields, ReadError>
     requires { IsHeap heap.old }
     ensures read { IfOk result (λ f. ReadsMembers heap.old heap.new f (converted (λ ms. of_members ms no_members) (members (value 126) (length reader.old) reader.old)) reader.new) }
     ensures shorter { OnOk result (length reader.new < length reader.old) }
@@ -82,7 +92,7 @@ fn read_members(heap: &mut Heap, reader: &mut Reader<'_>) -> Result<ReviewFields
         request: None,
     };
     'members: while let Some(key) = reader.next_key()? {
-        read_member(heap, reader, key, &mut found)?;
+        read_member(heap, reader, kept, key, &mut found)?;
     }
     Ok(found)
 }
@@ -91,6 +101,7 @@ fn read_members(heap: &mut Heap, reader: &mut Reader<'_>) -> Result<ReviewFields
 fn read_member(
     heap: &mut Heap,
     reader: &mut Reader<'_>,
+    kept: &mut PendingMap,
     key: &str,
     found: &mut ReviewFields,
 ) -> Result<(), ReadError>
@@ -100,7 +111,7 @@ fn read_member(
     ensures refused { result ≡ Err ReadError.Invalid → converted of_json (value 126 reader.old) ≡ None }
 {
     if key == "request" {
-        found.request = read_request(heap, reader)?;
+        found.request = read_request(heap, reader, kept)?;
         return Ok(());
     }
     if key == "apiVersion" {
@@ -135,6 +146,7 @@ fn read_is(reader: &mut Reader<'_>, text: &str) -> Result<bool, ReadError>
 fn read_request(
     heap: &mut Heap,
     reader: &mut Reader<'_>,
+    kept: &mut PendingMap,
 ) -> Result<Option<PlacedRequest>, ReadError>
     requires { IsHeap heap.old }
     ensures read { IfOk result (λ r. ReadsRequest heap.old heap.new r (converted of_json (value 126 reader.old)) reader.new) }
@@ -144,8 +156,8 @@ fn read_request(
     let token = reader.next().ok_or(ReadError::Invalid)?;
     match token {
         Token::BeginObject => {
-            let found = gather_members(heap, reader, MEMBER_DEPTH - 1)?;
-            Ok(request_of(heap, found)?)
+            let found = gather_members(heap, reader, kept, MEMBER_DEPTH - 1)?;
+            Ok(request_of(heap, found, kept)?)
         }
         _ => {
             check_token(reader, token, MEMBER_DEPTH)?;

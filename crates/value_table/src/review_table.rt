@@ -17,11 +17,11 @@ use crate::other_roots::{OtherRoots, PlacedOthers};
 use crate::placed::Placed;
 use crate::placed_request::PlacedRequest;
 use crate::read_error::ReadError;
+use crate::read_memory::ReadMemory;
 use crate::reading::{add_null, read_text};
 use crate::review::read_review;
 use crate::review_error::ReviewError;
 use crate::table::Table;
-use json::Scratch;
 use std::alloc::{AllocError, Global};
 
 /// The largest length of a document in bytes for which capacity is reserved.
@@ -29,9 +29,6 @@ const RESERVED: usize = 4096;
 
 /// About as many bytes of a document as a value takes.
 const BYTES_OF_A_VALUE: usize = 12;
-
-/// The number of members of a map for which capacity is reserved.
-const MEMBERS: usize = 16;
 
 impl Table {
     /// The table of the roots of a review (AdmissionReview, `admission.k8s.io/v1`), a namespace and
@@ -53,9 +50,9 @@ impl Table {
             ReviewTableReturns (λ r. held_contents r.0) result parts namespace_given params_given }
         ensures uid { IfOk result (λ r. string_bytes r.1 ≡ uid_in review.now) }
     {
-        let mut scratch = Scratch::new(alloc);
-        let others = read_others(alloc, &mut scratch, namespace, params)?;
-        opened(others, &mut scratch, review)
+        let mut memory = ReadMemory::new(alloc);
+        let others = read_others(alloc, &mut memory, namespace, params)?;
+        opened(others, &mut memory, review)
     }
 
     /// The table without a review: the roots of the review are null.
@@ -68,8 +65,8 @@ impl Table {
             let params_given = document_given (option_map (λ b. b.now) params.entry) in
             ReviewTableReturns held_contents result (Some null_parts) namespace_given params_given }
     {
-        let mut scratch = Scratch::new(alloc);
-        let others = read_others(alloc, &mut scratch, namespace, params)?;
+        let mut memory = ReadMemory::new(alloc);
+        let others = read_others(alloc, &mut memory, namespace, params)?;
         let PlacedOthers { mut heap, places } = others;
         let Some(places) = places else {
             return Err(ReviewError::InvalidDocument);
@@ -83,7 +80,7 @@ impl Table {
 /// The table of a review with these values, and the uid of the review's request.
 pub(crate) fn opened(
     others: PlacedOthers,
-    scratch: &mut Scratch,
+    memory: &mut ReadMemory,
     review: &[u8],
 ) -> Result<(Table, String), ReviewError>
     requires { ArePlaced others }
@@ -93,7 +90,7 @@ pub(crate) fn opened(
 {
     let PlacedOthers { mut heap, places } = others;
     let alloc = heap.cells.alloc();
-    let request = review_values(&mut heap, scratch, review)?;
+    let request = review_values(&mut heap, memory, review)?;
     let Some(places) = places else {
         return Err(ReviewError::InvalidDocument);
     };
@@ -117,7 +114,7 @@ fn reserve(heap: &mut Heap, length: usize, count: usize) -> Result<(), AllocErro
     ensures values { OnOk result (heap_values heap.new ≡ heap_values heap.old) }
 {
     heap.backings.reserve(length, count)?;
-    heap.pending.reserve(MEMBERS)
+    Ok(())
 }
 
 impl PlacedOthers {
@@ -142,14 +139,14 @@ impl PlacedOthers {
 /// Reads a namespace and params. A missing one is null.
 pub(crate) fn read_others(
     alloc: Global,
-    scratch: &mut Scratch,
+    memory: &mut ReadMemory,
     namespace: Option<&[u8]>,
     params: Option<&[u8]>,
 ) -> Result<PlacedOthers, AllocError>
     ensures { IfOk result (λ o. ArePlacedOthers o (document_given (option_map (λ b. b.now) namespace.entry)) (document_given (option_map (λ b. b.now) params.entry))) }
 {
     let mut heap = Heap::new(alloc)?;
-    match other_roots(&mut heap, scratch, namespace, params) {
+    match other_roots(&mut heap, memory, namespace, params) {
         Ok(places) => Ok(PlacedOthers {
             heap,
             places: Some(places),
@@ -165,15 +162,15 @@ pub(crate) fn read_others(
 #[tactic(auto, using(crate::proofs::ReviewTables::others_are_read, crate::proofs::ReviewTables::namespace_refused, crate::proofs::ReviewTables::params_refused))]
 fn other_roots(
     heap: &mut Heap,
-    scratch: &mut Scratch,
+    memory: &mut ReadMemory,
     namespace: Option<&[u8]>,
     params: Option<&[u8]>,
 ) -> Result<OtherRoots, ReviewError>
     requires { IsHeap heap.old }
     ensures { OthersReturn heap.new result (document_given (option_map (λ b. b.now) namespace.entry)) (document_given (option_map (λ b. b.now) params.entry)) }
 {
-    let namespace = optional_value(heap, scratch, namespace)?;
-    let params = optional_value(heap, scratch, params)?;
+    let namespace = optional_value(heap, memory, namespace)?;
+    let params = optional_value(heap, memory, params)?;
     Ok(OtherRoots { namespace, params })
 }
 
@@ -181,7 +178,7 @@ fn other_roots(
 #[tactic(auto, using(crate::proofs::ReviewTables::review_is_read, crate::proofs::ReviewTables::no_review, crate::proofs::ReviewTables::no_document))]
 pub(crate) fn review_values(
     heap: &mut Heap,
-    scratch: &mut Scratch,
+    memory: &mut ReadMemory,
     bytes: &[u8],
 ) -> Result<PlacedRequest, ReviewError>
     requires { IsHeap heap.old }
@@ -190,7 +187,7 @@ pub(crate) fn review_values(
     let Some(text) = utf8(bytes) else {
         return Err(ReviewError::InvalidReview);
     };
-    match read_review(heap, text, scratch) {
+    match read_review(heap, text, memory) {
         Ok(Some(request)) => Ok(request),
         Ok(None) => Err(ReviewError::InvalidReview),
         Err(ReadError::Invalid) => Err(ReviewError::InvalidReview),
@@ -201,14 +198,14 @@ pub(crate) fn review_values(
 // The value of a document; null if it is missing.
 fn optional_value(
     heap: &mut Heap,
-    scratch: &mut Scratch,
+    memory: &mut ReadMemory,
     bytes: Option<&[u8]>,
 ) -> Result<Option<Placed>, ReviewError>
     requires { IsHeap heap.old }
     ensures { DocumentReturns heap.old heap.new result (document_given (option_map (λ b. b.now) bytes.entry)) }
 {
     match bytes {
-        Some(bytes) => document_value(heap, scratch, bytes),
+        Some(bytes) => document_value(heap, memory, bytes),
         None => null_value(heap),
     }
 }
@@ -216,7 +213,7 @@ fn optional_value(
 #[tactic(auto, using(crate::proofs::ReviewTables::document_is_read))]
 pub(crate) fn document_value(
     heap: &mut Heap,
-    scratch: &mut Scratch,
+    memory: &mut ReadMemory,
     bytes: &[u8],
 ) -> Result<Option<Placed>, ReviewError>
     requires { IsHeap heap.old }
@@ -225,7 +222,7 @@ pub(crate) fn document_value(
     let Some(text) = utf8(bytes) else {
         return Err(ReviewError::InvalidDocument);
     };
-    match read_text(heap, text, scratch) {
+    match read_text(heap, text, memory) {
         Ok(value) => Ok(value),
         Err(ReadError::Invalid) => Err(ReviewError::InvalidDocument),
         Err(ReadError::Memory) => Err(ReviewError::Memory),

@@ -8,12 +8,12 @@ ghost use Rattle.value_table.specs.Held.{held_contents};
 ghost use Rattle.value_table.specs.OtherRoots.{ArePlaced, ArePlacedOthers};
 ghost use Rattle.value_table.specs.ReviewTable.{ReviewTableReturns};
 
-use crate::kept_scratch::KeptScratch;
+use crate::kept_memory::KeptMemory;
 use crate::other_roots::PlacedOthers;
+use crate::read_memory::ReadMemory;
 use crate::review_error::ReviewError;
 use crate::review_table::{opened, read_others};
 use crate::table::Table;
-use json::Scratch;
 use std::alloc::Global;
 use std::marker::Model;
 
@@ -25,7 +25,7 @@ pub struct SharedDocuments {
     params: Option<Vec<u8>>,
     /// `None` if an allocation failed; then they are parsed for each review.
     values: Option<PlacedOthers>,
-    scratch: KeptScratch,
+    memory: KeptMemory,
 }
 
 impl Model for SharedDocuments {
@@ -49,16 +49,16 @@ impl SharedDocuments {
         ensures namespace { result.namespace ≡ option_map (λ b. b.items) namespace }
         ensures params { result.params ≡ option_map (λ b. b.items) params }
     {
-        let mut scratch = Scratch::new(alloc);
+        let mut memory = ReadMemory::new(alloc);
         let namespace_bytes = namespace.as_deref();
         let params_bytes = params.as_deref();
-        let values = read_others(alloc, &mut scratch, namespace_bytes, params_bytes).ok();
+        let values = read_others(alloc, &mut memory, namespace_bytes, params_bytes).ok();
         SharedDocuments {
             alloc,
             namespace,
             params,
             values,
-            scratch: KeptScratch::new(),
+            memory: KeptMemory::new(),
         }
     }
 
@@ -87,9 +87,9 @@ impl SharedDocuments {
             → ReviewTableReturns (λ r. held_contents r.0) result (option_and_then parts_in (document_of review.now)) namespace params }
         ensures uid { IfOk result (λ r. string_bytes r.1 ≡ uid_in review.now) }
     {
-        let mut scratch = self.scratch.take(self.alloc)?;
-        let table = opened(others, &mut scratch, review);
-        self.scratch.keep(scratch, review.len());
+        let mut memory = self.memory.take(self.alloc)?;
+        let table = opened(others, &mut memory, review);
+        self.memory.keep(memory, review.len());
         table
     }
 }
