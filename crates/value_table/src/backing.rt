@@ -51,12 +51,22 @@ impl<T: Copy> Backing<T> {
     }
 
     // Makes this the sole owner of its vector. A new vector has capacity for `more` further items.
+    #[inline(always)]
     fn own(&mut self, more: usize) -> Result<(), AllocError>
         ensures { self.new ≡ self.old }
     {
         if Rc::strong_count(&self.items) == 1 {
             return Ok(());
         }
+        self.own_copy(more)
+    }
+
+    // Makes this the sole owner of a copy of its vector, apart so that the test is inlined.
+    #[cold]
+    #[inline(never)]
+    fn own_copy(&mut self, more: usize) -> Result<(), AllocError>
+        ensures { self.new ≡ self.old }
+    {
         let alloc = *self.items.allocator();
         let copy = copied(alloc, &self.items[..], more)?;
         let items = Rc::new(alloc, copy).ok().ok_or(AllocError)?;
