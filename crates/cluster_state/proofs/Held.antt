@@ -1,6 +1,8 @@
 -- Bindings and policies are read one after another.
-use Rattle.cluster_state.proofs.Prelude.{◌++◌, append_assoc, sym, true, Some, policy_before, policy_in, CodeItem, Item, LabelSelector, ParamKind, chosen, item_view, scope_by, by_labels, ◌≡◌, ◌∙◌, ◌∷◌, ◌||◌, ℕ, Bool, List, [], Result, Ok, Err, ap, map, refl, Binding, CodeBinding, Named, BoundPolicy, Refusal, binding_view, bindings_in, bytes_eq, is_bound, list_any, policies_in}
+use Rattle.cluster_state.proofs.Prelude.{◌++◌, append_assoc, sym, true, Option, Some, policy_before, policy_in, LabelSelector, ParamKind, chosen, by_labels, ◌≡◌, ◌∙◌, ◌∷◌, ◌||◌, ℕ, Bool, List, [], Result, Ok, Err, ap, map, refl, Binding, CodeBinding, Named, BoundPolicy, Refusal, binding_view, bindings_in, bytes_eq, is_bound, list_any, policies_in}
 use Rattle.serde_json.specs.Data as json
+use Rattle.cluster_state.specs.ShapedScopes.{scope_from}
+use Rattle.cluster_state.specs.declared.shape.Shape.{Shape}
 use Rattle.cluster_state.proofs.Listed.{after_done}
 
 -- the bindings before `rest` are `done`
@@ -19,12 +21,9 @@ pub bound_in_views : (bs : List CodeBinding) (name : List ℕ) → list_any (λ 
 unfolding is_bound
 bound_in_views bs name = any_of_map (λ b. bytes_eq b.policy_name name) binding_view bs
 
-pub any_item : (p : Item → Bool) (is : List CodeItem) → list_any (λ i. p (item_view i)) is ≡ list_any p (map item_view is)
-any_item p is = any_of_map p item_view is
-
 -- the scope is the one that the definitions from `rest` on give
-pub record ScopeGo (k : ParamKind) (is : List Item) (all rest : Named) : Type 0 where
-  pub left : scope_by k is all ≡ scope_by k is rest
+pub record ScopeGo (k : ParamKind) (s : Option Shape) (all rest : Named) : Type 0 where
+  pub left : scope_from k s all ≡ scope_from k s rest
 
 -- the selected objects before `rest` are `done`
 pub record SelectedGo (s : LabelSelector) (all rest : Named) (done : List json.Data) : Type 0 where

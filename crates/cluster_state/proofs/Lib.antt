@@ -13,3 +13,4 @@ pub mod Orders
 pub mod Reordered
 pub mod Named
 pub mod Indexed
+pub mod Shaped

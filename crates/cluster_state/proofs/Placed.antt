@@ -31,7 +31,7 @@ found_in_both name (e ∷ es) =
     ap (λ b. is_some (cond b (Some e.1) (lookup (is_at (λ k. slice_cmp nat_cmp name k.now)) es))) (is_eq-slice_cmp name e.0.now)
     ∙ some_either (bytes_eq name e.0.now) e.1 (view e.1.now) (lookup (is_at (λ k. slice_cmp nat_cmp name k.now)) es) (lookup (bytes_eq name) (named_view es)) (found_in_both name es)
 
-two_then : (a b : Ordering) → is_eq (ordering_then a b) ≡ (is_eq a && is_eq b)
+pub two_then : (a b : Ordering) → is_eq (ordering_then a b) ≡ (is_eq a && is_eq b)
 two_then Less b = refl
 two_then Equal b = refl
 two_then Greater b = refl

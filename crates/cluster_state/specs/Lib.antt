@@ -11,3 +11,5 @@ pub mod Rows
 pub mod State
 pub mod Names
 pub mod Indexes
+pub mod Shapes
+pub mod ShapedScopes

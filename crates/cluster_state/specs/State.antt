@@ -70,7 +70,7 @@ state_of lists = items_then (items_of lists)
 -- a state of the code
 abbrev pub state_view : CodeState → ClusterState
 state_view s = record {
-  items = map item_view s.items.items;
+  items = map item_view s.items.all.items;
   objects = objects_view s.objects;
   bindings = map binding_view s.bindings;
   policies = map policy_view s.policies.items;

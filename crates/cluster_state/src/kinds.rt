@@ -1,21 +1,22 @@
 //! Known kinds of params.
-ghost use Rattle.std.specs.Prelude.{◌≡◌, bytes_eq, List, [], map, option_map};
+ghost use Rattle.std.specs.Prelude.{◌≡◌, [], option_map};
 ghost use Rattle.std.specs.Option.{option_map_or};
 ghost use Rattle.value_store.specs.Documents.{equals_string};
 ghost use Rattle.cluster_state.specs.Items.{group_in};
-ghost use Rattle.std.specs.List.{list_any};
 ghost use Rattle.serde_json.specs.View.{items_view, view};
-ghost use Rattle.cluster_state.specs.Items.{item_view};
 ghost use Rattle.cluster_state.specs.Objects.{named_view};
-ghost use Rattle.cluster_state.specs.Params.{is_in_namespace, is_of_kind, is_of_other_version, is_served, is_true, known_kind, known_kind_view, scope_by, scope_by_items, scope_of, serves, serves_in, some_in, some_item, version_in};
+ghost use Rattle.cluster_state.specs.Params.{is_served, is_true, known_kind, known_kind_view, scope_of, serves, serves_in, some_in, some_item, version_in};
 ghost use Rattle.cluster_state.specs.Policies.{param_kind_view};
+ghost use Rattle.cluster_state.specs.ShapedScopes.{kind_from, scope_from, scope_shown};
+ghost use Rattle.cluster_state.specs.Shapes.{differs_from};
 ghost use Rattle.cluster_state.specs.State.{state_view};
 
-use crate::item::{Item, field_of, group_in, slash_in};
+use crate::item::{field_of, group_in, slash_in};
 use crate::known_kind::KnownKind;
 use crate::lists::equals_string;
 use crate::param_kind::ParamKind;
 use crate::param_scope::ParamScope;
+use crate::shape::Shape;
 use crate::state::State;
 use admission_documents::field;
 use serde_json::Value;
@@ -27,34 +28,46 @@ impl<'a> State<'a> {
     pub fn known_kind(&self, kind: &ParamKind<'a>) -> Option<KnownKind<'a>>
         ensures { option_map known_kind_view result ≡ known_kind (param_kind_view kind.now) (state_view self.now).items (state_view self.now).objects }
     {
-        if has_other_version(kind, &self.items) {
-            return None;
-        }
-        let scope = scope_in(kind, &self.items, self.objects.definitions())?;
-        Some(KnownKind { kind: *kind, scope })
+        let shape = self.items.shape(kind);
+        kind_by(kind, &shape, self.objects.definitions())
     }
+}
+
+/// The kind with its scope, by what the items show and by the definitions.
+fn kind_by<'a>(
+    kind: &ParamKind<'a>,
+    shape: &Option<Shape<'_>>,
+    definitions: Option<&BTreeMap<&'a str, &'a Value>>,
+) -> Option<KnownKind<'a>>
+    ensures { option_map known_kind_view result ≡ kind_from (param_kind_view kind.now) shape.now (option_map_or (λ m. named_view m.now.entries) definitions.entry []) }
+{
+    if has_other_version(kind, shape) {
+        return None;
+    }
+    let scope = scope_in(kind, shape, definitions)?;
+    Some(KnownKind { kind: *kind, scope })
 }
 
 /// The scope of the kind: by the first definition that serves it, or else by its objects.
 fn scope_in<'a>(
     kind: &ParamKind<'_>,
-    items: &[Item<'_>],
+    shape: &Option<Shape<'_>>,
     definitions: Option<&BTreeMap<&'a str, &'a Value>>,
 ) -> Option<ParamScope>
-    ensures { result ≡ scope_by (param_kind_view kind.now) (map item_view items.now) (option_map_or (λ m. named_view m.now.entries) definitions.entry []) }
+    ensures { result ≡ scope_from (param_kind_view kind.now) shape.now (option_map_or (λ m. named_view m.now.entries) definitions.entry []) }
 {
     match definitions {
-        Some(named) => scope_by(kind, items, named),
-        None => scope_by_items(kind, items),
+        Some(named) => scope_by(kind, shape, named),
+        None => scope_shown(shape),
     }
 }
 
 fn scope_by<'a>(
     kind: &ParamKind<'_>,
-    items: &[Item<'_>],
+    shape: &Option<Shape<'_>>,
     definitions: &BTreeMap<&'a str, &'a Value>,
 ) -> Option<ParamScope>
-    ensures { result ≡ scope_by (param_kind_view kind.now) (map item_view items.now) (named_view definitions.now.entries) }
+    ensures { result ≡ scope_from (param_kind_view kind.now) shape.now (named_view definitions.now.entries) }
 {
     for (_name, document) in definitions.iter() {
         let spec = field(document, "spec");
@@ -62,7 +75,7 @@ fn scope_by<'a>(
             return scope_of(field_of(spec, "scope"));
         }
     }
-    scope_by_items(kind, items)
+    scope_shown(shape)
 }
 
 /// Whether the specification of a definition serves the kind.
@@ -160,75 +173,27 @@ fn scope_of(value: Option<&Value>) -> Option<ParamScope>
 }
 
 /// The scope that the objects of the kind show; `None` if there are none.
-fn scope_by_items(kind: &ParamKind<'_>, items: &[Item<'_>]) -> Option<ParamScope>
-    ensures { result ≡ scope_by_items (param_kind_view kind.now) (map item_view items.now) }
+fn scope_shown(shape: &Option<Shape<'_>>) -> Option<ParamScope>
+    ensures { result ≡ scope_shown shape.now }
 {
-    if some_in_namespace(kind, items) {
-        Some(ParamScope::Namespaced)
-    } else if some_of_kind(kind, items) {
-        Some(ParamScope::Cluster)
-    } else {
-        None
+    match shape {
+        Some(shape) => {
+            if shape.is_namespaced {
+                Some(ParamScope::Namespaced)
+            } else {
+                Some(ParamScope::Cluster)
+            }
+        }
+        None => None,
     }
 }
 
-#[tactic(auto, using(crate::proofs::Held::any_item))]
-fn some_in_namespace(kind: &ParamKind<'_>, items: &[Item<'_>]) -> bool
-    ensures { result ≡ list_any (is_in_namespace (param_kind_view kind.now)) (map item_view items.now) }
-{
-    any_in_namespace(kind, items)
-}
-
-fn any_in_namespace(kind: &ParamKind<'_>, items: &[Item<'_>]) -> bool
-    ensures { result ≡ list_any (λ i. is_in_namespace (param_kind_view kind.now) (item_view i)) items.now }
-{
-    items.iter().any(|item| is_of_kind(kind, item) && !item.namespace.is_empty())
-}
-
-#[tactic(auto, using(crate::proofs::Held::any_item))]
-fn some_of_kind(kind: &ParamKind<'_>, items: &[Item<'_>]) -> bool
-    ensures { result ≡ list_any (is_of_kind (param_kind_view kind.now)) (map item_view items.now) }
-{
-    any_of_kind(kind, items)
-}
-
-fn any_of_kind(kind: &ParamKind<'_>, items: &[Item<'_>]) -> bool
-    ensures { result ≡ list_any (λ i. is_of_kind (param_kind_view kind.now) (item_view i)) items.now }
-{
-    items.iter().any(|item| is_of_kind(kind, item))
-}
-
-fn is_of_kind(kind: &ParamKind<'_>, item: &Item<'_>) -> bool
-    ensures { result ≡ is_of_kind (param_kind_view kind.now) (item_view item.now) }
-{
-    item.api_version == kind.api_version && item.kind == kind.kind
-}
-
 /// Whether an object of the same group and kind is listed in another version.
-#[tactic(auto, using(crate::proofs::Held::any_item))]
-fn has_other_version(kind: &ParamKind<'_>, items: &[Item<'_>]) -> bool
-    ensures { result ≡ list_any (is_of_other_version (param_kind_view kind.now)) (map item_view items.now) }
+fn has_other_version(kind: &ParamKind<'_>, shape: &Option<Shape<'_>>) -> bool
+    ensures { result ≡ differs_from (param_kind_view kind.now) shape.now }
 {
-    any_of_other_version(kind, items)
-}
-
-fn any_of_other_version(kind: &ParamKind<'_>, items: &[Item<'_>]) -> bool
-    ensures { result ≡ list_any (λ i. is_of_other_version (param_kind_view kind.now) (item_view i)) items.now }
-{
-    items.iter().any(|item| is_of_other_version(kind, item))
-}
-
-fn same_group(first: &str, second: &str) -> bool
-    ensures { result ≡ bytes_eq (group_in first.now) (group_in second.now) }
-{
-    group_in(first.as_bytes()) == group_in(second.as_bytes())
-}
-
-fn is_of_other_version(kind: &ParamKind<'_>, item: &Item<'_>) -> bool
-    ensures { result ≡ is_of_other_version (param_kind_view kind.now) (item_view item.now) }
-{
-    let group = same_group(item.api_version, kind.api_version);
-    let kind_is = item.kind == kind.kind;
-    let version = item.api_version == kind.api_version;
-    group && kind_is && !version
+    match shape {
+        Some(shape) => shape.differs || shape.api_version != kind.api_version,
+        None => false,
+    }
 }

@@ -22,8 +22,10 @@ mod params;
 mod policy;
 mod reading;
 pub mod rows;
+mod shape;
 mod state;
 mod state_error;
+mod state_items;
 
 pub use action::Action;
 pub use binding::Binding;

@@ -7,19 +7,19 @@ ghost use Rattle.cluster_state.specs.Policies.{policy_view};
 
 use crate::binding::Binding;
 use crate::bindings::Bindings;
-use crate::item::Item;
 use crate::lists::items;
 use crate::objects::Objects;
 use crate::policy::Policy;
 use crate::reading::{bindings, objects, policies};
 use crate::state_error::StateError;
+use crate::state_items::StateItems;
 use serde_json::Value;
 use std::alloc::{AllocError, Global};
 
 /// The contents of a cluster, borrowed from the lists.
 #[derive(Debug, Drop)]
 pub struct State<'a> {
-    pub(crate) items: Vec<Item<'a>>,
+    pub(crate) items: StateItems<'a>,
     pub(crate) objects: Objects<'a>,
     pub(crate) bindings: Bindings<'a>,
     pub(crate) policies: Vec<Policy<'a>>,
@@ -39,6 +39,7 @@ impl<'a> State<'a> {
         let bindings = bindings(alloc, &objects)?;
         let policies = policies(alloc, &objects, &bindings)?;
         let bindings = Bindings::new(alloc, bindings)?;
+        let items = StateItems::new(alloc, items)?;
         Ok(State {
             items,
             objects,

@@ -1,8 +1,8 @@
 -- Loop invariant of `kinds::scope_by`.
 
-use Rattle.cluster_state.proofs.Prelude.{map, item_view, named_view, param_kind_view}
+use Rattle.cluster_state.proofs.Prelude.{named_view, param_kind_view}
 use Rattle.cluster_state.proofs.Held.{ScopeGo}
 use Rattle.cluster_state.proofs.kinds.scope_by.Given as goal
 
 abbrev pub invariant-loop-name : goal.invariant-loop-name
-invariant-loop-name l = ScopeGo (param_kind_view l.kind) (map item_view l.items) (named_view l.initial._name-iterator) (named_view l._name-iterator)
+invariant-loop-name l = ScopeGo (param_kind_view l.kind) l.shape (named_view l.initial._name-iterator) (named_view l._name-iterator)

@@ -12,5 +12,5 @@ returns c =
       state_whole _ _ o.0 (objects_view c.in_ok-objects.objects) _ _ c.in_ok-items.ensures
           (ap (λ x. objects_of (map item_view x)) (sym c.deref.ensures.value) ∙ o.1) o.2 c.in_ok-bindings.ensures
           (ap (λ x. policies_in (map binding_view x) (objects_view c.in_ok-objects.objects policies)) (sym c.deref-2.ensures.value) ∙ c.in_ok-policies.ensures),
-      record { items = refl; objects = o.2; bindings = ap (map binding_view) c.in_ok-bindings-2.ensures; policies = refl },
+      record { items = ap (map item_view) c.in_ok-items-2.ensures; objects = o.2; bindings = ap (map binding_view) c.in_ok-bindings-2.ensures; policies = refl },
     )
