@@ -1,8 +1,6 @@
 -- Bindings and policies are read one after another.
-use Rattle.cluster_state.proofs.Prelude.{◌++◌, append_assoc, sym, true, Option, Some, policy_before, policy_in, LabelSelector, ParamKind, chosen, by_labels, ◌≡◌, ◌∙◌, ◌∷◌, ◌||◌, ℕ, Bool, List, [], Result, Ok, Err, ap, map, refl, Binding, CodeBinding, Named, BoundPolicy, Refusal, binding_view, bindings_in, bytes_eq, is_bound, list_any, policies_in}
+use Rattle.cluster_state.proofs.Prelude.{◌++◌, append_assoc, sym, true, Some, policy_before, policy_in, LabelSelector, chosen, by_labels, ◌≡◌, ◌∙◌, ◌∷◌, ◌||◌, ℕ, Bool, List, [], Result, Ok, Err, ap, map, refl, Binding, CodeBinding, Named, BoundPolicy, Refusal, binding_view, bindings_in, bytes_eq, is_bound, list_any, policies_in}
 use Rattle.serde_json.specs.Data as json
-use Rattle.cluster_state.specs.ShapedScopes.{scope_from}
-use Rattle.cluster_state.specs.declared.shape.Shape.{Shape}
 use Rattle.cluster_state.proofs.Listed.{after_done}
 
 -- the bindings before `rest` are `done`
@@ -20,10 +18,6 @@ any_of_map p f (x ∷ xs) = ap (λ b. p (f x) || b) (any_of_map p f xs)
 pub bound_in_views : (bs : List CodeBinding) (name : List ℕ) → list_any (λ b. bytes_eq b.policy_name.now name) bs ≡ is_bound (map binding_view bs) name
 unfolding is_bound
 bound_in_views bs name = any_of_map (λ b. bytes_eq b.policy_name name) binding_view bs
-
--- the scope is the one that the definitions from `rest` on give
-pub record ScopeGo (k : ParamKind) (s : Option Shape) (all rest : Named) : Type 0 where
-  pub left : scope_from k s all ≡ scope_from k s rest
 
 -- the selected objects before `rest` are `done`
 pub record SelectedGo (s : LabelSelector) (all rest : Named) (done : List json.Data) : Type 0 where

@@ -14,3 +14,4 @@ pub mod Reordered
 pub mod Named
 pub mod Indexed
 pub mod Shaped
+pub mod Scoped

@@ -9,9 +9,12 @@ use Rattle.admission_documents.specs.Documents.{field, field_of}
 use Rattle.cluster_state.specs.Items.{group_in}
 use Rattle.cluster_state.specs.Params.{KnownKind, is_in_namespace, is_of_kind, known_kind, scope_by_items, scope_of, serves, with_scope}
 use Rattle.cluster_state.specs.Shapes.{Shapes, ShowAll, Shows, differs_from, is_item_in_namespace, is_item_of, is_item_of_other_version, is_of_group, is_spaced, shape_cmp, shape_of, shape_with}
-use Rattle.cluster_state.specs.ShapedScopes.{kind_from, scope_from, scope_shown}
+use Rattle.cluster_state.specs.Scopes.{first_scope}
+use Rattle.cluster_state.specs.ShapedScopes.{kind_from, scope_or_shown, scope_shown}
 use Rattle.cluster_state.specs.State.{definitions}
+use Rattle.cluster_state.specs.declared.param_scope.ParamScope.{ParamScope}
 use Rattle.cluster_state.specs.declared.param_scope.ParamScope.TheVariants.{Namespaced, Cluster}
+use Rattle.std.specs.Option.{option_or}
 use Rattle.cluster_state.specs.declared.shape.Shape.{Shape}
 use Rattle.cluster_state.proofs.Placed.{two_then}
 
@@ -177,10 +180,17 @@ scope_items k is (Some s) here space =
 scope_items k is None here space =
     sym (ap (λ b. if b then Some Namespaced else (if list_any (is_of_kind k) is then Some Cluster else None)) space ∙ ap (λ b. if b then Some Cluster else None) here)
 
+scope_either : (b : Bool) (x : Option ParamScope) (r : Option (Option ParamScope)) (s : Option Shape)
+    → scope_or_shown (option_or (if b then Some x else None) r) s ≡ (if b then x else scope_or_shown r s)
+scope_either true x r s = refl
+scope_either false x r s = refl
+
 module _ (k : ParamKind) (is : List Item) (s : Option Shape) (shows : Shows k is s) where
-  scope_same : differs_from k s ≡ false → (os : Named) → scope_from k s os ≡ scope_by k is os
+  scope_same : differs_from k s ≡ false → (os : Named) → scope_or_shown (first_scope k os) s ≡ scope_by k is os
   scope_same same [] = scope_items k is s (shows.1 same) (shows.2 same)
-  scope_same same (o ∷ os) = ap (λ x. if serves k o.1 then scope_of (field_of (codes "scope") (field (codes "spec") o.1)) else x) (scope_same same os)
+  scope_same same (o ∷ os) =
+      let scope : Option ParamScope = scope_of (field_of (codes "scope") (field (codes "spec") o.1)) in
+      scope_either (serves k o.1) scope (first_scope k os) s ∙ ap (λ x. if serves k o.1 then scope else x) (scope_same same os)
 
 unless : (b : Bool) (x y : Option KnownKind) → (b ≡ false → x ≡ y) → (if b then None else x) ≡ (if b then None else y)
 unless true x y e = refl
@@ -188,8 +198,8 @@ unless false x y e = e refl
 
 -- the kind that the items and the definitions show
 pub kind_shown : (k : ParamKind) (is : List Item) (objects : Objects) (s : Option Shape) → Shows k is s
-    → kind_from k s (objects definitions) ≡ known_kind k is objects
+    → kind_from k s (first_scope k (objects definitions)) ≡ known_kind k is objects
 kind_shown k is objects s shows =
-    unless (differs_from k s) (with_scope k (scope_from k s (objects definitions))) (with_scope k (scope_by k is (objects definitions)))
+    unless (differs_from k s) (with_scope k (scope_or_shown (first_scope k (objects definitions)) s)) (with_scope k (scope_by k is (objects definitions)))
     (λ e. ap (with_scope k) (scope_same k is s shows e (objects definitions)))
     ∙ ap (λ b. if b then None else with_scope k (scope_by k is (objects definitions))) (sym shows.0)

@@ -1,6 +1,7 @@
 -- The state of a cluster: items, objects, bindings, policies, params and namespaces, and why lists are refused.
 
 pub mod Bindings
+pub mod Collections
 pub mod Items
 pub mod Laws
 pub mod Objects
@@ -11,5 +12,7 @@ pub mod Rows
 pub mod State
 pub mod Names
 pub mod Indexes
+pub mod Serving
 pub mod Shapes
+pub mod Scopes
 pub mod ShapedScopes

@@ -1,5 +1,5 @@
 -- Params of a policy and a binding, and the namespace of a request.
-use Rattle.std.specs.Prelude.{◌≡◌, ◌==◌, ◌&&◌, ◌||◌, ◌+◌, ℕ, Bool, false, not, List, [], ◌∷◌, map, Option, Some, None, option_map, Result, Ok, Err, bytes_eq, codes, drop, length, position, if◌then◌else◌}
+use Rattle.std.specs.Prelude.{◌≡◌, ◌==◌, ◌&&◌, ◌||◌, ℕ, Bool, false, not, List, [], ◌∷◌, map, Option, Some, None, option_map, Result, Ok, Err, bytes_eq, codes, length, if◌then◌else◌}
 use Rattle.std.specs.List.{filter, list_any}
 use Rattle.std.specs.Option.{option_to_list}
 use Rattle.std.specs.Borrow.{Bor}
@@ -8,7 +8,6 @@ use Rattle.std.specs.declared.alloc.Global.{Global}
 use Rattle.serde_json.specs.Data as json
 use Rattle.serde_json.specs.View.{view}
 use Rattle.serde_json.specs.declared.value.Value.{Value}
-use Rattle.value_store.specs.Documents.{equals_string}
 use Rattle.label_selectors.specs.Selectors.{Labels, selects}
 use Rattle.admission_documents.specs.Documents.{field, field_of}
 use Rattle.admission_documents.specs.Requests.{GroupVersionKind, is_core_namespace}
@@ -25,53 +24,10 @@ use Rattle.cluster_state.specs.declared.param_error.ParamError.TheVariants.{Clus
 use Rattle.cluster_state.specs.declared.known_kind.KnownKind.{KnownKind as CodeKnown}
 use Rattle.cluster_state.specs.declared.namespace_object.NamespaceObject.{NamespaceObject as CodeNamespace}
 use Rattle.cluster_state.specs.declared.namespace_object.NamespaceObject.TheVariants as code
+pub use Rattle.cluster_state.specs.Serving.{is_true, scope_named, serves, some_in, some_item, version_cut}
+unfoldable pub use Rattle.cluster_state.specs.Serving.{is_served, scope_of, serves_in, version_in}
 
 -- ---- kinds of params
-
--- the version of an `apiVersion`: the part after its first slash
-abbrev pub version_cut : Option ℕ → List ℕ → List ℕ
-version_cut (Some at) t = drop (at + 1) t
-version_cut None t = t
-
-unfoldable pub version_in : List ℕ → List ℕ
-version_in t = version_cut (position (λ c. c == 47) t) t
-
--- the value is true
-abbrev pub is_true : Option json.Data → Bool
-is_true (Some (json.boolean b)) = b
-is_true _ = false
-
--- a version that is served
-unfoldable pub is_served : List ℕ → json.Data → Bool
-is_served version d = equals_string (field (codes "name") d) version && is_true (field (codes "served") d)
-
--- some item passes
-abbrev pub some_item : (json.Data → Bool) → json.Items → Bool
-some_item p json.no_items = false
-some_item p (json.item d ds) = p d || some_item p ds
-
-abbrev pub some_in : (json.Data → Bool) → Option json.Data → Bool
-some_in p (Some (json.array ds)) = some_item p ds
-some_in p _ = false
-
--- a CustomResourceDefinition's specification serves the kind
-unfoldable pub serves_in : ParamKind → Option json.Data → Bool
-serves_in k spec =
-    equals_string (field_of (codes "group") spec) (group_in k.api_version)
-    && equals_string (field_of (codes "kind") (field_of (codes "names") spec)) k.kind
-    && some_in (is_served (version_in k.api_version)) (field_of (codes "versions") spec)
-
-abbrev pub serves : ParamKind → json.Data → Bool
-serves k d = serves_in k (field (codes "spec") d)
-
--- the scope with this name
-abbrev pub scope_named : List ℕ → Option ParamScope
-scope_named t =
-    if bytes_eq t (codes "Namespaced") then Some Namespaced else (if bytes_eq t (codes "Cluster") then Some Cluster else None)
-
-unfoldable pub scope_of : Option json.Data → Option ParamScope
-scope_of (Some (json.string s)) = scope_named s
-scope_of _ = None
 
 -- an object of the kind
 abbrev pub is_of_kind : ParamKind → Item → Bool

@@ -1,5 +1,5 @@
 -- The state of a cluster.
-use Rattle.std.specs.Prelude.{◌≡◌, ◌==◌, ℕ, List, [], Result, Ok, Err, codes, length, map, if◌then◌else◌}
+use Rattle.std.specs.Prelude.{◌≡◌, ◌==◌, List, Result, Ok, Err, length, map, if◌then◌else◌}
 use Rattle.serde_json.specs.Data as json
 use Rattle.cluster_state.specs.Bindings.{Binding, binding_view, bindings_in}
 use Rattle.cluster_state.specs.Items.{Collection, Item, item_view, items_of}
@@ -9,6 +9,7 @@ use Rattle.cluster_state.specs.Refusals.{Refusal, IsDueRefusal, no_namespace}
 use Rattle.cluster_state.specs.declared.objects.Objects.{Objects as CodeObjects}
 use Rattle.cluster_state.specs.declared.state.State.{State as CodeState}
 use Rattle.cluster_state.specs.declared.state_error.StateError.{StateError}
+pub use Rattle.cluster_state.specs.Collections.{bindings, definitions, namespaces, of_cluster, policies}
 
 -- the contents of a cluster: its items as listed, its objects, all bindings, and the policies that have one, ordered
 -- by name
@@ -17,22 +18,6 @@ pub record ClusterState : Type 0 where
   pub objects : Objects
   pub bindings : List Binding
   pub policies : List BoundPolicy
-
--- the collection of a cluster-scoped kind
-abbrev pub of_cluster : List ℕ → List ℕ → Collection
-of_cluster version kind = record { api_version = version; kind = kind; namespace = [] }
-
-abbrev pub namespaces : Collection
-namespaces = of_cluster (codes "v1") (codes "Namespace")
-
-abbrev pub policies : Collection
-policies = of_cluster (codes "admissionregistration.k8s.io/v1") (codes "ValidatingAdmissionPolicy")
-
-abbrev pub bindings : Collection
-bindings = of_cluster (codes "admissionregistration.k8s.io/v1") (codes "ValidatingAdmissionPolicyBinding")
-
-abbrev pub definitions : Collection
-definitions = of_cluster (codes "apiextensions.k8s.io/v1") (codes "CustomResourceDefinition")
 
 -- the objects, if one of them is a namespace
 abbrev pub if_has_namespace : Result Objects Refusal → Result Objects Refusal
@@ -71,7 +56,7 @@ state_of lists = items_then (items_of lists)
 abbrev pub state_view : CodeState → ClusterState
 state_view s = record {
   items = map item_view s.items.all.items;
-  objects = objects_view s.objects;
+  objects = objects_view s.objects.all;
   bindings = map binding_view s.bindings;
   policies = map policy_view s.policies.items;
 }

@@ -22,10 +22,12 @@ mod params;
 mod policy;
 mod reading;
 pub mod rows;
+mod scopes;
 mod shape;
 mod state;
 mod state_error;
 mod state_items;
+mod state_objects;
 
 pub use action::Action;
 pub use binding::Binding;

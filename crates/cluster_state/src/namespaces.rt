@@ -21,14 +21,14 @@ impl<'a> State<'a> {
     pub fn all_namespaces(&self) -> Option<&BTreeMap<&'a str, &'a Value>>
         ensures { option_map_or (λ m. named_view m.now.entries) result [] ≡ (state_view self.now).objects namespaces }
     {
-        self.objects.namespaces()
+        self.objects.all.namespaces()
     }
 
     /// The namespace with this name.
     pub fn namespace(&self, name: &str) -> Option<&'a Value>
         ensures { option_map (λ v. view v.now) result ≡ namespace_named name.now (state_view self.now).objects }
     {
-        object(self.objects.namespaces(), name)
+        object(self.objects.all.namespaces(), name)
     }
 
     /// The root `namespaceObject` of a request on an object of this kind in this namespace.

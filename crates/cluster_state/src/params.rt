@@ -69,12 +69,12 @@ impl<'a> State<'a> {
         match kind.scope {
             ParamScope::Namespaced => {
                 if named.is_empty() {
-                    self.objects.at(api_version, name, own)
+                    self.objects.all.at(api_version, name, own)
                 } else {
-                    self.objects.named(&(named, name, api_version))
+                    self.objects.all.named(&(named, name, api_version))
                 }
             }
-            ParamScope::Cluster => self.objects.named(&("", name, api_version)),
+            ParamScope::Cluster => self.objects.all.named(&("", name, api_version)),
         }
     }
 }

@@ -8,11 +8,11 @@ ghost use Rattle.cluster_state.specs.Policies.{policy_view};
 use crate::binding::Binding;
 use crate::bindings::Bindings;
 use crate::lists::items;
-use crate::objects::Objects;
 use crate::policy::Policy;
 use crate::reading::{bindings, objects, policies};
 use crate::state_error::StateError;
 use crate::state_items::StateItems;
+use crate::state_objects::StateObjects;
 use serde_json::Value;
 use std::alloc::{AllocError, Global};
 
@@ -20,7 +20,7 @@ use std::alloc::{AllocError, Global};
 #[derive(Debug, Drop)]
 pub struct State<'a> {
     pub(crate) items: StateItems<'a>,
-    pub(crate) objects: Objects<'a>,
+    pub(crate) objects: StateObjects<'a>,
     pub(crate) bindings: Bindings<'a>,
     pub(crate) policies: Vec<Policy<'a>>,
 }
@@ -40,6 +40,7 @@ impl<'a> State<'a> {
         let policies = policies(alloc, &objects, &bindings)?;
         let bindings = Bindings::new(alloc, bindings)?;
         let items = StateItems::new(alloc, items)?;
+        let objects = StateObjects::new(alloc, objects)?;
         Ok(State {
             items,
             objects,

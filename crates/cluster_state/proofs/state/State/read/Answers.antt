@@ -1,6 +1,6 @@
 -- Proofs of `state::State::read`: the result meets the contract.
 
-use Rattle.cluster_state.proofs.Prelude.{◌∙◌, ap, binding_view, item_view, map, objects_of, objects_view, policies, policies_in, policy_view, refl, sym}
+use Rattle.cluster_state.proofs.Prelude.{◌∙◌, ap, binding_view, item_view, map, Objects, objects_of, objects_view, policies, policies_in, policy_view, refl, sym}
 use Rattle.cluster_state.proofs.Whole.{state_whole}
 use Rattle.cluster_state.proofs.state.State.read.Goals as goal
 
@@ -12,5 +12,5 @@ returns c =
       state_whole _ _ o.0 (objects_view c.in_ok-objects.objects) _ _ c.in_ok-items.ensures
           (ap (λ x. objects_of (map item_view x)) (sym c.deref.ensures.value) ∙ o.1) o.2 c.in_ok-bindings.ensures
           (ap (λ x. policies_in (map binding_view x) (objects_view c.in_ok-objects.objects policies)) (sym c.deref-2.ensures.value) ∙ c.in_ok-policies.ensures),
-      record { items = ap (map item_view) c.in_ok-items-2.ensures; objects = o.2; bindings = ap (map binding_view) c.in_ok-bindings-2.ensures; policies = refl },
+      record { items = ap (map item_view) c.in_ok-items-2.ensures; objects = λ d. ap (λ (f : Objects). f d) c.in_ok-objects-2.ensures ∙ o.2 d; bindings = ap (map binding_view) c.in_ok-bindings-2.ensures; policies = refl },
     )
