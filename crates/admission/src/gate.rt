@@ -27,7 +27,7 @@ use bpf_machine::laws::{starts_are_tables, states_are_kept};
 use bpf_machine::{Machine, Program, Status};
 use guest_memory::Guest;
 use policy_glue::{
-    Finding, Outcome, Policy, Verdict, conditions_name_namespace, findings_of, rejection_left,
+    Finding, Outcome, Policy, Verdict, conditions_name_namespace, findings_left, rejection_left,
     respond,
 };
 use std::alloc::{AllocError, Global};
@@ -245,6 +245,5 @@ fn findings_of_verdict(
 ) -> Result<Vec<Finding>, AllocError>
     ensures { IfOk result (λ found. OfVerdict policy.now machine.now (λ v. map finding_view found.items ≡ findings_of policy.now v)) }
 {
-    let verdict = Verdict::of(machine.memory(), machine.values(), policy);
-    findings_of(alloc, policy, &verdict)
+    findings_left(alloc, policy, machine.memory(), machine.values())
 }

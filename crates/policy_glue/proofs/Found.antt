@@ -1,6 +1,7 @@
 -- What the words of a verdict find.
-use Rattle.policy_glue.proofs.Prelude.{◌≡◌, ◌<◌, ◌≤◌, ◌+◌, ◌∙◌, ℕ, zero, suc, List, [], ◌∷◌, ◌++◌, length, map, Option, Some, arith, refl, ap, slice_get, slice_index, Encodes, IsAcceptedPolicy, VerdictWords, part_limit, outcome_of, truth_word, Finding, Verdict, CheckResult, FailurePolicy, Parts, Validation, Policy, validation_view, policy_view, lent}
-use Rattle.policy_glue.proofs.Told.{TellFrom, few_parts, from_zero, outcome_told, past, rest_told}
+use Rattle.policy_glue.proofs.Prelude.{◌≡◌, ◌<◌, ◌≤◌, ◌+◌, ◌∙◌, ℕ, zero, suc, List, [], ◌∷◌, ◌++◌, length, map, Option, Some, arith, refl, ap, slice_get, slice_index, Encodes, IsAcceptedPolicy, VerdictWords, part_limit, outcome_of, truth_word, Finding, Verdict, CheckResult, FailurePolicy, Parts, Validation, Policy, validation_view, policy_view, lent, subst, Outcome, Skipped, Admitted, Memory, IsMemory, IsLayout, ValueOrError, verdict_word}
+use Rattle.std.proofs.Common.{◌⊎◌}
+use Rattle.policy_glue.proofs.Told.{TellFrom, few_parts, from_zero, outcome_is, outcome_told, past, rest_told}
 use Rattle.policy_glue.specs.Findings.{PolicyFinding, before_others, finding_at, findings_by, findings_from, findings_of}
 use Rattle.policy_glue.specs.FindingWords.{findings_in_words, truth_in}
 
@@ -56,3 +57,17 @@ pub found : (parts : Parts) (p : Policy) (v : Verdict) (words : VerdictWords) (x
     → Encodes p.failure_policy v words
     → xs ≡ findings_by (outcome_of words.outcome) (findings_in_words parts.failure_policy (map validation_view parts.validations.items) words 0) → xs ≡ findings_of p v
 found parts p v words xs is accepted told here = grind (arith, found_by, few_parts)
+
+-- ---- an outcome that allows the request
+
+nothing_by : (o : Outcome) (xs : List PolicyFinding) → (o ≡ Skipped) ⊎ (o ≡ Admitted) → [] ≡ findings_by o xs
+nothing_by o xs allows = grind arith
+
+-- it finds nothing
+pub nothing_left : (p : Policy) (v : Verdict) (values : List ValueOrError) (m : Memory)
+    → IsMemory m → IsLayout p.failure_policy v values m.verdict
+    → (outcome_of (verdict_word m 0) ≡ Skipped) ⊎ (outcome_of (verdict_word m 0) ≡ Admitted) → [] ≡ findings_of p v
+nothing_left p v values m is layout allows =
+    let told = findings_from p.failure_policy 0 p.validations v.findings in
+    subst (λ (o : Outcome). [] ≡ findings_by o told) (outcome_is p.failure_policy v values m is layout)
+    (nothing_by (outcome_of (verdict_word m 0)) told allows)

@@ -77,7 +77,7 @@ pub outcome_told : (o : Outcome) → outcome_of (outcome_word o) ≡ o
 outcome_told o = grind arith
 
 -- the outcome of the verdict in the layout
-outcome_is : (f : FailurePolicy) (v : Verdict) (values : List ValueOrError) (m : Memory) → IsMemory m → IsLayout f v values m.verdict
+pub outcome_is : (f : FailurePolicy) (v : Verdict) (values : List ValueOrError) (m : Memory) → IsMemory m → IsLayout f v values m.verdict
     → outcome_of (verdict_word m 0) ≡ v.outcome
 outcome_is f v values m is layout = ap outcome_of (word_is m 0 is (omega arith) ∙ layout.outcome) ∙ outcome_told v.outcome
 

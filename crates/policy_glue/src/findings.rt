@@ -1,11 +1,12 @@
 //! What verdicts find against requests.
 
 ghost use Rattle.std.specs.Prelude.{◌≡◌, ◌<◌, ◌≤◌, ◌∷◌, [], length, map, option_map, slice_get, slice_index, vec_len, IfOk};
+ghost use Rattle.guest_memory.specs.Memory.{IsMemory};
 ghost use Rattle.policy_glue.specs.Verdict as decided;
 ghost use Rattle.policy_glue.specs.Denials.{lent};
 ghost use Rattle.policy_glue.specs.Findings.{error_finding, false_finding, finding_at, finding_view, findings_by, findings_of, undecided_finding};
 ghost use Rattle.policy_glue.specs.FindingWords.{findings_in, findings_in_words, truth_in};
-ghost use Rattle.policy_glue.specs.Layout.{outcome_of, words_view, Encodes};
+ghost use Rattle.policy_glue.specs.Layout.{outcome_of, words_view, Encodes, IsLayout};
 ghost use Rattle.policy_glue.specs.Policy.{part_limit, validation_view};
 
 use crate::failure_policy::FailurePolicy;
@@ -16,8 +17,10 @@ use crate::parts::Parts;
 use crate::policy::Policy;
 use crate::reason::Reason;
 use crate::validation::Validation;
-use crate::verdict::{ERRS, FAILS, Verdict};
+use crate::verdict::{ERRS, FAILS, Verdict, word};
+use guest_memory::Regions;
 use std::alloc::{AllocError, Global};
+use value_store::ValueStore;
 
 /// What a verdict of the policy finds against the request: one finding for each validation that
 /// denies, in their order, or one alone where the match conditions are not decided. The error says
@@ -30,6 +33,40 @@ pub fn findings_of(
     ensures { (v : decided.Verdict) → Encodes policy.now.failure_policy v (words_view verdict.now) → IfOk result (λ found. map finding_view found.items ≡ findings_of policy.now v) }
 {
     findings_by(alloc, &policy.parts, verdict)
+}
+
+/// What the verdict that a program left for the policy in its verdict region finds against the
+/// request; nothing if it allows the request, and then only the outcome is read.
+pub fn findings_left<M: Regions, V: ValueStore>(
+    alloc: Global,
+    policy: &Policy,
+    memory: &M,
+    values: &V,
+) -> Result<Vec<Finding>, AllocError>
+    ensures { (v : decided.Verdict) → IsMemory (M.bytes memory.now) → length v.findings ≤ length policy.now.validations
+        → IsLayout policy.now.failure_policy v (V.values values.now) (M.bytes memory.now).verdict
+        → IfOk result (λ found. map finding_view found.items ≡ findings_of policy.now v) }
+{
+    match Outcome::of_word(word(memory, 0)) {
+        Outcome::Skipped | Outcome::Admitted => Ok(Vec::new(alloc)),
+        Outcome::Rejected | Outcome::Denied => findings_read(alloc, policy, memory, values),
+    }
+}
+
+/// `findings_left` by the whole verdict, which is large. It is kept out of the fast path.
+#[inline(never)]
+fn findings_read<M: Regions, V: ValueStore>(
+    alloc: Global,
+    policy: &Policy,
+    memory: &M,
+    values: &V,
+) -> Result<Vec<Finding>, AllocError>
+    ensures { (v : decided.Verdict) → IsMemory (M.bytes memory.now) → length v.findings ≤ length policy.now.validations
+        → IsLayout policy.now.failure_policy v (V.values values.now) (M.bytes memory.now).verdict
+        → IfOk result (λ found. map finding_view found.items ≡ findings_of policy.now v) }
+{
+    let verdict = Verdict::of(memory, values, policy);
+    findings_of(alloc, policy, &verdict)
 }
 
 fn findings_by(alloc: Global, parts: &Parts, verdict: &Verdict) -> Result<Vec<Finding>, AllocError>

@@ -44,7 +44,7 @@ pub use compiling::compile;
 pub use documents::parse_document;
 pub use expression_error::ExpressionError;
 pub use finding::Finding;
-pub use findings::findings_of;
+pub use findings::{findings_left, findings_of};
 pub use naming::conditions_name_namespace;
 pub use outcome::Outcome;
 pub use part_kind::PartKind;
