@@ -20,6 +20,6 @@ pub use Rattle.cluster_response.specs.Events.{ClusterAudit, ClusterDenial, Event
 pub use Rattle.cluster_response.specs.Keeping.{or_first, or_there, with_event, with_events}
 pub use Rattle.cluster_response.specs.Laws.{AllowsByEvents, allowed_in, is_against, is_refusal, warns_by}
 unfoldable pub use Rattle.cluster_response.specs.Messages.{denial_text}
-pub use Rattle.cluster_response.specs.Response.{annotations_tree, answer_by, answer_tree, decision_tree, if_member, if_texts, status_of}
+pub use Rattle.cluster_response.specs.Response.{annotations_tree, answer_by, answer_tree, decision_tree, if_member, if_texts, status_of, summary_response}
 unfoldable pub use Rattle.cluster_response.specs.Response.{cluster_response}
 pub use Rattle.cluster_response.specs.declared.events.Events.{Events as CodeEvents}

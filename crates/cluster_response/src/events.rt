@@ -1,10 +1,10 @@
 //! What counts of the events of a dispatch.
-ghost use Rattle.std.specs.Prelude.{◌≡◌, ◌++◌, List, [], ◌∷◌, IfOk, OnOk, Some, map, option_map, string_bytes};
+ghost use Rattle.std.specs.Prelude.{◌≡◌, ◌++◌, List, [], ◌∷◌, IfOk, OnOk, Some, map, option_map, string_bytes, true};
 ghost use Rattle.cluster_state.specs.Bindings.{binding_view};
 ghost use Rattle.policy_glue.specs.Findings.{finding_view};
 ghost use Rattle.cluster_response.specs.Events.{Event, KeepsEvents, action_event, audit_view, audits, configuration_event};
 ghost use Rattle.cluster_response.specs.Events.{configured, denial_view, denies, ends, events_view, finding_events};
-ghost use Rattle.cluster_response.specs.Events.{findings_events, refuses, undecided_view, warning_text, warns};
+ghost use Rattle.cluster_response.specs.Events.{findings_events, refuses, summary_of, undecided_view, warning_text, warns};
 ghost use Rattle.cluster_response.specs.Keeping.{with_event, with_events};
 
 use crate::audit::Audit;
@@ -92,6 +92,17 @@ impl Events {
         ensures { (es : List Event) → KeepsEvents self.old es → KeepsEvents self.new (es ++ ends ∷ []) }
     {
         self.ended = true;
+    }
+
+    /// Whether nothing counts: then the request is allowed, and no more is said.
+    pub(crate) fn is_empty(&self) -> bool
+        ensures { result ≡ true → events_view self.now ≡ summary_of [] }
+    {
+        let warnings = self.warnings.as_slice();
+        match (&self.denial, &self.undecided, &self.audit, warnings) {
+            (None, None, None, []) => !self.ended,
+            _ => false,
+        }
     }
 
     fn deny_unconfigured(

@@ -1,12 +1,12 @@
 //! The response by the events of a dispatch.
-ghost use Rattle.std.specs.Prelude.{◌≡◌, IfOk, List, OnOk, map, option_map, string_bytes};
+ghost use Rattle.std.specs.Prelude.{◌≡◌, [], IfOk, List, OnOk, map, option_map, string_bytes};
 ghost use Rattle.serde_json.specs.Data as json;
 ghost use Rattle.serde_json.specs.View.{members_view, view};
 ghost use Rattle.admission_documents.specs.Requests.{request_view};
 ghost use Rattle.policy_glue.specs.Response.{review_tree, status_tree};
-ghost use Rattle.cluster_response.specs.Events.{Event, KeepsEvents, audit_view, denial_view, events_view, undecided_view};
+ghost use Rattle.cluster_response.specs.Events.{Event, KeepsEvents, audit_view, denial_view, events_view, summary_of, undecided_view};
 ghost use Rattle.cluster_response.specs.Members.{put_if};
-ghost use Rattle.cluster_response.specs.Response.{annotations_tree, answer_tree, cluster_response, decision_from, decision_tree, denial_status, if_texts, not_found_status, status_of, texts_tree, undecided_tree};
+ghost use Rattle.cluster_response.specs.Response.{annotations_tree, answer_tree, cluster_response, decision_from, decision_tree, denial_status, if_texts, not_found_status, status_of, summary_response, texts_tree, undecided_tree};
 
 use crate::annotation::annotation_text;
 use crate::audit::Audit;
@@ -16,7 +16,7 @@ use crate::messages::denied_message;
 use crate::undecided::Undecided;
 use admission_documents::Request;
 use cluster_plan::absent_text;
-use policy_glue::Reason;
+use policy_glue::{Reason, response_text};
 use serde_json::{Map, Value, json, put};
 use std::alloc::{AllocError, Global};
 
@@ -32,6 +32,41 @@ pub fn response(
 ) -> Result<Vec<u8>, AllocError>
     ensures { (es : List Event) → KeepsEvents events.now es → IfOk result
         (λ bytes. bytes.items ≡ cluster_response (request_view request.now) uid.now es) }
+{
+    summary_text(alloc, request, uid, events)
+}
+
+/// The text by what counts of the events. Mostly nothing does.
+fn summary_text(
+    alloc: Global,
+    request: &Request<'_>,
+    uid: &str,
+    events: &Events,
+) -> Result<Vec<u8>, AllocError>
+    ensures { IfOk result (λ bytes. bytes.items ≡ summary_response (request_view request.now) uid.now (events_view events.now)) }
+{
+    if events.is_empty() {
+        return allowed_text(alloc, request, uid);
+    }
+    answer_text(alloc, request, uid, events)
+}
+
+/// The text if there are no events.
+#[tactic(auto, unfolding(policy_glue::specs::Rejections::response_text))]
+fn allowed_text(alloc: Global, _request: &Request<'_>, uid: &str) -> Result<Vec<u8>, AllocError>
+    ensures { IfOk result (λ bytes. bytes.items ≡ summary_response (request_view _request.now) uid.now (summary_of [])) }
+{
+    response_text(alloc, &None, uid)
+}
+
+/// The text of the answer's tree.
+fn answer_text(
+    alloc: Global,
+    request: &Request<'_>,
+    uid: &str,
+    events: &Events,
+) -> Result<Vec<u8>, AllocError>
+    ensures { IfOk result (λ bytes. bytes.items ≡ summary_response (request_view request.now) uid.now (events_view events.now)) }
 {
     let answer = answer(alloc, request, uid, events)?;
     answer.to_vec(alloc)
