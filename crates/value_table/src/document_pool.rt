@@ -11,7 +11,7 @@ use crate::open_review::OpenReview;
 use crate::pooled_document::PooledDocument;
 use crate::reading::add_null;
 use crate::review_error::ReviewError;
-use crate::review_table::{document_value, review_values};
+use crate::review_table::{document_value, reserve_for, review_values};
 use std::alloc::{AllocError, Global};
 use std::marker::Model;
 use std::rc::Rc;
@@ -84,6 +84,7 @@ impl DocumentPool {
         ensures { OpenReturns self result review.now }
     {
         let DocumentPool { mut heap, memory } = self;
+        reserve_for(&mut heap, review.len())?;
         let mut reading = memory.take(heap.cells.alloc())?;
         let request = review_values(&mut heap, &mut reading, review)?;
         memory.keep(reading, review.len());

@@ -117,6 +117,30 @@ fn reserve(heap: &mut Heap, length: usize, count: usize) -> Result<(), AllocErro
     Ok(())
 }
 
+/// Reserves capacity for the values of a document of this length, so that those of a short one are
+/// not moved as they are added.
+pub(crate) fn reserve_for(heap: &mut Heap, length: usize) -> Result<(), AllocError>
+    requires { IsHeap heap.old }
+    ensures heap { OnOk result (IsHeap heap.new) }
+    ensures values { OnOk result (heap_values heap.new ≡ heap_values heap.old) }
+{
+    let length = length.min(RESERVED);
+    let count = length / BYTES_OF_A_VALUE;
+    reserve_cells(heap, count)?;
+    reserve(heap, length, count)
+}
+
+// Reserves capacity for the cells of these further values, and for their words.
+fn reserve_cells(heap: &mut Heap, count: usize) -> Result<(), AllocError>
+    requires { IsHeap heap.old }
+    ensures heap { OnOk result (IsHeap heap.new) }
+    ensures values { OnOk result (heap_values heap.new ≡ heap_values heap.old) }
+{
+    let words = heap.cells.len().saturating_add(count);
+    heap.same.reserve(words)?;
+    heap.cells.reserve(count)
+}
+
 impl PlacedOthers {
     /// A copy that shares everything unchanged, with capacity for the values of a document of this
     /// length.
