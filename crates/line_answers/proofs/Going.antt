@@ -1,5 +1,5 @@
 -- How the answers go on.
-use Rattle.line_answers.proofs.Prelude.{◌≡◌, ℕ, ◌<◌, ◌≤◌, Bool, true, false, List, [], ◌∷◌, ◌++◌, length, length-drop, take, drop, Option, Some, refl, sym, ap, subst, ◌∙◌, inl, inr, arith, append_assoc, append-nil, true≢false, Result, Ok, Err, ◌⊎◌, take-append-drop, AddsBytes, cut, input_lines, readable, with_rest, SessionError, ReadFailed, WriteFailed, Pieces, cut-none, cut-line, cut-part, input_lines-ended, readable-all, HasNoFeed, HeardByResult, OfBytes, AnswersInputLine, LineTexts, no_memory, passed_over, too_long, decided, is_blank, IsKeptOfLine, KeepsLine, Answered, AnsweredPart, AnswersEach, AnswersByResult, AnswersSoFar, AnswersToEnd, AnswersCut, AnswersEnd, AnswersBreak, AnsweredPartOfLines}
+use Rattle.line_answers.proofs.Prelude.{◌≡◌, ℕ, ◌<◌, ◌≤◌, true, false, List, [], ◌∷◌, ◌++◌, length, length-drop, take, drop, Option, Some, refl, sym, ap, subst, ◌∙◌, inl, inr, arith, append_assoc, append-nil, true≢false, Result, Ok, Err, ◌⊎◌, take-append-drop, AddsBytes, cut, input_lines, readable, with_rest, SessionError, ReadFailed, WriteFailed, Pieces, cut-none, cut-line, cut-part, input_lines-ended, readable-all, HasNoFeed, HeardByResult, AnswersInputLine, LineTexts, no_memory, passed_over, too_long, decided, is_blank, IsKeptOfLine, KeepsLine, Answered, AnsweredPart, AnswersEach, AnswersByResult, AnswersSoFar, AnswersToEnd, AnswersCut, AnswersEnd, AnswersBreak, AnsweredPartOfLines, AnsweredAllLines, AnsweredSomeLines, JoinedTexts}
 use Rattle.streams.specs.declared.session_error.SessionError.TheVariants.{Memory as SessionMemory}
 use Rattle.line_answers.specs.declared.line.Line.{Line}
 use Rattle.line_answers.specs.AnsweredLines as told
@@ -29,73 +29,81 @@ is_line : (texts : LineTexts) (none : PassesNone texts) (lines : List (List ℕ)
 is_line texts none lines [] answer n last some = absurd (let zero = ap length (none answer last) in omega (arith, some, zero))
 is_line texts none lines (b ∷ bs) answer n last some = refl
 
-module _ (texts : LineTexts) where
-  pub going_start : (before : List ℕ) (written : Option (List ℕ)) → written ≡ Some before → AnswersSoFar texts before [] written
-  going_start before written w = record {
-    text = [];
-    lines = rw cut-none told.none;
-    written_is = w ∙ ap Some (sym (append-nil before));
-  }
+module _ (each : JoinedTexts) where
+  pub starts : each [] [] → (before : List ℕ) (written : Option (List ℕ)) → written ≡ Some before → AnswersSoFar each before [] written
+  starts none before written w = record { text = []; lines = rw cut-none none; written_is = w ∙ ap Some (sym (append-nil before)) }
 
-  module _ (before heard : List ℕ) (written : Option (List ℕ)) (g : AnswersSoFar texts before heard written) where
+  module _ (before heard : List ℕ) (written : Option (List ℕ)) (g : AnswersSoFar each before heard written) where
     written-more : (text : List ℕ) (new : Option (List ℕ)) → AddsBytes written new text → new ≡ Some (before ++ (g.text ++ text))
     written-more text new adds = adds (before ++ g.text) g.written_is ∙ ap Some (append_assoc before g.text text)
 
     -- a part of a line
-    pub going_part : (part : List ℕ) → HasNoFeed part → AnswersSoFar texts before (heard ++ part) written
+    pub going_part : (part : List ℕ) → HasNoFeed part → AnswersSoFar each before (heard ++ part) written
     going_part part plain = record { text = g.text; lines = rw (cut-part heard part plain) g.lines; written_is = g.written_is }
 
-    -- an answer that was written in part
-    part_told : (whole all : List ℕ) (new : Option (List ℕ)) → AnsweredPart texts whole written new → (cut heard).0 ++ whole ∷ [] ≡ input_lines all
-        → AnswersCut texts before all new
-    part_told whole all new a are = record {
-      lines = (cut heard).0;
-      last = whole;
-      lines_are = are;
-      text = g.text;
-      answered = g.lines;
-      part = take a.many a.text;
-      rest = drop a.many a.text;
-      answers = rw take-append-drop a.answers;
-      is_cut = omega (arith, a.is_cut, length-drop a.many a.text);
-      part_written = written-more (take a.many a.text) new a.written;
-    }
+    -- the end, where the rest behind the last line feed is answered
+    pub ends : (next : JoinedTexts) (text : List ℕ) (new : Option (List ℕ)) → AddsBytes written new text → next (input_lines heard) (g.text ++ text)
+        → AnswersToEnd next before heard new
+    ends next text new adds lines = record { text = g.text ++ text; lines = lines; written_is = written-more text new adds }
 
     -- the rest of a line, and its line feed
     module _ (rest : List ℕ) (plain : HasNoFeed rest) (new : Option (List ℕ)) where
-      ends_line : cut (heard ++ (rest ++ 10 ∷ [])) ≡ ((cut heard).0 ++ ((cut heard).1 ++ rest) ∷ [], [])
+      pub ends_line : cut (heard ++ (rest ++ 10 ∷ [])) ≡ ((cut heard).0 ++ ((cut heard).1 ++ rest) ∷ [], [])
       ends_line = cut-line heard rest plain
 
-      pub going_line : Answered texts ((cut heard).1 ++ rest) written new → AnswersSoFar texts before (heard ++ (rest ++ 10 ∷ [])) new
-      going_line a = record {
-        text = g.text ++ a.text;
-        lines = rw ends_line (told.more g.lines a.answers);
-        written_is = written-more a.text new a.written;
+      pub goes_on : (next : JoinedTexts) (text : List ℕ) → AddsBytes written new text → next ((cut heard).0 ++ ((cut heard).1 ++ rest) ∷ []) (g.text ++ text)
+          → AnswersSoFar next before (heard ++ (rest ++ 10 ∷ [])) new
+      goes_on next text adds lines = record { text = g.text ++ text; lines = rw ends_line lines; written_is = written-more text new adds }
+
+    -- an answer that was written in part
+    module _ (texts : LineTexts) where
+      part_told : (whole all : List ℕ) (new : Option (List ℕ)) → AnsweredPart texts whole written new → (cut heard).0 ++ whole ∷ [] ≡ input_lines all
+          → AnswersCut texts each before all new
+      part_told whole all new a are = record {
+        lines = (cut heard).0;
+        last = whole;
+        lines_are = are;
+        text = g.text;
+        answered = g.lines;
+        part = take a.many a.text;
+        rest = drop a.many a.text;
+        answers = rw take-append-drop a.answers;
+        is_cut = omega (arith, a.is_cut, length-drop a.many a.text);
+        part_written = written-more (take a.many a.text) new a.written;
       }
 
-      pub told_part : AnsweredPart texts ((cut heard).1 ++ rest) written new → AnswersBreak false texts before (heard ++ (rest ++ 10 ∷ [])) new
-      told_part a =
-          let all = input_lines-ended (heard ++ (rest ++ 10 ∷ [])) (ap (λ (p : Pieces). take 65 p.1) ends_line) ∙ ap (λ (p : Pieces). p.0) ends_line in
-          (part_told ((cut heard).1 ++ rest) (heard ++ (rest ++ 10 ∷ [])) new a (sym all), ap (λ (p : Pieces). p.1) ends_line)
+      pub told_part : (rest : List ℕ) → HasNoFeed rest → (new : Option (List ℕ)) → AnsweredPart texts ((cut heard).1 ++ rest) written new
+          → AnswersBreak false texts each before (heard ++ (rest ++ 10 ∷ [])) new
+      told_part rest plain new a =
+          let line = ends_line rest plain new in
+          let all = input_lines-ended (heard ++ (rest ++ 10 ∷ [])) (ap (λ (p : Pieces). take 65 p.1) line) ∙ ap (λ (p : Pieces). p.0) line in
+          (part_told ((cut heard).1 ++ rest) (heard ++ (rest ++ 10 ∷ [])) new a (sym all), ap (λ (p : Pieces). p.1) line)
 
       -- the line is whole: nothing of it was kept
-      module _ (whole : (cut heard).1 ≡ []) where
-        pub going_whole : Answered texts rest written new → AnswersSoFar texts before (heard ++ (rest ++ 10 ∷ [])) new
-        going_whole a = going_line (subst (λ (l : List ℕ). Answered texts (l ++ rest) written new) (sym whole) a)
+      pub told_part_whole : (rest : List ℕ) → HasNoFeed rest → (new : Option (List ℕ)) → (cut heard).1 ≡ [] → AnsweredPart texts rest written new
+          → AnswersBreak false texts each before (heard ++ (rest ++ 10 ∷ [])) new
+      told_part_whole rest plain new whole a = told_part rest plain new (subst (λ (l : List ℕ). AnsweredPart texts (l ++ rest) written new) (sym whole) a)
 
-        pub told_part_whole : AnsweredPart texts rest written new → AnswersBreak false texts before (heard ++ (rest ++ 10 ∷ [])) new
-        told_part_whole a = told_part (subst (λ (l : List ℕ). AnsweredPart texts (l ++ rest) written new) (sym whole) a)
+      pub end_part : PassesNone texts → (new : Option (List ℕ)) → AnsweredPart texts (cut heard).1 written new → AnswersCut texts each before heard new
+      end_part none new a = part_told (cut heard).1 heard new a (is_line texts none (cut heard).0 (cut heard).1 a.text a.many a.answers a.is_cut)
 
-    -- the end, where the rest behind the last line feed is answered
-    pub end_whole : PassesNone texts → (new : Option (List ℕ)) → Answered texts (cut heard).1 written new → AnswersToEnd texts before heard new
-    end_whole none new a = record {
-      text = g.text ++ a.text;
-      lines = with_last texts none (cut heard).0 (cut heard).1 g.text a.text g.lines a.answers;
-      written_is = written-more a.text new a.written;
-    }
+-- the same for the joined answers alone
+module _ (texts : LineTexts) where
+  pub going_start : (before : List ℕ) (written : Option (List ℕ)) → written ≡ Some before → AnswersSoFar (AnswersEach texts) before [] written
+  going_start before written w = starts (AnswersEach texts) told.none before written w
 
-    pub end_part : PassesNone texts → (new : Option (List ℕ)) → AnsweredPart texts (cut heard).1 written new → AnswersCut texts before heard new
-    end_part none new a = part_told (cut heard).1 heard new a (is_line texts none (cut heard).0 (cut heard).1 a.text a.many a.answers a.is_cut)
+  module _ (before heard : List ℕ) (written : Option (List ℕ)) (g : AnswersSoFar (AnswersEach texts) before heard written) where
+    module _ (rest : List ℕ) (plain : HasNoFeed rest) (new : Option (List ℕ)) where
+      pub going_line : Answered texts ((cut heard).1 ++ rest) written new → AnswersSoFar (AnswersEach texts) before (heard ++ (rest ++ 10 ∷ [])) new
+      going_line a = goes_on (AnswersEach texts) before heard written g rest plain new (AnswersEach texts) a.text a.written (told.more g.lines a.answers)
+
+      pub going_whole : (cut heard).1 ≡ [] → Answered texts rest written new → AnswersSoFar (AnswersEach texts) before (heard ++ (rest ++ 10 ∷ [])) new
+      going_whole whole a = going_line (subst (λ (l : List ℕ). Answered texts (l ++ rest) written new) (sym whole) a)
+
+    pub end_whole : PassesNone texts → (new : Option (List ℕ)) → Answered texts (cut heard).1 written new → AnswersToEnd (AnswersEach texts) before heard new
+    end_whole none new a =
+        ends (AnswersEach texts) before heard written g (AnswersEach texts) a.text new a.written
+        (with_last texts none (cut heard).0 (cut heard).1 g.text a.text g.lines a.answers)
 
 -- what is kept of a line before its first byte is heard
 pub kept_start : (most : ℕ) (line : Line) → KeepsLine most line [] → KeepsLine line.most line (cut []).1
@@ -113,10 +121,21 @@ pub kept_still : (most : ℕ) (line : Line) (heard rest : List ℕ) → HasNoFee
     → KeepsLine most line (cut (heard ++ (rest ++ 10 ∷ []))).1
 kept_still most line heard rest plain whole keeps = kept_none most line heard rest plain (subst (KeepsLine most line) whole keeps)
 
-module _ (texts : LineTexts) (input before : List ℕ) (left written : Option (List ℕ)) where
+module _ (texts : LineTexts) (each : JoinedTexts) (input before : List ℕ) (left written : Option (List ℕ)) where
+  -- what was read and written once the input was heard to its end
+  pub all_told : left ≡ Some (drop (length (readable input)) input) → AnswersToEnd each before (readable input) written
+      → AnsweredAllLines each input before left written
+  all_told gone a = record { all_left = gone; text = a.text; all_lines = a.lines; all_written = a.written_is }
+
+  -- a read failed
+  pub some_told : (read : ℕ) → read ≤ length (readable input) → left ≡ Some (drop read input) → AnswersSoFar each before (take read input) written
+      → AnsweredSomeLines each input before left written
+  some_told read inside gone a =
+      record { read = read; within = inside; some_left = gone; text = a.text; some_lines = a.lines; some_written = a.written_is }
+
   -- a write that failed
-  cut_told : (read : ℕ) → read ≤ length (readable input) → left ≡ Some (drop read input) → AnswersCut texts before (take read input) written
-      → ((cut (take read input)).1 ≡ []) ⊎ (read ≡ length (readable input)) → AnsweredPartOfLines texts input before left written
+  cut_told : (read : ℕ) → read ≤ length (readable input) → left ≡ Some (drop read input) → AnswersCut texts each before (take read input) written
+      → ((cut (take read input)).1 ≡ []) ⊎ (read ≡ length (readable input)) → AnsweredPartOfLines texts each input before left written
   cut_told read inside gone a ends = record {
     read = read;
     within = inside;
@@ -134,33 +153,25 @@ module _ (texts : LineTexts) (input before : List ℕ) (left written : Option (L
     part_written = a.part_written;
   }
 
-  -- what was read and written once the input was heard
-  pub answers_told : (goes : OfBytes) (ended broke : Bool → OfBytes) (result : Result (Unit {0}) SessionError)
-      → ((heard : List ℕ) → goes heard written → AnswersSoFar texts before heard written)
-      → ((last : Bool) (heard : List ℕ) → ended last heard written → AnswersEnd last texts before heard written)
-      → ((last : Bool) (heard : List ℕ) → broke last heard written → AnswersBreak last texts before heard written)
-      → HeardByResult goes ended broke input left written result → AnswersByResult texts input before left written result
-  answers_told goes ended broke (Ok u) on over broken (inl r) = absurd (over false (take r.read input) r.of_bytes)
-  answers_told goes ended broke (Ok u) on over broken (inr r) =
-      let a = over true (readable input) r.of_bytes in
-      record { all_left = r.left_is; text = a.text; all_lines = a.lines; all_written = a.written_is }
-  answers_told goes ended broke (Err ReadFailed) on over broken r =
-      let a = on (take r.read input) r.of_bytes in
-      record { read = r.read; within = r.within; some_left = r.left_is; text = a.text; some_lines = a.lines; some_written = a.written_is }
-  answers_told goes ended broke (Err WriteFailed) on over broken (inl r) =
-      let a = broken false (take r.read input) r.of_bytes in
-      cut_told r.read r.within r.left_is a.0 (inl a.1)
-  answers_told goes ended broke (Err WriteFailed) on over broken (inr r) =
-      cut_told (length (readable input)) (omega arith) r.left_is
-      (subst (λ (bytes : List ℕ). AnswersCut texts before bytes written) (sym (readable-all input)) (broken true (readable input) r.of_bytes)) (inr refl)
-  answers_told goes ended broke (Err SessionMemory) on over broken none = absurd none
+  pub line_cut_told : (read : ℕ) → read ≤ length (readable input) → left ≡ Some (drop read input) → AnswersBreak false texts each before (take read input) written
+      → AnsweredPartOfLines texts each input before left written
+  line_cut_told read inside gone a = cut_told read inside gone a.0 (inl a.1)
 
+  pub end_cut_told : left ≡ Some (drop (length (readable input)) input) → AnswersBreak true texts each before (readable input) written
+      → AnsweredPartOfLines texts each input before left written
+  end_cut_told gone a =
+      cut_told (length (readable input)) (omega arith) gone
+      (subst (λ (bytes : List ℕ). AnswersCut texts each before bytes written) (sym (readable-all input)) a) (inr refl)
+
+module _ (texts : LineTexts) (input before : List ℕ) (left written : Option (List ℕ)) where
   -- what a listener's state says of the bytes that were heard
   pub heard_told : (same : Type 0) (keeps : List ℕ → Type 0) (result : Result (Unit {0}) SessionError)
-      → HeardByResult (λ heard new. same × AnswersSoFar texts before heard new × keeps heard)
-      (λ last heard new. AnswersEnd last texts before heard new) (λ last heard new. AnswersBreak last texts before heard new) input left written result
-      → AnswersByResult texts input before left written result
-  heard_told same keeps result =
-      answers_told (λ heard new. same × AnswersSoFar texts before heard new × keeps heard)
-      (λ last heard new. AnswersEnd last texts before heard new) (λ last heard new. AnswersBreak last texts before heard new) result
-      (λ heard h. h.1) (λ last heard h. h) (λ last heard h. h)
+      → HeardByResult (λ heard new. same × AnswersSoFar (AnswersEach texts) before heard new × keeps heard)
+      (λ last heard new. AnswersEnd last (AnswersEach texts) before heard new) (λ last heard new. AnswersBreak last texts (AnswersEach texts) before heard new) input left written result
+      → AnswersByResult texts (AnswersEach texts) input before left written result
+  heard_told same keeps (Ok u) (inl r) = absurd r.of_bytes
+  heard_told same keeps (Ok u) (inr r) = all_told texts (AnswersEach texts) input before left written r.left_is r.of_bytes
+  heard_told same keeps (Err ReadFailed) r = some_told texts (AnswersEach texts) input before left written r.read r.within r.left_is r.of_bytes.1
+  heard_told same keeps (Err WriteFailed) (inl r) = line_cut_told texts (AnswersEach texts) input before left written r.read r.within r.left_is r.of_bytes
+  heard_told same keeps (Err WriteFailed) (inr r) = end_cut_told texts (AnswersEach texts) input before left written r.left_is r.of_bytes
+  heard_told same keeps (Err SessionMemory) none = absurd none

@@ -4,3 +4,4 @@ pub mod Meaning
 pub mod OneAnswer
 mod OneLine
 pub mod Prelude
+mod Tells

@@ -3,7 +3,10 @@ use Rattle.std.proofs.Math.Seq.{take-add}
 use Rattle.std.proofs.lemmas.List.{drop_at, take_at}
 use Rattle.streams.proofs.Cut.{take-join}
 use Rattle.line_answers.proofs.Prelude.{◌≡◌, ◌++◌, ◌+◌, ◌-◌, ◌∙◌, refl, ℕ, suc, arith, length-take, ◌<◌, ◌≤◌, Bool, true, false, List, [], ◌∷◌, length, take, take_all, Option, Some, Result, Ok, Err, append-nil, sym, ap, subst, AddsBytes, AnswersInputLine, IsKeptOfLine, KeepsLine, LineTexts, Answered, AnsweredPart, is_blank, line_of, no_memory, passed_over, too_long, decided}
-use Rattle.std.specs.Prelude.{OnErr}
+use Rattle.std.specs.Prelude.{IfOk, OnErr, Vec}
+use Rattle.std.specs.declared.alloc.AllocError.{AllocError}
+use Rattle.std.specs.declared.alloc.Global.{Global}
+use Rattle.line_answers.specs.Telling.{answer_bytes}
 use Rattle.line_answers.specs.declared.line.Line.{Line}
 
 -- what is kept of a line that is not too long is the line
@@ -56,6 +59,21 @@ module _ (most : ℕ) (long : List ℕ) (decides : LineTexts) where
   of_kept kept line text keeps (no_memory some) =
       let many = ap length keeps in
       no_memory (omega (arith, some, many, length-take (suc most) line))
+
+  -- the answer to an empty line, to a line, and to one that was kept
+  pub is_nothing : (line answer : List ℕ) → length line ≡ 0 → answer ≡ [] → AnswersInputLine most long decides line answer
+  is_nothing line answer none is =
+      subst (λ (l : List ℕ). AnswersInputLine most long decides l answer) (sym (empty line none)) (is_passed [] answer (omega arith) refl is)
+
+  pub answer_or_none : (r : Result (Vec ℕ Global) AllocError) (line : List ℕ) → 0 < length line
+      → IfOk r (λ text. 0 < length line → AnswersInputLine most long decides line text.items) → AnswersInputLine most long decides line (answer_bytes r)
+  answer_or_none (Ok text) line some answers = answers some
+  answer_or_none (Err e) line some answers = no_memory some
+
+  pub kept_answer : (l : Line) (line text : List ℕ) → l.lacks ≡ false → KeepsLine most l line → AnswersInputLine most long decides l.bytes.items text
+      → AnswersInputLine most long decides line text
+  kept_answer l line text held keeps =
+      of_kept l.bytes.items line text (subst (λ (lacks : Bool). IsKeptOfLine lacks most l.bytes.items line) held keeps.kept)
 
   module _ (l : Line) (line : List ℕ) (held : l.lacks ≡ false) (keeps : KeepsLine most l line) (old new : Option (List ℕ)) where
     kept : l.bytes.items ≡ take (suc most) line

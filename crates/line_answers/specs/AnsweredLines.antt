@@ -7,6 +7,10 @@ use Rattle.streams.specs.declared.session_error.SessionError.{SessionError, TheV
 use Rattle.line_answers.specs.Lines.{KeepsLine, LineTexts}
 use Rattle.line_answers.specs.declared.line.Line.{Line}
 
+-- lines, and the joined answers that may be written for them
+abbrev pub JoinedTexts : Type 1
+JoinedTexts = List (List ℕ) → List ℕ → Type 0
+
 -- the joined answers to lines
 pub data AnswersEach (texts : LineTexts) : List (List ℕ) → List ℕ → Type 0 where
   none : AnswersEach texts [] []
@@ -14,25 +18,25 @@ pub data AnswersEach (texts : LineTexts) : List (List ℕ) → List ℕ → Type
       → texts line answer
       → AnswersEach texts (lines ++ line ∷ []) (text ++ answer)
 
--- all lines of the input were answered
-pub record AnsweredAllLines (texts : LineTexts) (input before : List ℕ) (left written : Option (List ℕ)) : Type 0 where
+-- all lines of the input were answered, with the joined answers that `each` gives
+pub record AnsweredAllLines (each : JoinedTexts) (input before : List ℕ) (left written : Option (List ℕ)) : Type 0 where
   pub all_left : left ≡ Some (drop (length (readable input)) input)
   pub text : List ℕ
-  pub all_lines : AnswersEach texts (input_lines (readable input)) text
+  pub all_lines : each (input_lines (readable input)) text
   pub all_written : written ≡ Some (before ++ text)
 
 -- `read` bytes were read, and the lines that ended among them were answered
-pub record AnsweredSomeLines (texts : LineTexts) (input before : List ℕ) (left written : Option (List ℕ)) : Type 0 where
+pub record AnsweredSomeLines (each : JoinedTexts) (input before : List ℕ) (left written : Option (List ℕ)) : Type 0 where
   pub read : ℕ
   pub within : read ≤ length (readable input)
   pub some_left : left ≡ Some (drop read input)
   pub text : List ℕ
-  pub some_lines : AnswersEach texts (cut (take read input)).0 text
+  pub some_lines : each (cut (take read input)).0 text
   pub some_written : written ≡ Some (before ++ text)
 
 -- so many bytes were read, up to a line's end: the answers to the lines before it were written whole, and its own but
 -- for a rest
-pub record AnsweredPartOfLines (texts : LineTexts) (input before : List ℕ) (left written : Option (List ℕ)) : Type 0 where
+pub record AnsweredPartOfLines (texts : LineTexts) (each : JoinedTexts) (input before : List ℕ) (left written : Option (List ℕ)) : Type 0 where
   pub read : ℕ
   pub within : read ≤ length (readable input)
   pub line_read : ((cut (take read input)).1 ≡ []) ⊎ (read ≡ length (readable input))
@@ -41,7 +45,7 @@ pub record AnsweredPartOfLines (texts : LineTexts) (input before : List ℕ) (le
   pub last : List ℕ
   pub lines_are : lines ++ last ∷ [] ≡ input_lines (take read input)
   pub text : List ℕ
-  pub answered : AnswersEach texts lines text
+  pub answered : each lines text
   pub part : List ℕ
   pub rest : List ℕ
   pub answers : texts last (part ++ rest)
@@ -49,18 +53,18 @@ pub record AnsweredPartOfLines (texts : LineTexts) (input before : List ℕ) (le
   pub part_written : written ≡ Some (before ++ (text ++ part))
 
 -- what was read and written, by the result: `ReadFailed` if a read failed, `WriteFailed` if a write failed
-abbrev pub AnswersByResult : LineTexts → List ℕ → List ℕ → Option (List ℕ) → Option (List ℕ) → Result (Unit {0}) SessionError
-    → Type 0
-AnswersByResult texts input before left written (Ok u) = AnsweredAllLines texts input before left written
-AnswersByResult texts input before left written (Err ReadFailed) = AnsweredSomeLines texts input before left written
-AnswersByResult texts input before left written (Err WriteFailed) = AnsweredPartOfLines texts input before left written
-AnswersByResult texts input before left written (Err Memory) = ⊥
+abbrev pub AnswersByResult : LineTexts → JoinedTexts → List ℕ → List ℕ → Option (List ℕ) → Option (List ℕ)
+    → Result (Unit {0}) SessionError → Type 0
+AnswersByResult texts each input before left written (Ok u) = AnsweredAllLines each input before left written
+AnswersByResult texts each input before left written (Err ReadFailed) = AnsweredSomeLines each input before left written
+AnswersByResult texts each input before left written (Err WriteFailed) = AnsweredPartOfLines texts each input before left written
+AnswersByResult texts each input before left written (Err Memory) = ⊥
 
 -- what answering does to a reader and a writer
 pub record AnswersInput (texts : LineTexts) (r r_after w w_after : Stream)
     (result : Result (Unit {0}) SessionError) : Type 0 where
   pub told : (input before : List ℕ) → r.bytes ≡ Some input → w.bytes ≡ Some before
-      → AnswersByResult texts input before r_after.bytes w_after.bytes result
+      → AnswersByResult texts (AnswersEach texts) input before r_after.bytes w_after.bytes result
   pub fails : FailsByResult r.failed r_after.failed w.failed w_after.failed result
 
 -- ---- parts
@@ -84,24 +88,24 @@ pub record AnsweredPart (texts : LineTexts) (line : List ℕ) (old new : Option 
   pub written : AddsBytes old new (take many text)
 
 -- the lines that ended among the bytes that were heard were answered
-pub record AnswersSoFar (texts : LineTexts) (before heard : List ℕ) (written : Option (List ℕ)) : Type 0 where
+pub record AnswersSoFar (each : JoinedTexts) (before heard : List ℕ) (written : Option (List ℕ)) : Type 0 where
   pub text : List ℕ
-  pub lines : AnswersEach texts (cut heard).0 text
+  pub lines : each (cut heard).0 text
   pub written_is : written ≡ Some (before ++ text)
 
 -- the bytes that were heard are all, and their lines were answered
-pub record AnswersToEnd (texts : LineTexts) (before heard : List ℕ) (written : Option (List ℕ)) : Type 0 where
+pub record AnswersToEnd (each : JoinedTexts) (before heard : List ℕ) (written : Option (List ℕ)) : Type 0 where
   pub text : List ℕ
-  pub lines : AnswersEach texts (input_lines heard) text
+  pub lines : each (input_lines heard) text
   pub written_is : written ≡ Some (before ++ text)
 
 -- the answers to all lines of the bytes that were heard but the last were written whole, and its own but for a rest
-pub record AnswersCut (texts : LineTexts) (before heard : List ℕ) (written : Option (List ℕ)) : Type 0 where
+pub record AnswersCut (texts : LineTexts) (each : JoinedTexts) (before heard : List ℕ) (written : Option (List ℕ)) : Type 0 where
   pub lines : List (List ℕ)
   pub last : List ℕ
   pub lines_are : lines ++ last ∷ [] ≡ input_lines heard
   pub text : List ℕ
-  pub answered : AnswersEach texts lines text
+  pub answered : each lines text
   pub part : List ℕ
   pub rest : List ℕ
   pub answers : texts last (part ++ rest)
@@ -109,11 +113,11 @@ pub record AnswersCut (texts : LineTexts) (before heard : List ℕ) (written : O
   pub part_written : written ≡ Some (before ++ (text ++ part))
 
 -- how answering ends: never at a line
-abbrev pub AnswersEnd : Bool → LineTexts → List ℕ → List ℕ → Option (List ℕ) → Type 0
-AnswersEnd false texts before heard written = ⊥
-AnswersEnd true texts before heard written = AnswersToEnd texts before heard written
+abbrev pub AnswersEnd : Bool → JoinedTexts → List ℕ → List ℕ → Option (List ℕ) → Type 0
+AnswersEnd false each before heard written = ⊥
+AnswersEnd true each before heard written = AnswersToEnd each before heard written
 
 -- how a write fails, at a line or at the input's end
-abbrev pub AnswersBreak : Bool → LineTexts → List ℕ → List ℕ → Option (List ℕ) → Type 0
-AnswersBreak false texts before heard written = AnswersCut texts before heard written × ((cut heard).1 ≡ [])
-AnswersBreak true texts before heard written = AnswersCut texts before heard written
+abbrev pub AnswersBreak : Bool → LineTexts → JoinedTexts → List ℕ → List ℕ → Option (List ℕ) → Type 0
+AnswersBreak false texts each before heard written = AnswersCut texts each before heard written × ((cut heard).1 ≡ [])
+AnswersBreak true texts each before heard written = AnswersCut texts each before heard written

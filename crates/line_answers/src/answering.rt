@@ -10,7 +10,7 @@ use std::alloc::{AllocError, Global};
 use streams::{Failed, LineSource, Listener, SessionError, Sink, write_all};
 
 /// What is written if an allocation fails for a line's answer.
-const NO_MEMORY: &[u8] = b"{\"refused\":\"memory\"}\n";
+pub const NO_MEMORY: &[u8] = b"{\"refused\":\"memory\"}\n";
 
 /// Answers each line before the next is read, until the input's end. A line of more than `max_line`
 /// bytes is refused. Of an input only the first 2^63 bytes are read.
@@ -49,15 +49,17 @@ pub struct Answers<'a, D> {
 }
 
 impl<'a, D: Decider> Listener for Answers<'a, D> {
-    ghost use Rattle.line_answers.specs.AnsweredLines.{AnswersBreak, AnswersEnd, AnswersSoFar};
+    ghost use Rattle.line_answers.specs.AnsweredLines.{AnswersBreak, AnswersEach, AnswersEnd, AnswersSoFar};
     ghost use Rattle.line_answers.specs.Lines.{KeepsLine};
     ghost use Rattle.streams.specs.Lines.{cut};
 
-    ghost goes = { λ a start before heard written. (a.decider.now ≡ start.decider.now) × AnswersSoFar (AnswersInputLine start.line.most (D.refuses start.decider.now) (D.decides start.decider.now)) before heard written × KeepsLine start.line.most a.line (cut heard).1 };
+    ghost goes = { λ a start before heard written. (a.decider.now ≡ start.decider.now)
+        × AnswersSoFar (AnswersEach (AnswersInputLine start.line.most (D.refuses start.decider.now) (D.decides start.decider.now))) before heard written × KeepsLine start.line.most a.line (cut heard).1 };
 
-    ghost ended = { λ last a start before heard written. AnswersEnd last (AnswersInputLine start.line.most (D.refuses start.decider.now) (D.decides start.decider.now)) before heard written };
+    ghost ended = { λ last a start before heard written. AnswersEnd last (AnswersEach (AnswersInputLine start.line.most (D.refuses start.decider.now) (D.decides start.decider.now))) before heard written };
 
-    ghost broke = { λ last a start before heard written. AnswersBreak last (AnswersInputLine start.line.most (D.refuses start.decider.now) (D.decides start.decider.now)) before heard written };
+    ghost broke = { λ last a start before heard written. AnswersBreak last (AnswersInputLine start.line.most (D.refuses start.decider.now) (D.decides start.decider.now))
+        (AnswersEach (AnswersInputLine start.line.most (D.refuses start.decider.now) (D.decides start.decider.now))) before heard written };
 
     fn keep(&mut self, part: &[u8]) {
         self.line.extend(part);
@@ -124,7 +126,7 @@ fn answer_line<D: Decider, W: Sink>(
 }
 
 /// The answer to a line that is not empty, with its line feed; nothing if the line is blank.
-fn answer_of<D: Decider>(
+pub fn answer_of<D: Decider>(
     alloc: Global,
     decider: &D,
     max_line: u64,

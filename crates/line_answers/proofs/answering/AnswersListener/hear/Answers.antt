@@ -14,7 +14,7 @@ returns-then-is_empty-clause-on g c same start before heard h =
 pub returns-in_err-answer_line-clause-broken : goal.returns-in_err-answer_line-clause-broken
 returns-in_err-answer_line-clause-broken g c =
     err_so c.from_residual.result _
-    (λ start before heard h. told_part_whole _ _ _ _ h.1 _ c.requires _ (c.is_empty.ensures.empty _ _ h.2 c.if-is_empty.true) (rw (h.0, h.2.most_is) at c.in_err-answer_line.ensures.part))
+    (λ start before heard h. told_part_whole _ _ _ _ h.1 _ _ c.requires _ (c.is_empty.ensures.empty _ _ h.2 c.if-is_empty.true) (rw (h.0, h.2.most_is) at c.in_err-answer_line.ensures.part))
 
 pub returns-in-Ok-clause-on : goal.returns-in-Ok-clause-on
 returns-in-Ok-clause-on g c same start before heard h =
@@ -26,4 +26,4 @@ returns-in-Ok-clause-on g c same start before heard h =
 
 pub returns-in-Err-clause-broken : goal.returns-in-Err-clause-broken
 returns-in-Err-clause-broken g c start before heard h =
-    told_part _ _ _ _ h.1 _ c.requires _ (rw h.0 at (c.in-Err.ensures.part _ _ (c.extend.ensures _ _ h.2)))
+    told_part _ _ _ _ h.1 _ _ c.requires _ (rw h.0 at (c.in-Err.ensures.part _ _ (c.extend.ensures _ _ h.2)))

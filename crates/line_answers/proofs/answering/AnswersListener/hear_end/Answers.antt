@@ -12,5 +12,5 @@ returns-clause-over g c =
 pub returns-clause-broken : goal.returns-clause-broken
 returns-clause-broken g c =
     on_err_weaker c.answer_kept.result
-    (λ part start before heard h. end_part _ _ _ _ h.1 (passes_none _ _ _) _ (rw h.0 at (part _ _ h.2)))
+    (λ part start before heard h. end_part _ _ _ _ h.1 _ (passes_none _ _ _) _ (rw h.0 at (part _ _ h.2)))
     c.answer_kept.ensures.part

@@ -1,0 +1,71 @@
+-- What is told of lines that are refused, on a stream of their own.
+use Rattle.std.specs.Prelude.{◌≡◌, ℕ, ◌≤◌, ◌⊎◌, Bool, true, false, nat_eq, List, [], ◌∷◌, ◌++◌, ◌||◌, codes, decimal, length, suc, Option, Some}
+use Rattle.std.specs.Prelude.{Result, Ok, Err, Vec, if◌then◌else◌}
+use Rattle.std.specs.declared.alloc.AllocError.{AllocError}
+use Rattle.std.specs.declared.alloc.Global.{Global}
+use Rattle.std.specs.List.{starts_with}
+use Rattle.streams.specs.Failures.{FailsByResult}
+use Rattle.streams.specs.Lines.{cut}
+use Rattle.streams.specs.Streams.{Stream}
+use Rattle.streams.specs.Writing.{WritesBytes, WritesPart}
+use Rattle.streams.specs.declared.session_error.SessionError.{SessionError}
+use Rattle.line_answers.specs.AnsweredLines.{AnswersBreak, AnswersByResult, AnswersEnd, AnswersSoFar}
+use Rattle.line_answers.specs.Lines.{LineTexts, no_memory_text}
+
+-- the answer refuses its line: an object whose first member is `refused`, or the policy that refuses
+abbrev pub is_refusal : List ℕ → Bool
+is_refusal answer = starts_with nat_eq answer (codes "{\"refused\":\"") || starts_with nat_eq answer (codes "{\"policy\":\"")
+
+-- what is told of a line, by its number, counted from 1, and its answer: a line with both if it is refused, else nothing
+abbrev pub told_of : ℕ → List ℕ → List ℕ
+told_of number answer =
+    if is_refusal answer then codes "celbpf: line " ++ (decimal number ++ (codes ": " ++ answer)) else []
+
+-- the joined answers to lines, and what is told of these lines
+pub data TellsEach (texts : LineTexts) : List (List ℕ) → List ℕ → List ℕ → Type 0 where
+  none : TellsEach texts [] [] []
+  more : {lines : List (List ℕ)} {text told : List ℕ} {line answer : List ℕ} → TellsEach texts lines text told
+      → texts line answer
+      → TellsEach texts (lines ++ line ∷ []) (text ++ answer) (told ++ told_of (suc (length lines)) answer)
+
+-- what answering does to a reader, a writer and the stream that refused lines are told on: it took what is told of the
+-- lines whose answers were written whole, or a beginning of that if a write to it failed
+pub record TellsInput (texts : LineTexts) (r r_after w w_after e e_after : Stream)
+    (result : Result (Unit {0}) SessionError) : Type 0 where
+  pub told : (input before : List ℕ) → r.bytes ≡ Some input → w.bytes ≡ Some before
+      → (text : List ℕ) × AnswersByResult texts (λ lines answers. TellsEach texts lines answers text) input before r_after.bytes w_after.bytes result
+      × (WritesBytes e e_after text ⊎ WritesPart e e_after text)
+  pub fails : FailsByResult r.failed r_after.failed w.failed w_after.failed result
+
+-- ---- parts
+
+-- the text of an answer, or that an allocation failed for it
+abbrev pub answer_bytes : Result (Vec ℕ Global) AllocError → List ℕ
+answer_bytes (Ok text) = text.items
+answer_bytes (Err e) = no_memory_text
+
+-- a stream took these bytes, or a beginning of them if a write has failed
+abbrev pub TakesOf : Bool → Stream → Stream → List ℕ → Type 0
+TakesOf false old new bytes = WritesBytes old new bytes
+TakesOf true old new bytes = WritesPart old new bytes
+
+-- the lines that ended among the bytes that were heard were answered and told, and counted
+pub record TellsSoFar (texts : LineTexts) (count : ℕ) (failed : Bool) (e e_now : Stream) (before heard : List ℕ)
+    (written : Option (List ℕ)) : Type 0 where
+  pub text : List ℕ
+  pub so_far : AnswersSoFar (λ lines answers. TellsEach texts lines answers text) before heard written
+  pub count_is : count ≡ length (cut heard).0
+  pub few : count ≤ length heard
+  pub tells : TakesOf failed e e_now text
+
+-- how telling ends: never at a line
+abbrev pub TellsEnd : Bool → LineTexts → Stream → Stream → List ℕ → List ℕ → Option (List ℕ) → Type 0
+TellsEnd last texts e e_now before heard written =
+    (text : List ℕ) × AnswersEnd last (λ lines answers. TellsEach texts lines answers text) before heard written
+    × (WritesBytes e e_now text ⊎ WritesPart e e_now text)
+
+-- how a write of an answer fails, at a line or at the input's end
+abbrev pub TellsBreak : Bool → LineTexts → Stream → Stream → List ℕ → List ℕ → Option (List ℕ) → Type 0
+TellsBreak last texts e e_now before heard written =
+    (text : List ℕ) × AnswersBreak last texts (λ lines answers. TellsEach texts lines answers text) before heard written
+    × (WritesBytes e e_now text ⊎ WritesPart e e_now text)

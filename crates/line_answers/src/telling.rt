@@ -1,0 +1,155 @@
+//! Line after line, where those that are refused are told of.
+ghost use Rattle.std.specs.Prelude.{◌≡◌};
+ghost use Rattle.streams.specs.Streams.{stream};
+ghost use Rattle.line_answers.specs.Lines.{AnswersInputLine};
+ghost use Rattle.line_answers.specs.AnsweredLines.{OfLine};
+ghost use Rattle.line_answers.specs.Telling.{answer_bytes, TellsInput};
+
+use crate::answering::{NO_MEMORY, answer_of};
+use crate::decider::Decider;
+use crate::line::Line;
+use crate::line_rules::LineRules;
+use crate::teller::Teller;
+use std::alloc::{AllocError, Global};
+use streams::{Failed, LineSource, Listener, SessionError, Sink, write_all};
+
+/// Answers the lines as `answer_lines` does, and tells of each line that is refused on `e`. If a
+/// write to `e` fails, nothing more is told, and the lines are answered all the same.
+///
+/// # Errors
+///
+/// `ReadFailed` if a read failed and `WriteFailed` if a write of an answer failed or took no byte,
+/// which end it.
+pub fn answer_and_tell<D: Decider, R: LineSource, W: Sink, E: Sink>(
+    rules: &LineRules<'_, D>,
+    r: &mut R,
+    w: &mut W,
+    e: &mut E,
+) -> Result<(), SessionError>
+    ensures { let written = stream (W.taken w.old) (W.failed w.old) in
+        let written_after = stream (W.taken w.new) (W.failed w.new) in
+        let read = stream (R.left r.old) (R.failed r.old) in
+        let read_after = stream (R.left r.new) (R.failed r.new) in
+        let told = stream (E.taken e.old) (E.failed e.old) in
+        let told_after = stream (E.taken e.new) (E.failed e.new) in
+        TellsInput (AnswersInputLine rules.now.max_line (D.refuses rules.now.decider.now) (D.decides rules.now.decider.now)) read read_after written written_after told told_after result }
+{
+    let mut answers = TellingAnswers {
+        alloc: rules.alloc,
+        decider: rules.decider,
+        line: Line::new(rules.alloc, rules.max_line),
+        teller: Teller::new(e),
+    };
+    let result = r.hear_lines(&mut answers, w);
+    let TellingAnswers {
+        alloc: _,
+        decider: _,
+        line,
+        teller,
+    } = answers;
+    // What owns memory goes before `e` is read: it would keep `e` borrowed.
+    drop(line);
+    let Teller {
+        errors,
+        count: _,
+        failed: _,
+    } = teller;
+    // No effect at run time. The proof reads what `e` holds from this use of `errors`.
+    let _ = &*errors;
+    result
+}
+
+/// What answers the lines and tells of those that are refused.
+#[derive(Drop)]
+pub struct TellingAnswers<'a, 'e, D, E> {
+    alloc: Global,
+    decider: &'a D,
+    /// What is kept of the next line.
+    line: Line,
+    teller: Teller<'e, E>,
+}
+
+impl<'a, 'e, D: Decider, E: Sink> Listener for TellingAnswers<'a, 'e, D, E> {
+    ghost use Rattle.std.specs.Prelude.{◌≤◌, ◌^◌, length};
+    ghost use Rattle.line_answers.specs.Lines.{KeepsLine};
+    ghost use Rattle.line_answers.specs.Telling.{TellsBreak, TellsEnd, TellsSoFar};
+    ghost use Rattle.streams.specs.Lines.{cut};
+
+    ghost goes = { λ a start before heard written. (a.decider.now ≡ start.decider.now) × (a.teller.errors.ghost_name ≡ start.teller.errors.ghost_name)
+        × KeepsLine start.line.most a.line (cut heard).1
+        × (length heard ≤ 2 ^ 63 → TellsSoFar (AnswersInputLine start.line.most (D.refuses start.decider.now) (D.decides start.decider.now)) a.teller.count a.teller.failed
+        (stream (E.taken start.teller.errors.now) (E.failed start.teller.errors.now)) (stream (E.taken a.teller.errors.now) (E.failed a.teller.errors.now)) before heard written) };
+
+    ghost ended = { λ last a start before heard written. (a.teller.errors.ghost_name ≡ start.teller.errors.ghost_name)
+        × (length heard ≤ 2 ^ 63 → TellsEnd last (AnswersInputLine start.line.most (D.refuses start.decider.now) (D.decides start.decider.now))
+        (stream (E.taken start.teller.errors.now) (E.failed start.teller.errors.now)) (stream (E.taken a.teller.errors.now) (E.failed a.teller.errors.now)) before heard written) };
+
+    ghost broke = { λ last a start before heard written. (a.teller.errors.ghost_name ≡ start.teller.errors.ghost_name)
+        × (length heard ≤ 2 ^ 63 → TellsBreak last (AnswersInputLine start.line.most (D.refuses start.decider.now) (D.decides start.decider.now))
+        (stream (E.taken start.teller.errors.now) (E.failed start.teller.errors.now)) (stream (E.taken a.teller.errors.now) (E.failed a.teller.errors.now)) before heard written) };
+
+    fn keep(&mut self, part: &[u8]) {
+        self.line.extend(part);
+    }
+
+    fn hear<W: Sink>(&mut self, rest: &[u8], w: &mut W) -> Result<bool, Failed> {
+        if self.line.is_empty() {
+            let answer = answer_to(self.alloc, self.decider, self.line.most, rest);
+            write_all(w, bytes_of(&answer))?;
+            self.teller.tell(bytes_of(&answer));
+            return Ok(false);
+        }
+        self.line.extend(rest);
+        let answer = answer_to_kept(self.alloc, self.decider, &self.line);
+        write_all(w, bytes_of(&answer))?;
+        self.teller.tell(bytes_of(&answer));
+        self.line.clear();
+        Ok(false)
+    }
+
+    fn hear_end<W: Sink>(&mut self, w: &mut W) -> Result<(), Failed> {
+        let answer = answer_to_kept(self.alloc, self.decider, &self.line);
+        write_all(w, bytes_of(&answer))?;
+        self.teller.tell(bytes_of(&answer));
+        Ok(())
+    }
+}
+
+/// The answer to the line that is kept.
+fn answer_to_kept<D: Decider>(
+    alloc: Global,
+    decider: &D,
+    line: &Line,
+) -> Result<Vec<u8>, AllocError>
+    ensures { OfLine line.now (λ most bytes. AnswersInputLine most (D.refuses decider.now) (D.decides decider.now) bytes (answer_bytes result)) }
+{
+    if line.lacks {
+        return Err(AllocError);
+    }
+    answer_to(alloc, decider, line.most, line.bytes.as_slice())
+}
+
+/// The answer to a line, which is nothing for one that is empty or blank.
+fn answer_to<D: Decider>(
+    alloc: Global,
+    decider: &D,
+    max_line: u64,
+    line: &[u8],
+) -> Result<Vec<u8>, AllocError>
+    ensures { AnswersInputLine max_line (D.refuses decider.now) (D.decides decider.now) line.now (answer_bytes result) }
+{
+    if line.is_empty() {
+        return Ok(Vec::new(alloc));
+    }
+    answer_of(alloc, decider, max_line, line)
+}
+
+/// The bytes of an answer, or that memory ran out for it.
+fn bytes_of(answer: &Result<Vec<u8>, AllocError>) -> &[u8]
+    ensures { result.now ≡ answer_bytes answer.now }
+{
+    match answer {
+        Ok(text) => text.as_slice(),
+        Err(_) => NO_MEMORY,
+    }
+}
