@@ -3,7 +3,7 @@ use Rattle.std.specs.Prelude.{◌≡◌, true, false, List, [], ◌∷◌, ◌++
 use Rattle.clap.specs.Words.{Text}
 use Rattle.host.specs.declared.order_error.OrderError.TheVariants.{InvalidArguments}
 use Rattle.gatekeeper_runner.specs.About.{text_asked}
-use Rattle.gatekeeper_runner.specs.Orders.{by_cluster, by_policies, entered, faults, is_partial, order_from}
+use Rattle.gatekeeper_runner.specs.Orders.{by_cluster, by_policies, entered, faults, is_partial, is_verbose, order_from}
 
 -- gatekeeper --policy a.json
 abbrev pub under_policy : List Text
@@ -20,14 +20,25 @@ with_line number = under_policy ++ codes "--max-line" ∷ number ∷ []
 -- what command lines ask for: 10,000,000 steps and lines of 16 MiB, if they do not say so
 pub record CommandOrdersHold : Type 0 where
   pub policy : order_from (entered under_policy)
-      ≡ by_policies (record { policies = codes "a.json" ∷ []; namespace = None; params = None; steps = 10000000; max_line = 16777216 })
+      ≡ by_policies (record { policies = codes "a.json" ∷ []; namespace = None; params = None; steps = 10000000; max_line = 16777216; verbose = false })
   pub more : order_from
       (entered (under_policy ++ codes "--policy" ∷ codes "b.json" ∷ codes "--namespace" ∷ codes "n.json" ∷ codes "--steps" ∷ codes "5" ∷ []))
-      ≡ by_policies (record { policies = codes "a.json" ∷ codes "b.json" ∷ []; namespace = Some (codes "n.json"); params = None; steps = 5; max_line = 16777216 })
+      ≡ by_policies (record {
+        policies = codes "a.json" ∷ codes "b.json" ∷ [];
+        namespace = Some (codes "n.json");
+        params = None;
+        steps = 5;
+        max_line = 16777216;
+        verbose = false;
+      })
   pub cluster : order_from (entered as_cluster)
-      ≡ by_cluster (record { files = codes "c.json" ∷ []; partial = false; steps = 10000000; max_line = 16777216 })
+      ≡ by_cluster (record { files = codes "c.json" ∷ []; partial = false; steps = 10000000; max_line = 16777216; verbose = false })
   pub partial : order_from (entered (as_cluster ++ codes "--partial" ∷ []))
-      ≡ by_cluster (record { files = codes "c.json" ∷ []; partial = true; steps = 10000000; max_line = 16777216 })
+      ≡ by_cluster (record { files = codes "c.json" ∷ []; partial = true; steps = 10000000; max_line = 16777216; verbose = false })
+  pub verbose : order_from (entered (under_policy ++ codes "--verbose" ∷ []))
+      ≡ by_policies (record { policies = codes "a.json" ∷ []; namespace = None; params = None; steps = 10000000; max_line = 16777216; verbose = true })
+  pub verbose_cluster : order_from (entered (codes "gatekeeper" ∷ codes "--verbose" ∷ codes "--cluster" ∷ codes "c.json" ∷ []))
+      ≡ by_cluster (record { files = codes "c.json" ∷ []; partial = false; steps = 10000000; max_line = 16777216; verbose = true })
 
 -- words that go together, and others
 pub record FaultRowsHold : Type 0 where
@@ -41,6 +52,11 @@ pub record FaultRowsHold : Type 0 where
   pub cluster_with_namespace : faults (as_cluster ++ codes "--namespace" ∷ codes "n.json" ∷ []) ≡ [] → ⊥
   pub cluster_with_params : faults (as_cluster ++ codes "--params" ∷ codes "p.json" ∷ []) ≡ [] → ⊥
   pub neither : faults (codes "gatekeeper" ∷ []) ≡ [] → ⊥
+  -- --verbose is a switch
+  pub verbose_taken : faults (under_policy ++ codes "--verbose" ∷ []) ≡ []
+  pub verbose_twice : faults (under_policy ++ codes "--verbose" ∷ codes "--verbose" ∷ []) ≡ [] → ⊥
+  pub verbose_value : faults (under_policy ++ codes "--verbose" ∷ codes "yes" ∷ []) ≡ [] → ⊥
+  pub not_verbose : is_verbose [] ≡ false
   -- a line may have 1 to 16,777,216 bytes
   pub longest : faults (with_line (codes "16777216")) ≡ []
   pub longer : faults (with_line (codes "16777217")) ≡ [] → ⊥
@@ -50,8 +66,8 @@ pub record FaultRowsHold : Type 0 where
 -- the usage that the program prints
 abbrev pub usage : Text
 usage =
-    codes "usage: gatekeeper --policy F [--policy F ..] [--namespace F] [--params F]\n                  [--steps N] [--max-line N]\n"
-    ++ (codes "       gatekeeper --cluster F [--cluster F ..] [--partial]\n                  [--steps N] [--max-line N]\n\n"
+    codes "usage: gatekeeper --policy F [--policy F ..] [--namespace F] [--params F]\n                  [--steps N] [--max-line N] [--verbose]\n"
+    ++ (codes "       gatekeeper --cluster F [--cluster F ..] [--partial]\n                  [--steps N] [--max-line N] [--verbose]\n\n"
     ++ (codes "Compiles the policies, and answers each review on standard input, a JSON document\n"
     ++ (codes "a line, with a line on standard output.\n\n"
     ++ (codes "  --policy F     a ValidatingAdmissionPolicy; once or more\n  --namespace F  the namespace of the requests\n"
@@ -61,7 +77,8 @@ usage =
     ++ (codes "                 the requests that it matches are refused, if none denies them\n"
     ++ (codes "  --steps N      the most steps of a policy's program; 10000000 if not given\n"
     ++ (codes "  --max-line N   the most bytes of a line; 16777216 if not given\n"
-    ++ codes "  --help         prints this text\n  --version      prints the version\n"))))))))))
+    ++ (codes "  --verbose      tells of each refused line on standard error, with its number\n"
+    ++ codes "  --help         prints this text\n  --version      prints the version\n")))))))))))
 
 -- the first word after the program's name asks for a text
 pub record HelpRowsHold : Type 0 where

@@ -4,7 +4,8 @@ use Rattle.streams.specs.Streams.{Stream}
 use Rattle.streams.specs.declared.session_error.SessionError.{SessionError}
 use Rattle.line_answers.specs.Lines.{AnswersInputLine}
 use Rattle.line_answers.specs.AnsweredLines.{AnswersInput}
-use Rattle.line_answers.proofs.Meaning.{input_gives, line_gives}
+use Rattle.line_answers.specs.Telling.{TellsInput}
+use Rattle.line_answers.proofs.Meaning.{input_gives, line_gives, tells_gives}
 use Rattle.cluster_state.specs.State.{ClusterState}
 use Rattle.cluster_gate.specs.Dispatch.{DecidesInCluster}
 use Rattle.gatekeeper_runner.specs.ClusterLines.{AnswersClusterLine, DecidesAsCluster, DecidesClusterLine, IsKeeperOf, decides, decision_text}
@@ -22,3 +23,11 @@ pub as_cluster : (r r_after w w_after : Stream) (result : Result (Unit {0}) Sess
 as_cluster r r_after w w_after result c k keeps answered =
     let gives = line_gives k.max_line too_long_text (DecidesAsCluster OneImage k) (DecidesClusterLine OneImage c.state k.steps) (λ line text by. by c.state keeps.of_state) in
     rw (← keeps.max_line, ← keeps.steps) (input_gives _ _ gives r r_after w w_after result answered)
+
+-- and so is what is told of them
+pub tells_as_cluster : (r r_after w w_after e e_after : Stream) (result : Result (Unit {0}) SessionError) (c : AnsweringCluster) (k : ClusterKeeper) → IsKeeperOf c k
+    → TellsInput (AnswersInputLine k.max_line too_long_text (DecidesAsCluster OneImage k)) r r_after w w_after e e_after result
+    → TellsInput (AnswersClusterLine OneImage c) r r_after w w_after e e_after result
+tells_as_cluster r r_after w w_after e e_after result c k keeps told =
+    let gives = line_gives k.max_line too_long_text (DecidesAsCluster OneImage k) (DecidesClusterLine OneImage c.state k.steps) (λ line text by. by c.state keeps.of_state) in
+    rw (← keeps.max_line, ← keeps.steps) (tells_gives _ _ gives r r_after w w_after e e_after result told)

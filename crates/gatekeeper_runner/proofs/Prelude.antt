@@ -52,5 +52,5 @@ pub use Rattle.gatekeeper_runner.specs.declared.order.Order.{Order}
 pub use Rattle.gatekeeper_runner.specs.declared.tally.Tally.{Tally}
 unfoldable pub use Rattle.gatekeeper_runner.specs.Lines.{refusal_text}
 unfoldable pub use Rattle.gatekeeper_runner.specs.Orders.{entered, faults, files_rule, gatekeeper_app, max_line_rule}
-unfoldable pub use Rattle.gatekeeper_runner.specs.Orders.{partial_rule, policies_app}
+unfoldable pub use Rattle.gatekeeper_runner.specs.Orders.{partial_rule, policies_app, verbose_rule}
 pub use Rattle.gatekeeper_runner.specs.declared.start_refusal.StartRefusal.{StartRefusal}

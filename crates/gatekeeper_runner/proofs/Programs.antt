@@ -1,5 +1,5 @@
 -- How the program ends.
-use Rattle.gatekeeper_runner.proofs.Prelude.{◌≡◌, ℕ, List, Some, None, Ok, Err, refl, OneImage, Text, GatekeeperOrderReturns, lines_order_view, AsksGatekeeper, Order}
+use Rattle.gatekeeper_runner.proofs.Prelude.{◌≡◌, ℕ, true, false, List, Some, None, Ok, Err, refl, OneImage, Text, GatekeeperOrderReturns, lines_order_view, AsksGatekeeper, Order}
 use Rattle.streams.specs.Streams.{Stream}
 use Rattle.cli.specs.Ending.{Ending, Given, System}
 use Rattle.gatekeeper_runner.specs.About.{text_asked}
@@ -7,7 +7,7 @@ use Rattle.gatekeeper_runner.specs.ClusterEnding as cluster
 use Rattle.gatekeeper_runner.specs.ClusterEnding.{TellsStart}
 use Rattle.gatekeeper_runner.specs.ClusterStarting.{no_list}
 use Rattle.gatekeeper_runner.specs.Orders.{GatekeeperOrder, by_policies}
-use Rattle.gatekeeper_runner.specs.Program.{AnswersUnder, GatekeeperEffect, GatekeeperResult, IsNotBegun, IsTaskOf, PerformsTask, ReadsNothing, ServesReviews, TellsText, all, answers, as_cluster, lines, no_lists, no_order, no_policies, not_started, nothing, part, serves, tells, tells_part, under_policies}
+use Rattle.gatekeeper_runner.specs.Program.{AnswersUnder, GatekeeperEffect, GatekeeperResult, IsNotBegun, IsTaskOf, PerformsTask, ReadsNothing, ServesReviews, TellsText, all, answers, as_cluster, lines, no_lists, no_order, no_policies, not_started, nothing, part, serves, telling, tells, tells_part, under_policies}
 use Rattle.gatekeeper_runner.specs.Starting.{GatekeeperStarts}
 use Rattle.gatekeeper_runner.specs.Together.{Gatekeeper, gatekeeper_of}
 use Rattle.gatekeeper_runner.specs.declared.start_refusal.StartRefusal.{StartRefusal}
@@ -26,9 +26,9 @@ told given old new text r asked reads (part writes) = tells_part asked reads wri
 
 -- the lines are answered under policies
 served : (given : Given) (old new : System) (order : GatekeeperOrder) (t : Gatekeeper) (r : Ending) → AsksGatekeeper given (by_policies order)
-    → GatekeeperStarts old.files order (Ok t) → new.files ≡ old.files → AnswersUnder OneImage t old.input new.input old.output new.output r
+    → order.verbose ≡ false → GatekeeperStarts old.files order (Ok t) → new.files ≡ old.files → AnswersUnder OneImage t old.input new.input old.output new.output r
     → ServesReviews OneImage given old new r
-served given old new order t r asked starts files (lines result answered) = answers result asked starts answered files
+served given old new order t r asked quiet starts files (lines result answered) = answers result asked quiet starts answered files
 
 module _ (given : Given) (old new : System) (e e_after : Stream) (status : ℕ) where
   -- a task is performed
@@ -40,12 +40,15 @@ module _ (given : Given) (old new : System) (e e_after : Stream) (status : ℕ) 
     status_is = does.1.status_is;
     says = does.1.says;
   })
-  performed (task.Policies keeper) files is does =
-      let keeps = is.3 in
+  performed (task.Policies keeper true) files is does =
+      let keeps = is.4 in
+      telling is.1 is.2 is.3 keeps.2 files (does keeps.0 keeps.1)
+  performed (task.Policies keeper false) files is does =
+      let keeps = is.4 in
       let ends = does keeps.0 keeps.1 in
       under_policies (record {
         ending = ends.ending;
-        does = serves is.1 (served given old new is.0 (gatekeeper_of keeps.0 keeper) ends.ending is.2 keeps.2 files ends.does);
+        does = serves is.1 (served given old new is.0 (gatekeeper_of keeps.0 keeper) ends.ending is.2 is.3 keeps.2 files ends.does);
         status_is = ends.status_is;
         says = ends.says;
       })

@@ -1,14 +1,16 @@
 -- How the program ends where lines are answered as a cluster does.
-use Rattle.std.specs.Prelude.{◌≡◌, ℕ, ◌⊎◌, List, Option, Result, Ok, Err}
+use Rattle.std.specs.Prelude.{◌≡◌, ℕ, ◌⊎◌, Bool, true, false, List, Option, Result, Ok, Err}
 use Rattle.streams.specs.Streams.{Stream}
 use Rattle.streams.specs.Writing.{WritesBytes, WritesPart}
 use Rattle.streams.specs.declared.session_error.SessionError.{SessionError}
 use Rattle.host.specs.FileSystem.{FileSystem}
-use Rattle.cli.specs.Ending.{Ending, ProgramEnds, WritesError}
+use Rattle.cli.specs.Ending.{Ending, ProgramEnds, WritesError, ending_status}
 use Rattle.cli.specs.Refusals.{refusal_line, refusal_status, session_refusal}
 use Rattle.cli.specs.declared.refusal.Refusal.TheVariants.{Memory}
 use Rattle.admission.specs.Standing.{Images}
 use Rattle.line_answers.specs.AnsweredLines.{AnswersInput}
+use Rattle.line_answers.specs.Lines.{LineTexts}
+use Rattle.line_answers.specs.Telling.{TellsInput}
 use Rattle.gatekeeper_runner.specs.ClusterLines.{AnswersClusterLine}
 use Rattle.gatekeeper_runner.specs.ClusterStarting.{AnsweringCluster, ClusterStarts, fault_line}
 use Rattle.gatekeeper_runner.specs.ClusterTelling.{TellsPolicies}
@@ -19,6 +21,15 @@ use Rattle.gatekeeper_runner.specs.declared.start_refusal.StartRefusal.{StartRef
 abbrev pub ending_of : Result (Unit {0}) SessionError → Ending
 ending_of (Ok u) = Ok 0
 ending_of (Err e) = Err (session_refusal e)
+
+-- the lines are answered, with what is told of the refused ones on standard error, and then the program ends with this
+-- status, and with a line of standard error if a read or a write of an answer failed
+pub record TellsRefused (texts : LineTexts) (r r_after w w_after e e_after : Stream) (status : ℕ) : Type 0 where
+  pub result : Result (Unit {0}) SessionError
+  pub told : Stream
+  pub tells : TellsInput texts r r_after w w_after e told result
+  pub status_is : status ≡ ending_status (ending_of result)
+  pub says : WritesError told e_after (ending_of result)
 
 -- standard error took the text, or a beginning of it where a write failed
 abbrev pub TellsCluster : Stream → Stream → List ℕ → Type 0
@@ -36,18 +47,25 @@ pub data AnswersAsCluster (chosen : Images) (c : AnsweringCluster) (r r_after w 
   lines : (result : Result (Unit {0}) SessionError) → AnswersInput (AnswersClusterLine chosen c) r r_after w w_after result
       → AnswersAsCluster chosen c r r_after w w_after (ending_of result)
 
+-- how the program ends after that, by whether refused lines are told of
+abbrev pub EndsAsCluster : Bool → Images → AnsweringCluster → Stream → Stream → Stream → Stream → Stream → Stream → ℕ → Type 0
+EndsAsCluster false chosen c r r_after w w_after e e_after status =
+    ProgramEnds (AnswersAsCluster chosen c r r_after w w_after) e e_after status
+EndsAsCluster true chosen c r r_after w w_after e e_after status =
+    TellsRefused (AnswersClusterLine chosen c) r r_after w w_after e e_after status
+
 -- a line is told of each policy on standard error, then the lines are answered, and the program ends with this status
-pub record TellsAndAnswers (chosen : Images) (c : AnsweringCluster) (r r_after w w_after e e_after : Stream) (status : ℕ) : Type 0 where
+pub record TellsAndAnswers (chosen : Images) (c : AnsweringCluster) (verbose : Bool) (r r_after w w_after e e_after : Stream) (status : ℕ) : Type 0 where
   pub text : List ℕ
   pub policies : TellsPolicies c.lists c.state c.state.policies text
   pub told : Stream
   pub tells : TellsCluster e told text
-  pub ends : ProgramEnds (AnswersAsCluster chosen c r r_after w w_after) told e_after status
+  pub ends : EndsAsCluster verbose chosen c r r_after w w_after told e_after status
 
 -- what is read and written, and the status, by the files: of the input, of standard output and of standard error
 pub data ClusterEnds (chosen : Images) (known : Option FileSystem) (order : ClusterOrder) (r r_after w w_after e e_after : Stream)
     (status : ℕ) : Type 0 where
   not_started : {why : StartRefusal} → ClusterStarts known order (Err why) → r_after ≡ r → w_after ≡ w → TellsStart e e_after status why
       → ClusterEnds chosen known order r r_after w w_after e e_after status
-  started : {c : AnsweringCluster} → ClusterStarts known order (Ok c) → TellsAndAnswers chosen c r r_after w w_after e e_after status
+  started : {c : AnsweringCluster} → ClusterStarts known order (Ok c) → TellsAndAnswers chosen c order.verbose r r_after w w_after e e_after status
       → ClusterEnds chosen known order r r_after w w_after e e_after status

@@ -25,6 +25,10 @@ files_rule name = record (option_rule name) { action = Some arg_action.Append }
 unfoldable pub partial_rule : Rule
 partial_rule = record (option_rule (codes "partial")) { action = Some arg_action.SetTrue }
 
+-- --verbose, a switch
+unfoldable pub verbose_rule : Rule
+verbose_rule = record (option_rule (codes "verbose")) { action = Some arg_action.SetTrue }
+
 -- the largest value of --max-line, and its default
 abbrev pub longest_line : ℕ
 longest_line = 16777216
@@ -41,10 +45,11 @@ max_line_rule = record (new_rule (codes "max-line")) {
 unfoldable pub policies_app : App
 policies_app = with_documents (with_rule (new_app (codes "gatekeeper")) (files_rule (codes "policy")))
 
--- the same, and [--cluster F ..] [--partial] [--steps N] [--max-line N]
+-- the same, and [--cluster F ..] [--partial] [--steps N] [--max-line N] [--verbose]
 unfoldable pub gatekeeper_app : App
 gatekeeper_app =
-    with_rule (with_rule (with_rule (with_rule policies_app (files_rule (codes "cluster"))) partial_rule) steps_rule) max_line_rule
+    with_rule (with_rule (with_rule (with_rule (with_rule policies_app (files_rule (codes "cluster"))) partial_rule) steps_rule)
+    max_line_rule) verbose_rule
 
 -- ---- words that go together
 
@@ -55,6 +60,10 @@ is_named id rows = is_some (first_of id rows)
 -- the switch was given
 abbrev pub is_partial : List Row → Bool
 is_partial rows = option_map_or (λ t. bytes_eq t (codes "true")) (first_of (codes "partial") rows) false
+
+-- --verbose was given
+abbrev pub is_verbose : List Row → Bool
+is_verbose rows = option_map_or (λ t. bytes_eq t (codes "true")) (first_of (codes "verbose") rows) false
 
 -- with --cluster there is none of --policy, --namespace and --params; else there is --policy, and no --partial
 abbrev pub go_together : List Row → Bool
@@ -77,21 +86,24 @@ faults words = fault_of gatekeeper_app words ++ choice_faults (entered words)
 
 -- ---- what they ask for
 
--- the names of the files, the policies in the order of the words, the most steps, and the most bytes of a line
+-- the names of the files, the policies in the order of the words, the most steps, the most bytes of a line, and whether
+-- refused lines are told of
 pub record GatekeeperOrder : Type 0 where
   pub policies : List Text
   pub namespace : Option Text
   pub params : Option Text
   pub steps : ℕ
   pub max_line : ℕ
+  pub verbose : Bool
 
 -- the names of the files of a cluster's state in the order of the words, whether a policy may be refused, the most steps,
--- and the most bytes of a line
+-- the most bytes of a line, and whether refused lines are told of
 pub record ClusterOrder : Type 0 where
   pub files : List Text
   pub partial : Bool
   pub steps : ℕ
   pub max_line : ℕ
+  pub verbose : Bool
 
 -- lines are answered under policies, or as a cluster does
 pub data LinesOrder : Type 0 where
@@ -118,6 +130,7 @@ policies_from rows = record {
   params = first_of (codes "params") rows;
   steps = steps_from rows;
   max_line = max_line_from rows;
+  verbose = is_verbose rows;
 }
 
 -- from the values of the arguments
@@ -127,6 +140,7 @@ cluster_from rows = record {
   partial = is_partial rows;
   steps = steps_from rows;
   max_line = max_line_from rows;
+  verbose = is_verbose rows;
 }
 
 -- by whether files of a cluster's state are named
@@ -143,11 +157,17 @@ order_view o = record {
   params = option_map string_bytes o.params;
   steps = o.steps;
   max_line = o.max_line;
+  verbose = o.verbose;
 }
 
 abbrev pub cluster_order_view : CodeClusterOrder → ClusterOrder
-cluster_order_view o =
-    record { files = map string_bytes o.files.items; partial = o.partial; steps = o.steps; max_line = o.max_line }
+cluster_order_view o = record {
+  files = map string_bytes o.files.items;
+  partial = o.partial;
+  steps = o.steps;
+  max_line = o.max_line;
+  verbose = o.verbose;
+}
 
 abbrev pub lines_order_view : CodeOrder → LinesOrder
 lines_order_view (code.Policies o) = by_policies (order_view o)

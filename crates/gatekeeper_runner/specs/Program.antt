@@ -1,5 +1,5 @@
 -- The program's effect: what it reads and writes, and its status.
-use Rattle.std.specs.Prelude.{◌≡◌, ℕ, Option, Some, None, Result, Ok, Err, map, string_bytes}
+use Rattle.std.specs.Prelude.{◌≡◌, ℕ, Bool, true, false, Option, Some, None, Result, Ok, Err, map, string_bytes}
 use Rattle.clap.specs.Words.{Text}
 use Rattle.serde_json.specs.View.{view}
 use Rattle.streams.specs.Streams.{Stream}
@@ -14,7 +14,8 @@ use Rattle.gatekeeper_runner.specs.Orders.{ClusterOrder, GatekeeperOrder, LinesO
 use Rattle.gatekeeper_runner.specs.Starting.{GatekeeperStarts, KeepsFrom}
 use Rattle.gatekeeper_runner.specs.Together.{Gatekeeper}
 use Rattle.gatekeeper_runner.specs.AnsweredLines.{AnswersLines, UnderPolicies}
-use Rattle.gatekeeper_runner.specs.ClusterEnding.{ClusterEnds, ending_of}
+use Rattle.gatekeeper_runner.specs.ClusterEnding.{ClusterEnds, TellsRefused, ending_of}
+use Rattle.gatekeeper_runner.specs.Lines.{AnswersReviewLine}
 use Rattle.gatekeeper_runner.specs.ClusterStarting.{HoldLists, OneIsNoList}
 use Rattle.gatekeeper_runner.specs.declared.start_refusal.StartRefusal.{StartRefusal, TheVariants.Plain}
 use Rattle.gatekeeper_runner.specs.declared.task.Task.{Task}
@@ -30,7 +31,7 @@ pub data ServesReviews (chosen : Images) (given : Given) (old new : System) : En
   not_started : {order : GatekeeperOrder} {r : Refusal} → AsksGatekeeper given (by_policies order) → GatekeeperStarts old.files order (Err r)
       → new ≡ old → ServesReviews chosen given old new (Err r)
   answers : {order : GatekeeperOrder} {keeper : Gatekeeper} (result : Result (Unit {0}) SessionError)
-      → AsksGatekeeper given (by_policies order) → GatekeeperStarts old.files order (Ok keeper)
+      → AsksGatekeeper given (by_policies order) → order.verbose ≡ false → GatekeeperStarts old.files order (Ok keeper)
       → AnswersLines chosen keeper old.input new.input old.output new.output result → new.files ≡ old.files
       → ServesReviews chosen given old new (ending_of result)
 
@@ -53,6 +54,11 @@ pub data GatekeeperEffect (chosen : Images) (given : Given) (old new : System) :
 pub data GatekeeperResult (chosen : Images) (given : Given) (old new : System) (errors errors_after : Stream) (status : ℕ) : Type 0 where
   under_policies : ProgramEnds (GatekeeperEffect chosen given old new) errors errors_after status
       → GatekeeperResult chosen given old new errors errors_after status
+  -- with --verbose
+  telling : {order : GatekeeperOrder} {keeper : Gatekeeper} → text_asked given ≡ None → AsksGatekeeper given (by_policies order)
+      → order.verbose ≡ true → GatekeeperStarts old.files order (Ok keeper) → new.files ≡ old.files
+      → TellsRefused (AnswersReviewLine chosen keeper) old.input new.input old.output new.output errors errors_after status
+      → GatekeeperResult chosen given old new errors errors_after status
   as_cluster : {order : ClusterOrder} → text_asked given ≡ None → AsksGatekeeper given (by_cluster order) → new.files ≡ old.files
       → ClusterEnds chosen old.files order old.input new.input old.output new.output errors errors_after status
       → GatekeeperResult chosen given old new errors errors_after status
@@ -70,8 +76,9 @@ pub data IsNotBegun (given : Given) (known : Option FileSystem) : StartRefusal �
 -- what the words ask for, with what was read for it
 abbrev pub IsTaskOf : Given → Option FileSystem → Task → Type 0
 IsTaskOf given known (task.Text text) = text_asked given ≡ Some text.now
-IsTaskOf given known (task.Policies keeper) =
-    (order : GatekeeperOrder) × (text_asked given ≡ None) × AsksGatekeeper given (by_policies order) × KeepsFrom known order (Ok keeper)
+IsTaskOf given known (task.Policies keeper verbose) =
+    (order : GatekeeperOrder) × (text_asked given ≡ None) × AsksGatekeeper given (by_policies order) × (order.verbose ≡ verbose)
+    × KeepsFrom known order (Ok keeper)
 IsTaskOf given known (task.Cluster t) =
     (text_asked given ≡ None) × AsksGatekeeper given (by_cluster (cluster_order_view t.order))
     × HoldLists known (map string_bytes t.order.files.items) (map view t.lists.items)
@@ -91,12 +98,17 @@ pub data AnswersUnder (chosen : Images) (t : Gatekeeper) (r r_after w w_after : 
   lines : (result : Result (Unit {0}) SessionError) → AnswersLines chosen t r r_after w w_after result
       → AnswersUnder chosen t r r_after w w_after (ending_of result)
 
+-- how the program ends under policies, by whether refused lines are told of
+abbrev pub EndsUnder : Bool → Images → Gatekeeper → Stream → Stream → Stream → Stream → Stream → Stream → ℕ → Type 0
+EndsUnder false chosen t r r_after w w_after e e_after status = ProgramEnds (AnswersUnder chosen t r r_after w w_after) e e_after status
+EndsUnder true chosen t r r_after w w_after e e_after status = TellsRefused (AnswersReviewLine chosen t) r r_after w w_after e e_after status
+
 -- how a task ends
 abbrev pub PerformsTask : Images → Task → Stream → Stream → Stream → Stream → Stream → Stream → ℕ → Type 0
 PerformsTask chosen (task.Text text) r r_after w w_after e e_after status =
     (r_after ≡ r) × ProgramEnds (TellsText text.now w w_after) e e_after status
-PerformsTask chosen (task.Policies keeper) r r_after w w_after e e_after status =
-    UnderPolicies keeper (λ t. ProgramEnds (AnswersUnder chosen t r r_after w w_after) e e_after status)
+PerformsTask chosen (task.Policies keeper verbose) r r_after w w_after e e_after status =
+    UnderPolicies keeper (λ t. EndsUnder verbose chosen t r r_after w w_after e e_after status)
 PerformsTask chosen (task.Cluster t) r r_after w w_after e e_after status =
     (known : Option FileSystem) → HoldLists known (map string_bytes t.order.files.items) (map view t.lists.items)
     → ClusterEnds chosen known (cluster_order_view t.order) r r_after w w_after e e_after status

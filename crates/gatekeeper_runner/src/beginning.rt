@@ -57,7 +57,7 @@ fn begin_order<F: Files>(alloc: Global, order: Order, files: &mut F) -> Result<T
     ensures known { F.known files.new ≡ F.known files.old }
 {
     match order {
-        Order::Policies(order) => Ok(Task::Policies(start(alloc, &order, files)?)),
+        Order::Policies(order) => Ok(Task::Policies(start(alloc, &order, files)?, order.verbose)),
         Order::Cluster(order) => begin_cluster(alloc, order, files),
     }
 }

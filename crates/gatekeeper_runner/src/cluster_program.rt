@@ -6,7 +6,7 @@ ghost use Rattle.streams.specs.Streams.{stream};
 ghost use Rattle.host.specs.FileSystem.{FileSystem};
 ghost use Rattle.policy_glue.specs.OneImage.{OneImage};
 ghost use Rattle.cluster_state.specs.State.{state_of, state_view, ClusterState};
-ghost use Rattle.gatekeeper_runner.specs.ClusterEnding.{AnswersAsCluster, ClusterEnds, TellsAndAnswers};
+ghost use Rattle.gatekeeper_runner.specs.ClusterEnding.{AnswersAsCluster, ClusterEnds, EndsAsCluster, TellsAndAnswers};
 ghost use Rattle.gatekeeper_runner.specs.ClusterLines.{IsKeeperOf};
 ghost use Rattle.gatekeeper_runner.specs.ClusterStarting.{AnsweringCluster, HoldLists};
 ghost use Rattle.gatekeeper_runner.specs.Orders.{cluster_order_view};
@@ -15,9 +15,10 @@ use crate::cluster_keeper::ClusterKeeper;
 use crate::cluster_opening::{open_cluster, state_refusal};
 use crate::cluster_task::ClusterTask;
 use crate::start_ending::{end_start, tell_bytes};
+use crate::verbose::end_telling;
 use cli::{Refusal, exit_with};
 use cluster_state::State;
-use line_answers::answer_lines;
+use line_answers::{LineRules, answer_lines};
 use std::process::ExitCode;
 use streams::{LineSource, Sink};
 
@@ -55,7 +56,7 @@ fn answer_by_state<'s, 'a, R: LineSource, W: Sink, E: Sink>(
         (stream (E.taken errors.old) (E.failed errors.old)) (stream (E.taken errors.new) (E.failed errors.new)) (exit_status result) }
 {
     match open_cluster(task, state) {
-        Ok(keeper) => tell_and_answer(&keeper, requests, answers, errors),
+        Ok(keeper) => tell_and_answer(&keeper, task.order.verbose, requests, answers, errors),
         Err(refusal) => end_start(task.alloc, refusal, errors),
     }
 }
@@ -63,16 +64,41 @@ fn answer_by_state<'s, 'a, R: LineSource, W: Sink, E: Sink>(
 /// Writes a line of standard error for each policy, and answers the lines.
 fn tell_and_answer<R: LineSource, W: Sink, E: Sink>(
     keeper: &ClusterKeeper<'_, '_>,
+    verbose: bool,
     requests: &mut R,
     answers: &mut W,
     errors: &mut E,
 ) -> ExitCode
     ensures { (c : AnsweringCluster) → IsKeeperOf c keeper.now
-        → TellsAndAnswers OneImage c (stream (R.left requests.old) (R.failed requests.old)) (stream (R.left requests.new) (R.failed requests.new))
+        → TellsAndAnswers OneImage c verbose (stream (R.left requests.old) (R.failed requests.old)) (stream (R.left requests.new) (R.failed requests.new))
         (stream (W.taken answers.old) (W.failed answers.old)) (stream (W.taken answers.new) (W.failed answers.new))
         (stream (E.taken errors.old) (E.failed errors.old)) (stream (E.taken errors.new) (E.failed errors.new)) (exit_status result) }
 {
     tell_bytes(keeper.told.as_slice(), errors);
+    end_cluster(keeper, verbose, requests, answers, errors)
+}
+
+/// Answers the lines, and tells of refused ones if it is so asked. Returns the code.
+fn end_cluster<R: LineSource, W: Sink, E: Sink>(
+    keeper: &ClusterKeeper<'_, '_>,
+    verbose: bool,
+    requests: &mut R,
+    answers: &mut W,
+    errors: &mut E,
+) -> ExitCode
+    ensures { (c : AnsweringCluster) → IsKeeperOf c keeper.now
+        → EndsAsCluster verbose OneImage c (stream (R.left requests.old) (R.failed requests.old)) (stream (R.left requests.new) (R.failed requests.new))
+        (stream (W.taken answers.old) (W.failed answers.old)) (stream (W.taken answers.new) (W.failed answers.new))
+        (stream (E.taken errors.old) (E.failed errors.old)) (stream (E.taken errors.new) (E.failed errors.new)) (exit_status result) }
+{
+    if verbose {
+        let rules = LineRules {
+            alloc: keeper.alloc,
+            decider: keeper,
+            max_line: keeper.max_line,
+        };
+        return end_telling(&rules, requests, answers, errors);
+    }
     let ending = answer_by(keeper, requests, answers);
     exit_with(keeper.alloc, ending, errors)
 }

@@ -2,7 +2,7 @@
 ghost use Rattle.std.specs.Prelude.{◌≡◌, codes, map, IfOk, false};
 ghost use Rattle.clap.specs.Words.{app_of, fault_of, found_of, rows_of, rule_of};
 ghost use Rattle.cli.specs.Parsing.{TakesWords};
-ghost use Rattle.gatekeeper_runner.specs.Orders.{entered, files_rule, gatekeeper_app, max_line_rule, partial_rule, policies_app};
+ghost use Rattle.gatekeeper_runner.specs.Orders.{entered, files_rule, gatekeeper_app, max_line_rule, partial_rule, policies_app, verbose_rule};
 
 use crate::limits::LONGEST_LINE;
 use clap::{Arg, ArgAction, ArgMatches, Command, value_parser};
@@ -40,6 +40,15 @@ fn max_line_argument<'a>(alloc: Global) -> Arg<'a>
         .default_value("16777216")
 }
 
+// --verbose, a switch
+#[tactic(auto, unfolding(crate::specs::Orders::verbose_rule))]
+fn verbose_argument<'a>(alloc: Global) -> Arg<'a>
+    ensures rule { rule_of result ≡ verbose_rule }
+    ensures local { result.global ≡ false }
+{
+    option_argument(alloc, "verbose").action(ArgAction::SetTrue)
+}
+
 fn policies_command<'a>(alloc: Global) -> Result<Command<'a>, AllocError>
     ensures { IfOk result (λ c. app_of c ≡ policies_app) }
 {
@@ -54,7 +63,8 @@ fn gatekeeper_command<'a>(alloc: Global) -> Result<Command<'a>, AllocError>
     let command = command
         .arg(partial_argument(alloc))?
         .arg(steps_argument(alloc))?;
-    command.arg(max_line_argument(alloc))
+    let command = command.arg(max_line_argument(alloc))?;
+    command.arg(verbose_argument(alloc))
 }
 
 /// The arguments that `clap` finds in the words, or its error. The program's name comes first.

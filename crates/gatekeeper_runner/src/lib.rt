@@ -37,6 +37,7 @@ mod tally;
 mod task;
 mod telling;
 mod texts;
+mod verbose;
 
 pub use answering::answer_lines;
 pub use gatekeeper::Gatekeeper;

@@ -1,7 +1,7 @@
 //! Reads the command line.
 ghost use Rattle.std.specs.Prelude.{◌≡◌, codes, map, string_bytes, IfOk};
 ghost use Rattle.clap.specs.Words.{found_of, rows_of};
-ghost use Rattle.gatekeeper_runner.specs.Orders.{cluster_from, cluster_order_view, go_together, is_named, is_partial, lines_order_view, max_line_from, order_from, order_view, policies_from, texts_of, GatekeeperOrderReturns};
+ghost use Rattle.gatekeeper_runner.specs.Orders.{cluster_from, cluster_order_view, go_together, is_named, is_partial, is_verbose, lines_order_view, max_line_from, order_from, order_view, policies_from, texts_of, GatekeeperOrderReturns};
 
 use crate::cluster_order::ClusterOrder;
 use crate::command_line::gatekeeper_matches;
@@ -59,6 +59,16 @@ fn is_partial(matches: &ArgMatches) -> bool
     }
 }
 
+/// Whether refused lines are told of.
+fn is_verbose(matches: &ArgMatches) -> bool
+    ensures { result ≡ is_verbose (rows_of (found_of matches.now)) }
+{
+    match text_in(matches, "verbose") {
+        Some(text) => text == "true",
+        None => false,
+    }
+}
+
 fn order_from(alloc: Global, matches: &ArgMatches) -> Result<Order, AllocError>
     ensures { IfOk result (λ o. lines_order_view o ≡ order_from (rows_of (found_of matches.now))) }
 {
@@ -78,12 +88,14 @@ fn policies_from(alloc: Global, matches: &ArgMatches) -> Result<PolicyOrder, All
     let params = name_in(alloc, matches, "params")?;
     let steps = steps_in(matches);
     let max_line = max_line_in(matches);
+    let verbose = is_verbose(matches);
     Ok(PolicyOrder {
         policies,
         namespace,
         params,
         steps,
         max_line,
+        verbose,
     })
 }
 
@@ -95,11 +107,13 @@ fn cluster_from(alloc: Global, matches: &ArgMatches) -> Result<ClusterOrder, All
     let partial = is_partial(matches);
     let steps = steps_in(matches);
     let max_line = max_line_in(matches);
+    let verbose = is_verbose(matches);
     Ok(ClusterOrder {
         files,
         partial,
         steps,
         max_line,
+        verbose,
     })
 }
 

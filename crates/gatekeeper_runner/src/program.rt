@@ -5,7 +5,7 @@ ghost use Rattle.streams.specs.Streams.{stream};
 ghost use Rattle.policy_glue.specs.OneImage.{OneImage};
 ghost use Rattle.cli.specs.Ending.{given_of, system};
 ghost use Rattle.gatekeeper_runner.specs.AnsweredLines.{UnderPolicies};
-ghost use Rattle.gatekeeper_runner.specs.Program.{AnswersUnder, GatekeeperResult, PerformsTask, TellsText};
+ghost use Rattle.gatekeeper_runner.specs.Program.{AnswersUnder, EndsUnder, GatekeeperResult, PerformsTask, TellsText};
 
 use crate::answering::answer_lines;
 use crate::beginning::begin;
@@ -13,6 +13,7 @@ use crate::cluster_program::answer_as_cluster;
 use crate::gatekeeper::Gatekeeper;
 use crate::start_ending::end_start;
 use crate::task::Task;
+use crate::verbose::tell_under;
 use cli::{Refusal, exit_with};
 use host::{Files, OrderError};
 use std::alloc::Global;
@@ -61,11 +62,9 @@ fn perform<R: LineSource, W: Sink, E: Sink>(
 {
     match task {
         Task::Text(text) => exit_with(alloc, tell(text, answers), refusals),
-        Task::Policies(keeper) => exit_with(
-            alloc,
-            answer_under(keeper, requests, answers),
-            refusals,
-        ),
+        Task::Policies(keeper, verbose) => {
+            end_under(keeper, *verbose, requests, answers, refusals)
+        }
         Task::Cluster(task) => answer_as_cluster(task, requests, answers, refusals),
     }
 }
@@ -78,6 +77,25 @@ fn tell<W: Sink>(text: &str, answers: &mut W) -> Result<u8, Refusal>
         Ok(()) => Ok(0),
         Err(_) => Err(Refusal::Output),
     }
+}
+
+/// Answers the lines under policies, and tells of refused ones if it is so asked. Returns the code.
+fn end_under<R: LineSource, W: Sink, E: Sink>(
+    keeper: &Gatekeeper,
+    verbose: bool,
+    requests: &mut R,
+    answers: &mut W,
+    refusals: &mut E,
+) -> ExitCode
+    ensures { UnderPolicies keeper.now (λ t. EndsUnder verbose OneImage t (stream (R.left requests.old) (R.failed requests.old)) (stream (R.left requests.new) (R.failed requests.new))
+        (stream (W.taken answers.old) (W.failed answers.old)) (stream (W.taken answers.new) (W.failed answers.new))
+        (stream (E.taken refusals.old) (E.failed refusals.old)) (stream (E.taken refusals.new) (E.failed refusals.new)) (exit_status result)) }
+{
+    if verbose {
+        return tell_under(keeper, requests, answers, refusals);
+    }
+    let ending = answer_under(keeper, requests, answers);
+    exit_with(keeper.alloc, ending, refusals)
 }
 
 /// Answers the lines under policies. Returns the status.

@@ -8,8 +8,8 @@ use crate::gatekeeper::Gatekeeper;
 pub enum Task {
     /// A text is written.
     Text(&'static str),
-    /// Lines are answered under policies.
-    Policies(Gatekeeper),
+    /// Lines are answered under policies, and refused ones are told of if this is true.
+    Policies(Gatekeeper, bool),
     /// Lines are answered as a cluster does.
     Cluster(ClusterTask),
 }

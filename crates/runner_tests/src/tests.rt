@@ -12,6 +12,7 @@ mod orders;
 mod performing;
 mod programs;
 mod running;
+mod verbose;
 
 /// The line of standard error for a refusal; empty for an empty one.
 pub fn refusal_line(alloc: Global, refusal: &str) -> Result<String, AllocError> {

@@ -6,7 +6,7 @@ COMMANDS = {
     "list": "", "debug": "--review --namespace --params",
 }
 OPTIONS = {
-    "gatekeeper": "--policy --namespace --params --cluster --partial --steps --max-line --help --version",
+    "gatekeeper": "--policy --namespace --params --cluster --partial --steps --max-line --verbose --help --version",
     "celbpf-why": "--html --namespace --params --case --program",
     "celbpf-place": "--program",
     "celbpf-reviews": "--namespace --params --program",

@@ -26,7 +26,7 @@ const THREE_ANSWERS: &str =
 
 /// The words, the status, standard output and standard error, on the lines above.
 #[rattlefmt::skip]
-const ROWS: [(&str, u8, &str, &str); 21] = [
+const ROWS: [(&str, u8, &str, &str); 23] = [
     (BOTH, 0, THREE_ANSWERS, "celbpf: policy p, bindings b\ncelbpf: policy q, bindings c\n"),
     ("gatekeeper --cluster policies", 0, NOTHING_BOUND, ""),
     ("gatekeeper --cluster none", 3, "", "celbpf: C1 none\n"),
@@ -41,6 +41,8 @@ const ROWS: [(&str, u8, &str, &str); 21] = [
     ("gatekeeper --cluster no-kind", 3, "", "celbpf: C8 p\n"),
     ("gatekeeper --cluster no-validations --partial", 0, C7_REFUSED, "celbpf: policy p, bindings b, blocked C7 K4\n"),
     ("gatekeeper --partial --cluster no-kind", 0, C8_REFUSED, "celbpf: policy p, bindings b, params example.com/v1 Limit 0, blocked C8\n"),
+    ("gatekeeper --cluster policies --cluster bindings --verbose", 0, THREE_ANSWERS, THREE_TOLD),
+    ("gatekeeper --cluster no-validations --partial --verbose", 0, C7_REFUSED, C7_TOLD),
     ("gatekeeper --cluster policies --policy few", 2, "", "celbpf: U1\n"),
     ("gatekeeper --cluster policies --namespace n", 2, "", "celbpf: U1\n"),
     ("gatekeeper --cluster policies --params n", 2, "", "celbpf: U1\n"),
@@ -63,6 +65,18 @@ const C7_REFUSED: &str = r#"{"policy":"p","refused":"C7","uid":"u1"}
 {"refused":"N2","uid":"u3"}
 "#;
 
+/// What is told with `--verbose`: of the policies, and then of the lines that are refused.
+const THREE_TOLD: &str = r#"celbpf: policy p, bindings b
+celbpf: policy q, bindings c
+celbpf: line 3: {"refused":"N2","uid":"u3"}
+"#;
+
+const C7_TOLD: &str = r#"celbpf: policy p, bindings b, blocked C7 K4
+celbpf: line 1: {"policy":"p","refused":"C7","uid":"u1"}
+celbpf: line 2: {"policy":"p","refused":"C7","uid":"u2"}
+celbpf: line 3: {"refused":"N2","uid":"u3"}
+"#;
+
 const C8_REFUSED: &str = r#"{"policy":"p","refused":"C8","uid":"u1"}
 {"policy":"p","refused":"C8","uid":"u2"}
 {"refused":"N2","uid":"u3"}
@@ -71,7 +85,7 @@ const C8_REFUSED: &str = r#"{"policy":"p","refused":"C8","uid":"u1"}
 /// Whether the program with these words ends with the status and both outputs.
 fn ends(alloc: Global, line: &str, due: (u8, &str, &str)) -> Result<bool, AllocError> {
     let mut out = [0u8; 1024];
-    let mut err = [0u8; 128];
+    let mut err = [0u8; 256];
     let mut input = Buffered::<_, 64>::new(Counting::new(THREE.as_bytes()));
     let code = exit_code(
         alloc,

@@ -7,5 +7,5 @@ returns g c k keeps = record {
   policies = keeps.told;
   told = _;
   tells = rw c.as_slice.ensures.value at c.tell_bytes.ensures;
-  ends = record { ending = _; does = c.answer_by-ending.ensures k keeps; status_is = c.exit_with.ensures.status; says = c.exit_with.ensures.says };
+  ends = c.end_cluster.ensures k keeps;
 }

@@ -1,0 +1,17 @@
+-- Proof obligations of `cluster_program::end_cluster`.
+use Rattle.gatekeeper_runner.proofs.ClusterOnce.{tells_as_cluster}
+use Rattle.gatekeeper_runner.proofs.cluster_program.end_cluster.Goals as goal
+
+pub returns-then-verbose : goal.returns-then-verbose
+returns-then-verbose g c k keeps = rw c.if-verbose.true
+    (let ends = c.end_telling.ensures in record {
+      result = ends.result;
+      told = ends.told;
+      tells = tells_as_cluster _ _ _ _ _ _ ends.result k c.args.keeper.now keeps ends.tells;
+      status_is = ends.status_is;
+      says = ends.says;
+    })
+
+pub returns : goal.returns
+returns g c k keeps = rw c.if-verbose.false
+    (record { ending = _; does = c.answer_by-ending.ensures k keeps; status_is = c.exit_with.ensures.status; says = c.exit_with.ensures.says })

@@ -1,0 +1,60 @@
+//! Lines that are answered, where refused ones are told of on standard error.
+ghost use Rattle.std.specs.Prelude.{◌≡◌};
+ghost use Rattle.std.specs.Process.{exit_status};
+ghost use Rattle.streams.specs.Streams.{stream};
+ghost use Rattle.line_answers.specs.Lines.{AnswersInputLine};
+ghost use Rattle.policy_glue.specs.OneImage.{OneImage};
+ghost use Rattle.gatekeeper_runner.specs.AnsweredLines.{UnderPolicies};
+ghost use Rattle.gatekeeper_runner.specs.ClusterEnding.{ending_of, TellsRefused};
+ghost use Rattle.gatekeeper_runner.specs.Lines.{AnswersReviewLine};
+
+use crate::gatekeeper::Gatekeeper;
+use cli::{Refusal, exit_with};
+use line_answers::{Decider, LineRules, answer_and_tell};
+use std::process::ExitCode;
+use streams::{LineSource, SessionError, Sink};
+
+/// Answers the lines under policies, and tells of the refused ones. Returns the code.
+pub fn tell_under<R: LineSource, W: Sink, E: Sink>(
+    keeper: &Gatekeeper,
+    requests: &mut R,
+    answers: &mut W,
+    errors: &mut E,
+) -> ExitCode
+    ensures { UnderPolicies keeper.now (λ t. TellsRefused (AnswersReviewLine OneImage t) (stream (R.left requests.old) (R.failed requests.old)) (stream (R.left requests.new) (R.failed requests.new))
+        (stream (W.taken answers.old) (W.failed answers.old)) (stream (W.taken answers.new) (W.failed answers.new))
+        (stream (E.taken errors.old) (E.failed errors.old)) (stream (E.taken errors.new) (E.failed errors.new)) (exit_status result)) }
+{
+    let rules = LineRules {
+        alloc: keeper.alloc,
+        decider: keeper,
+        max_line: keeper.max_line,
+    };
+    end_telling(&rules, requests, answers, errors)
+}
+
+/// Answers the lines by these rules, and tells of the refused ones. Returns the code.
+pub fn end_telling<D: Decider, R: LineSource, W: Sink, E: Sink>(
+    rules: &LineRules<'_, D>,
+    requests: &mut R,
+    answers: &mut W,
+    errors: &mut E,
+) -> ExitCode
+    ensures { TellsRefused (AnswersInputLine rules.now.max_line (D.refuses rules.now.decider.now) (D.decides rules.now.decider.now))
+        (stream (R.left requests.old) (R.failed requests.old)) (stream (R.left requests.new) (R.failed requests.new))
+        (stream (W.taken answers.old) (W.failed answers.old)) (stream (W.taken answers.new) (W.failed answers.new))
+        (stream (E.taken errors.old) (E.failed errors.old)) (stream (E.taken errors.new) (E.failed errors.new)) (exit_status result) }
+{
+    let ended = answer_and_tell(rules, requests, answers, errors);
+    exit_with(rules.alloc, ending_of(ended), errors)
+}
+
+/// The end of the program by what became of the lines.
+fn ending_of(ended: Result<(), SessionError>) -> Result<u8, Refusal>
+    ensures { result ≡ ending_of ended }
+{
+    match ended {
+        Ok(()) => Ok(0),
+        Err(error) => Err(Refusal::from(error)),
+    }
+}
