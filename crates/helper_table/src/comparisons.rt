@@ -1,7 +1,7 @@
 //! The helpers that compare two values, and return a bool.
 ghost use Rattle.std.specs.Prelude.{◌≡◌, ◌&&◌, slice_get, is_some};
 ghost use Rattle.helper_table.specs.Calls.{on_values};
-ghost use Rattle.helper_table.specs.Comparisons.{equal_row, less_row, member_row, on_texts, test_of, text_row};
+ghost use Rattle.helper_table.specs.Comparisons.{contains, equal_row, less_row, member_row, on_texts, test_of, text_row};
 ghost use Rattle.helper_table.specs.Kinds.{is_value, have_order, may_be_in};
 ghost use Rattle.helper_table.specs.Operands.{text_part};
 ghost use Rattle.helper_table.specs.Effects.{means, CanFollow};
@@ -131,15 +131,25 @@ pub(crate) fn member<V: ValueStore>(
     Ok(HelperEffect::truth(truth))
 }
 
+/// Whether a text contains a part. A longer part is not read, as it would be before a search.
+#[tactic(auto, using(crate::proofs::Finding::finds_part, crate::proofs::Finding::too_long))]
+fn contains(text: &[u8], part: &[u8]) -> bool
+    ensures { result ≡ contains text.now part.now }
+{
+    if part.len() > text.len() {
+        return false;
+    }
+    memmem::find(text, part).is_some()
+}
+
 /// Whether a test holds for two texts.
-#[tactic(auto, using(crate::proofs::Finding::finds_part))]
 fn holds(test: TextTest, text: &[u8], part: &[u8]) -> bool
     ensures { result ≡ test_of test text.now part.now }
 {
     match test {
         TextTest::Starts => text.starts_with(part),
         TextTest::Ends => text.ends_with(part),
-        TextTest::Contains => memmem::find(text, part).is_some(),
+        TextTest::Contains => contains(text, part),
     }
 }
 

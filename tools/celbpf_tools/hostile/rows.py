@@ -82,6 +82,8 @@ def searches() -> Iterator[tuple]:
     """Texts in texts."""
     each = policy("object.a.all(x, object.b.all(y, !x.contains(y)))")
     yield "texts in texts", each, review({"a": letters(800, 1_700), "b": letters(800, 850, 2)})
+    long = {"l": [0] * TURNS, "t": "ab", "u": "a" * 2_900_000}
+    yield "a long part of a short text", policy("object.l.all(i, !object.t.contains(object.u))"), review(long)
     short = {"l": [0] * 600_000, "t": "a" * 511, "u": "a" * 250 + "b" + "a" * 249}
     yield "a short text in another", policy("object.l.all(i, !object.t.contains(object.u))"), review(short)
     [text] = letters(1, 1_000_000)
