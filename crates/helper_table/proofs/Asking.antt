@@ -218,8 +218,8 @@ kept_after o (Err e) old new k ends is = subst (λ (c : Contents). IsKept c.valu
 -- ---- an effect without a search
 
 -- the effect of a text that is known to contain another, or not to
-pub answered_means : (vs : List ValueOrError) (constants args : List ℕ) (q : Question) (e : HelperEffect) (is_part : Bool) → q.helper ≡ helper.Contains → IsQuestionOf q.helper args q
+pub answered_means : (vs : List ValueOrError) (constants args : List ℕ) (h : Helper) (q : Question) (e : HelperEffect) (is_part : Bool) → q.helper ≡ helper.Contains → IsQuestionOf h args q
     → on_texts contains (text_at (slice_get vs q.a)) (text_at (slice_get vs q.b)) ≡ Some is_part → e.placement ≡ placement.Word (truth_word (Some is_part)) → e.added ≡ 0
-    → outcome_by vs e.placement e.added ≡ row_of q.helper args vs constants
-answered_means vs constants args q e is_part h asks known is free =
-    worded vs e.placement e.added (truth_word (Some is_part)) is free ∙ sym (answered_row q.helper vs q.a q.b is_part h known) ∙ sym (asked_row q.helper args constants vs q asks)
+    → outcome_by vs e.placement e.added ≡ row_of h args vs constants
+answered_means vs constants args h q e is_part searches asks known is free =
+    worded vs e.placement e.added (truth_word (Some is_part)) is free ∙ sym (answered_row q.helper vs q.a q.b is_part searches known) ∙ sym (asked_row h args constants vs q asks)

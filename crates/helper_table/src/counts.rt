@@ -9,15 +9,20 @@ use std::alloc::Global;
 use value_store::ValueStore;
 
 /// The number of places.
-const COUNT: usize = 4096;
+const COUNT: usize = 32_768;
 
 /// The number of places at which a text may stand: its own, and those after it.
-const TRIED: usize = 16;
+const TRIED: usize = 256;
+
+/// What the searches of a text count for when they are enough.
+const ENOUGH: u64 = 64;
 
 /// Texts, each at its own place or one of the next.
 #[derive(Drop)]
 pub(crate) struct Counts {
     pub(crate) places: Vec<Searched>,
+    /// The place of the text that was searched last.
+    pub(crate) last: usize,
 }
 
 impl Counts {
@@ -25,6 +30,7 @@ impl Counts {
     pub(crate) fn new(alloc: Global) -> Counts {
         Counts {
             places: Vec::new(alloc),
+            last: 0,
         }
     }
 
@@ -35,44 +41,102 @@ impl Counts {
         }
     }
 
-    /// Counts a search of a text. Returns the place of the text, if there is room for it.
-    pub(crate) fn count<V: ValueStore>(&mut self, table: &mut V, text: u64) -> Option<usize>
+    /// The place of a text that is counted. It is sought first where the text that was searched last was followed by
+    /// another before, since loops come back to the same texts in the same order.
+    pub(crate) fn find<V: ValueStore>(&mut self, table: &mut V, text: u64) -> Option<usize>
+        ensures values { V.values table.new ≡ V.values table.old }
+        ensures charge { V.charge table.new ≡ V.charge table.old }
+    {
+        let next = self.next();
+        if is_at(table, &self.places, text, next) {
+            self.last = next;
+            return Some(next);
+        }
+        let first = text_place(table, text);
+        let place = known(table, &self.places, text, first)?;
+        self.follow(place);
+        Some(place)
+    }
+
+    // The place that followed the last one before.
+    fn next(&self) -> usize {
+        match self.places.get(self.last) {
+            Some(searched) => searched.next,
+            None => 0,
+        }
+    }
+
+    // Keeps that a place followed the last one.
+    fn follow(&mut self, place: usize) {
+        if let Some(searched) = self.places.get_mut(self.last) {
+            searched.next = place;
+        }
+        self.last = place;
+    }
+
+    /// Counts a search of a text. Returns the place of the text, if the search makes them enough.
+    pub(crate) fn count<V: ValueStore>(
+        &mut self,
+        table: &mut V,
+        text: u64,
+        weight: u64,
+    ) -> Option<usize>
         ensures values { V.values table.new ≡ V.values table.old }
         ensures charge { V.charge table.new ≡ V.charge table.old }
     {
         self.make_places();
-        let first = text_place(table, text);
-        match known(table, &self.places, text, first) {
-            Some(place) => {
-                self.add_search(place);
-                Some(place)
+        let last = self.last;
+        if is_at(table, &self.places, text, last) {
+            return self.add_search(last, weight);
+        }
+        match self.find(table, text) {
+            Some(place) => self.add_search(place, weight),
+            None => {
+                self.begin(text, text_place(table, text), weight);
+                None
             }
-            None => self.begin(text, first),
         }
     }
 
-    // Counts one search more at a place.
-    fn add_search(&mut self, place: usize) {
-        if let Some(searched) = self.places.get_mut(place) {
-            searched.count = searched.count.saturating_add(1);
+    // Counts one search more at a place. Returns the place, if this search makes them enough.
+    fn add_search(&mut self, place: usize, weight: u64) -> Option<usize> {
+        let searched = self.places.get_mut(place)?;
+        if searched.count >= ENOUGH {
+            return None;
         }
+        searched.count = searched.count.saturating_add(weight);
+        if searched.count >= ENOUGH {
+            return Some(place);
+        }
+        None
     }
 
     // Begins to count the searches of a text, in place of the one that was searched least.
-    fn begin(&mut self, text: u64, first: usize) -> Option<usize> {
-        let place = least(&self.places, first)?;
-        let searched = self.places.get_mut(place)?;
-        *searched = Searched {
-            text,
-            count: 1,
-            index: None,
+    fn begin(&mut self, text: u64, first: usize, weight: u64) {
+        let Some(place) = least(&self.places, first) else {
+            return;
         };
-        Some(place)
+        let searched = Searched {
+            text,
+            count: weight,
+            index: None,
+            next: place,
+        };
+        self.put(place, searched);
+        self.follow(place);
     }
 
-    /// The text at a place.
-    pub(crate) fn at(&self, place: usize) -> Option<Searched> {
-        self.places.get(place).copied()
+    // Writes a text at a place.
+    fn put(&mut self, place: usize, searched: Searched) {
+        if let Some(old) = self.places.get_mut(place) {
+            *old = searched;
+        }
+    }
+
+    /// The place of the index of the text at a place, if there is one.
+    pub(crate) fn index_at(&self, place: usize) -> Option<usize> {
+        let searched = self.places.get(place)?;
+        searched.index
     }
 
     /// Keeps the place of the index of the text at a place.
@@ -80,6 +144,28 @@ impl Counts {
         if let Some(searched) = self.places.get_mut(place) {
             searched.index = Some(index);
         }
+    }
+}
+
+// Whether a text is the one at a place.
+fn is_at<V: ValueStore>(table: &mut V, places: &[Searched], text: u64, place: usize) -> bool
+    ensures values { V.values table.new ≡ V.values table.old }
+    ensures charge { V.charge table.new ≡ V.charge table.old }
+{
+    let Some(searched) = places.get(place) else {
+        return false;
+    };
+    if searched.count == 0 {
+        return false;
+    }
+    is_same(table, text, searched.text)
+}
+
+// Whether no text is counted at a place.
+fn is_free(places: &[Searched], place: usize) -> bool {
+    match places.get(place) {
+        Some(searched) => searched.count == 0,
+        None => true,
     }
 }
 
@@ -95,10 +181,11 @@ fn known<V: ValueStore>(
 {
     for i in 0..TRIED {
         let place = first.wrapping_add(i) % COUNT;
-        if let Some(searched) = places.get(place) {
-            if searched.count > 0 && is_same(table, text, searched.text) {
-                return Some(place);
-            }
+        if is_free(places, place) {
+            return None;
+        }
+        if is_at(table, places, text, place) {
+            return Some(place);
         }
     }
     None

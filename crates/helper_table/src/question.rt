@@ -3,8 +3,10 @@
 use crate::helper::Helper;
 use value_store::{Shape, ValueStore};
 
-/// The number of bytes of a text that its question's place depends on.
-const SAMPLES: usize = 32;
+/// The number of words of a text that its question's place depends on, and of those that its own depends on.
+const SAMPLES: usize = 16;
+
+const WORDS: usize = 2048;
 
 /// A call of a helper that reads texts.
 #[derive(Clone, Copy)]
@@ -27,7 +29,26 @@ impl Question {
 
 /// A place for a text. Equal texts have the same place.
 pub(crate) fn text_place<V: ValueStore>(table: &V, text: u64) -> usize {
-    (mixed(0, seen(table.at(text))) >> 32) as usize
+    match table.text(text) {
+        Some(text) => (read(text.as_bytes()) >> 32) as usize,
+        None => 0,
+    }
+}
+
+// A number for a text, from each of its words, or from words at equal distances. The words are mixed in four rows, which
+// takes less time than one after another.
+fn read(bytes: &[u8]) -> u64 {
+    let distance = (bytes.len() / WORDS).max(8);
+    let (mut a, mut b, mut c, mut d) = (bytes.len() as u64, 1, 2, 3);
+    let rounds = (bytes.len() / distance / 4).wrapping_add(1);
+    for i in 0..rounds {
+        let at = i.wrapping_mul(4).wrapping_mul(distance);
+        a = mixed(a, word(bytes, at));
+        b = mixed(b, word(bytes, at.wrapping_add(distance)));
+        c = mixed(c, word(bytes, at.wrapping_add(distance.wrapping_mul(2))));
+        d = mixed(d, word(bytes, at.wrapping_add(distance.wrapping_mul(3))));
+    }
+    mixed(mixed(a, b), mixed(c, d))
 }
 
 // A number for an operand, the same for equal ones.
@@ -41,19 +62,37 @@ fn seen(shape: Option<Shape<'_>>) -> u64 {
     }
 }
 
-// A number for a text, from its length, its last byte, and bytes at equal distances.
+// A number for a text, from its length, its last word, and words at equal distances.
 fn sampled(bytes: &[u8]) -> u64 {
     let distance = bytes.len() / SAMPLES;
     let mut mix = bytes.len() as u64;
     for i in 0..SAMPLES {
-        if let Some(byte) = bytes.get(distance.wrapping_mul(i)) {
-            mix = mixed(mix, u64::from(*byte));
-        }
+        mix = mixed(mix, word(bytes, distance.wrapping_mul(i)));
     }
-    match bytes.last() {
-        Some(byte) => mixed(mix, u64::from(*byte)),
-        None => mix,
+    mixed(mix, word(bytes, bytes.len().saturating_sub(8)))
+}
+
+// The eight bytes from a position on, or a number for those that there are.
+fn word(bytes: &[u8], at: usize) -> u64 {
+    if at > bytes.len() {
+        return 0;
     }
+    let rest = &bytes[at..];
+    if rest.len() < 8 {
+        return end(rest);
+    }
+    let mut copy = [0; 8];
+    copy.copy_from_slice(&rest[..8]);
+    u64::from_le_bytes(copy)
+}
+
+// A number for the last few bytes of a text.
+fn end(bytes: &[u8]) -> u64 {
+    let mut mix: u64 = 0;
+    for byte in bytes {
+        mix = mixed(mix, u64::from(*byte));
+    }
+    mix
 }
 
 // Multiplies by the golden ratio's fraction, which spreads the bits.

@@ -63,23 +63,43 @@ fn is_long<V: ValueStore>(table: &V, h: u64) -> bool {
 
 /// Whether a helper reads a long text of these operands. A comparison of two texts reads at most the
 /// length of the shorter one. The store itself remembers how lists and maps compare.
-fn reads_long<V: ValueStore>(table: &V, helper: Helper, a: u64, b: u64) -> bool {
+fn reads_long<V: ValueStore>(
+    table: &V,
+    searches: &mut Searches,
+    helper: Helper,
+    a: u64,
+    b: u64,
+) -> bool
+    requires { AreSearched (V.values table.now) searches.old }
+    ensures { AreSearched (V.values table.now) searches.new }
+{
     match helper {
-        Helper::Size | Helper::Equal | Helper::Contains | Helper::Member => is_long(table, a),
+        Helper::Contains => searches.is_long(table, a),
+        Helper::Size | Helper::Equal | Helper::Member => is_long(table, a),
         _ => is_long(table, b),
     }
 }
 
 /// The question of a call, if it reads a long text.
-fn question<V: ValueStore>(helper: Helper, args: [u64; 5], table: &V) -> Option<Question>
-    ensures { IfSome result (IsQuestionOf helper args) }
+fn question<V: ValueStore>(
+    helper: Helper,
+    args: [u64; 5],
+    table: &V,
+    searches: &mut Searches,
+) -> Option<Question>
+    requires { AreSearched (V.values table.now) searches.old }
+    ensures question { IfSome result (IsQuestionOf helper args) }
+    ensures searches { AreSearched (V.values table.now) searches.new }
 {
+    if !reads_texts(helper) {
+        return None;
+    }
     let [a, second, _, _, _] = args;
     let b = second_operand(helper, a, second);
-    if reads_texts(helper) && reads_long(table, helper, a, b) {
-        return Some(Question { helper, a, b });
+    if !reads_long(table, searches, helper, a, b) {
+        return None;
     }
-    None
+    Some(Question { helper, a, b })
 }
 
 /// Whether two references name values, which can be compared.
@@ -195,29 +215,48 @@ fn known_part<V: ValueStore>(
     searches.answer(table, question.a, question.b)
 }
 
-/// The effect of the row of a question that has no kept answer. It is found without a search if an index tells.
-fn new_effect<'a, V: ValueStore, M: Regions>(
-    question: Question,
-    args: [u64; 5],
-    table: &mut V,
-    searches: &mut Searches,
-    memory: &'a M,
-) -> Result<HelperEffect<'a>, Fault>
-    requires question { IsQuestionOf question.helper args question }
-    requires searches { AreSearched (V.values table.old) searches.old }
-    ensures means { means (V.values table.old) result ≡ row_of question.helper args (V.values table.old) (M.bytes memory.now).constants }
-    ensures can { CanFollow (V.values table.old) result }
+/// Counts a search, if that is asked.
+fn count_search<V: ValueStore>(question: Question, table: &mut V, searches: &mut Searches)
+    requires { AreSearched (V.values table.old) searches.old }
     ensures values { V.values table.new ≡ V.values table.old }
     ensures charge { V.charge table.new ≡ V.charge table.old }
     ensures searches { AreSearched (V.values table.old) searches.new }
 {
-    if let Some(is_part) = known_part(question, table, searches) {
-        return Ok(HelperEffect::truth(Some(is_part)));
+    if question.helper != Helper::Contains {
+        return;
     }
-    effect_of(question.helper, args, table, memory)
+    searches.count(table, question.a, question.b);
 }
 
-/// The effect of a helper's row on these arguments, from a kept answer if there is one.
+/// The effect of the row of a question, from a kept answer if there is one.
+fn answered<'a, V: ValueStore, M: Regions>(
+    question: Question,
+    args: [u64; 5],
+    table: &mut V,
+    kept: &mut Kept,
+    memory: &'a M,
+) -> Result<HelperEffect<'a>, Fault>
+    requires question { IsQuestionOf question.helper args question }
+    requires kept { IsKept (V.values table.old) kept.old }
+    ensures means { means (V.values table.old) result ≡ row_of question.helper args (V.values table.old) (M.bytes memory.now).constants }
+    ensures can { CanFollow (V.values table.old) result }
+    ensures values { V.values table.new ≡ V.values table.old }
+    ensures charge { V.charge table.new ≡ V.charge table.old }
+    ensures kept { IsKept (V.values table.old) kept.new }
+{
+    let place = question.place(table);
+    if let Some(effect) = found(table, &kept.answers, question, place) {
+        return Ok(effect);
+    }
+    count_search(question, table, &mut kept.searches);
+    let effect = effect_of(question.helper, args, table, memory)?;
+    if let Some(lasting) = lasting(effect) {
+        kept.answers.keep(place, question, lasting);
+    }
+    Ok(effect)
+}
+
+/// The effect of a helper's row on these arguments, from an index or a kept answer if there is one that tells.
 pub(crate) fn recalled_effect<'a, V: ValueStore, M: Regions>(
     helper: Helper,
     args: [u64; 5],
@@ -232,16 +271,11 @@ pub(crate) fn recalled_effect<'a, V: ValueStore, M: Regions>(
     ensures charge { V.charge table.new ≡ V.charge table.old }
     ensures kept { IsKept (V.values table.old) kept.new }
 {
-    let Some(question) = question(helper, args, table) else {
+    let Some(question) = question(helper, args, table, &mut kept.searches) else {
         return effect_of(helper, args, table, memory);
     };
-    let place = question.place(table);
-    if let Some(effect) = found(table, &kept.answers, question, place) {
-        return Ok(effect);
+    if let Some(is_part) = known_part(question, table, &mut kept.searches) {
+        return Ok(HelperEffect::truth(Some(is_part)));
     }
-    let effect = new_effect(question, args, table, &mut kept.searches, memory)?;
-    if let Some(lasting) = lasting(effect) {
-        kept.answers.keep(place, question, lasting);
-    }
-    Ok(effect)
+    answered(question, args, table, kept, memory)
 }

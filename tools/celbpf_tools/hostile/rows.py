@@ -41,6 +41,11 @@ def near_parts(text: str, count: int, length: int) -> list:
     return [("a" if text[at] == "b" else "b") + text[at + 1 : at + length] for at in starts]
 
 
+def numbered(count: int, length: int, cut: int) -> list:
+    """Texts of one letter, each with a number of its own at one place."""
+    return ["q" * cut + f"{place:04}" + "q" * (length - cut) for place in range(count)]
+
+
 def membership() -> Iterator[tuple]:
     """Items that are sought in a list of many."""
     texts = [f"{place:04}{LONG}" for place in range(1_300)]
@@ -82,6 +87,11 @@ def searches() -> Iterator[tuple]:
     """Texts in texts."""
     each = policy("object.a.all(x, object.b.all(y, !x.contains(y)))")
     yield "texts in texts", each, review({"a": letters(800, 1_700), "b": letters(800, 850, 2)})
+    yield "short texts in texts", each, review({"a": letters(800, 500), "b": letters(800, 250, 2)})
+    turned = policy("object.b.all(y, object.a.all(x, !x.contains(y)))")
+    yield "parts in many texts", turned, review({"a": letters(10_000, 140), "b": letters(80, 140, 2)})
+    yield "numbered texts", turned, review({"a": numbered(800, 1_700, 333), "b": numbered(800, 1_700, 444)})
+    yield "short parts in texts", turned, review({"a": letters(10, 120_000), "b": letters(40_000, 40, 2)})
     long = {"l": [0] * TURNS, "t": "ab", "u": "a" * 2_900_000}
     yield "a long part of a short text", policy("object.l.all(i, !object.t.contains(object.u))"), review(long)
     short = {"l": [0] * 600_000, "t": "a" * 511, "u": "a" * 250 + "b" + "a" * 249}
