@@ -7,7 +7,6 @@ use Rattle.std.specs.List.{All, flat_map}
 use Rattle.std.specs.Prelude.{◌==◌, ◌||◌, if◌then◌else◌}
 use Rattle.serde_json.specs.Data as json
 use Rattle.value_table.specs.DocumentPool.{OpenValues}
-use Rattle.value_table.specs.declared.pooled_document.PooledDocument.{PooledDocument}
 use Rattle.admission_documents.specs.Requests.{is_core_namespace}
 use Rattle.admission_match.specs.Matching.{match_answer}
 use Rattle.admission_match.specs.declared.answer.Answer.{Answer}
@@ -18,7 +17,8 @@ use Rattle.cluster_state.specs.declared.param_error.ParamError.{ParamError}
 use Rattle.cluster_plan.specs.Steps as plan
 use Rattle.cluster_plan.specs.Steps.{AskedPolicy, binding_answered, binding_steps, bindings_of, error_steps, evaluations, fails_closed, params_for, params_steps, step_view, trouble_text}
 use Rattle.cluster_plan.specs.declared.step.Step.{Step as CodeStep}
-use Rattle.cluster_gate.specs.Opened.{HasKnownNamespace, IsBesideIf}
+use Rattle.cluster_gate.specs.Beside.{HasKnownNamespace, IsBesideIf}
+use Rattle.cluster_gate.specs.declared.namespace_place.NamespacePlace.{NamespacePlace}
 
 -- what holds of all steps holds of the step at a place
 pub all_at : (P : PlannedStep → Type 0) (xs : List CodeStep) (i : ℕ) (x : CodeStep) → i < length xs → x ≡ get_or xs i x → All P (map step_view xs) → P (step_view x)
@@ -26,7 +26,7 @@ all_at P (y ∷ ys) zero x within is all = subst (λ (z : CodeStep). P (step_vie
 all_at P (y ∷ ys) (suc i) x within is all = all_at P ys i x (omega (arith, within)) is (All-tail P (step_view y) (map step_view ys) all)
 all_at P [] i x within is all = absurd (omega (arith, within))
 
-module _ (opened : Option (Bor OpenValues)) (place : Option PooledDocument) where
+module _ (opened : Option (Bor OpenValues)) (place : Option NamespacePlace) where
   abbrev Known : PlannedStep → Type 0
   Known = HasKnownNamespace opened place
 
@@ -49,12 +49,12 @@ module _ (opened : Option (Bor OpenValues)) (place : Option PooledDocument) wher
       All-cons Known (plan.evaluates b p namespace) (map (λ p. plan.evaluates b p namespace) ps) is (given b namespace ps is)
 
 -- null is nowhere
-beside_none : (opened : Option (Bor OpenValues)) (place : Option PooledDocument) → IsBesideIf opened place None
+beside_none : (opened : Option (Bor OpenValues)) (place : Option NamespacePlace) → IsBesideIf opened place None
 beside_none None place = tt
 beside_none (Some o) None = tt
 beside_none (Some o) (Some p) = tt
 
-module _ (opened : Option (Bor OpenValues)) (place : Option PooledDocument) where
+module _ (opened : Option (Bor OpenValues)) (place : Option NamespacePlace) where
   evaluated : (b : Binding) (n : NamespaceObject) (ps : List (Option json.Data)) → IsKnown opened place n → All (Known opened place) (evaluations b n ps)
   evaluated b missing ps is = one opened place plan.ends tt
   evaluated b no_object ps is = given opened place b None ps (beside_none opened place)

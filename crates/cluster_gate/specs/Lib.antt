@@ -10,3 +10,4 @@ pub mod StepRows
 pub mod Servers
 pub mod Opened
 pub mod Tables
+pub mod Beside

@@ -1,14 +1,11 @@
 -- Documents of the state that are read beside a review.
 use Rattle.std.specs.Prelude.{◌≡◌, ℕ, List, [], ◌∷◌, Option, Some, None}
-use Rattle.std.specs.Borrow.{Bor}
 use Rattle.serde_json.specs.Data as json
 use Rattle.serde_json.specs.View.{view}
 use Rattle.value_store.specs.Documents.{document_of}
 use Rattle.value_store.specs.Value as kind
-use Rattle.value_table.specs.DocumentPool.{IsPooled, OpenValues}
+use Rattle.value_table.specs.DocumentPool.{IsPooled}
 use Rattle.value_table.specs.declared.pooled_document.PooledDocument.{PooledDocument}
-use Rattle.cluster_plan.specs.Steps as plan
-use Rattle.cluster_plan.specs.Steps.{PlannedStep}
 use Rattle.cluster_gate.specs.Texts.{IsJsonTextOf}
 use Rattle.cluster_gate.specs.declared.read_document.ReadDocument.{ReadDocument}
 
@@ -31,22 +28,3 @@ IsReadIf vs None None = Unit {0}
 IsReadIf vs None (Some p) = ⊥
 IsReadIf vs (Some d) None = ⊥
 IsReadIf vs (Some d) (Some p) = IsReadHere vs d p
-
--- a document that may be absent is at this place, if one is known
-abbrev pub IsAtIf : List kind.Value → Option PooledDocument → Option json.Data → Type 0
-IsAtIf vs None d = Unit {0}
-IsAtIf vs (Some p) None = Unit {0}
-IsAtIf vs (Some p) (Some d) = IsReadHere vs d p
-
--- the same beside a review, if that was read
-abbrev pub IsBesideIf : Option (Bor OpenValues) → Option PooledDocument → Option json.Data → Type 0
-IsBesideIf None place d = Unit {0}
-IsBesideIf (Some o) place d = IsAtIf o.now.values place d
-
--- the namespace of an evaluation is there
-abbrev pub HasKnownNamespace : Option (Bor OpenValues) → Option PooledDocument → PlannedStep → Type 0
-HasKnownNamespace opened place (plan.evaluates b params namespace) = IsBesideIf opened place namespace
-HasKnownNamespace opened place (plan.denies b t) = Unit {0}
-HasKnownNamespace opened place plan.unknown_match = Unit {0}
-HasKnownNamespace opened place (plan.is_blocked b) = Unit {0}
-HasKnownNamespace opened place plan.ends = Unit {0}

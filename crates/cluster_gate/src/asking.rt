@@ -7,7 +7,7 @@ ghost use Rattle.cluster_state.specs.Policies.{policy_view, BoundPolicy};
 ghost use Rattle.cluster_state.specs.State.{state_view, ClusterState};
 ghost use Rattle.cluster_plan.specs.Steps.{asked_view};
 ghost use Rattle.cluster_gate.specs.Gates.{asked_policy, IsGateFor};
-ghost use Rattle.cluster_gate.specs.Opened.{IsBesideIf};
+ghost use Rattle.cluster_gate.specs.Beside.{IsBesideIf};
 ghost use Rattle.cluster_gate.specs.Running.{AddsMatched, AddsPolicy, AddsRun, AddsTrouble, IsRunOf};
 
 use crate::case::Case;

@@ -3,9 +3,9 @@
 ghost use Rattle.std.specs.Prelude.{◌≡◌, IfSome};
 ghost use Rattle.std.proofs.Props.{props};
 
+use crate::namespace_place::NamespacePlace;
 use crate::opened_review::OpenedReview;
 use admission_documents::Request;
-use value_table::PooledDocument;
 
 /// A review, its request, and the most steps of an evaluation.
 #[derive(Drop)]
@@ -16,6 +16,6 @@ pub(crate) struct Case<'c, 'x, 's> {
     /// The review, if it was read for all evaluations.
     pub(crate) opened: Option<&'c OpenedReview<'s, 'x>>,
     /// Where the request's namespace is beside the review, if it was read.
-    pub(crate) place: Option<PooledDocument>,
+    pub(crate) place: Option<NamespacePlace>,
     ghost same: { IfSome opened (λ o. o.now.review ≡ review.now) } by { Prim.hlevel props },
 }

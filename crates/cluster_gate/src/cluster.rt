@@ -6,7 +6,7 @@ ghost use Rattle.cluster_state.specs.Params.{namespace_named};
 ghost use Rattle.cluster_state.specs.State.{state_view, ClusterState};
 ghost use Rattle.cluster_gate.specs.Dispatch.{policies_asked, DecidesInCluster};
 ghost use Rattle.cluster_gate.specs.Gates.{AreGatesFor, ClusterOpens, IsClusterFor};
-ghost use Rattle.cluster_gate.specs.Opened.{IsBesideIf};
+ghost use Rattle.cluster_gate.specs.Beside.{IsBesideIf};
 ghost use Rattle.cluster_gate.specs.Running.{AnswersCase, GivesEvents};
 ghost use Rattle.std.specs.Prelude.{◌≡◌, Some};
 ghost use Rattle.serde_json.specs.View.{view};

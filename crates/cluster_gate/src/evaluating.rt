@@ -9,7 +9,7 @@ ghost use Rattle.admission.specs.Lent.{documents_lent};
 ghost use Rattle.admission.specs.Standing.{RunAgrees};
 ghost use Rattle.cluster_state.specs.Policies.{BoundPolicy};
 ghost use Rattle.cluster_gate.specs.Gates.{IsAskedGate};
-ghost use Rattle.cluster_gate.specs.Opened.{IsBesideIf};
+ghost use Rattle.cluster_gate.specs.Beside.{IsBesideIf};
 ghost use Rattle.cluster_gate.specs.Running.{FindsOrRefuses, HasFound};
 ghost use Rattle.cluster_gate.specs.Tables.{GivesTable, IsTableOf};
 
@@ -41,7 +41,7 @@ pub(crate) fn evaluate<'a>(
     let Some(opened) = case.opened else {
         return evaluate_alone(alloc, gate, case, params, namespace);
     };
-    match opened.table_by(alloc, params, namespace, case.place) {
+    match opened.table_by(alloc, params, namespace, &case.place) {
         Ok(table) => evaluate_on(gate, case, Ok(table)),
         Err(ReviewError::RootRefused(place)) => {
             evaluate_on(gate, case, Err(ReviewError::RootRefused(place)))

@@ -11,6 +11,7 @@ mod cluster_error;
 mod evaluating;
 mod kept_bases;
 pub mod laws;
+mod namespace_place;
 mod opened_review;
 mod opened_tables;
 mod opening;

@@ -1,12 +1,14 @@
 //! Tables of evaluations.
 
-ghost use Rattle.std.specs.Prelude.{◌≡◌, true, List, Some, option_map, IfSome};
+ghost use Rattle.std.specs.Prelude.{◌≡◌, true, List, None, Some, option_map, IfSome};
 ghost use Rattle.serde_json.specs.Data.{Data};
 ghost use Rattle.serde_json.specs.View.{view};
 ghost use Rattle.value_store.specs.Value as kind;
-ghost use Rattle.cluster_gate.specs.Opened.{AreReadHere, IsAtIf, IsReadHere};
+ghost use Rattle.cluster_gate.specs.Beside.{IsAtIf, IsPlaceOf};
+ghost use Rattle.cluster_gate.specs.Opened.{AreReadHere, IsReadHere};
 ghost use Rattle.cluster_gate.specs.Tables.{PlaceReturns, SharesTable};
 
+use crate::namespace_place::NamespacePlace;
 use crate::opened_review::OpenedReview;
 use crate::read_document::{ReadDocument, name_of};
 use crate::same::is_same;
@@ -14,6 +16,7 @@ use crate::texts::text_of;
 use serde_json::Value;
 use std::alloc::Global;
 use std::cell::Cell;
+use value_store::ValueStore;
 use value_table::{OpenReview, PooledDocument, ReviewError, Table};
 
 /// The largest length in bytes of a document that is wanted before later reviews.
@@ -32,22 +35,87 @@ impl<'a> OpenedReview<'a, '_> {
         alloc: Global,
         params: Option<&'a Value>,
         namespace: Option<&'a Value>,
-        place: Option<PooledDocument>,
+        place: &Option<NamespacePlace>,
     ) -> Result<Table, ReviewError>
-        requires { IsAtIf self.now.values place (option_map (λ v. view v.now) namespace) }
+        requires { IsAtIf self.now place.now (option_map (λ v. view v.now) namespace) }
         ensures { SharesTable self.now.review (option_map (λ v. view v.now) params.entry) (option_map (λ v. view v.now) namespace.entry) result }
     {
         match namespace {
             None => self.table(alloc, params, None),
             Some(document) => match place {
                 None => self.table(alloc, params, Some(document)),
-                Some(pooled) => self.table_at(alloc, params, pooled),
+                Some(known) => self.table_beside(alloc, params, document, known),
+            },
+        }
+    }
+
+    /// The same, with the namespace of this document at a place that is known.
+    fn table_beside(
+        &self,
+        alloc: Global,
+        params: Option<&'a Value>,
+        document: &Value,
+        known: &NamespacePlace,
+    ) -> Result<Table, ReviewError>
+        requires { IsPlaceOf self.now (view document.now) known.now }
+        ensures { SharesTable self.now.review (option_map (λ v. view v.now) params.entry) (Some (view document.now)) result }
+    {
+        match params {
+            None => self.first_table(alloc, document, known),
+            Some(_) => self.table_at(alloc, params, known.pooled),
+        }
+    }
+
+    /// The same without params: a copy of the table that is there, if one is.
+    fn first_table(
+        &self,
+        alloc: Global,
+        _document: &Value,
+        known: &NamespacePlace,
+    ) -> Result<Table, ReviewError>
+        requires { IsPlaceOf self.now (view _document.now) known.now }
+        ensures { SharesTable self.now.review None (Some (view _document.now)) result }
+    {
+        match &known.table {
+            Some(table) => Ok(table.copy()?),
+            None => self.table_at(alloc, None, known.pooled),
+        }
+    }
+
+    /// Where the namespace with this document is beside the review, if it was read.
+    pub(crate) fn namespace_place(&self, alloc: Global, document: &Value) -> Option<NamespacePlace>
+        ensures { IsAtIf self.now result (Some (view document.now)) }
+    {
+        match self.place_of(document) {
+            Some(pooled) => Some(self.with_first_table(alloc, document, pooled)),
+            None => None,
+        }
+    }
+
+    /// This place of a namespace, with the table without params, unless there is none.
+    fn with_first_table(
+        &self,
+        alloc: Global,
+        _document: &Value,
+        pooled: PooledDocument,
+    ) -> NamespacePlace
+        requires { IsReadHere self.now.values (view _document.now) pooled }
+        ensures { IsPlaceOf self.now (view _document.now) result }
+    {
+        match self.table_at(alloc, None, pooled) {
+            Ok(table) => NamespacePlace {
+                pooled,
+                table: Some(table),
+            },
+            Err(_) => NamespacePlace {
+                pooled,
+                table: None,
             },
         }
     }
 
     /// Where the document is beside the review, if it was read.
-    pub(crate) fn place_of(&self, document: &Value) -> Option<PooledDocument>
+    fn place_of(&self, document: &Value) -> Option<PooledDocument>
         ensures { IfSome result (λ p. IsReadHere self.now.values (view document.now) p) }
     {
         found(&self.documents, document)

@@ -4,16 +4,16 @@ ghost use Rattle.std.specs.Prelude.{◌≡◌, IfOk, IfSome};
 ghost use Rattle.admission_documents.specs.Requests.{request_view};
 ghost use Rattle.cluster_state.specs.Params.{namespace_named};
 ghost use Rattle.cluster_state.specs.State.{state_view};
-ghost use Rattle.cluster_gate.specs.Opened.{IsAtIf, IsBesideIf};
+ghost use Rattle.cluster_gate.specs.Beside.{IsAtIf, IsBesideIf};
 
 use crate::case::Case;
 use crate::cluster::Cluster;
+use crate::namespace_place::NamespacePlace;
 use crate::opened_review::OpenedReview;
 use crate::standing::Standing;
 use admission_documents::Request;
 use admission_match::Answer;
 use std::alloc::AllocError;
-use value_table::PooledDocument;
 
 impl<'a> Cluster<'_, 'a> {
     /// The review, read for all evaluations, with the namespace of its request. None if there are
@@ -37,7 +37,7 @@ impl<'a> Cluster<'_, 'a> {
         &self,
         request: &Request<'_>,
         opened: Option<&OpenedReview<'a, '_>>,
-    ) -> Option<PooledDocument>
+    ) -> Option<NamespacePlace>
         ensures { IsBesideIf opened.entry result (namespace_named (request_view request.now).attributes.namespace (state_view self.now.state.now).objects) }
     {
         match opened {
@@ -47,11 +47,11 @@ impl<'a> Cluster<'_, 'a> {
     }
 
     /// Where the namespace of this name is, if it was read.
-    fn place_in(&self, opened: &OpenedReview<'a, '_>, name: &str) -> Option<PooledDocument>
-        ensures { IsAtIf opened.now.values result (namespace_named name.now (state_view self.now.state.now).objects) }
+    fn place_in(&self, opened: &OpenedReview<'a, '_>, name: &str) -> Option<NamespacePlace>
+        ensures { IsAtIf opened.now result (namespace_named name.now (state_view self.now.state.now).objects) }
     {
         match self.state.namespace(name) {
-            Some(document) => opened.place_of(document),
+            Some(document) => opened.namespace_place(self.alloc, document),
             None => None,
         }
     }

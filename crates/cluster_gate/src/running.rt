@@ -5,7 +5,7 @@ ghost use Rattle.serde_json.specs.View.{view};
 ghost use Rattle.cluster_plan.specs.Steps.{evaluates, step_view};
 ghost use Rattle.cluster_state.specs.Bindings.{binding_view};
 ghost use Rattle.cluster_state.specs.Policies.{BoundPolicy};
-ghost use Rattle.cluster_gate.specs.Opened.{HasKnownNamespace, IsBesideIf};
+ghost use Rattle.cluster_gate.specs.Beside.{HasKnownNamespace, IsBesideIf};
 ghost use Rattle.cluster_gate.specs.Running.{Adds, AddsStep, AddsSteps, IsRunOf};
 ghost use Rattle.cluster_gate.specs.Dispatch.{undecided_event};
 ghost use Rattle.cluster_gate.specs.declared.progress.Progress.TheVariants.{NextPolicy};

@@ -2,7 +2,7 @@
 use Rattle.cluster_gate.proofs.KnownSteps.{all_at}
 use Rattle.cluster_gate.proofs.Prelude.{◌+◌, drop, map, step_view}
 use Rattle.cluster_gate.proofs.Runs.{added_end, added_last, added_step, at_last, at_step}
-use Rattle.cluster_gate.specs.Opened.{HasKnownNamespace}
+use Rattle.cluster_gate.specs.Beside.{HasKnownNamespace}
 use Rattle.cluster_gate.proofs.policy_run.PolicyRun.run.Goals as goal
 
 pub run_step-requires : goal.run_step-requires

@@ -1,6 +1,6 @@
 -- Proof obligations of `policy_run::PolicyRun::run_bindings`.
 use Rattle.std.specs.List.{All}
-use Rattle.cluster_gate.specs.Opened.{HasKnownNamespace}
+use Rattle.cluster_gate.specs.Beside.{HasKnownNamespace}
 use Rattle.cluster_gate.proofs.KnownSteps.{steps_are_known}
 use Rattle.cluster_gate.proofs.Prelude.{◌∙◌, List, sym, IfOk-weaker, ap, asked_policy, asked_view, map, request_view, state_view, step_view, subst, AddsSteps, PlannedStep}
 use Rattle.cluster_gate.proofs.Asked.{bound_steps}

@@ -1,7 +1,7 @@
 -- Proof obligations of `policy_run::PolicyRun::run_step`.
 use Rattle.cluster_gate.proofs.Prelude.{IfOk-weaker, ap, option_map, step_view, string_bytes, subst, sym, AddsStep, PlannedStep}
 use Rattle.cluster_gate.proofs.Runs.{denied_step, end_step, unknown_step}
-use Rattle.cluster_gate.specs.Opened.{HasKnownNamespace}
+use Rattle.cluster_gate.specs.Beside.{HasKnownNamespace}
 use Rattle.cluster_gate.proofs.policy_run.PolicyRun.run_step.Goals as goal
 
 pub evaluate-requires : goal.evaluate-requires
