@@ -13,4 +13,5 @@ mod ClusterOnce
 mod Ends
 mod Lists
 mod Told
+mod Counted
 pub mod Prelude

@@ -11,6 +11,7 @@ pub mod Starting
 pub mod About
 pub mod ClusterStarting
 pub mod ClusterTelling
+pub mod Counts
 pub mod ClusterLines
 pub mod ClusterEnding
 pub mod Program

@@ -23,7 +23,7 @@ use cluster_state::{State, StateError};
 ///
 /// The first policy that is blocked, unless it may be. `Memory` where memory runs out.
 pub fn open_cluster<'s, 'a>(
-    task: &ClusterTask,
+    task: &'a ClusterTask,
     state: &'s State<'a>,
 ) -> Result<ClusterKeeper<'s, 'a>, StartRefusal>
     ensures { OpensKeeper (map view task.now.lists.items) (cluster_order_view task.now.order) (state_view state.now) result }

@@ -43,7 +43,7 @@ pub fn answer_as_cluster<R: LineSource, W: Sink, E: Sink>(
 
 /// Answers the lines as the cluster with this state does.
 fn answer_by_state<'s, 'a, R: LineSource, W: Sink, E: Sink>(
-    task: &ClusterTask,
+    task: &'a ClusterTask,
     state: &'s State<'a>,
     requests: &mut R,
     answers: &mut W,

@@ -9,7 +9,7 @@ ghost use Rattle.cluster_gate.specs.Gates.{AreGatesFor, IsGateFor};
 ghost use Rattle.gatekeeper_runner.specs.ClusterStarting.{cause_code, cause_text};
 ghost use Rattle.gatekeeper_runner.specs.ClusterTelling.{block_text, cause_of, params_text, policy_line, spaced, TellsPolicies};
 
-use crate::listed::listed;
+use crate::listed::Listed;
 use cli::{Refusal, refusal_line};
 use cluster_gate::{BlockCause, PolicyGate, Standing};
 use cluster_state::{Binding, ParamKind, State};
@@ -18,31 +18,32 @@ use serde_json::Value;
 use std::alloc::{AllocError, Global};
 
 /// A line for each policy of the cluster that has a binding, in the order of their names.
-pub fn policies_text(
+pub fn policies_text<'a>(
     alloc: Global,
-    lists: &[Value],
-    state: &State<'_>,
-    gates: &[PolicyGate<'_, '_>],
+    lists: &'a [Value],
+    state: &State<'a>,
+    gates: &[PolicyGate<'_, 'a>],
 ) -> Result<Vec<u8>, AllocError>
     ensures { IfOk result (λ t. (s : ClusterState) → state_view state.now ≡ s → AreGatesFor s s.policies gates.now → TellsPolicies (map view lists.now) s s.policies t.items) }
 {
+    let listed = Listed::new(alloc, lists)?;
     let mut text = Vec::new(alloc);
     for gate in gates {
-        let line = policy_line(alloc, lists, state, gate)?;
+        let line = policy_line(alloc, &listed, state, gate)?;
         text.extend_from_slice(line.as_slice())?;
     }
     Ok(text)
 }
 
 /// The line of a policy.
-fn policy_line(
+fn policy_line<'a>(
     alloc: Global,
-    lists: &[Value],
-    state: &State<'_>,
-    gate: &PolicyGate<'_, '_>,
+    listed: &Listed<'a>,
+    state: &State<'a>,
+    gate: &PolicyGate<'_, 'a>,
 ) -> Result<Vec<u8>, AllocError>
     ensures { IfOk result (λ l. (s : ClusterState) (p : BoundPolicy) → state_view state.now ≡ s → IsGateFor s p gate.now
-        → l.items ≡ policy_line (map view lists.now) s p (cause_of gate.now.standing)) }
+        → l.items ≡ policy_line (map view listed.now.lists.now) s p (cause_of gate.now.standing)) }
 {
     let policy = gate.asked.policy;
     let mut line = Vec::from_slice(alloc, b"celbpf: policy ")?;
@@ -50,7 +51,7 @@ fn policy_line(
     line.extend_from_slice(b", bindings")?;
     let bindings = state.bindings_of(alloc, policy.name)?;
     add_bindings(&mut line, bindings)?;
-    add_params(alloc, &mut line, lists, &policy.param_kind)?;
+    add_params(&mut line, listed, &policy.param_kind)?;
     add_standing(alloc, &mut line, &gate.standing)?;
     line.extend_from_slice(b"\n")?;
     Ok(line)
@@ -68,22 +69,20 @@ fn add_bindings(line: &mut Vec<u8>, bindings: Vec<&Binding<'_>>) -> Result<(), A
 }
 
 /// Adds the kind of params, and how many of it are listed.
-fn add_params(
-    alloc: Global,
+fn add_params<'a>(
     line: &mut Vec<u8>,
-    lists: &[Value],
-    kind: &Option<ParamKind<'_>>,
+    listed: &Listed<'a>,
+    kind: &Option<ParamKind<'a>>,
 ) -> Result<(), AllocError>
-    ensures { OnOk result (line.new.items ≡ line.old.items ++ params_text (map view lists.now) (option_map param_kind_view kind.now)) }
+    ensures { OnOk result (line.new.items ≡ line.old.items ++ params_text (map view listed.now.lists.now) (option_map param_kind_view kind.now)) }
 {
     let Some(kind) = kind else { return Ok(()) };
-    let params = listed(alloc, lists, kind)?;
     line.extend_from_slice(b", params ")?;
     line.extend_from_slice(kind.api_version.as_bytes())?;
     line.extend_from_slice(b" ")?;
     line.extend_from_slice(kind.kind.as_bytes())?;
     line.extend_from_slice(b" ")?;
-    add_number(line, params.len())
+    add_number(line, listed.count(kind))
 }
 
 /// Adds a number.
