@@ -116,7 +116,8 @@ work case = policy_work case.policy.parsed.failure_policy case.policy.trees case
 -- the bound on the charge is above the limit, or a value is too deep
 abbrev pub IsBeyond : {d : Documents} → Case d → Type 0
 IsBeyond case =
-    (charge_limit < (started case.roots).charge + charge_per_unit * policy_spent case.policy.parsed.failure_policy case.policy.trees case.roots)
+    (charge_limit < (started case.roots).charge + charge_per_unit * policy_spent case.policy.parsed.failure_policy
+        case.policy.trees case.roots)
     ⊎ IsDeepPolicy case.policy.parsed.failure_policy case.policy.trees case.roots
 
 -- the reply is the one for the policy's verdict

@@ -79,7 +79,8 @@ abbrev pub empty_rule : Rule
 empty_rule = record { scope = All; operations = []; api_groups = []; api_versions = []; resources = []; resource_names = [] }
 
 pub record MatchDocumentRowsHold : Type 0 where
-  pub rule : constraints (codes "{\"resourceRules\":[{\"apiGroups\":[\"\"],\"apiVersions\":[\"v1\"],\"operations\":[\"CREATE\"],\"resourceNames\":[\"web\"],\"resources\":[\"pods\"],\"scope\":\"Namespaced\"}]}")
+  pub rule :
+      constraints (codes "{\"resourceRules\":[{\"apiGroups\":[\"\"],\"apiVersions\":[\"v1\"],\"operations\":[\"CREATE\"],\"resourceNames\":[\"web\"],\"resources\":[\"pods\"],\"scope\":\"Namespaced\"}]}")
       ≡ with_rule pod_rule
   pub defaults : constraints (codes "{\"resourceRules\":[{}]}") ≡ with_rule empty_rule
   pub scope_written : constraints (codes "{\"matchPolicy\":\"Equivalent\",\"resourceRules\":[{\"scope\":\"*\"}]}") ≡ with_rule empty_rule
@@ -129,18 +130,29 @@ abbrev pub is_request : List ℕ → Bool
 is_request text = is_some (request text)
 
 pub record RequestRowsHold : Type 0 where
-  pub delete : is_request (codes "{\"kind\":{\"version\":\"v1\",\"kind\":\"Pod\"},\"resource\":{\"version\":\"v1\",\"resource\":\"pods\"},\"operation\":\"DELETE\"}") ≡ true
-  pub same_kind : is_request (codes "{\"kind\":{\"version\":\"v1\",\"kind\":\"Pod\"},\"requestKind\":{\"group\":\"\",\"version\":\"v1\",\"kind\":\"Pod\"},\"resource\":{\"version\":\"v1\",\"resource\":\"pods\"},\"operation\":\"DELETE\"}") ≡ true
-  pub converted_kind : is_request (codes "{\"kind\":{\"version\":\"v1\",\"kind\":\"Pod\"},\"requestKind\":{\"version\":\"v2\",\"kind\":\"Pod\"},\"resource\":{\"version\":\"v1\",\"resource\":\"pods\"},\"operation\":\"DELETE\"}") ≡ false
-  pub converted_resource : is_request (codes "{\"kind\":{\"version\":\"v1\",\"kind\":\"Pod\"},\"resource\":{\"version\":\"v1\",\"resource\":\"pods\"},\"requestResource\":{\"group\":\"a\",\"version\":\"v1\",\"resource\":\"pods\"},\"operation\":\"DELETE\"}") ≡ false
-  pub other_subresource : is_request (codes "{\"kind\":{\"version\":\"v1\",\"kind\":\"Pod\"},\"resource\":{\"version\":\"v1\",\"resource\":\"pods\"},\"requestSubResource\":\"exec\",\"operation\":\"DELETE\"}") ≡ false
-  pub no_version : is_request (codes "{\"kind\":{\"kind\":\"Pod\"},\"resource\":{\"version\":\"v1\",\"resource\":\"pods\"},\"operation\":\"DELETE\"}") ≡ false
+  pub delete :
+      is_request (codes "{\"kind\":{\"version\":\"v1\",\"kind\":\"Pod\"},\"resource\":{\"version\":\"v1\",\"resource\":\"pods\"},\"operation\":\"DELETE\"}") ≡ true
+  pub same_kind :
+      is_request (codes "{\"kind\":{\"version\":\"v1\",\"kind\":\"Pod\"},\"requestKind\":{\"group\":\"\",\"version\":\"v1\",\"kind\":\"Pod\"},\"resource\":{\"version\":\"v1\",\"resource\":\"pods\"},\"operation\":\"DELETE\"}") ≡ true
+  pub converted_kind :
+      is_request (codes "{\"kind\":{\"version\":\"v1\",\"kind\":\"Pod\"},\"requestKind\":{\"version\":\"v2\",\"kind\":\"Pod\"},\"resource\":{\"version\":\"v1\",\"resource\":\"pods\"},\"operation\":\"DELETE\"}") ≡ false
+  pub converted_resource :
+      is_request (codes "{\"kind\":{\"version\":\"v1\",\"kind\":\"Pod\"},\"resource\":{\"version\":\"v1\",\"resource\":\"pods\"},\"requestResource\":{\"group\":\"a\",\"version\":\"v1\",\"resource\":\"pods\"},\"operation\":\"DELETE\"}") ≡ false
+  pub other_subresource :
+      is_request (codes "{\"kind\":{\"version\":\"v1\",\"kind\":\"Pod\"},\"resource\":{\"version\":\"v1\",\"resource\":\"pods\"},\"requestSubResource\":\"exec\",\"operation\":\"DELETE\"}") ≡ false
+  pub no_version :
+      is_request (codes "{\"kind\":{\"kind\":\"Pod\"},\"resource\":{\"version\":\"v1\",\"resource\":\"pods\"},\"operation\":\"DELETE\"}") ≡ false
   pub no_resource : is_request (codes "{\"kind\":{\"version\":\"v1\",\"kind\":\"Pod\"},\"operation\":\"DELETE\"}") ≡ false
-  pub other_operation : is_request (codes "{\"kind\":{\"version\":\"v1\",\"kind\":\"Pod\"},\"resource\":{\"version\":\"v1\",\"resource\":\"pods\"},\"operation\":\"GET\"}") ≡ false
-  pub create_without_object : is_request (codes "{\"kind\":{\"version\":\"v1\",\"kind\":\"Pod\"},\"resource\":{\"version\":\"v1\",\"resource\":\"pods\"},\"operation\":\"CREATE\",\"object\":null}") ≡ false
-  pub connect_without_object : is_request (codes "{\"kind\":{\"version\":\"v1\",\"kind\":\"Pod\"},\"resource\":{\"version\":\"v1\",\"resource\":\"pods\"},\"operation\":\"CONNECT\"}") ≡ true
-  pub number_as_name : is_request (codes "{\"kind\":{\"version\":\"v1\",\"kind\":\"Pod\"},\"resource\":{\"version\":\"v1\",\"resource\":\"pods\"},\"operation\":\"DELETE\",\"name\":1}") ≡ false
-  pub text_as_old_object : is_request (codes "{\"kind\":{\"version\":\"v1\",\"kind\":\"Pod\"},\"resource\":{\"version\":\"v1\",\"resource\":\"pods\"},\"operation\":\"DELETE\",\"oldObject\":\"x\"}") ≡ false
+  pub other_operation :
+      is_request (codes "{\"kind\":{\"version\":\"v1\",\"kind\":\"Pod\"},\"resource\":{\"version\":\"v1\",\"resource\":\"pods\"},\"operation\":\"GET\"}") ≡ false
+  pub create_without_object :
+      is_request (codes "{\"kind\":{\"version\":\"v1\",\"kind\":\"Pod\"},\"resource\":{\"version\":\"v1\",\"resource\":\"pods\"},\"operation\":\"CREATE\",\"object\":null}") ≡ false
+  pub connect_without_object :
+      is_request (codes "{\"kind\":{\"version\":\"v1\",\"kind\":\"Pod\"},\"resource\":{\"version\":\"v1\",\"resource\":\"pods\"},\"operation\":\"CONNECT\"}") ≡ true
+  pub number_as_name :
+      is_request (codes "{\"kind\":{\"version\":\"v1\",\"kind\":\"Pod\"},\"resource\":{\"version\":\"v1\",\"resource\":\"pods\"},\"operation\":\"DELETE\",\"name\":1}") ≡ false
+  pub text_as_old_object :
+      is_request (codes "{\"kind\":{\"version\":\"v1\",\"kind\":\"Pod\"},\"resource\":{\"version\":\"v1\",\"resource\":\"pods\"},\"operation\":\"DELETE\",\"oldObject\":\"x\"}") ≡ false
 
 -- ---- edge cases
 
@@ -158,21 +170,25 @@ pub record SelectorPartRowsHold : Type 0 where
   pub two_labels : selector (codes "{\"matchLabels\":{\"app\":\"web\",\"env\":\"prod\"}}")
       ≡ selector_with (label (codes "app") (codes "web") ∷ label (codes "env") (codes "prod") ∷ []) []
   pub empty_value : selector (codes "{\"matchLabels\":{\"env\":\"\"}}") ≡ selector_with (label (codes "env") [] ∷ []) []
-  pub two_expressions : selector (codes "{\"matchExpressions\":[{\"key\":\"env\",\"operator\":\"NotIn\",\"values\":[\"dev\",\"prod\"]},{\"key\":\"tier\",\"operator\":\"DoesNotExist\"}]}")
+  pub two_expressions :
+      selector (codes "{\"matchExpressions\":[{\"key\":\"env\",\"operator\":\"NotIn\",\"values\":[\"dev\",\"prod\"]},{\"key\":\"tier\",\"operator\":\"DoesNotExist\"}]}")
       ≡ selector_with [] (asks (codes "env") NotIn (codes "dev" ∷ codes "prod" ∷ []) ∷ asks (codes "tier") DoesNotExist [] ∷ [])
-  pub both : selector (codes "{\"matchExpressions\":[{\"key\":\"tier\",\"operator\":\"Exists\",\"values\":[]}],\"matchLabels\":{\"env\":\"prod\"}}")
+  pub both :
+      selector (codes "{\"matchExpressions\":[{\"key\":\"tier\",\"operator\":\"Exists\",\"values\":[]}],\"matchLabels\":{\"env\":\"prod\"}}")
       ≡ selector_with (label (codes "env") (codes "prod") ∷ []) (asks (codes "tier") Exists [] ∷ [])
   pub nothing_asked : selector (codes "{}") ≡ selector_with [] []
   pub unknown_operator : selector (codes "{\"matchExpressions\":[{\"key\":\"env\",\"operator\":\"Gt\",\"values\":[\"1\"]}]}") ≡ None
   pub bad_key : selector (codes "{\"matchLabels\":{\"a/b/c\":\"x\"}}") ≡ None
-  pub unknown_key_of_a_requirement : selector (codes "{\"matchExpressions\":[{\"key\":\"env\",\"operator\":\"Exists\",\"value\":[]}]}") ≡ None
+  pub unknown_key_of_a_requirement :
+      selector (codes "{\"matchExpressions\":[{\"key\":\"env\",\"operator\":\"Exists\",\"value\":[]}]}") ≡ None
   pub no_key : selector (codes "{\"matchExpressions\":[{\"operator\":\"Exists\"}]}") ≡ None
   pub no_operator : selector (codes "{\"matchExpressions\":[{\"key\":\"env\"}]}") ≡ None
   pub list_as_labels : selector (codes "{\"matchLabels\":[]}") ≡ None
   pub object_as_expressions : selector (codes "{\"matchExpressions\":{}}") ≡ None
   pub text_as_values : selector (codes "{\"matchExpressions\":[{\"key\":\"env\",\"operator\":\"In\",\"values\":\"prod\"}]}") ≡ None
   pub second_label : selector (codes "{\"matchLabels\":{\"app\":\"web\",\"env\":1}}") ≡ None
-  pub second_expression : selector (codes "{\"matchExpressions\":[{\"key\":\"env\",\"operator\":\"Exists\"},{\"key\":\"env\",\"operator\":\"In\"}]}") ≡ None
+  pub second_expression :
+      selector (codes "{\"matchExpressions\":[{\"key\":\"env\",\"operator\":\"Exists\"},{\"key\":\"env\",\"operator\":\"In\"}]}") ≡ None
   pub unknown_key_beside_a_known_one : selector (codes "{\"matchLabels\":{},\"names\":[]}") ≡ None
 
 -- the last of two labels, the empty value, and values that are not labels
@@ -196,7 +212,8 @@ defaults_with rules = Some (record {
 
 -- each part, each default written explicitly, and parts of the wrong form
 pub record MatchPartRowsHold : Type 0 where
-  pub all_parts : constraints (codes "{\"excludeResourceRules\":[{\"scope\":\"Cluster\"}],\"matchPolicy\":\"Exact\",\"namespaceSelector\":{\"matchLabels\":{\"env\":\"prod\"}},\"objectSelector\":{\"matchLabels\":{\"app\":\"web\"}},\"resourceRules\":[{},{\"resources\":[\"nodes\",\"pods\"]}]}")
+  pub all_parts :
+      constraints (codes "{\"excludeResourceRules\":[{\"scope\":\"Cluster\"}],\"matchPolicy\":\"Exact\",\"namespaceSelector\":{\"matchLabels\":{\"env\":\"prod\"}},\"objectSelector\":{\"matchLabels\":{\"app\":\"web\"}},\"resourceRules\":[{},{\"resources\":[\"nodes\",\"pods\"]}]}")
       ≡ Some (record {
         match_policy = Exact;
         namespace_selector = record { match_labels = label (codes "env") (codes "prod") ∷ []; match_expressions = [] };
@@ -205,7 +222,8 @@ pub record MatchPartRowsHold : Type 0 where
         exclude_resource_rules = record empty_rule { scope = Cluster } ∷ [];
       })
   pub all_defaults : constraints (codes "{\"resourceRules\":[{}]}") ≡ defaults_with (empty_rule ∷ [])
-  pub nulls : constraints (codes "{\"excludeResourceRules\":null,\"matchPolicy\":null,\"namespaceSelector\":null,\"resourceRules\":[{\"operations\":null,\"scope\":null}]}") ≡ defaults_with (empty_rule ∷ [])
+  pub nulls :
+      constraints (codes "{\"excludeResourceRules\":null,\"matchPolicy\":null,\"namespaceSelector\":null,\"resourceRules\":[{\"operations\":null,\"scope\":null}]}") ≡ defaults_with (empty_rule ∷ [])
   pub binding : match_resources_of None ≡ defaults_with []
   pub null_constraints : constraints (codes "null") ≡ None
   pub null_rules : constraints (codes "{\"resourceRules\":null}") ≡ None
@@ -234,21 +252,30 @@ is_pod_request fields = is_some (pod_request fields)
 
 -- required parts, and parts that must be equal
 pub record RequestPartRowsHold : Type 0 where
-  pub same_resource : is_pod_request (codes "\"operation\":\"DELETE\",\"requestResource\":{\"version\":\"v1\",\"resource\":\"pods\"}") ≡ true
-  pub null_request_kind : is_pod_request (codes "\"operation\":\"DELETE\",\"requestKind\":null,\"requestResource\":null,\"requestSubResource\":null") ≡ true
+  pub same_resource :
+      is_pod_request (codes "\"operation\":\"DELETE\",\"requestResource\":{\"version\":\"v1\",\"resource\":\"pods\"}") ≡ true
+  pub null_request_kind :
+      is_pod_request (codes "\"operation\":\"DELETE\",\"requestKind\":null,\"requestResource\":null,\"requestSubResource\":null") ≡ true
   pub empty_request_subresource : is_pod_request (codes "\"operation\":\"DELETE\",\"requestSubResource\":\"\"") ≡ true
-  pub group_of_another_kind : is_pod_request (codes "\"operation\":\"DELETE\",\"requestKind\":{\"group\":\"a\",\"version\":\"v1\",\"kind\":\"Pod\"}") ≡ false
+  pub group_of_another_kind :
+      is_pod_request (codes "\"operation\":\"DELETE\",\"requestKind\":{\"group\":\"a\",\"version\":\"v1\",\"kind\":\"Pod\"}") ≡ false
   pub other_kind : is_pod_request (codes "\"operation\":\"DELETE\",\"requestKind\":{\"version\":\"v1\",\"kind\":\"Node\"}") ≡ false
   pub part_of_a_kind : is_pod_request (codes "\"operation\":\"DELETE\",\"requestKind\":{\"version\":\"v1\"}") ≡ false
-  pub other_version : is_pod_request (codes "\"operation\":\"DELETE\",\"requestResource\":{\"version\":\"v2\",\"resource\":\"pods\"}") ≡ false
-  pub other_resource : is_pod_request (codes "\"operation\":\"DELETE\",\"requestResource\":{\"version\":\"v1\",\"resource\":\"nodes\"}") ≡ false
+  pub other_version :
+      is_pod_request (codes "\"operation\":\"DELETE\",\"requestResource\":{\"version\":\"v2\",\"resource\":\"pods\"}") ≡ false
+  pub other_resource :
+      is_pod_request (codes "\"operation\":\"DELETE\",\"requestResource\":{\"version\":\"v1\",\"resource\":\"nodes\"}") ≡ false
   pub part_of_a_resource : is_pod_request (codes "\"operation\":\"DELETE\",\"requestResource\":{\"version\":\"v1\"}") ≡ false
   pub number_as_request_subresource : is_pod_request (codes "\"operation\":\"DELETE\",\"requestSubResource\":1") ≡ false
   pub no_kind : is_request (codes "{\"resource\":{\"version\":\"v1\",\"resource\":\"pods\"},\"operation\":\"DELETE\"}") ≡ false
-  pub kind_without_its_name : is_request (codes "{\"kind\":{\"version\":\"v1\"},\"resource\":{\"version\":\"v1\",\"resource\":\"pods\"},\"operation\":\"DELETE\"}") ≡ false
-  pub number_as_group : is_request (codes "{\"kind\":{\"group\":1,\"version\":\"v1\",\"kind\":\"Pod\"},\"resource\":{\"version\":\"v1\",\"resource\":\"pods\"},\"operation\":\"DELETE\"}") ≡ false
-  pub resource_without_version : is_request (codes "{\"kind\":{\"version\":\"v1\",\"kind\":\"Pod\"},\"resource\":{\"resource\":\"pods\"},\"operation\":\"DELETE\"}") ≡ false
-  pub resource_without_its_name : is_request (codes "{\"kind\":{\"version\":\"v1\",\"kind\":\"Pod\"},\"resource\":{\"version\":\"v1\"},\"operation\":\"DELETE\"}") ≡ false
+  pub kind_without_its_name :
+      is_request (codes "{\"kind\":{\"version\":\"v1\"},\"resource\":{\"version\":\"v1\",\"resource\":\"pods\"},\"operation\":\"DELETE\"}") ≡ false
+  pub number_as_group :
+      is_request (codes "{\"kind\":{\"group\":1,\"version\":\"v1\",\"kind\":\"Pod\"},\"resource\":{\"version\":\"v1\",\"resource\":\"pods\"},\"operation\":\"DELETE\"}") ≡ false
+  pub resource_without_version :
+      is_request (codes "{\"kind\":{\"version\":\"v1\",\"kind\":\"Pod\"},\"resource\":{\"resource\":\"pods\"},\"operation\":\"DELETE\"}") ≡ false
+  pub resource_without_its_name :
+      is_request (codes "{\"kind\":{\"version\":\"v1\",\"kind\":\"Pod\"},\"resource\":{\"version\":\"v1\"},\"operation\":\"DELETE\"}") ≡ false
   pub number_as_subresource : is_pod_request (codes "\"operation\":\"DELETE\",\"subResource\":1") ≡ false
   pub number_as_namespace : is_pod_request (codes "\"operation\":\"DELETE\",\"namespace\":1") ≡ false
   pub no_operation : is_pod_request (codes "\"name\":\"web\"") ≡ false
@@ -261,25 +288,42 @@ pub record RequestPartRowsHold : Type 0 where
 
 -- what is read: defaults, operations, objects and their labels
 pub record RequestReadRowsHold : Type 0 where
-  pub kind : option_map (λ r. r.kind) (pod_request (codes "\"operation\":\"DELETE\"")) ≡ Some (record { group = []; version = codes "v1"; kind = codes "Pod" })
-  pub resource : option_map (λ r. r.attributes.resource) (pod_request (codes "\"operation\":\"DELETE\"")) ≡ Some (record { group = []; version = codes "v1"; resource = codes "pods" })
+  pub kind : option_map (λ r. r.kind) (pod_request (codes "\"operation\":\"DELETE\""))
+      ≡ Some (record { group = []; version = codes "v1"; kind = codes "Pod" })
+  pub resource : option_map (λ r. r.attributes.resource) (pod_request (codes "\"operation\":\"DELETE\""))
+      ≡ Some (record { group = []; version = codes "v1"; resource = codes "pods" })
   pub no_subresource : option_map (λ r. r.attributes.subresource) (pod_request (codes "\"operation\":\"DELETE\"")) ≡ Some []
   pub no_name : option_map (λ r. r.attributes.name) (pod_request (codes "\"operation\":\"DELETE\"")) ≡ Some []
   pub no_namespace : option_map (λ r. r.attributes.namespace) (pod_request (codes "\"operation\":\"DELETE\"")) ≡ Some []
   pub create : option_map (λ r. r.attributes.operation) (pod_request (codes "\"operation\":\"CREATE\",\"object\":{}")) ≡ Some Create
   pub delete : option_map (λ r. r.attributes.operation) (pod_request (codes "\"operation\":\"DELETE\"")) ≡ Some Delete
   pub connect : option_map (λ r. r.attributes.operation) (pod_request (codes "\"operation\":\"CONNECT\"")) ≡ Some Connect
-  pub last_of_a_key : option_map (λ r. r.attributes.operation) (pod_request (codes "\"operation\":\"DELETE\",\"operation\":\"CONNECT\"")) ≡ Some Connect
-  pub object : option_map (λ r. r.object) (pod_request (codes "\"operation\":\"CREATE\",\"object\":{}")) ≡ Some (Some (json.object json.no_members))
+  pub last_of_a_key :
+      option_map (λ r. r.attributes.operation) (pod_request (codes "\"operation\":\"DELETE\",\"operation\":\"CONNECT\"")) ≡ Some Connect
+  pub object : option_map (λ r. r.object) (pod_request (codes "\"operation\":\"CREATE\",\"object\":{}"))
+      ≡ Some (Some (json.object json.no_members))
   pub no_object_of_delete : option_map (λ r. r.object) (pod_request (codes "\"operation\":\"DELETE\",\"oldObject\":{}")) ≡ Some None
-  pub old_object : option_map (λ r. r.old_object) (pod_request (codes "\"operation\":\"DELETE\",\"oldObject\":{}")) ≡ Some (Some (json.object json.no_members))
-  pub object_without_metadata : option_map (λ r. is_some r.attributes.object) (pod_request (codes "\"operation\":\"CONNECT\",\"object\":{\"labels\":{}}")) ≡ Some false
-  pub null_metadata : option_map (λ r. is_some r.attributes.object) (pod_request (codes "\"operation\":\"CONNECT\",\"object\":{\"metadata\":null}")) ≡ Some false
-  pub metadata_without_labels : option_map (λ r. is_some r.attributes.object) (pod_request (codes "\"operation\":\"CREATE\",\"object\":{\"metadata\":{}}")) ≡ Some true
-  pub no_label : option_map (λ r. env_of r.attributes.object) (pod_request (codes "\"operation\":\"CREATE\",\"object\":{\"metadata\":{}}")) ≡ Some None
-  pub labels_of_the_new_object : option_map (λ r. env_of r.attributes.object) (pod_request (codes "\"operation\":\"UPDATE\",\"object\":{\"metadata\":{\"labels\":{\"env\":\"new\"}}},\"oldObject\":{\"metadata\":{\"labels\":{\"env\":\"old\"}}}")) ≡ Some (Some (codes "new"))
-  pub labels_of_the_old_object : option_map (λ r. env_of r.attributes.old_object) (pod_request (codes "\"operation\":\"UPDATE\",\"object\":{\"metadata\":{\"labels\":{\"env\":\"new\"}}},\"oldObject\":{\"metadata\":{\"labels\":{\"env\":\"old\"}}}")) ≡ Some (Some (codes "old"))
-  pub old_object_without_metadata : option_map (λ r. is_some r.attributes.old_object) (pod_request (codes "\"operation\":\"DELETE\",\"oldObject\":{}")) ≡ Some false
+  pub old_object : option_map (λ r. r.old_object) (pod_request (codes "\"operation\":\"DELETE\",\"oldObject\":{}"))
+      ≡ Some (Some (json.object json.no_members))
+  pub object_without_metadata :
+      option_map (λ r. is_some r.attributes.object) (pod_request
+          (codes "\"operation\":\"CONNECT\",\"object\":{\"labels\":{}}")) ≡ Some false
+  pub null_metadata :
+      option_map (λ r. is_some r.attributes.object) (pod_request
+          (codes "\"operation\":\"CONNECT\",\"object\":{\"metadata\":null}")) ≡ Some false
+  pub metadata_without_labels :
+      option_map (λ r. is_some r.attributes.object) (pod_request
+          (codes "\"operation\":\"CREATE\",\"object\":{\"metadata\":{}}")) ≡ Some true
+  pub no_label :
+      option_map (λ r. env_of r.attributes.object) (pod_request (codes "\"operation\":\"CREATE\",\"object\":{\"metadata\":{}}")) ≡ Some None
+  pub labels_of_the_new_object :
+      option_map (λ r. env_of r.attributes.object) (pod_request
+          (codes "\"operation\":\"UPDATE\",\"object\":{\"metadata\":{\"labels\":{\"env\":\"new\"}}},\"oldObject\":{\"metadata\":{\"labels\":{\"env\":\"old\"}}}")) ≡ Some (Some (codes "new"))
+  pub labels_of_the_old_object :
+      option_map (λ r. env_of r.attributes.old_object) (pod_request
+          (codes "\"operation\":\"UPDATE\",\"object\":{\"metadata\":{\"labels\":{\"env\":\"new\"}}},\"oldObject\":{\"metadata\":{\"labels\":{\"env\":\"old\"}}}")) ≡ Some (Some (codes "old"))
+  pub old_object_without_metadata :
+      option_map (λ r. is_some r.attributes.old_object) (pod_request (codes "\"operation\":\"DELETE\",\"oldObject\":{}")) ≡ Some false
 
 abbrev pub kind : List ℕ → List ℕ → List ℕ → GroupVersionKind
 kind group version name = record { group = group; version = version; kind = name }

@@ -17,19 +17,22 @@ ExemptInEachVersion = (x : GroupVersionResource) (v : List ℕ) → is_exempt (a
 
 -- a rule that fits a candidate may fit
 abbrev pub CandidatesMayFit : Type 0
-CandidatesMayFit = (r : Rule) (q : Attributes) (c : GroupVersionResource) → is_candidate q.resource c ≡ true → fits r q c ≡ true → may_fit r q ≡ true
+CandidatesMayFit =
+    (r : Rule) (q : Attributes) (c : GroupVersionResource) → is_candidate q.resource c ≡ true → fits r q c ≡ true → may_fit r q ≡ true
 
 -- two adjacent rules may be exchanged
 abbrev pub RulesHaveNoOrder : Type 0
 RulesHaveNoOrder =
     (m : MatchResources) (namespaces : Namespaces) (q : Attributes) (before : List Rule) (a b : Rule) (after : List Rule)
-    → match_answer (record m { resource_rules = before ++ a ∷ b ∷ after }) namespaces q ≡ match_answer (record m { resource_rules = before ++ b ∷ a ∷ after }) namespaces q
+    → match_answer (record m { resource_rules = before ++ a ∷ b ∷ after }) namespaces q
+    ≡ match_answer (record m { resource_rules = before ++ b ∷ a ∷ after }) namespaces q
 
 -- two adjacent excluding rules may be exchanged
 abbrev pub ExcludesHaveNoOrder : Type 0
 ExcludesHaveNoOrder =
     (m : MatchResources) (namespaces : Namespaces) (q : Attributes) (before : List Rule) (a b : Rule) (after : List Rule)
-    → match_answer (record m { exclude_resource_rules = before ++ a ∷ b ∷ after }) namespaces q ≡ match_answer (record m { exclude_resource_rules = before ++ b ∷ a ∷ after }) namespaces q
+    → match_answer (record m { exclude_resource_rules = before ++ a ∷ b ∷ after }) namespaces q
+    ≡ match_answer (record m { exclude_resource_rules = before ++ b ∷ a ∷ after }) namespaces q
 
 -- a rule fits the request under this resource
 abbrev pub some_fits : List Rule → Attributes → GroupVersionResource → Bool

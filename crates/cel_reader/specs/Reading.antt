@@ -70,7 +70,8 @@ pub data Plan : Bool → Kind → Type 0 where
   call : {b : Bool} {j k : Kind} → Step b j → (Of j → Plan false k) → Plan b k  -- take this step, then continue with its phrase
   -- continue after such a word; otherwise, if it is not first, with the other plan
   look : {k : Kind} (l : Look) → (FoundBy l → Plan false k) → Plan false k → Plan false k
-  enter : {k : Kind} (m : Mark) → opens_mark m ≡ true → Plan true k → Plan false k → Plan false k  -- continue after this opening mark, or with the other plan
+  enter : {k : Kind} (m : Mark) → opens_mark m ≡ true → Plan true k → Plan false k
+      → Plan false k  -- continue after this opening mark, or with the other plan
   inside : {k : Kind} → Plan false k → Plan true k  -- if one more may be open
 
 -- an operand with this operator before it

@@ -89,7 +89,8 @@ pub record ErrorRowsStand : Type 0 where
   pub no_number : with_number (codes "Y2") (codes " at ") None ≡ codes "Y2"
   pub at_a_byte : expression_text (expression_error.Unread (read_error.UnexpectedToken 13)) ≡ codes "P4 at 13"
   pub in_a_part : part_text kind.Variable 2 (expression_error.Untyped type_error.NoMatchingOverload) ≡ codes "variable 2 Y2"
-  pub of_an_expression : compile_text (compile_error.InvalidExpression kind.Validation 0 (expression_error.Unread (read_error.UnexpectedToken 13)))
+  pub of_an_expression :
+      compile_text (compile_error.InvalidExpression kind.Validation 0 (expression_error.Unread (read_error.UnexpectedToken 13)))
       ≡ codes "K6 validation 0 P4 at 13"
   pub of_another_error : compile_text compile_error.NotABool ≡ codes "K7"
 

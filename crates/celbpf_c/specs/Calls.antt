@@ -40,7 +40,8 @@ gate_view (Ok b) = Ok b.value
 gate_view (Err e) = Err e
 
 -- the place, the status and the text after a gate was made or the policy was refused
-abbrev pub LeavesGate : Result PolicyAndImage PolicyRefusal → Option PolicyAndImage → Option PolicyAndImage → ℕ → List ℕ → List ℕ → ℕ → Type 0
+abbrev pub LeavesGate : Result PolicyAndImage PolicyRefusal → Option PolicyAndImage → Option PolicyAndImage → ℕ
+    → List ℕ → List ℕ → ℕ → Type 0
 LeavesGate (Ok gate) old new status before after n =
     OneImage gate.policy gate.image × (new ≡ Some gate) × (status ≡ 0) × Writes [] before after n
 LeavesGate (Err e) old new status before after n =

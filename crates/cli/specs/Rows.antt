@@ -61,7 +61,8 @@ pub record RefusalLineRowsStand : Type 0 where
   pub nodes : Says (Policy (Uncompiled TooManyNodes)) "celbpf: G3\n" 3
   pub text_bytes : Says (Policy (Uncompiled TooManyTextBytes)) "celbpf: G4\n" 3
   pub review_without_policy : Says (Run (PolicyRefused (Unread InvalidField))) "celbpf: N1 K3\n" 3
-  pub review_of_deep_variable : Says (Run (PolicyRefused (Uncompiled (InvalidExpression Variable 6 VariableTooDeep)))) "celbpf: N1 K6 variable 6 G2\n" 3
+  pub review_of_deep_variable :
+      Says (Run (PolicyRefused (Uncompiled (InvalidExpression Variable 6 VariableTooDeep)))) "celbpf: N1 K6 variable 6 G2\n" 3
   pub no_review : Says (Run ReviewRefused) "celbpf: N2\n" 3
   pub no_params : Says (Run NamespaceOrParamsRefused) "celbpf: N3\n" 3
   pub no_end : Says (Run OutOfSteps) "celbpf: N4\n" 4
@@ -69,18 +70,34 @@ pub record RefusalLineRowsStand : Type 0 where
 
 -- each refusal of an expression: the kind and the place of its part, its code, and for a text the byte
 pub record ExpressionRowsStand : Type 0 where
-  pub token : Says (Policy (Uncompiled (InvalidExpression Validation 0 (expression.Unread (UnexpectedToken 13))))) "celbpf: K6 validation 0 P4 at 13\n" 3
-  pub character : Says (Policy (Uncompiled (InvalidExpression Condition 2 (expression.Unread (UnknownCharacter 0))))) "celbpf: K6 condition 2 P1 at 0\n" 3
-  pub text_literal : Says (Policy (Uncompiled (InvalidExpression Message 0 (expression.Unread (InvalidTextLiteral 0))))) "celbpf: K6 message 0 P2 at 0\n" 3
-  pub int : Says (Policy (Uncompiled (InvalidExpression Validation 63 (expression.Unread (IntOutOfRange 5))))) "celbpf: K6 validation 63 P3 at 5\n" 3
-  pub open_brackets : Says (Policy (Uncompiled (InvalidExpression Validation 0 (expression.Unread (TooManyOpen 100))))) "celbpf: K6 validation 0 P5 at 100\n" 3
-  pub long_text : Says (Policy (Uncompiled (InvalidExpression Validation 0 (expression.Unread (TextTooLong 65536))))) "celbpf: K6 validation 0 P6 at 65536\n" 3
-  pub argument_count : Says (Policy (Uncompiled (InvalidExpression Validation 0 (Unexpanded WrongArgumentCount)))) "celbpf: K6 validation 0 M1\n" 3
-  pub iteration_name : Says (Policy (Uncompiled (InvalidExpression Validation 0 (Unexpanded InvalidIterationName)))) "celbpf: K6 validation 0 M2\n" 3
-  pub no_selection : Says (Policy (Uncompiled (InvalidExpression Validation 0 (Unexpanded HasWithoutSelection)))) "celbpf: K6 validation 0 M3\n" 3
-  pub unknown_name : Says (Policy (Uncompiled (InvalidExpression Validation 0 (Untyped UnknownIdentifier)))) "celbpf: K6 validation 0 Y1\n" 3
-  pub no_overload : Says (Policy (Uncompiled (InvalidExpression Validation 0 (Untyped NoMatchingOverload)))) "celbpf: K6 validation 0 Y2\n" 3
-  pub variables_in_condition : Says (Policy (Uncompiled (InvalidExpression Condition 0 (Untyped MisusedVariables)))) "celbpf: K6 condition 0 Y3\n" 3
+  pub token :
+      Says (Policy (Uncompiled (InvalidExpression Validation 0 (expression.Unread
+          (UnexpectedToken 13))))) "celbpf: K6 validation 0 P4 at 13\n" 3
+  pub character :
+      Says (Policy (Uncompiled (InvalidExpression Condition 2 (expression.Unread
+          (UnknownCharacter 0))))) "celbpf: K6 condition 2 P1 at 0\n" 3
+  pub text_literal :
+      Says (Policy (Uncompiled (InvalidExpression Message 0 (expression.Unread (InvalidTextLiteral 0))))) "celbpf: K6 message 0 P2 at 0\n" 3
+  pub int : Says (Policy (Uncompiled (InvalidExpression Validation 63 (expression.Unread
+      (IntOutOfRange 5))))) "celbpf: K6 validation 63 P3 at 5\n" 3
+  pub open_brackets :
+      Says (Policy (Uncompiled (InvalidExpression Validation 0 (expression.Unread
+          (TooManyOpen 100))))) "celbpf: K6 validation 0 P5 at 100\n" 3
+  pub long_text :
+      Says (Policy (Uncompiled (InvalidExpression Validation 0 (expression.Unread
+          (TextTooLong 65536))))) "celbpf: K6 validation 0 P6 at 65536\n" 3
+  pub argument_count :
+      Says (Policy (Uncompiled (InvalidExpression Validation 0 (Unexpanded WrongArgumentCount)))) "celbpf: K6 validation 0 M1\n" 3
+  pub iteration_name :
+      Says (Policy (Uncompiled (InvalidExpression Validation 0 (Unexpanded InvalidIterationName)))) "celbpf: K6 validation 0 M2\n" 3
+  pub no_selection :
+      Says (Policy (Uncompiled (InvalidExpression Validation 0 (Unexpanded HasWithoutSelection)))) "celbpf: K6 validation 0 M3\n" 3
+  pub unknown_name :
+      Says (Policy (Uncompiled (InvalidExpression Validation 0 (Untyped UnknownIdentifier)))) "celbpf: K6 validation 0 Y1\n" 3
+  pub no_overload :
+      Says (Policy (Uncompiled (InvalidExpression Validation 0 (Untyped NoMatchingOverload)))) "celbpf: K6 validation 0 Y2\n" 3
+  pub variables_in_condition :
+      Says (Policy (Uncompiled (InvalidExpression Condition 0 (Untyped MisusedVariables)))) "celbpf: K6 condition 0 Y3\n" 3
   pub stack_words : Says (Policy (Uncompiled (InvalidExpression Validation 0 NeedsTooManyWords))) "celbpf: K6 validation 0 G1\n" 3
   pub deep_variable : Says (Policy (Uncompiled (InvalidExpression Variable 6 VariableTooDeep))) "celbpf: K6 variable 6 G2\n" 3
 

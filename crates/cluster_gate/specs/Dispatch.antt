@@ -107,7 +107,8 @@ pub record AsksPolicy (chosen : Images) (s : ClusterState) (review : List ℕ) (
   pub runs : RunsSteps p.name (EvaluatesPolicy chosen review n p) (policy_steps s (asked_policy s p) (option_map block_of cause) q) es ended
 
 -- the events of policies, one after another
-pub data Dispatches (chosen : Images) (s : ClusterState) (review : List ℕ) (n : ℕ) (q : Request) : List BoundPolicy → List Event → Type 0 where
+pub data Dispatches (chosen : Images) (s : ClusterState) (review : List ℕ) (n : ℕ) (q : Request) : List BoundPolicy
+    → List Event → Type 0 where
   no_policies : Dispatches chosen s review n q [] []
   next : {p : BoundPolicy} {ps : List BoundPolicy} {es more : List Event} → AsksPolicy chosen s review n q p es false
       → Dispatches chosen s review n q ps more → Dispatches chosen s review n q (p ∷ ps) (es ++ more)

@@ -32,8 +32,10 @@ HasFound due (Ok fs) = findings_view due ≡ Ok (map finding_view fs.items)
 HasFound due (Err r) = (e : RunError) × (findings_view due ≡ Err e) × (error_refusal e ≡ Some r)
 
 -- what an evaluation finds, or the refusal instead
-abbrev pub FindsOrRefuses : Images → List ℕ → ℕ → BoundPolicy → Option json.Data → Option json.Data → Result (Vec Finding Global) ClusterRefusal → Type 0
-FindsOrRefuses chosen review n p params namespace (Ok fs) = EvaluatesPolicy chosen review n p params namespace (Ok (map finding_view fs.items))
+abbrev pub FindsOrRefuses : Images → List ℕ → ℕ → BoundPolicy → Option json.Data → Option json.Data
+    → Result (Vec Finding Global) ClusterRefusal → Type 0
+FindsOrRefuses chosen review n p params namespace (Ok fs) =
+    EvaluatesPolicy chosen review n p params namespace (Ok (map finding_view fs.items))
 FindsOrRefuses chosen review n p params namespace (Err r) =
     (e : RunError) × EvaluatesPolicy chosen review n p params namespace (Err e) × (error_refusal e ≡ Some r)
 
@@ -73,13 +75,15 @@ AddsSteps p run steps before after ended =
 abbrev pub AddedBefore : BoundPolicy → PolicyRun → List PlannedStep → List PlannedStep → CodeEvents → CodeEvents → Type 0
 AddedBefore p run all rest before now =
     (more : List Event) × Adds before now more
-    × ((es : List Event) (ended : Bool) → RunsSteps p.name (finds_of p run) rest es ended → RunsSteps p.name (finds_of p run) all (more ++ es) ended)
+    × ((es : List Event) (ended : Bool) → RunsSteps p.name (finds_of p run) rest es ended
+      → RunsSteps p.name (finds_of p run) all (more ++ es) ended)
 
 -- ---- policies
 
 -- the events of a policy are added
 abbrev pub AddsPolicy : Images → ClusterState → List ℕ → ℕ → Request → BoundPolicy → CodeEvents → CodeEvents → Bool → Type 0
-AddsPolicy chosen s review n q p before after ended = (more : List Event) × Adds before after more × AsksPolicy chosen s review n q p more ended
+AddsPolicy chosen s review n q p before after ended =
+    (more : List Event) × Adds before after more × AsksPolicy chosen s review n q p more ended
 
 -- the event of an error, which denies if the policy fails closed
 abbrev pub error_events : Bool → List ℕ → List ℕ → List Event

@@ -59,15 +59,18 @@ prod = codes "{\"apiVersion\":\"v1\",\"kind\":\"Namespace\",\"metadata\":{\"name
 
 -- a map of configuration of this name in prod
 abbrev pub config : List ℕ → List ℕ
-config name = codes "{\"apiVersion\":\"v1\",\"kind\":\"ConfigMap\",\"metadata\":{\"name\":\"" ++ (name ++ codes "\",\"namespace\":\"prod\"}}")
+config name =
+    codes "{\"apiVersion\":\"v1\",\"kind\":\"ConfigMap\",\"metadata\":{\"name\":\"" ++ (name ++ codes "\",\"namespace\":\"prod\"}}")
 
 -- the policy p with these fields of its specification
 abbrev pub policy : List ℕ → List ℕ
-policy spec = codes "{\"apiVersion\":\"admissionregistration.k8s.io/v1\",\"kind\":\"ValidatingAdmissionPolicy\",\"metadata\":{\"name\":\"p\"},\"spec\":{" ++ (spec ++ codes "}}")
+policy spec =
+    codes "{\"apiVersion\":\"admissionregistration.k8s.io/v1\",\"kind\":\"ValidatingAdmissionPolicy\",\"metadata\":{\"name\":\"p\"},\"spec\":{" ++ (spec ++ codes "}}")
 
 -- constraints that match each resource of the API, with these fields
 abbrev pub constraints : List ℕ → List ℕ
-constraints more = codes "\"matchConstraints\":{\"resourceRules\":[{\"operations\":[\"*\"],\"apiGroups\":[\"*\"],\"apiVersions\":[\"v1\"],\"resources\":[\"*\"]}]" ++ (more ++ codes "}")
+constraints more =
+    codes "\"matchConstraints\":{\"resourceRules\":[{\"operations\":[\"*\"],\"apiGroups\":[\"*\"],\"apiVersions\":[\"v1\"],\"resources\":[\"*\"]}]" ++ (more ++ codes "}")
 
 abbrev pub matches_all : List ℕ
 matches_all = constraints []
@@ -88,7 +91,8 @@ bound_to policy spec = codes "\"policyName\":\"" ++ (policy ++ (codes "\",\"vali
 
 -- the binding of this name with this specification
 abbrev pub binding_of : List ℕ → List ℕ → List ℕ
-binding_of name spec = codes "{\"apiVersion\":\"admissionregistration.k8s.io/v1\",\"kind\":\"ValidatingAdmissionPolicyBinding\",\"metadata\":{\"name\":\"" ++ (name ++ (codes "\"},\"spec\":{" ++ (spec ++ codes "}}")))
+binding_of name spec =
+    codes "{\"apiVersion\":\"admissionregistration.k8s.io/v1\",\"kind\":\"ValidatingAdmissionPolicyBinding\",\"metadata\":{\"name\":\"" ++ (name ++ (codes "\"},\"spec\":{" ++ (spec ++ codes "}}")))
 
 -- the binding b of the policy p with these fields of its specification
 abbrev pub binding : List ℕ → List ℕ
@@ -117,7 +121,8 @@ bound_by_labels = binding (codes ",\"matchResources\":{\"namespaceSelector\":{\"
 
 -- a binding of resources of version v2
 abbrev pub bound_to_other_version : List ℕ
-bound_to_other_version = binding (codes ",\"matchResources\":{\"resourceRules\":[{\"operations\":[\"*\"],\"apiGroups\":[\"*\"],\"apiVersions\":[\"v2\"],\"resources\":[\"*\"]}]}")
+bound_to_other_version =
+    binding (codes ",\"matchResources\":{\"resourceRules\":[{\"operations\":[\"*\"],\"apiGroups\":[\"*\"],\"apiVersions\":[\"v2\"],\"resources\":[\"*\"]}]}")
 
 -- a kind of params without namespaces, and a reference that names a namespace
 abbrev pub with_namespaces : List ℕ → List ℕ
@@ -130,7 +135,9 @@ to_prod = reference (codes "\"name\":\"prod\",\"namespace\":\"prod\",\"parameter
 
 -- the deletion of an object of this kind and resource, of version v1 of the core group, with these further fields
 abbrev pub deletion : List ℕ → List ℕ → List ℕ → List ℕ
-deletion kind resource more = codes "{\"operation\":\"DELETE\",\"kind\":{\"version\":\"v1\",\"kind\":\"" ++ (kind ++ (codes "\"},\"resource\":{\"version\":\"v1\",\"resource\":\"" ++ (resource ++ (codes "\"}" ++ (more ++ codes "}")))))
+deletion kind resource more =
+    codes "{\"operation\":\"DELETE\",\"kind\":{\"version\":\"v1\",\"kind\":\""
+        ++ (kind ++ (codes "\"},\"resource\":{\"version\":\"v1\",\"resource\":\"" ++ (resource ++ (codes "\"}" ++ (more ++ codes "}")))))
 
 abbrev pub pod_in : List ℕ → List ℕ
 pod_in namespace = deletion (codes "Pod") (codes "pods") (codes ",\"namespace\":\"" ++ (namespace ++ codes "\""))
@@ -147,7 +154,8 @@ spaces = deletion (codes "Namespace") (codes "namespaces") []
 
 -- a resource of version v2
 abbrev pub of_other_version : List ℕ
-of_other_version = codes "{\"operation\":\"DELETE\",\"kind\":{\"group\":\"x.io\",\"version\":\"v2\",\"kind\":\"Widget\"},\"resource\":{\"group\":\"x.io\",\"version\":\"v2\",\"resource\":\"widgets\"}}"
+of_other_version =
+    codes "{\"operation\":\"DELETE\",\"kind\":{\"group\":\"x.io\",\"version\":\"v2\",\"kind\":\"Widget\"},\"resource\":{\"group\":\"x.io\",\"version\":\"v2\",\"resource\":\"widgets\"}}"
 
 -- ---- rows
 
@@ -161,26 +169,32 @@ pub record StepRowsHold : Type 0 where
   pub no_labels_under_ignore : rows_with (policy (under_ignore matches_labels) ∷ bare ∷ prod ∷ []) (pod_in (codes "gone")) ≡ Some []
   pub other_labels : rows_with (policy matches_labels ∷ bare ∷ prod ∷ []) (pod_in (codes "prod")) ≡ Some []
   pub other_version : rows_with (policy matches_all ∷ bare ∷ prod ∷ []) of_other_version ≡ Some (unknown ∷ [])
-  pub other_version_exact : rows_with (policy (constraints (codes ",\"matchPolicy\":\"Exact\"")) ∷ bare ∷ prod ∷ []) of_other_version ≡ Some []
+  pub other_version_exact :
+      rows_with (policy (constraints (codes ",\"matchPolicy\":\"Exact\"")) ∷ bare ∷ prod ∷ []) of_other_version ≡ Some []
   pub is_blocked : rows_by (Some policy_refused) (policy matches_all ∷ bare ∷ prod ∷ []) node ≡ Some (blocked ∷ [])
   pub is_blocked_for_others : rows_by (Some policy_refused) (policy matches_labels ∷ bare ∷ prod ∷ []) (pod_in (codes "prod")) ≡ Some []
   pub params_of_a_node : rows_with (policy (with_params matches_all) ∷ to_limits ∷ config (codes "limits") ∷ prod ∷ []) node
       ≡ Some (error (Some (codes "b")) (codes "cannot use namespaced paramRef in policy binding that matches cluster-scoped resources") ∷ [])
   pub no_reference : rows_with (policy (with_params matches_all) ∷ bare ∷ config (codes "limits") ∷ prod ∷ []) (pod_in (codes "prod"))
       ≡ Some (evaluated (codes "b") None (Some (codes "prod")) ∷ [])
-  pub two_params : rows_with (policy (with_params matches_all) ∷ to_each ∷ config (codes "c") ∷ config (codes "a") ∷ prod ∷ []) (pod_in (codes "prod"))
-      ≡ Some (evaluated (codes "b") (Some (codes "a")) (Some (codes "prod")) ∷ evaluated (codes "b") (Some (codes "c")) (Some (codes "prod")) ∷ [])
+  pub two_params :
+      rows_with (policy (with_params matches_all) ∷ to_each ∷ config (codes "c") ∷ config (codes "a") ∷ prod ∷ []) (pod_in (codes "prod"))
+      ≡ Some (evaluated (codes "b") (Some (codes "a")) (Some (codes "prod"))
+        ∷ evaluated (codes "b") (Some (codes "c")) (Some (codes "prod")) ∷ [])
   pub absent_params : rows_with (policy (with_params matches_all) ∷ to_limits ∷ config (codes "a") ∷ prod ∷ []) (pod_in (codes "prod"))
       ≡ Some (error (Some (codes "b")) (codes "no params found for policy binding with `Deny` parameterNotFoundAction") ∷ [])
   pub absent_params_under_ignore :
-      rows_with (policy (under_ignore (with_params matches_all)) ∷ to_limits ∷ config (codes "a") ∷ prod ∷ []) (pod_in (codes "prod")) ≡ Some []
-  pub no_params_and_no_namespace : rows_with (policy (with_params matches_all) ∷ to_each ∷ config (codes "a") ∷ prod ∷ []) (pod_in (codes "gone"))
+      rows_with (policy (under_ignore (with_params matches_all)) ∷ to_limits ∷ config (codes "a") ∷ prod ∷ [])
+          (pod_in (codes "prod")) ≡ Some []
+  pub no_params_and_no_namespace :
+      rows_with (policy (with_params matches_all) ∷ to_each ∷ config (codes "a") ∷ prod ∷ []) (pod_in (codes "gone"))
       ≡ Some (not_found ∷ [])
   -- a binding that does not match, or of which it is not known
   pub other_labels_of_binding : rows_with (policy matches_all ∷ bound_by_labels ∷ prod ∷ []) (pod_in (codes "prod")) ≡ Some []
   pub no_labels_of_binding : rows_with (policy matches_all ∷ bound_by_labels ∷ prod ∷ []) (pod_in (codes "gone"))
       ≡ Some (error (Some (codes "b")) (codes "namespaces \"gone\" not found") ∷ [])
-  pub other_version_of_binding : rows_with (policy matches_all ∷ bound_to_other_version ∷ prod ∷ []) (pod_in (codes "prod")) ≡ Some (unknown ∷ [])
+  pub other_version_of_binding :
+      rows_with (policy matches_all ∷ bound_to_other_version ∷ prod ∷ []) (pod_in (codes "prod")) ≡ Some (unknown ∷ [])
   pub quotes_in_a_name : rows_with (policy matches_labels ∷ bare ∷ prod ∷ []) (pod_in (codes "a\\\"b"))
       ≡ Some (error None (codes "namespaces \"a\\\"b\" not found") ∷ [])
   -- all namespaces at once
@@ -189,24 +203,34 @@ pub record StepRowsHold : Type 0 where
   -- what comes before a block, and what after it
   pub is_blocked_in_trouble : rows_by (Some policy_refused) (policy matches_labels ∷ bare ∷ prod ∷ []) (pod_in (codes "gone"))
       ≡ Some (error None (codes "namespaces \"gone\" not found") ∷ [])
-  pub is_blocked_if_it_matches : rows_by (Some policy_refused) (policy matches_all ∷ bare ∷ prod ∷ []) of_other_version ≡ Some (unknown ∷ [])
-  pub is_blocked_before_its_bindings : rows_by (Some policy_refused) (policy matches_all ∷ bare ∷ prod ∷ []) (pod_in (codes "gone")) ≡ Some (blocked ∷ [])
+  pub is_blocked_if_it_matches :
+      rows_by (Some policy_refused) (policy matches_all ∷ bare ∷ prod ∷ []) of_other_version ≡ Some (unknown ∷ [])
+  pub is_blocked_before_its_bindings :
+      rows_by (Some policy_refused) (policy matches_all ∷ bare ∷ prod ∷ []) (pod_in (codes "gone")) ≡ Some (blocked ∷ [])
   -- errors of params come before the namespace
-  pub absent_params_and_no_namespace : rows_with (policy (with_params matches_all) ∷ to_limits ∷ config (codes "a") ∷ prod ∷ []) (pod_in (codes "gone"))
+  pub absent_params_and_no_namespace :
+      rows_with (policy (with_params matches_all) ∷ to_limits ∷ config (codes "a") ∷ prod ∷ []) (pod_in (codes "gone"))
       ≡ Some (error (Some (codes "b")) (codes "no params found for policy binding with `Deny` parameterNotFoundAction") ∷ [])
   pub absent_params_and_no_namespace_under_ignore :
-      rows_with (policy (under_ignore (with_params matches_all)) ∷ to_limits ∷ config (codes "a") ∷ prod ∷ []) (pod_in (codes "gone")) ≡ Some []
+      rows_with (policy (under_ignore (with_params matches_all)) ∷ to_limits ∷ config (codes "a") ∷ prod ∷ [])
+          (pod_in (codes "gone")) ≡ Some []
   pub needless_namespace : rows_with (policy (with_namespaces matches_all) ∷ to_prod ∷ prod ∷ []) (pod_in (codes "prod"))
       ≡ Some (error (Some (codes "b")) (codes "paramRef.namespace must not be provided for a cluster-scoped `paramKind`") ∷ [])
-  pub none_of_a_label : rows_with (policy (with_params matches_all) ∷ to_labelled ∷ config (codes "a") ∷ prod ∷ []) (pod_in (codes "prod")) ≡ Some []
+  pub none_of_a_label :
+      rows_with (policy (with_params matches_all) ∷ to_labelled ∷ config (codes "a") ∷ prod ∷ []) (pod_in (codes "prod")) ≡ Some []
   pub no_kind : rows_with (policy matches_all ∷ to_limits ∷ config (codes "limits") ∷ prod ∷ []) (pod_in (codes "prod"))
       ≡ Some (evaluated (codes "b") None (Some (codes "prod")) ∷ [])
   -- params of a namespace are looked up in it, and its object is null
   pub of_a_namespace : rows_with (policy (with_params matches_all) ∷ to_limits ∷ config (codes "limits") ∷ prod ∷ []) space
       ≡ Some (evaluated (codes "b") (Some (codes "limits")) None ∷ [])
   -- several bindings, of which one is of another policy
-  pub two_bindings : rows_with (policy matches_all ∷ binding_of (codes "c") (bound_to (codes "p") []) ∷ binding_of (codes "b") (bound_to (codes "q") [])
-      ∷ binding_of (codes "a") (bound_to (codes "p") []) ∷ prod ∷ []) node ≡ Some (evaluated (codes "a") None None ∷ evaluated (codes "c") None None ∷ [])
-  pub error_before_others : rows_with (policy (with_params matches_all) ∷ binding_of (codes "c") (bound_to (codes "p") []) ∷ to_limits ∷ config (codes "a") ∷ prod ∷ [])
-      (pod_in (codes "prod")) ≡ Some (error (Some (codes "b")) (codes "no params found for policy binding with `Deny` parameterNotFoundAction")
+  pub two_bindings :
+      rows_with (policy matches_all ∷ binding_of (codes "c") (bound_to (codes "p") []) ∷ binding_of (codes "b") (bound_to (codes "q") [])
+      ∷ binding_of (codes "a") (bound_to (codes "p") []) ∷ prod ∷ []) node
+        ≡ Some (evaluated (codes "a") None None ∷ evaluated (codes "c") None None ∷ [])
+  pub error_before_others :
+      rows_with (policy (with_params matches_all) ∷ binding_of (codes "c") (bound_to (codes "p") []) ∷ to_limits
+          ∷ config (codes "a") ∷ prod ∷ [])
+      (pod_in (codes "prod"))
+          ≡ Some (error (Some (codes "b")) (codes "no params found for policy binding with `Deny` parameterNotFoundAction")
       ∷ evaluated (codes "c") None (Some (codes "prod")) ∷ [])

@@ -104,7 +104,8 @@ matched_steps s p q b =
 abbrev pub binding_answered : ClusterState → AskedPolicy → Request → Binding → Answer → List PlannedStep
 binding_answered s p q b matching.No = []
 binding_answered s p q b matching.Unknown = unknown_match ∷ []
-binding_answered s p q b (matching.Trouble t) = error_steps (fails_closed p.policy.document) (Some b.name) (trouble_text t q.attributes.namespace)
+binding_answered s p q b (matching.Trouble t) =
+    error_steps (fails_closed p.policy.document) (Some b.name) (trouble_text t q.attributes.namespace)
 binding_answered s p q b matching.Yes = matched_steps s p q b
 
 abbrev pub binding_steps : ClusterState → AskedPolicy → Request → Binding → List PlannedStep

@@ -63,7 +63,8 @@ pub record NameRowsHold : Type 0 where
   pub null_metadata : shown_of (codes "{\"metadata\":null}") ≡ codes "Unknown/errorGettingName"
   pub no_text : shown_of (codes "{\"metadata\":{\"name\":1}}") ≡ codes "Unknown"
   pub no_object : shown_name (request_on pods [] None) ≡ codes "Unknown"
-  pub old_object_alone : shown_name (record (request_on pods [] None) { old_object = read (codes "{\"metadata\":{\"name\":\"b\"}}") }) ≡ codes "Unknown"
+  pub old_object_alone :
+      shown_name (record (request_on pods [] None) { old_object = read (codes "{\"metadata\":{\"name\":\"b\"}}") }) ≡ codes "Unknown"
   pub of_a_group : shown_resource deployments ≡ codes "deployments.apps"
   pub of_no_group : shown_resource pods ≡ codes "pods"
   pub quotes : go_quoted (codes "a\"b\\c") ≡ codes "\"a\\\"b\\\\c\""
@@ -99,7 +100,8 @@ reviewed response =
 
 -- the annotation of the first finding under Warn and Audit
 abbrev pub annotated : List ℕ
-annotated = codes "\"auditAnnotations\":{\"validation.policy.admission.k8s.io/validation_failure\":\"[{\\\"message\\\":\\\"m\\\",\\\"policy\\\":\\\"p\\\",\\\"binding\\\":\\\"b\\\",\\\"expressionIndex\\\":0,\\\"validationActions\\\":[\\\"Warn\\\",\\\"Audit\\\"]}]\"}"
+annotated =
+    codes "\"auditAnnotations\":{\"validation.policy.admission.k8s.io/validation_failure\":\"[{\\\"message\\\":\\\"m\\\",\\\"policy\\\":\\\"p\\\",\\\"binding\\\":\\\"b\\\",\\\"expressionIndex\\\":0,\\\"validationActions\\\":[\\\"Warn\\\",\\\"Audit\\\"]}]\"}"
 
 abbrev pub warning_of_m : List ℕ
 warning_of_m = codes "\"Validation failed for ValidatingAdmissionPolicy 'p' with binding 'b': m\""
@@ -109,7 +111,8 @@ warning_of_n = codes "\"Validation failed for ValidatingAdmissionPolicy 'p' with
 
 -- the first denial of p by b
 abbrev pub denied_by_m : List ℕ
-denied_by_m = codes "{\"allowed\":false,\"status\":{\"code\":403,\"message\":\"deployments.apps \\\"web\\\" is forbidden: ValidatingAdmissionPolicy 'p' with binding 'b' denied request: m\",\"reason\":\"Forbidden\"},\"uid\":\"u1\"}"
+denied_by_m =
+    codes "{\"allowed\":false,\"status\":{\"code\":403,\"message\":\"deployments.apps \\\"web\\\" is forbidden: ValidatingAdmissionPolicy 'p' with binding 'b' denied request: m\",\"reason\":\"Forbidden\"},\"uid\":\"u1\"}"
 
 abbrev pub is_not_found : List ℕ
 is_not_found = codes "\"status\":{\"code\":404,\"message\":\"namespaces \\\"prod\\\" not found\",\"reason\":\"NotFound\"},\"uid\":\"u1\""
@@ -124,8 +127,10 @@ refused_as code = codes "{\"policy\":\"q\",\"refused\":\"" ++ (code ++ codes "\"
 
 -- the annotation of a finding, with its message, place and actions
 abbrev pub annotation_of : List ℕ → List ℕ → List ℕ → List ℕ
-annotation_of message place actions = codes "\"auditAnnotations\":{\"validation.policy.admission.k8s.io/validation_failure\":\"[{\\\"message\\\":\\\"" ++ (message
-    ++ (codes "\\\",\\\"policy\\\":\\\"p\\\",\\\"binding\\\":\\\"b\\\",\\\"expressionIndex\\\":" ++ (place ++ (codes ",\\\"validationActions\\\":[" ++ (actions ++ codes "]}]\"}")))))
+annotation_of message place actions =
+    codes "\"auditAnnotations\":{\"validation.policy.admission.k8s.io/validation_failure\":\"[{\\\"message\\\":\\\"" ++ (message
+    ++ (codes "\\\",\\\"policy\\\":\\\"p\\\",\\\"binding\\\":\\\"b\\\",\\\"expressionIndex\\\":"
+      ++ (place ++ (codes ",\\\"validationActions\\\":[" ++ (actions ++ codes "]}]\"}")))))
 
 pub record AnswerRowsHold : Type 0 where
   pub no_events : answer [] ≡ reviewed (codes "{\"allowed\":true,\"uid\":\"u1\"}")
@@ -141,16 +146,20 @@ pub record AnswerRowsHold : Type 0 where
   pub message_told_again : answer (under (Warn ∷ []) (twice ++ found 2 (codes "m") Invalid ∷ []))
       ≡ reviewed (codes "{\"allowed\":true,\"uid\":\"u1\",\"warnings\":[" ++ (warning_of_m ++ (codes "," ++ (warning_of_n ++ codes "]}"))))
   pub no_namespace : answer (ends ∷ []) ≡ reviewed (codes "{\"allowed\":false," ++ (is_not_found ++ codes "}"))
-  pub no_namespace_after_denial : answer (under (Deny ∷ []) twice ++ ends ∷ []) ≡ reviewed (codes "{\"allowed\":false," ++ (is_not_found ++ codes "}"))
+  pub no_namespace_after_denial : answer (under (Deny ∷ []) twice ++ ends ∷ [])
+      ≡ reviewed (codes "{\"allowed\":false," ++ (is_not_found ++ codes "}"))
   pub no_namespace_after_warning : answer (under (Warn ∷ []) (found 0 (codes "m") Invalid ∷ []) ++ ends ∷ [])
       ≡ reviewed (codes "{\"allowed\":false," ++ (is_not_found ++ (codes ",\"warnings\":[" ++ (warning_of_m ++ codes "]}"))))
   pub policy_not_configured : answer (configuration_event (codes "p") None (codes "e") ∷ [])
       ≡ reviewed (codes "{\"allowed\":false,\"status\":{\"code\":422,\"message\":\"deployments.apps \\\"web\\\" is forbidden: ValidatingAdmissionPolicy 'p' denied request: failed to configure policy: e\",\"reason\":\"Invalid\"},\"uid\":\"u1\"}")
   pub binding_not_configured : answer (configuration_event (codes "p") (Some (codes "b")) (codes "e") ∷ [])
       ≡ reviewed (codes "{\"allowed\":false,\"status\":{\"code\":422,\"message\":\"deployments.apps \\\"web\\\" is forbidden: ValidatingAdmissionPolicy 'p' with binding 'b' denied request: failed to configure binding: e\",\"reason\":\"Invalid\"},\"uid\":\"u1\"}")
-  pub undecided : answer (refuses (record { policy = codes "q"; refusal = OutOfSteps }) ∷ refuses (record { policy = codes "r"; refusal = PolicyRefused }) ∷ [])
+  pub undecided :
+      answer (refuses (record { policy = codes "q"; refusal = OutOfSteps })
+          ∷ refuses (record { policy = codes "r"; refusal = PolicyRefused }) ∷ [])
       ≡ codes "{\"policy\":\"q\",\"refused\":\"N4\",\"uid\":\"u1\"}"
-  pub denied_after_refusal : answer (refuses (record { policy = codes "a"; refusal = OutOfSteps }) ∷ under (Deny ∷ []) twice) ≡ reviewed denied_by_m
+  pub denied_after_refusal :
+      answer (refuses (record { policy = codes "a"; refusal = OutOfSteps }) ∷ under (Deny ∷ []) twice) ≡ reviewed denied_by_m
   pub no_namespace_after_refusal : answer (refuses (record { policy = codes "a"; refusal = OutOfSteps }) ∷ ends ∷ [])
       ≡ reviewed (codes "{\"allowed\":false," ++ (is_not_found ++ codes "}"))
   -- a denial beside audits and warnings
@@ -162,7 +171,8 @@ pub record AnswerRowsHold : Type 0 where
       ++ (warning_of_n ++ codes "]}"))
   -- texts in the annotation
   pub escaped : answer (under (Audit ∷ []) (found 0 (codes "<a>\"&") Invalid ∷ []))
-      ≡ reviewed (codes "{\"allowed\":true," ++ (annotation_of (codes "\\\\u003ca\\\\u003e\\\\\\\"\\\\u0026") (codes "0") (codes "\\\"Audit\\\"") ++ codes ",\"uid\":\"u1\"}"))
+      ≡ reviewed (codes "{\"allowed\":true,"
+        ++ (annotation_of (codes "\\\\u003ca\\\\u003e\\\\\\\"\\\\u0026") (codes "0") (codes "\\\"Audit\\\"") ++ codes ",\"uid\":\"u1\"}"))
   -- refusals
   pub after_warning : answer (under (Warn ∷ Audit ∷ []) twice ++ undecided_by OverLimit ∷ []) ≡ refused_as (codes "N5")
   pub of_review : answer (undecided_by ReviewRefused ∷ []) ≡ refused_as (codes "N2")

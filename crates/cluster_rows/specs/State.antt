@@ -74,8 +74,10 @@ pub record ActionRowsHold : Type 0 where
   pub second_twice : is_binding (with_actions (codes "\"Warn\",\"Audit\",\"Audit\"")) ≡ false
   pub all_three : is_binding (with_actions (codes "\"Deny\",\"Warn\",\"Audit\"")) ≡ false
   -- parameterNotFoundAction is Allow
-  pub absence_allows : read_binding (codes "{\"policyName\":\"p\",\"validationActions\":[\"Warn\"],\"paramRef\":{\"name\":\"limits\",\"parameterNotFoundAction\":\"Allow\"}}")
-      ≡ Some (record { name = codes "b"; policy_name = codes "p"; actions = Warn ∷ []; resources = match_all; param_ref = Some (record limits { denies_absence = false }) })
+  pub absence_allows :
+      read_binding (codes "{\"policyName\":\"p\",\"validationActions\":[\"Warn\"],\"paramRef\":{\"name\":\"limits\",\"parameterNotFoundAction\":\"Allow\"}}")
+      ≡ Some (record { name = codes "b"; policy_name = codes "p"; actions = Warn ∷ []; resources = match_all;
+        param_ref = Some (record limits { denies_absence = false }) })
 
 -- ---- params
 

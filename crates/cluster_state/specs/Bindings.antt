@@ -61,7 +61,8 @@ param_ref_keys = codes "name" ∷ codes "namespace" ∷ codes "parameterNotFound
 
 -- a reference to params, if each of its parts has the right form
 abbrev pub param_ref_from : Option ParamChoice → Option (List ℕ) → Option Bool → Option ParamRef
-param_ref_from (Some choice) (Some namespace) (Some denies) = Some (record { choice = choice; namespace = namespace; denies_absence = denies })
+param_ref_from (Some choice) (Some namespace) (Some denies) =
+    Some (record { choice = choice; namespace = namespace; denies_absence = denies })
 param_ref_from _ _ _ = None
 
 unfoldable pub param_ref_parts : json.Data → Option ParamRef
@@ -111,7 +112,8 @@ are_distinct (a ∷ actions) = not (has_action a actions) && are_distinct action
 -- one to three different actions, without Deny and Warn together
 unfoldable pub are_actions : List Action → Bool
 are_actions actions =
-    not (length actions == 0) && nat_le (length actions) 3 && are_distinct actions && not (has_action Deny actions && has_action Warn actions)
+    not (length actions == 0) && nat_le (length actions) 3 && are_distinct actions
+        && not (has_action Deny actions && has_action Warn actions)
 
 abbrev pub if_actions : Option (List Action) → Option (List Action)
 if_actions (Some actions) = if are_actions actions then Some actions else None
@@ -132,7 +134,8 @@ unfoldable pub binding_keys : List (List ℕ)
 binding_keys = codes "matchResources" ∷ codes "paramRef" ∷ codes "policyName" ∷ codes "validationActions" ∷ []
 
 -- a binding, if each of its parts has the right form
-abbrev pub binding_from : List ℕ → Option (List ℕ) → Option (List Action) → Option MatchResources → Option (Option ParamRef) → Option Binding
+abbrev pub binding_from : List ℕ → Option (List ℕ) → Option (List Action) → Option MatchResources
+    → Option (Option ParamRef) → Option Binding
 binding_from name (Some policy) (Some actions) (Some resources) (Some params) = Some (record {
   name = name;
   policy_name = policy;

@@ -52,15 +52,18 @@ prod = codes "{\"apiVersion\":\"v1\",\"kind\":\"Namespace\",\"metadata\":{\"name
 
 -- a policy with this name, a rule, and the further fields that kubectl prints
 abbrev pub policy : List ℕ → List ℕ
-policy name = codes "{\"apiVersion\":\"admissionregistration.k8s.io/v1\",\"kind\":\"ValidatingAdmissionPolicy\",\"metadata\":{\"name\":\"" ++ (name ++ codes "\",\"uid\":\"u\"},\"spec\":{\"matchConstraints\":{\"resourceRules\":[{}]}},\"status\":{}}")
+policy name =
+    codes "{\"apiVersion\":\"admissionregistration.k8s.io/v1\",\"kind\":\"ValidatingAdmissionPolicy\",\"metadata\":{\"name\":\"" ++ (name ++ codes "\",\"uid\":\"u\"},\"spec\":{\"matchConstraints\":{\"resourceRules\":[{}]}},\"status\":{}}")
 
 -- a policy p without rules
 abbrev pub bare_policy : List ℕ
-bare_policy = codes "{\"apiVersion\":\"admissionregistration.k8s.io/v1\",\"kind\":\"ValidatingAdmissionPolicy\",\"metadata\":{\"name\":\"p\"},\"spec\":{}}"
+bare_policy =
+    codes "{\"apiVersion\":\"admissionregistration.k8s.io/v1\",\"kind\":\"ValidatingAdmissionPolicy\",\"metadata\":{\"name\":\"p\"},\"spec\":{}}"
 
 -- a binding b of this policy with these actions
 abbrev pub binding : List ℕ → List ℕ → List ℕ
-binding of_policy actions = codes "{\"apiVersion\":\"admissionregistration.k8s.io/v1\",\"kind\":\"ValidatingAdmissionPolicyBinding\",\"metadata\":{\"name\":\"b\"},\"spec\":{\"policyName\":\"" ++ (of_policy ++ (codes "\",\"validationActions\":" ++ (actions ++ codes "}}")))
+binding of_policy actions =
+    codes "{\"apiVersion\":\"admissionregistration.k8s.io/v1\",\"kind\":\"ValidatingAdmissionPolicyBinding\",\"metadata\":{\"name\":\"b\"},\"spec\":{\"policyName\":\"" ++ (of_policy ++ (codes "\",\"validationActions\":" ++ (actions ++ codes "}}")))
 
 abbrev pub deny : List ℕ
 deny = codes "[\"Deny\"]"
@@ -75,16 +78,22 @@ abbrev pub one_list : List (List ℕ) → List (List ℕ)
 one_list items = listing (commas items) ∷ []
 
 pub record StateRowsHold : Type 0 where
-  pub bound : policy_names (one_list (policy (codes "q") ∷ policy (codes "p") ∷ binding (codes "p") deny ∷ prod ∷ [])) ≡ Some (codes "p" ∷ [])
-  pub several_lists : policy_names (listing prod ∷ listing (policy (codes "p")) ∷ listing (binding (codes "p") deny) ∷ []) ≡ Some (codes "p" ∷ [])
+  pub bound : policy_names (one_list (policy (codes "q") ∷ policy (codes "p") ∷ binding (codes "p") deny ∷ prod ∷ []))
+      ≡ Some (codes "p" ∷ [])
+  pub several_lists :
+      policy_names (listing prod ∷ listing (policy (codes "p")) ∷ listing (binding (codes "p") deny) ∷ []) ≡ Some (codes "p" ∷ [])
   pub unbound_policy_is_not_read : policy_names (one_list (bare_policy ∷ prod ∷ [])) ≡ Some []
   pub binding_of_no_policy : policy_names (one_list (binding (codes "gone") deny ∷ prod ∷ [])) ≡ Some []
   pub no_list : refusal (listing prod ∷ prod ∷ []) ≡ Some (not_a_list 1)
   pub no_items : refusal (codes "{\"apiVersion\":\"v1\",\"kind\":\"List\"}" ∷ []) ≡ Some (not_a_list 0)
-  pub no_name : refusal (one_list (prod ∷ codes "{\"apiVersion\":\"v1\",\"kind\":\"Pod\",\"metadata\":{\"name\":\"\"}}" ∷ [])) ≡ Some (invalid_item 1)
-  pub number_as_label : refusal (one_list (codes "{\"apiVersion\":\"v1\",\"kind\":\"Pod\",\"metadata\":{\"name\":\"web\",\"labels\":{\"n\":1}}}" ∷ [])) ≡ Some (invalid_item 0)
-  pub other_version : refusal (one_list (codes "{\"apiVersion\":\"admissionregistration.k8s.io/v1beta1\",\"kind\":\"ValidatingAdmissionPolicy\",\"metadata\":{\"name\":\"p\"}}" ∷ [])) ≡ Some (invalid_item 0)
-  pub policy_of_another_group : refusal (one_list (codes "{\"apiVersion\":\"x.io/v1\",\"kind\":\"ValidatingAdmissionPolicy\",\"metadata\":{\"name\":\"p\"}}" ∷ prod ∷ [])) ≡ None
+  pub no_name :
+      refusal (one_list (prod ∷ codes "{\"apiVersion\":\"v1\",\"kind\":\"Pod\",\"metadata\":{\"name\":\"\"}}" ∷ [])) ≡ Some (invalid_item 1)
+  pub number_as_label :
+      refusal (one_list (codes "{\"apiVersion\":\"v1\",\"kind\":\"Pod\",\"metadata\":{\"name\":\"web\",\"labels\":{\"n\":1}}}" ∷ [])) ≡ Some (invalid_item 0)
+  pub other_version :
+      refusal (one_list (codes "{\"apiVersion\":\"admissionregistration.k8s.io/v1beta1\",\"kind\":\"ValidatingAdmissionPolicy\",\"metadata\":{\"name\":\"p\"}}" ∷ [])) ≡ Some (invalid_item 0)
+  pub policy_of_another_group :
+      refusal (one_list (codes "{\"apiVersion\":\"x.io/v1\",\"kind\":\"ValidatingAdmissionPolicy\",\"metadata\":{\"name\":\"p\"}}" ∷ prod ∷ [])) ≡ None
   pub twice : refusal (listing prod ∷ listing prod ∷ []) ≡ Some (duplicate_item (codes "prod"))
   pub lists_before_items : refusal (listing (codes "{}") ∷ codes "{}" ∷ []) ≡ Some (not_a_list 1)
   -- items are counted through the lists in their order
@@ -92,8 +101,10 @@ pub record StateRowsHold : Type 0 where
   pub first_of_two_lists : refusal (listing (codes "{}") ∷ listing prod ∷ []) ≡ Some (invalid_item 0)
   pub none : refusal (one_list []) ≡ Some no_namespace
   pub namespaces_before_bindings : refusal (one_list (binding (codes "p") (codes "[]") ∷ [])) ≡ Some no_namespace
-  pub deny_with_warn : refusal (one_list (binding (codes "p") (codes "[\"Deny\",\"Warn\"]") ∷ prod ∷ [])) ≡ Some (invalid_binding (codes "b"))
-  pub bindings_before_policies : refusal (one_list (bare_policy ∷ binding (codes "p") (codes "[]") ∷ prod ∷ [])) ≡ Some (invalid_binding (codes "b"))
+  pub deny_with_warn : refusal (one_list (binding (codes "p") (codes "[\"Deny\",\"Warn\"]") ∷ prod ∷ []))
+      ≡ Some (invalid_binding (codes "b"))
+  pub bindings_before_policies : refusal (one_list (bare_policy ∷ binding (codes "p") (codes "[]") ∷ prod ∷ []))
+      ≡ Some (invalid_binding (codes "b"))
   pub no_rules : refusal (one_list (bare_policy ∷ binding (codes "p") deny ∷ prod ∷ [])) ≡ Some (invalid_policy (codes "p"))
 
 -- ---- bindings
@@ -109,20 +120,26 @@ abbrev pub limits : ParamRef
 limits = record { choice = by_name (codes "limits"); namespace = []; denies_absence = true }
 
 pub record BindingRowsHold : Type 0 where
-  pub params : read_binding (codes "{\"policyName\":\"p\",\"validationActions\":[\"Warn\",\"Audit\"],\"paramRef\":{\"name\":\"limits\",\"parameterNotFoundAction\":\"Deny\"}}")
-      ≡ Some (record { name = codes "b"; policy_name = codes "p"; actions = Warn ∷ Audit ∷ []; resources = match_all; param_ref = Some limits })
+  pub params :
+      read_binding (codes "{\"policyName\":\"p\",\"validationActions\":[\"Warn\",\"Audit\"],\"paramRef\":{\"name\":\"limits\",\"parameterNotFoundAction\":\"Deny\"}}")
+      ≡ Some (record { name = codes "b"; policy_name = codes "p"; actions = Warn ∷ Audit ∷ []; resources = match_all;
+        param_ref = Some limits })
   pub no_params : read_binding (codes "{\"policyName\":\"p\",\"validationActions\":[\"Deny\"],\"matchResources\":null}")
       ≡ Some (record { name = codes "b"; policy_name = codes "p"; actions = Deny ∷ []; resources = match_all; param_ref = None })
-  pub selector : is_binding (codes "{\"policyName\":\"p\",\"validationActions\":[\"Deny\"],\"paramRef\":{\"selector\":{},\"parameterNotFoundAction\":\"Allow\"}}") ≡ true
+  pub selector :
+      is_binding (codes "{\"policyName\":\"p\",\"validationActions\":[\"Deny\"],\"paramRef\":{\"selector\":{},\"parameterNotFoundAction\":\"Allow\"}}") ≡ true
   pub no_policy : is_binding (codes "{\"validationActions\":[\"Deny\"]}") ≡ false
   pub empty_policy : is_binding (codes "{\"policyName\":\"\",\"validationActions\":[\"Deny\"]}") ≡ false
   pub no_actions : is_binding (codes "{\"policyName\":\"p\"}") ≡ false
   pub doubled_action : is_binding (codes "{\"policyName\":\"p\",\"validationActions\":[\"Deny\",\"Deny\"]}") ≡ false
   pub other_action : is_binding (codes "{\"policyName\":\"p\",\"validationActions\":[\"Log\"]}") ≡ false
   pub unknown_key : is_binding (codes "{\"policyName\":\"p\",\"validationActions\":[\"Deny\"],\"x\":1}") ≡ false
-  pub name_and_selector : is_binding (codes "{\"policyName\":\"p\",\"validationActions\":[\"Deny\"],\"paramRef\":{\"name\":\"a\",\"selector\":{},\"parameterNotFoundAction\":\"Deny\"}}") ≡ false
-  pub neither : is_binding (codes "{\"policyName\":\"p\",\"validationActions\":[\"Deny\"],\"paramRef\":{\"parameterNotFoundAction\":\"Deny\"}}") ≡ false
-  pub no_action_of_absence : is_binding (codes "{\"policyName\":\"p\",\"validationActions\":[\"Deny\"],\"paramRef\":{\"name\":\"a\"}}") ≡ false
+  pub name_and_selector :
+      is_binding (codes "{\"policyName\":\"p\",\"validationActions\":[\"Deny\"],\"paramRef\":{\"name\":\"a\",\"selector\":{},\"parameterNotFoundAction\":\"Deny\"}}") ≡ false
+  pub neither :
+      is_binding (codes "{\"policyName\":\"p\",\"validationActions\":[\"Deny\"],\"paramRef\":{\"parameterNotFoundAction\":\"Deny\"}}") ≡ false
+  pub no_action_of_absence :
+      is_binding (codes "{\"policyName\":\"p\",\"validationActions\":[\"Deny\"],\"paramRef\":{\"name\":\"a\"}}") ≡ false
 
 -- ---- params
 
@@ -189,7 +206,9 @@ named_document None = []
 
 -- the definition of kind Limit of x.io, in version v1, with this scope
 abbrev pub definition : List ℕ → Named
-definition scope = named_document (read (codes "{\"spec\":{\"group\":\"x.io\",\"names\":{\"kind\":\"Limit\"},\"scope\":\"" ++ (scope ++ codes "\",\"versions\":[{\"name\":\"v1\",\"served\":true},{\"name\":\"v2\",\"served\":false}]}}")))
+definition scope =
+    named_document (read (codes "{\"spec\":{\"group\":\"x.io\",\"names\":{\"kind\":\"Limit\"},\"scope\":\""
+        ++ (scope ++ codes "\",\"versions\":[{\"name\":\"v1\",\"served\":true},{\"name\":\"v2\",\"served\":false}]}}")))
 
 -- the same in no version
 abbrev pub without_versions : Named

@@ -29,7 +29,8 @@ TextsStand constants texts used = AllByRecursion (λ t. HasText constants (addre
 -- The piece gives the value or the error within 128 steps a visit and 16 times the cost, each less 8. These 8 pay for
 -- keeping the value in a list or map.
 abbrev pub Computes : RunContext → ℕ → List Insn → Context → ℕ → ℕ → ValueOrError → Cost → Type 0
-Computes s p piece c depth k x t = Evaluates s p piece c depth k x (steps_per_visit * t.visits - budget_reserve) (charge_per_unit * spent_by t - budget_reserve)
+Computes s p piece c depth k x t =
+    Evaluates s p piece c depth k x (steps_per_visit * t.visits - budget_reserve) (charge_per_unit * spent_by t - budget_reserve)
 
 -- the same within 120 steps a visit and 15 times the cost; the rest pays for a path that is kept before the piece
 abbrev pub ComputesPart : RunContext → ℕ → List Insn → Context → ℕ → ℕ → ValueOrError → Cost → Type 0

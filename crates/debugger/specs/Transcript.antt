@@ -29,7 +29,8 @@ pub data Transcript (s : State) (input : List ℕ) : ℕ → List ℕ → Result
   none : Transcript s input 0 [] (Err Memory)
 
 -- what a session read from its input, and what it wrote after the bytes before it
-pub record ReadsAndWrites (s : State) (input before : List ℕ) (left written : Option (List ℕ)) (result : Result (Unit {0}) SessionError) : Type 0 where
+pub record ReadsAndWrites (s : State) (input before : List ℕ) (left written : Option (List ℕ))
+    (result : Result (Unit {0}) SessionError) : Type 0 where
   pub read : ℕ
   pub text : List ℕ
   pub within : read ≤ length (readable input)
@@ -39,7 +40,8 @@ pub record ReadsAndWrites (s : State) (input before : List ℕ) (left written : 
 
 -- the effect of a session in the run from s on a reader and a writer, by its result
 pub record IsSession (s : State) (r r_after w w_after : Stream) (result : Result (Unit {0}) SessionError) : Type 0 where
-  pub told : (input before : List ℕ) → r.bytes ≡ Some input → w.bytes ≡ Some before → ReadsAndWrites s input before r_after.bytes w_after.bytes result
+  pub told : (input before : List ℕ) → r.bytes ≡ Some input → w.bytes ≡ Some before
+      → ReadsAndWrites s input before r_after.bytes w_after.bytes result
   -- if no line that it wrote is `? memory`, it wrote the session's text
   pub text : (input before written : List ℕ) → r.bytes ≡ Some input → w.bytes ≡ Some before → w_after.bytes ≡ Some (before ++ written)
       → says_memory written ≡ false → OnOk result (written ≡ session_text s input)

@@ -55,7 +55,8 @@ EndsAsCluster true chosen c r r_after w w_after e e_after status =
     TellsRefused (AnswersClusterLine chosen c) r r_after w w_after e e_after status
 
 -- a line is told of each policy on standard error, then the lines are answered, and the program ends with this status
-pub record TellsAndAnswers (chosen : Images) (c : AnsweringCluster) (verbose : Bool) (r r_after w w_after e e_after : Stream) (status : ℕ) : Type 0 where
+pub record TellsAndAnswers (chosen : Images) (c : AnsweringCluster) (verbose : Bool)
+    (r r_after w w_after e e_after : Stream) (status : ℕ) : Type 0 where
   pub text : List ℕ
   pub policies : TellsPolicies c.lists c.state c.state.policies text
   pub told : Stream
@@ -67,5 +68,6 @@ pub data ClusterEnds (chosen : Images) (known : Option FileSystem) (order : Clus
     (status : ℕ) : Type 0 where
   not_started : {why : StartRefusal} → ClusterStarts known order (Err why) → r_after ≡ r → w_after ≡ w → TellsStart e e_after status why
       → ClusterEnds chosen known order r r_after w w_after e e_after status
-  started : {c : AnsweringCluster} → ClusterStarts known order (Ok c) → TellsAndAnswers chosen c order.verbose r r_after w w_after e e_after status
+  started : {c : AnsweringCluster} → ClusterStarts known order (Ok c)
+      → TellsAndAnswers chosen c order.verbose r r_after w w_after e e_after status
       → ClusterEnds chosen known order r r_after w w_after e e_after status

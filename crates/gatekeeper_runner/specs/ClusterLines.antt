@@ -54,5 +54,6 @@ OpensKeeper lists order s (Ok k) =
     IsKeeperOf (record { lists = lists; state = s; steps = order.steps; max_line = order.max_line }) k
     × (order.partial ≡ false → NoneIsBlocked s s.policies)
 OpensKeeper lists order s (Err (Plain r)) = r ≡ Memory
-OpensKeeper lists order s (Err (Cluster (Blocked name cause))) = (order.partial ≡ false) × FirstIsBlocked s s.policies (string_bytes name) cause
+OpensKeeper lists order s (Err (Cluster (Blocked name cause))) =
+    (order.partial ≡ false) × FirstIsBlocked s s.policies (string_bytes name) cause
 OpensKeeper lists order s (Err (Cluster _)) = ⊥

@@ -65,7 +65,8 @@ pub record OneIsNoList (known : Option FileSystem) (names : List Text) (r : Star
 pub data ClusterStarts (known : Option FileSystem) (order : ClusterOrder) : Result AnsweringCluster StartRefusal → Type 0 where
   no_list : {r : StartRefusal} → OneIsNoList known order.files r → ClusterStarts known order (Err r)
   not_listed : {lists : List json.Data} (place : ℕ) (told : String Global) → HoldLists known order.files lists
-      → state_of lists ≡ Err (not_a_list place) → string_bytes told ≡ get_or order.files place [] → ClusterStarts known order (Err (Cluster (NoList told)))
+      → state_of lists ≡ Err (not_a_list place) → string_bytes told ≡ get_or order.files place []
+      → ClusterStarts known order (Err (Cluster (NoList told)))
   no_state : {lists : List json.Data} (e : StateError) → HoldLists known order.files lists → IsDueRefusal (state_of lists) e
       → ClusterStarts known order (Err (Cluster (NoState e)))
   is_blocked : {lists : List json.Data} {s : ClusterState} (name : String Global) (cause : BlockCause) → HoldLists known order.files lists

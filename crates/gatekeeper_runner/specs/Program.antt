@@ -28,7 +28,8 @@ AsksGatekeeper given order = Asks faults (λ words. order_from (entered words)) 
 -- what becomes of words that ask for no text, and for no cluster
 pub data ServesReviews (chosen : Images) (given : Given) (old new : System) : Ending → Type 0 where
   nothing : {r : Refusal} → AsksNothing faults given r → new ≡ old → ServesReviews chosen given old new (Err r)
-  not_started : {order : GatekeeperOrder} {r : Refusal} → AsksGatekeeper given (by_policies order) → GatekeeperStarts old.files order (Err r)
+  not_started : {order : GatekeeperOrder} {r : Refusal} → AsksGatekeeper given (by_policies order)
+      → GatekeeperStarts old.files order (Err r)
       → new ≡ old → ServesReviews chosen given old new (Err r)
   answers : {order : GatekeeperOrder} {keeper : Gatekeeper} (result : Result (Unit {0}) SessionError)
       → AsksGatekeeper given (by_policies order) → order.verbose ≡ false → GatekeeperStarts old.files order (Ok keeper)
@@ -101,7 +102,8 @@ pub data AnswersUnder (chosen : Images) (t : Gatekeeper) (r r_after w w_after : 
 -- how the program ends under policies, by whether refused lines are told of
 abbrev pub EndsUnder : Bool → Images → Gatekeeper → Stream → Stream → Stream → Stream → Stream → Stream → ℕ → Type 0
 EndsUnder false chosen t r r_after w w_after e e_after status = ProgramEnds (AnswersUnder chosen t r r_after w w_after) e e_after status
-EndsUnder true chosen t r r_after w w_after e e_after status = TellsRefused (AnswersReviewLine chosen t) r r_after w w_after e e_after status
+EndsUnder true chosen t r r_after w w_after e e_after status =
+    TellsRefused (AnswersReviewLine chosen t) r r_after w w_after e e_after status
 
 -- how a task ends
 abbrev pub PerformsTask : Images → Task → Stream → Stream → Stream → Stream → Stream → Stream → ℕ → Type 0

@@ -78,7 +78,8 @@ label_view l = record { key = string_bytes l.key; value = string_bytes l.value }
 
 -- a selector of the code
 abbrev pub selector_view : CodeLabelSelector → LabelSelector
-selector_view s = record { match_labels = map label_view s.match_labels.items; match_expressions = map requirement_view s.match_expressions.items }
+selector_view s =
+    record { match_labels = map label_view s.match_labels.items; match_expressions = map requirement_view s.match_expressions.items }
 
 -- a list of labels of the code
 abbrev pub pairs_view : List (Bor (List ℕ) × Bor (List ℕ)) → List (List ℕ × List ℕ)

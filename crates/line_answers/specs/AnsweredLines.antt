@@ -36,7 +36,8 @@ pub record AnsweredSomeLines (each : JoinedTexts) (input before : List ℕ) (lef
 
 -- so many bytes were read, up to a line's end: the answers to the lines before it were written whole, and its own but
 -- for a rest
-pub record AnsweredPartOfLines (texts : LineTexts) (each : JoinedTexts) (input before : List ℕ) (left written : Option (List ℕ)) : Type 0 where
+pub record AnsweredPartOfLines (texts : LineTexts) (each : JoinedTexts) (input before : List ℕ)
+    (left written : Option (List ℕ)) : Type 0 where
   pub read : ℕ
   pub within : read ≤ length (readable input)
   pub line_read : ((cut (take read input)).1 ≡ []) ⊎ (read ≡ length (readable input))

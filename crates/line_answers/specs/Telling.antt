@@ -33,7 +33,8 @@ pub data TellsEach (texts : LineTexts) : List (List ℕ) → List ℕ → List �
 pub record TellsInput (texts : LineTexts) (r r_after w w_after e e_after : Stream)
     (result : Result (Unit {0}) SessionError) : Type 0 where
   pub told : (input before : List ℕ) → r.bytes ≡ Some input → w.bytes ≡ Some before
-      → (text : List ℕ) × AnswersByResult texts (λ lines answers. TellsEach texts lines answers text) input before r_after.bytes w_after.bytes result
+      → (text : List ℕ)
+      × AnswersByResult texts (λ lines answers. TellsEach texts lines answers text) input before r_after.bytes w_after.bytes result
       × (WritesBytes e e_after text ⊎ WritesPart e e_after text)
   pub fails : FailsByResult r.failed r_after.failed w.failed w_after.failed result
 

@@ -29,7 +29,8 @@ abbrev pub denials_told : FailurePolicy → List Validation → VerdictWords →
 denials_told f [] words i = []
 denials_told f (r ∷ rs) words i =
     let more = denials_told f rs words (i + 1) in
-    if denies_word f (slice_index words.results i) then record { validation = r; message = lent (slice_get words.messages i) } ∷ more else more
+    if denies_word f (slice_index words.results i)
+    then record { validation = r; message = lent (slice_get words.messages i) } ∷ more else more
 
 -- the denials of all validations
 abbrev pub denials_in : Parts → Verdict → List Denial

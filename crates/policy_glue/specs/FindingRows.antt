@@ -72,5 +72,6 @@ pub record FindingRowsStand : Type 0 where
   -- other outcomes
   pub was_rejected : findings_of (policy_with Fail (with_message ∷ [])) rejected ≡ finding (codes "match conditions not decided") Invalid
   pub was_skipped : findings_of (policy_with Fail (with_message ∷ [])) skipped ≡ []
-  pub was_skipped_after_results : findings_of (policy_with Fail (with_message ∷ [])) (record { outcome = Skipped; findings = bare_result Fails ∷ [] }) ≡ []
+  pub was_skipped_after_results :
+      findings_of (policy_with Fail (with_message ∷ [])) (record { outcome = Skipped; findings = bare_result Fails ∷ [] }) ≡ []
   pub admitted : findings_of (policy_with Fail (with_message ∷ [])) (record { outcome = Admitted; findings = bare_result Holds ∷ [] }) ≡ []

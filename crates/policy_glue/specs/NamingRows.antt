@@ -24,7 +24,8 @@ pub record NamingRowsStand : Type 0 where
   pub compared : with_second (binary Equal root (literal null)) ≡ true
   -- {'a': [namespaceObject.name]}
   pub within :
-      with_second (map (more_entries (literal (text (codes "a"))) (list (more_trees (select root (codes "name")) no_trees)) no_entries)) ≡ true
+      with_second (map (more_entries (literal (text (codes "a"))) (list
+          (more_trees (select root (codes "name")) no_trees)) no_entries)) ≡ true
   -- [].all(namespaceObject, true)
   pub bound : with_second (method (list no_trees) (codes "all") (more_trees root (more_trees (literal (truth true)) no_trees))) ≡ true
   -- object.namespaceObject
@@ -56,7 +57,8 @@ pub record NamingRowsStand : Type 0 where
   pub method_name : with_second (method (name (codes "object")) namespace_name no_trees) ≡ false
   pub function_name : with_second (call namespace_name no_trees) ≡ false
   -- the first condition names it, or a variable alone
-  pub first_condition : conditions_name_namespace (record { variables = []; conditions = root ∷ literal (truth true) ∷ []; validations = [] }) ≡ true
+  pub first_condition :
+      conditions_name_namespace (record { variables = []; conditions = root ∷ literal (truth true) ∷ []; validations = [] }) ≡ true
   pub variable : conditions_name_namespace (record {
     variables = record { name = codes "v"; expression = root } ∷ [];
     conditions = literal (truth true) ∷ [];

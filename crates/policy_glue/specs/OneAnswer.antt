@@ -30,4 +30,5 @@ pub record HasOtherType (types : List CelType) (scope : List Declaration) (text 
 -- an expression that has one of the wanted types has no other type; so the validation `true` is not refused as an int
 abbrev pub HasNoOtherType : Type 0
 HasNoOtherType =
-    (types : List CelType) (scope : List Declaration) (text : List ℕ) (a : Tree) → IsOneOf types scope text a → HasOtherType types scope text → ⊥
+    (types : List CelType) (scope : List Declaration) (text : List ℕ) (a : Tree) → IsOneOf types scope text a
+        → HasOtherType types scope text → ⊥

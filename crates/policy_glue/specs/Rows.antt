@@ -117,7 +117,8 @@ plain = denied_as (codes "{\"code\":422,\"message\":\"failed expression: object.
 -- a false validation with a message and a reason, then one that is an error
 abbrev pub two_denials : List Validation
 two_denials =
-    record { expression = codes "false"; message = codes "a"; reason = Forbidden; message_expression = None } ∷ plain_validation (codes "1/0 == 1") ∷ []
+    record { expression = codes "false"; message = codes "a"; reason = Forbidden; message_expression = None }
+        ∷ plain_validation (codes "1/0 == 1") ∷ []
 
 abbrev pub two_findings : Verdict
 two_findings =

@@ -45,7 +45,8 @@ pub record HeardSoFar (holds : OfBytes) (input : List ℕ) (read : ℕ) (left wr
 -- the state of a listener after it hears these bytes, for any state at the start, any bytes that
 -- were written before, and any that it has heard
 abbrev pub Hears : {A : Type 0} → (A → List ℕ → OfBytes) → (A → List ℕ → OfBytes) → List ℕ → Option (List ℕ) → Option (List ℕ) → Type 0
-Hears {A} holds next bytes old new = (start : A) (before heard : List ℕ) → holds start before heard old → next start before (heard ++ bytes) new
+Hears {A} holds next bytes old new =
+    (start : A) (before heard : List ℕ) → holds start before heard old → next start before (heard ++ bytes) new
 
 -- the state of a listener after it hears that the input has ended
 abbrev pub HearsEnd : {A : Type 0} → (A → List ℕ → OfBytes) → (A → List ℕ → OfBytes) → Option (List ℕ) → Option (List ℕ) → Type 0

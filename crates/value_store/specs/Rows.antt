@@ -105,7 +105,8 @@ pub record StoreRowsHold : Type 0 where
   pub equal_truths : equal (boolean true) (boolean true) ≡ true
   pub truth_and_falsehood : equal (boolean true) (boolean false) ≡ false
   pub falsehood_and_truth : equal (boolean false) (boolean true) ≡ false
-  pub one_key_two_values : equal (kind.map (entry (codes "a") null no_entries)) (kind.map (entry (codes "a") (boolean true) no_entries)) ≡ false
+  pub one_key_two_values :
+      equal (kind.map (entry (codes "a") null no_entries)) (kind.map (entry (codes "a") (boolean true) no_entries)) ≡ false
   pub one_value_two_keys : equal (kind.map (entry (codes "a") null no_entries)) (kind.map (entry (codes "b") null no_entries)) ≡ false
   pub equal_ints_below_zero : equal (int (negsuc 1)) (int (negsuc 1)) ≡ true
   pub unequal_ints_below_zero : equal (int (negsuc 1)) (int (negsuc 0)) ≡ false

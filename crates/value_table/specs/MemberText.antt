@@ -21,19 +21,22 @@ text_by [] d = text_in d
 text_by (key ∷ keys) d = option_and_then (text_by keys) (get key d)
 
 -- a document was read with the remaining tokens, and this is the text in it
-pub record FindsText (keys : List (List ℕ)) (found : Option (List ℕ)) (read : Option (json.Data × List Token)) (rest : List Token) : Type 0 where
+pub record FindsText (keys : List (List ℕ)) (found : Option (List ℕ)) (read : Option (json.Data × List Token))
+    (rest : List Token) : Type 0 where
   pub document : json.Data
   pub is : read ≡ Some (document, rest)
   pub text : found ≡ text_by keys document
 
 -- one more member was read; the text in it counts if it has the key
-pub record FindsNext (has_key : Bool) (keys : List (List ℕ)) (before after : Option (List ℕ)) (read : Option (json.Data × List Token)) (rest : List Token) : Type 0 where
+pub record FindsNext (has_key : Bool) (keys : List (List ℕ)) (before after : Option (List ℕ))
+    (read : Option (json.Data × List Token)) (rest : List Token) : Type 0 where
   pub document : json.Data
   pub is : read ≡ Some (document, rest)
   pub text : after ≡ (if has_key then text_by keys document else before)
 
 -- the members of an object were read, and this is the text in the one with the key
-pub record FindsAmong (key : List ℕ) (keys : List (List ℕ)) (found : Option (List ℕ)) (read : Option (json.Members × List Token)) (rest : List Token) : Type 0 where
+pub record FindsAmong (key : List ℕ) (keys : List (List ℕ)) (found : Option (List ℕ))
+    (read : Option (json.Members × List Token)) (rest : List Token) : Type 0 where
   pub members : json.Members
   pub is : read ≡ Some (members, rest)
   pub text : found ≡ option_and_then (text_by keys) (get_member key members)

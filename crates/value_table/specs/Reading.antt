@@ -52,7 +52,8 @@ pub record ReadsValue (old new : Heap) (p : Option Placed) (read : Option (json.
 
 abbrev pub AddsItem : PendingList → Option Placed → PendingList → Type 0
 AddsItem old None new = (new.places.items ≡ old.places.items) × (new.size ≡ old.size) × (new.whole ≡ false)
-AddsItem old (Some p) new = (new.places.items ≡ old.places.items ++ p.place ∷ []) × (new.size ≡ saturated (old.size + p.size)) × (new.whole ≡ old.whole)
+AddsItem old (Some p) new =
+    (new.places.items ≡ old.places.items ++ p.place ∷ []) × (new.size ≡ saturated (old.size + p.size)) × (new.whole ≡ old.whole)
 
 -- the items read so far of a list, and its size
 pub record IsPendingList (vs : List Value) (pending : PendingList) : Type 0 where
@@ -104,7 +105,8 @@ abbrev pub LeavesTokens : {A : Type 0} → Option (A × List Token) → List Tok
 LeavesTokens {A} read rest = (a : A) × (read ≡ Some (a, rest))
 
 -- the members of an object were read, and their values were added
-pub record ReadsEntries (old new : Heap) (entries : List PlacedEntry) (read : Option (json.Members × List Token)) (rest : List Token) : Type 0 where
+pub record ReadsEntries (old new : Heap) (entries : List PlacedEntry) (read : Option (json.Members × List Token))
+    (rest : List Token) : Type 0 where
   pub members : json.Members
   pub is : read ≡ Some (members, rest)
   pub heap : IsHeap new

@@ -44,7 +44,8 @@ IsRequestOf vs (Some r) None = ⊥
 IsRequestOf vs (Some r) (Some ms) = IsPlacedRequest vs r ms
 
 -- a member was removed from those that were read; it is null if there was none
-pub record TakesMember (old new : Heap) (key : List ℕ) (before after : List PlacedEntry) (p : Option Placed) (ms : json.Members) : Type 0 where
+pub record TakesMember (old new : Heap) (key : List ℕ) (before after : List PlacedEntry) (p : Option Placed)
+    (ms : json.Members) : Type 0 where
   pub heap : IsHeap new
   pub grown : HasGrown (heap_values old) (heap_values new)
   pub value : PlacesValue (heap_values new) p (value_of (member_or_null key ms))
@@ -69,15 +70,18 @@ pub record AreReviewFields (vs : List Value) (found : ReviewFields) (ms : json.M
   pub request : IsRequestOf vs found.request (option_and_then members_in (get_member (codes "request") ms))
 
 -- one more member was read
-pub record ReadsMember (old new : Heap) (before after : ReviewFields) (key : List ℕ) (read : Option (json.Data × List Token)) (rest : List Token) : Type 0 where
+pub record ReadsMember (old new : Heap) (before after : ReviewFields) (key : List ℕ)
+    (read : Option (json.Data × List Token)) (rest : List Token) : Type 0 where
   pub document : json.Data
   pub is : read ≡ Some (document, rest)
   pub heap : IsHeap new
   pub grown : HasGrown (heap_values old) (heap_values new)
-  pub found : (ms : json.Members) → AreReviewFields (heap_values old) before ms → AreReviewFields (heap_values new) after (json.put key document ms)
+  pub found : (ms : json.Members) → AreReviewFields (heap_values old) before ms
+      → AreReviewFields (heap_values new) after (json.put key document ms)
 
 -- the members of a review were read
-pub record ReadsMembers (old new : Heap) (state : ReviewFields) (read : Option (json.Members × List Token)) (rest : List Token) : Type 0 where
+pub record ReadsMembers (old new : Heap) (state : ReviewFields) (read : Option (json.Members × List Token))
+    (rest : List Token) : Type 0 where
   pub members : json.Members
   pub is : read ≡ Some (members, rest)
   pub heap : IsHeap new
@@ -85,7 +89,8 @@ pub record ReadsMembers (old new : Heap) (state : ReviewFields) (read : Option (
   pub found : AreReviewFields (heap_values new) state members
 
 -- a request was read
-pub record ReadsRequest (old new : Heap) (r : Option PlacedRequest) (read : Option (json.Data × List Token)) (rest : List Token) : Type 0 where
+pub record ReadsRequest (old new : Heap) (r : Option PlacedRequest) (read : Option (json.Data × List Token))
+    (rest : List Token) : Type 0 where
   pub document : json.Data
   pub is : read ≡ Some (document, rest)
   pub heap : IsHeap new
@@ -107,7 +112,8 @@ pub record ReadsReview (old new : Heap) (r : Option PlacedRequest) (read : Optio
   pub request : IsRequestOf (heap_values new) r (request_of document)
 
 -- a value was read with the remaining tokens, and its request too if it is a review
-pub record ReadsReviewValue (old new : Heap) (r : Option PlacedRequest) (read : Option (json.Data × List Token)) (rest : List Token) : Type 0 where
+pub record ReadsReviewValue (old new : Heap) (r : Option PlacedRequest) (read : Option (json.Data × List Token))
+    (rest : List Token) : Type 0 where
   pub document : json.Data
   pub is : read ≡ Some (document, rest)
   pub heap : IsHeap new

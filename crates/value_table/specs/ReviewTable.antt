@@ -69,7 +69,8 @@ OthersReturn h (Err ChargeTooLarge) namespace params = ⊥
 -- ---- the roots
 
 -- the values of the roots are those of these documents
-pub record RootsArePlaced (h : Heap) (roots : List (Option Placed)) (parts : Option ReviewRoots) (namespace params : Option json.Data) : Type 0 where
+pub record RootsArePlaced (h : Heap) (roots : List (Option Placed)) (parts : Option ReviewRoots)
+    (namespace params : Option json.Data) : Type 0 where
   pub documents : List json.Data
   pub is : root_documents parts namespace params ≡ Some documents
   pub answer : ArePlacedValues (heap_values h) roots documents
@@ -85,7 +86,8 @@ abbrev pub HoldsForRoots : Option (List json.Data) → (Result Contents TableErr
 HoldsForRoots documents P = (ds : List json.Data) × (documents ≡ Some ds) × P (start_contents ds)
 
 -- the table of the roots, or the first refusal: of the review's form, another document, a root, or the charge
-abbrev pub ReviewTableReturns : {S : Type 0} → (S → Contents) → Result S ReviewError → Option ReviewRoots → Option json.Data → Option json.Data → Type 0
+abbrev pub ReviewTableReturns : {S : Type 0} → (S → Contents) → Result S ReviewError → Option ReviewRoots
+    → Option json.Data → Option json.Data → Type 0
 ReviewTableReturns contents (Ok t) parts namespace params =
     HoldsForRoots (root_documents parts namespace params) (λ due. due ≡ Ok (contents t))
 ReviewTableReturns contents (Err (RootRefused place)) parts namespace params =

@@ -61,7 +61,8 @@ kept_path_slots = 6
 
 -- the code that keeps the path in word 0: after the path's code and a store, the expression uses the words from 1 on
 abbrev pub keeping_code : RootField → Core → List (List ℕ) → List (List ℕ × ℕ) → ℕ → List Insn
-keeping_code path e ts rs p = kept_path_code path (address_of ts path.field) (code_keeping (kept_lists e) e ts rs (with_path path) 1 (p + kept_path_slots))
+keeping_code path e ts rs p =
+    kept_path_code path (address_of ts path.field) (code_keeping (kept_lists e) e ts rs (with_path path) 1 (p + kept_path_slots))
 
 -- the code that keeps the path if that is shorter
 abbrev pub code_with : Option RootField → Core → List (List ℕ) → List (List ℕ × ℕ) → ℕ → List Insn
