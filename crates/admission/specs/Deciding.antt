@@ -117,7 +117,7 @@ work case = policy_work case.policy.parsed.failure_policy case.policy.trees case
 abbrev pub IsBeyond : {d : Documents} → Case d → Type 0
 IsBeyond case =
     (charge_limit < (started case.roots).charge + charge_per_unit * policy_spent case.policy.parsed.failure_policy
-        case.policy.trees case.roots)
+    case.policy.trees case.roots)
     ⊎ IsDeepPolicy case.policy.parsed.failure_policy case.policy.trees case.roots
 
 -- the reply is the one for the policy's verdict

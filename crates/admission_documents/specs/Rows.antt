@@ -307,21 +307,21 @@ pub record RequestReadRowsHold : Type 0 where
       ≡ Some (Some (json.object json.no_members))
   pub object_without_metadata :
       option_map (λ r. is_some r.attributes.object) (pod_request
-          (codes "\"operation\":\"CONNECT\",\"object\":{\"labels\":{}}")) ≡ Some false
+      (codes "\"operation\":\"CONNECT\",\"object\":{\"labels\":{}}")) ≡ Some false
   pub null_metadata :
       option_map (λ r. is_some r.attributes.object) (pod_request
-          (codes "\"operation\":\"CONNECT\",\"object\":{\"metadata\":null}")) ≡ Some false
+      (codes "\"operation\":\"CONNECT\",\"object\":{\"metadata\":null}")) ≡ Some false
   pub metadata_without_labels :
       option_map (λ r. is_some r.attributes.object) (pod_request
-          (codes "\"operation\":\"CREATE\",\"object\":{\"metadata\":{}}")) ≡ Some true
+      (codes "\"operation\":\"CREATE\",\"object\":{\"metadata\":{}}")) ≡ Some true
   pub no_label :
       option_map (λ r. env_of r.attributes.object) (pod_request (codes "\"operation\":\"CREATE\",\"object\":{\"metadata\":{}}")) ≡ Some None
   pub labels_of_the_new_object :
       option_map (λ r. env_of r.attributes.object) (pod_request
-          (codes "\"operation\":\"UPDATE\",\"object\":{\"metadata\":{\"labels\":{\"env\":\"new\"}}},\"oldObject\":{\"metadata\":{\"labels\":{\"env\":\"old\"}}}")) ≡ Some (Some (codes "new"))
+      (codes "\"operation\":\"UPDATE\",\"object\":{\"metadata\":{\"labels\":{\"env\":\"new\"}}},\"oldObject\":{\"metadata\":{\"labels\":{\"env\":\"old\"}}}")) ≡ Some (Some (codes "new"))
   pub labels_of_the_old_object :
       option_map (λ r. env_of r.attributes.old_object) (pod_request
-          (codes "\"operation\":\"UPDATE\",\"object\":{\"metadata\":{\"labels\":{\"env\":\"new\"}}},\"oldObject\":{\"metadata\":{\"labels\":{\"env\":\"old\"}}}")) ≡ Some (Some (codes "old"))
+      (codes "\"operation\":\"UPDATE\",\"object\":{\"metadata\":{\"labels\":{\"env\":\"new\"}}},\"oldObject\":{\"metadata\":{\"labels\":{\"env\":\"old\"}}}")) ≡ Some (Some (codes "old"))
   pub old_object_without_metadata :
       option_map (λ r. is_some r.attributes.old_object) (pod_request (codes "\"operation\":\"DELETE\",\"oldObject\":{}")) ≡ Some false
 

@@ -46,10 +46,10 @@ pub record RuleBordersHold : Type 0 where
       fits (rule_for Cluster all_namespaces) (request Create corp_namespaces [] (codes "prod") (codes "x")) corp_namespaces ≡ false
   pub delete :
       fits (record (rule_for All star) { operations = codes "DELETE" ∷ [] })
-          (request Delete core_pods [] (codes "prod") (codes "web")) core_pods ≡ true
+      (request Delete core_pods [] (codes "prod") (codes "web")) core_pods ≡ true
   pub connect :
       fits (record (rule_for All star) { operations = codes "CONNECT" ∷ [] })
-          (request Connect core_pods [] (codes "prod") (codes "web")) core_pods ≡ true
+      (request Connect core_pods [] (codes "prod") (codes "web")) core_pods ≡ true
   pub no_versions : fits (record (rule_for All star) { api_versions = [] }) create_pod core_pods ≡ false
   pub no_resources : fits (record (rule_for All star) { resources = [] }) create_pod core_pods ≡ false
 
@@ -61,29 +61,29 @@ pub record EquivalentBordersHold : Type 0 where
   pub statefulsets : is_shared (codes "extensions") (codes "apps") (codes "statefulsets") ≡ false
   pub scope_in_another_version :
       rules_answer Equivalent (record (rule_of (codes "example.com") v1 (codes "widgets")) { scope = Cluster }
-          ∷ []) create_widget ≡ NoneFits
+      ∷ []) create_widget ≡ NoneFits
   pub core_namespaces_are_cluster_scoped : rules_answer Equivalent (on_core_namespaces Cluster) update_beta_namespace ≡ NotKnown
   pub core_namespaces_are_not_namespaced : rules_answer Equivalent (on_core_namespaces Namespaced) update_beta_namespace ≡ NoneFits
   pub scope_in_another_group :
       rules_answer Equivalent (record (rule_of (codes "extensions") v1 (codes "deployments")) { scope = Cluster }
-          ∷ []) (request Create (deployments (codes "apps")) [] (codes "prod") (codes "web")) ≡ NoneFits
+      ∷ []) (request Create (deployments (codes "apps")) [] (codes "prod") (codes "web")) ≡ NoneFits
 
 -- namespaces of another group, old objects, the order of the tests, and Exact
 pub record MatchBordersHold : Type 0 where
   pub namespaces_of_a_group_by_their_object :
       match_answer (matching prod_only everything all_rules []) one_namespace
-          (with_objects (request Create corp_namespaces [] [] (codes "x")) (Some (env (codes "dev"))) None) ≡ No
+      (with_objects (request Create corp_namespaces [] [] (codes "x")) (Some (env (codes "dev"))) None) ≡ No
   pub collection_of_namespaces_of_a_group :
       match_answer (matching prod_only everything all_rules []) one_namespace (request Delete corp_namespaces [] [] []) ≡ Trouble NoName
   pub collection_under_an_empty_selector :
       match_answer (matching everything everything all_rules []) one_namespace (request Delete core_namespaces [] [] []) ≡ Yes
   pub deleted_object :
       match_answer (matching everything prod_only all_rules []) one_namespace
-          (with_objects (request Delete core_pods [] (codes "prod") (codes "web")) None (Some (env (codes "prod")))) ≡ Yes
+      (with_objects (request Delete core_pods [] (codes "prod") (codes "web")) None (Some (env (codes "prod")))) ≡ Yes
   pub exclude_before_trouble : match_answer (matching prod_only everything all_rules all_rules) one_namespace gone_pod ≡ No
   pub unknown_exclude_before_trouble :
       match_answer (matching prod_only everything all_rules of_widgets) one_namespace
-          (request Create (widgets (codes "v1beta1")) [] (codes "gone") (codes "w")) ≡ Unknown
+      (request Create (widgets (codes "v1beta1")) [] (codes "gone") (codes "w")) ≡ Unknown
   pub exact : match_answer (exact_matching of_widgets) one_namespace create_widget ≡ No
 
 -- unknown although each server answers no: an exclude that may fit is tested before rules that fit on no server, or

@@ -119,10 +119,10 @@ pub record FitsRowsHold : Type 0 where
   pub scope_namespaced_keeps_out_nodes : fits (rule_for Namespaced (codes "nodes" ∷ [])) create_node core_nodes ≡ false
   pub namespaces_are_not_namespaced :
       fits (rule_for Namespaced all_namespaces) (request Update core_namespaces (codes "finalize") (codes "prod")
-          (codes "prod")) core_namespaces ≡ false
+      (codes "prod")) core_namespaces ≡ false
   pub namespaces_are_cluster :
       fits (rule_for Cluster all_namespaces) (request Update core_namespaces (codes "finalize") (codes "prod")
-          (codes "prod")) core_namespaces ≡ true
+      (codes "prod")) core_namespaces ≡ true
   pub other_namespaces_by_their_namespace :
       fits (rule_for Namespaced all_namespaces) (request Create corp_namespaces [] (codes "prod") (codes "x")) corp_namespaces ≡ true
   pub operation : fits (record (rule_for All star) { operations = codes "UPDATE" ∷ codes "CREATE" ∷ [] }) create_pod core_pods ≡ true
@@ -136,7 +136,7 @@ pub record FitsRowsHold : Type 0 where
   pub other_name : fits (record (rule_for All star) { resource_names = codes "db" ∷ [] }) create_pod core_pods ≡ false
   pub generated_name :
       fits (record (rule_for All star) { resource_names = codes "web" ∷ [] })
-          (request Create core_pods [] (codes "prod") []) core_pods ≡ false
+      (request Create core_pods [] (codes "prod") []) core_pods ≡ false
   pub generated_name_fits_the_empty_one :
       fits (record (rule_for All star) { resource_names = [] ∷ [] }) (request Create core_pods [] (codes "prod") []) core_pods ≡ true
 
@@ -164,11 +164,11 @@ pub record EquivalentRowsHold : Type 0 where
   pub exact : rules_answer Exact (rule_of (codes "example.com") (codes "v1") (codes "widgets") ∷ []) create_widget ≡ NoneFits
   pub own_version :
       rules_answer Equivalent (rule_of (codes "example.com") (codes "v1") (codes "widgets")
-          ∷ rule_of (codes "example.com") (codes "v1beta1") (codes "widgets") ∷ []) create_widget ≡ SomeFits
+      ∷ rule_of (codes "example.com") (codes "v1beta1") (codes "widgets") ∷ []) create_widget ≡ SomeFits
   pub other_widgets : rules_answer Equivalent (rule_of (codes "example.org") (codes "v1") (codes "widgets") ∷ []) create_widget ≡ NoneFits
   pub shared_group :
       rules_answer Equivalent (rule_of (codes "extensions") (codes "v1beta1") (codes "deployments") ∷ [])
-          (request Create (deployments (codes "apps")) [] (codes "prod") (codes "web")) ≡ NotKnown
+      (request Create (deployments (codes "apps")) [] (codes "prod") (codes "web")) ≡ NotKnown
   pub no_rules : rules_answer Equivalent [] create_pod ≡ NoneFits
 
 abbrev pub of_admission : List ℕ → GroupVersionResource
@@ -227,48 +227,48 @@ pub record MatchRowsHold : Type 0 where
   pub excluded : match_answer (matching everything everything all_rules all_rules) one_namespace create_pod ≡ No
   pub unknown :
       match_answer (matching everything everything (rule_of (codes "example.com") (codes "v1") (codes "widgets")
-          ∷ []) []) one_namespace create_widget ≡ Unknown
+      ∷ []) []) one_namespace create_widget ≡ Unknown
   pub unknown_exclude :
       match_answer (matching everything everything all_rules (rule_of (codes "example.com") (codes "v1")
-          (codes "widgets") ∷ [])) one_namespace create_widget ≡ Unknown
+      (codes "widgets") ∷ [])) one_namespace create_widget ≡ Unknown
   pub selected_namespace : match_answer (matching prod_only everything all_rules []) one_namespace create_pod ≡ Yes
   pub kept_out : match_answer (matching no_env everything all_rules []) one_namespace create_pod ≡ No
   pub nodes_are_not_kept_out : match_answer (matching prod_only everything all_rules []) one_namespace create_node ≡ Yes
   pub deleted_namespace_by_the_state :
       match_answer (matching prod_only everything all_rules []) one_namespace
-          (with_objects (request Delete core_namespaces [] (codes "prod") (codes "prod")) None (Some (env (codes "dev")))) ≡ Yes
+      (with_objects (request Delete core_namespaces [] (codes "prod") (codes "prod")) None (Some (env (codes "dev")))) ≡ Yes
   pub new_namespace_by_the_object :
       match_answer (matching prod_only everything all_rules []) one_namespace
-          (with_objects (request Create core_namespaces [] (codes "new") (codes "new")) (Some (env (codes "prod"))) None) ≡ Yes
+      (with_objects (request Create core_namespaces [] (codes "new") (codes "new")) (Some (env (codes "prod"))) None) ≡ Yes
   pub updated_namespace_by_the_new_object :
       match_answer (matching prod_only everything all_rules []) one_namespace
-          (with_objects (request Update core_namespaces [] (codes "prod") (codes "prod")) (Some (env (codes "dev")))
-              (Some (env (codes "prod")))) ≡ No
+      (with_objects (request Update core_namespaces [] (codes "prod") (codes "prod")) (Some (env (codes "dev")))
+      (Some (env (codes "prod")))) ≡ No
   pub finalized_namespace_by_the_state :
       match_answer (matching prod_only everything all_rules []) one_namespace
-          (with_objects (request Update core_namespaces (codes "finalize") (codes "prod") (codes "prod"))
-              (Some (env (codes "dev"))) None) ≡ Yes
+      (with_objects (request Update core_namespaces (codes "finalize") (codes "prod") (codes "prod"))
+      (Some (env (codes "dev"))) None) ≡ Yes
   pub collection_of_namespaces :
       match_answer (matching prod_only everything all_rules []) one_namespace (request Delete core_namespaces [] [] []) ≡ Trouble NoName
   pub namespace_not_there :
       match_answer (matching prod_only everything all_rules []) one_namespace
-          (request Create core_pods [] (codes "gone") (codes "web")) ≡ Trouble NotFound
+      (request Create core_pods [] (codes "gone") (codes "web")) ≡ Trouble NotFound
   pub namespace_not_there_without_a_selector :
       match_answer (matching everything everything all_rules []) one_namespace
-          (request Create core_pods [] (codes "gone") (codes "web")) ≡ Yes
+      (request Create core_pods [] (codes "gone") (codes "web")) ≡ Yes
   pub no_rule_fits_before_the_trouble :
       match_answer (matching prod_only everything (rule_for All (codes "nodes" ∷ []) ∷ []) []) one_namespace
-          (request Create core_pods [] (codes "gone") (codes "web")) ≡ No
+      (request Create core_pods [] (codes "gone") (codes "web")) ≡ No
   pub object_selected :
       match_answer (matching everything prod_only all_rules []) one_namespace
-          (with_objects create_pod (Some (env (codes "prod"))) None) ≡ Yes
+      (with_objects create_pod (Some (env (codes "prod"))) None) ≡ Yes
   pub old_object_selected :
       match_answer (matching everything prod_only all_rules []) one_namespace
-          (with_objects create_pod (Some (env (codes "dev"))) (Some (env (codes "prod")))) ≡ Yes
+      (with_objects create_pod (Some (env (codes "dev"))) (Some (env (codes "prod")))) ≡ Yes
   pub object_not_selected :
       match_answer (matching everything prod_only all_rules []) one_namespace (with_objects create_pod (Some (env (codes "dev"))) None) ≡ No
   pub options_of_exec_have_no_metadata :
       match_answer (matching everything no_env all_rules []) one_namespace
-          (request Connect core_pods exec (codes "prod") (codes "web")) ≡ No
+      (request Connect core_pods exec (codes "prod") (codes "web")) ≡ No
   pub object_without_labels :
       match_answer (matching everything no_env all_rules []) one_namespace (with_objects create_pod (Some (labels_of [])) None) ≡ Yes

@@ -72,20 +72,20 @@ pub record RefusalLineRowsStand : Type 0 where
 pub record ExpressionRowsStand : Type 0 where
   pub token :
       Says (Policy (Uncompiled (InvalidExpression Validation 0 (expression.Unread
-          (UnexpectedToken 13))))) "celbpf: K6 validation 0 P4 at 13\n" 3
+      (UnexpectedToken 13))))) "celbpf: K6 validation 0 P4 at 13\n" 3
   pub character :
       Says (Policy (Uncompiled (InvalidExpression Condition 2 (expression.Unread
-          (UnknownCharacter 0))))) "celbpf: K6 condition 2 P1 at 0\n" 3
+      (UnknownCharacter 0))))) "celbpf: K6 condition 2 P1 at 0\n" 3
   pub text_literal :
       Says (Policy (Uncompiled (InvalidExpression Message 0 (expression.Unread (InvalidTextLiteral 0))))) "celbpf: K6 message 0 P2 at 0\n" 3
   pub int : Says (Policy (Uncompiled (InvalidExpression Validation 63 (expression.Unread
       (IntOutOfRange 5))))) "celbpf: K6 validation 63 P3 at 5\n" 3
   pub open_brackets :
       Says (Policy (Uncompiled (InvalidExpression Validation 0 (expression.Unread
-          (TooManyOpen 100))))) "celbpf: K6 validation 0 P5 at 100\n" 3
+      (TooManyOpen 100))))) "celbpf: K6 validation 0 P5 at 100\n" 3
   pub long_text :
       Says (Policy (Uncompiled (InvalidExpression Validation 0 (expression.Unread
-          (TextTooLong 65536))))) "celbpf: K6 validation 0 P6 at 65536\n" 3
+      (TextTooLong 65536))))) "celbpf: K6 validation 0 P6 at 65536\n" 3
   pub argument_count :
       Says (Policy (Uncompiled (InvalidExpression Validation 0 (Unexpanded WrongArgumentCount)))) "celbpf: K6 validation 0 M1\n" 3
   pub iteration_name :

@@ -76,7 +76,7 @@ abbrev pub AddedBefore : BoundPolicy → PolicyRun → List PlannedStep → List
 AddedBefore p run all rest before now =
     (more : List Event) × Adds before now more
     × ((es : List Event) (ended : Bool) → RunsSteps p.name (finds_of p run) rest es ended
-      → RunsSteps p.name (finds_of p run) all (more ++ es) ended)
+    → RunsSteps p.name (finds_of p run) all (more ++ es) ended)
 
 -- ---- policies
 

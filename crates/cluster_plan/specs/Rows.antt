@@ -137,7 +137,7 @@ to_prod = reference (codes "\"name\":\"prod\",\"namespace\":\"prod\",\"parameter
 abbrev pub deletion : List ℕ → List ℕ → List ℕ → List ℕ
 deletion kind resource more =
     codes "{\"operation\":\"DELETE\",\"kind\":{\"version\":\"v1\",\"kind\":\""
-        ++ (kind ++ (codes "\"},\"resource\":{\"version\":\"v1\",\"resource\":\"" ++ (resource ++ (codes "\"}" ++ (more ++ codes "}")))))
+    ++ (kind ++ (codes "\"},\"resource\":{\"version\":\"v1\",\"resource\":\"" ++ (resource ++ (codes "\"}" ++ (more ++ codes "}")))))
 
 abbrev pub pod_in : List ℕ → List ℕ
 pod_in namespace = deletion (codes "Pod") (codes "pods") (codes ",\"namespace\":\"" ++ (namespace ++ codes "\""))
@@ -180,12 +180,12 @@ pub record StepRowsHold : Type 0 where
   pub two_params :
       rows_with (policy (with_params matches_all) ∷ to_each ∷ config (codes "c") ∷ config (codes "a") ∷ prod ∷ []) (pod_in (codes "prod"))
       ≡ Some (evaluated (codes "b") (Some (codes "a")) (Some (codes "prod"))
-        ∷ evaluated (codes "b") (Some (codes "c")) (Some (codes "prod")) ∷ [])
+      ∷ evaluated (codes "b") (Some (codes "c")) (Some (codes "prod")) ∷ [])
   pub absent_params : rows_with (policy (with_params matches_all) ∷ to_limits ∷ config (codes "a") ∷ prod ∷ []) (pod_in (codes "prod"))
       ≡ Some (error (Some (codes "b")) (codes "no params found for policy binding with `Deny` parameterNotFoundAction") ∷ [])
   pub absent_params_under_ignore :
       rows_with (policy (under_ignore (with_params matches_all)) ∷ to_limits ∷ config (codes "a") ∷ prod ∷ [])
-          (pod_in (codes "prod")) ≡ Some []
+      (pod_in (codes "prod")) ≡ Some []
   pub no_params_and_no_namespace :
       rows_with (policy (with_params matches_all) ∷ to_each ∷ config (codes "a") ∷ prod ∷ []) (pod_in (codes "gone"))
       ≡ Some (not_found ∷ [])
@@ -213,7 +213,7 @@ pub record StepRowsHold : Type 0 where
       ≡ Some (error (Some (codes "b")) (codes "no params found for policy binding with `Deny` parameterNotFoundAction") ∷ [])
   pub absent_params_and_no_namespace_under_ignore :
       rows_with (policy (under_ignore (with_params matches_all)) ∷ to_limits ∷ config (codes "a") ∷ prod ∷ [])
-          (pod_in (codes "gone")) ≡ Some []
+      (pod_in (codes "gone")) ≡ Some []
   pub needless_namespace : rows_with (policy (with_namespaces matches_all) ∷ to_prod ∷ prod ∷ []) (pod_in (codes "prod"))
       ≡ Some (error (Some (codes "b")) (codes "paramRef.namespace must not be provided for a cluster-scoped `paramKind`") ∷ [])
   pub none_of_a_label :
@@ -227,10 +227,10 @@ pub record StepRowsHold : Type 0 where
   pub two_bindings :
       rows_with (policy matches_all ∷ binding_of (codes "c") (bound_to (codes "p") []) ∷ binding_of (codes "b") (bound_to (codes "q") [])
       ∷ binding_of (codes "a") (bound_to (codes "p") []) ∷ prod ∷ []) node
-        ≡ Some (evaluated (codes "a") None None ∷ evaluated (codes "c") None None ∷ [])
+      ≡ Some (evaluated (codes "a") None None ∷ evaluated (codes "c") None None ∷ [])
   pub error_before_others :
       rows_with (policy (with_params matches_all) ∷ binding_of (codes "c") (bound_to (codes "p") []) ∷ to_limits
-          ∷ config (codes "a") ∷ prod ∷ [])
+      ∷ config (codes "a") ∷ prod ∷ [])
       (pod_in (codes "prod"))
-          ≡ Some (error (Some (codes "b")) (codes "no params found for policy binding with `Deny` parameterNotFoundAction")
+      ≡ Some (error (Some (codes "b")) (codes "no params found for policy binding with `Deny` parameterNotFoundAction")
       ∷ evaluated (codes "c") None (Some (codes "prod")) ∷ [])

@@ -130,7 +130,7 @@ abbrev pub annotation_of : List ℕ → List ℕ → List ℕ → List ℕ
 annotation_of message place actions =
     codes "\"auditAnnotations\":{\"validation.policy.admission.k8s.io/validation_failure\":\"[{\\\"message\\\":\\\"" ++ (message
     ++ (codes "\\\",\\\"policy\\\":\\\"p\\\",\\\"binding\\\":\\\"b\\\",\\\"expressionIndex\\\":"
-      ++ (place ++ (codes ",\\\"validationActions\\\":[" ++ (actions ++ codes "]}]\"}")))))
+    ++ (place ++ (codes ",\\\"validationActions\\\":[" ++ (actions ++ codes "]}]\"}")))))
 
 pub record AnswerRowsHold : Type 0 where
   pub no_events : answer [] ≡ reviewed (codes "{\"allowed\":true,\"uid\":\"u1\"}")
@@ -156,7 +156,7 @@ pub record AnswerRowsHold : Type 0 where
       ≡ reviewed (codes "{\"allowed\":false,\"status\":{\"code\":422,\"message\":\"deployments.apps \\\"web\\\" is forbidden: ValidatingAdmissionPolicy 'p' with binding 'b' denied request: failed to configure binding: e\",\"reason\":\"Invalid\"},\"uid\":\"u1\"}")
   pub undecided :
       answer (refuses (record { policy = codes "q"; refusal = OutOfSteps })
-          ∷ refuses (record { policy = codes "r"; refusal = PolicyRefused }) ∷ [])
+      ∷ refuses (record { policy = codes "r"; refusal = PolicyRefused }) ∷ [])
       ≡ codes "{\"policy\":\"q\",\"refused\":\"N4\",\"uid\":\"u1\"}"
   pub denied_after_refusal :
       answer (refuses (record { policy = codes "a"; refusal = OutOfSteps }) ∷ under (Deny ∷ []) twice) ≡ reviewed denied_by_m
@@ -172,7 +172,7 @@ pub record AnswerRowsHold : Type 0 where
   -- texts in the annotation
   pub escaped : answer (under (Audit ∷ []) (found 0 (codes "<a>\"&") Invalid ∷ []))
       ≡ reviewed (codes "{\"allowed\":true,"
-        ++ (annotation_of (codes "\\\\u003ca\\\\u003e\\\\\\\"\\\\u0026") (codes "0") (codes "\\\"Audit\\\"") ++ codes ",\"uid\":\"u1\"}"))
+      ++ (annotation_of (codes "\\\\u003ca\\\\u003e\\\\\\\"\\\\u0026") (codes "0") (codes "\\\"Audit\\\"") ++ codes ",\"uid\":\"u1\"}"))
   -- refusals
   pub after_warning : answer (under (Warn ∷ Audit ∷ []) twice ++ undecided_by OverLimit ∷ []) ≡ refused_as (codes "N5")
   pub of_review : answer (undecided_by ReviewRefused ∷ []) ≡ refused_as (codes "N2")

@@ -44,8 +44,10 @@ pub record GatekeeperLinesHold : Type 0 where
   pub refused_without_uid : refusal_text (record { error = run_error.NamespaceOrParamsRefused; policy = None }) None
       ≡ codes "{\"refused\":\"N3\"}"
   pub refused_by_policy : refusal_text
-      (record { error = run_error.OutOfSteps;
-          policy = Some (record { name = codes "a.json"; failure_policy = codes "Fail" }) }) (Some (codes "u1"))
+      (record {
+        error = run_error.OutOfSteps;
+        policy = Some (record { name = codes "a.json"; failure_policy = codes "Fail" });
+      }) (Some (codes "u1"))
       ≡ codes "{\"refused\":\"N4\",\"uid\":\"u1\",\"policy\":\"a.json\",\"failurePolicy\":\"Fail\"}"
   pub too_long : too_long_text ≡ codes "{\"refused\":\"N2\"}"
   pub uid : uid_shown (read (codes "{\"request\":{\"uid\":\"u1\"}}")) ≡ Some (codes "u1")
@@ -92,7 +94,7 @@ pub record TogetherRowsHold : Type 0 where
   pub two : and_also (Some first_reason) (Some (rejects (codes "n") Invalid)) ≡ Some (rejects (codes "m; n") Forbidden)
   pub of_all :
       rejections (allowing ∷ rejecting (codes "b.json") (codes "m") Forbidden ∷ endless (codes "c.json")
-          ∷ rejecting (codes "d.json") (codes "n") Invalid ∷ [])
+      ∷ rejecting (codes "d.json") (codes "n") Invalid ∷ [])
       ≡ Some (rejects (codes "m; n") Forbidden)
   pub of_none : rejections (allowing ∷ endless (codes "c.json") ∷ []) ≡ None
   pub first_refusal : first_refused (allowing ∷ endless (codes "b.json") ∷ endless (codes "c.json") ∷ [])

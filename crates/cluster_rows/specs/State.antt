@@ -76,8 +76,13 @@ pub record ActionRowsHold : Type 0 where
   -- parameterNotFoundAction is Allow
   pub absence_allows :
       read_binding (codes "{\"policyName\":\"p\",\"validationActions\":[\"Warn\"],\"paramRef\":{\"name\":\"limits\",\"parameterNotFoundAction\":\"Allow\"}}")
-      ≡ Some (record { name = codes "b"; policy_name = codes "p"; actions = Warn ∷ []; resources = match_all;
-        param_ref = Some (record limits { denies_absence = false }) })
+      ≡ Some (record {
+        name = codes "b";
+        policy_name = codes "p";
+        actions = Warn ∷ [];
+        resources = match_all;
+        param_ref = Some (record limits { denies_absence = false });
+      })
 
 -- ---- params
 

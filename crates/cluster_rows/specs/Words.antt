@@ -20,11 +20,17 @@ with_line number = under_policy ++ codes "--max-line" ∷ number ∷ []
 -- what command lines ask for: 10,000,000 steps and lines of 16 MiB, if they do not say so
 pub record CommandOrdersHold : Type 0 where
   pub policy : order_from (entered under_policy)
-      ≡ by_policies (record { policies = codes "a.json" ∷ []; namespace = None; params = None; steps = 10000000;
-        max_line = 16777216; verbose = false })
+      ≡ by_policies (record {
+        policies = codes "a.json" ∷ [];
+        namespace = None;
+        params = None;
+        steps = 10000000;
+        max_line = 16777216;
+        verbose = false;
+      })
   pub more : order_from
       (entered (under_policy
-          ++ codes "--policy" ∷ codes "b.json" ∷ codes "--namespace" ∷ codes "n.json" ∷ codes "--steps" ∷ codes "5" ∷ []))
+      ++ codes "--policy" ∷ codes "b.json" ∷ codes "--namespace" ∷ codes "n.json" ∷ codes "--steps" ∷ codes "5" ∷ []))
       ≡ by_policies (record {
         policies = codes "a.json" ∷ codes "b.json" ∷ [];
         namespace = Some (codes "n.json");
@@ -38,8 +44,14 @@ pub record CommandOrdersHold : Type 0 where
   pub partial : order_from (entered (as_cluster ++ codes "--partial" ∷ []))
       ≡ by_cluster (record { files = codes "c.json" ∷ []; partial = true; steps = 10000000; max_line = 16777216; verbose = false })
   pub verbose : order_from (entered (under_policy ++ codes "--verbose" ∷ []))
-      ≡ by_policies (record { policies = codes "a.json" ∷ []; namespace = None; params = None; steps = 10000000;
-        max_line = 16777216; verbose = true })
+      ≡ by_policies (record {
+        policies = codes "a.json" ∷ [];
+        namespace = None;
+        params = None;
+        steps = 10000000;
+        max_line = 16777216;
+        verbose = true;
+      })
   pub verbose_cluster : order_from (entered (codes "gatekeeper" ∷ codes "--verbose" ∷ codes "--cluster" ∷ codes "c.json" ∷ []))
       ≡ by_cluster (record { files = codes "c.json" ∷ []; partial = false; steps = 10000000; max_line = 16777216; verbose = true })
 

@@ -113,7 +113,7 @@ are_distinct (a ∷ actions) = not (has_action a actions) && are_distinct action
 unfoldable pub are_actions : List Action → Bool
 are_actions actions =
     not (length actions == 0) && nat_le (length actions) 3 && are_distinct actions
-        && not (has_action Deny actions && has_action Warn actions)
+    && not (has_action Deny actions && has_action Warn actions)
 
 abbrev pub if_actions : Option (List Action) → Option (List Action)
 if_actions (Some actions) = if are_actions actions then Some actions else None

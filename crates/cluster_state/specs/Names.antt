@@ -11,4 +11,4 @@ use Rattle.cluster_state.specs.declared.binding.Binding.{Binding}
 abbrev pub HoldsPolicyNames : BTreeSet (Bor (List ℕ)) → List Binding → Type 0
 HoldsPolicyNames names bs =
     (name : Bor (List ℕ))
-        → contains (λ x y. slice_cmp nat_cmp x.now y.now) names name ≡ list_any (λ b. bytes_eq b.policy_name.now name.now) bs
+    → contains (λ x y. slice_cmp nat_cmp x.now y.now) names name ≡ list_any (λ b. bytes_eq b.policy_name.now name.now) bs

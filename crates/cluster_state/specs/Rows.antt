@@ -122,8 +122,13 @@ limits = record { choice = by_name (codes "limits"); namespace = []; denies_abse
 pub record BindingRowsHold : Type 0 where
   pub params :
       read_binding (codes "{\"policyName\":\"p\",\"validationActions\":[\"Warn\",\"Audit\"],\"paramRef\":{\"name\":\"limits\",\"parameterNotFoundAction\":\"Deny\"}}")
-      ≡ Some (record { name = codes "b"; policy_name = codes "p"; actions = Warn ∷ Audit ∷ []; resources = match_all;
-        param_ref = Some limits })
+      ≡ Some (record {
+        name = codes "b";
+        policy_name = codes "p";
+        actions = Warn ∷ Audit ∷ [];
+        resources = match_all;
+        param_ref = Some limits;
+      })
   pub no_params : read_binding (codes "{\"policyName\":\"p\",\"validationActions\":[\"Deny\"],\"matchResources\":null}")
       ≡ Some (record { name = codes "b"; policy_name = codes "p"; actions = Deny ∷ []; resources = match_all; param_ref = None })
   pub selector :
@@ -208,7 +213,7 @@ named_document None = []
 abbrev pub definition : List ℕ → Named
 definition scope =
     named_document (read (codes "{\"spec\":{\"group\":\"x.io\",\"names\":{\"kind\":\"Limit\"},\"scope\":\""
-        ++ (scope ++ codes "\",\"versions\":[{\"name\":\"v1\",\"served\":true},{\"name\":\"v2\",\"served\":false}]}}")))
+    ++ (scope ++ codes "\",\"versions\":[{\"name\":\"v1\",\"served\":true},{\"name\":\"v2\",\"served\":false}]}}")))
 
 -- the same in no version
 abbrev pub without_versions : Named

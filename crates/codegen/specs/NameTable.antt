@@ -29,7 +29,7 @@ routines_within around = routines_of (map declaration around.variables.now) arou
 abbrev pub piece_of : Core → EmitPosition → List Insn
 piece_of e position =
     code_of e (texts_within position.around.now) (routines_within position.around.now)
-        (words_of position.words.now) position.word position.slot
+    (words_of position.words.now) position.word position.slot
 
 -- the position of a right operand after a left one, which is kept if it is not a simple operand
 abbrev pub behind_kept : EmitPosition → Option SimpleOperand → List Insn → EmitPosition

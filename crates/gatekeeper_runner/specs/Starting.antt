@@ -49,8 +49,13 @@ pub data GatekeeperStarts (known : Option FileSystem) (order : GatekeeperOrder) 
       → GatekeeperStarts known order (Err (file_refusal e))
   ready : {policies : List PolicyFile} {namespace params : Option (List ℕ)} → Opens known order.policies policies
       → IsReadingGiven known order.namespace (Ok namespace) → IsReadingGiven known order.params (Ok params)
-      → GatekeeperStarts known order (Ok (record { policies = policies; namespace = namespace; params = params;
-        steps = order.steps; max_line = order.max_line }))
+      → GatekeeperStarts known order (Ok (record {
+        policies = policies;
+        namespace = namespace;
+        params = params;
+        steps = order.steps;
+        max_line = order.max_line;
+      }))
 
 -- ---- parts
 

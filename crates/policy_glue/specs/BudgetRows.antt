@@ -17,7 +17,7 @@ few_replicas = policy_of_validations (bare at_most_three ∷ [])
 abbrev pub with_messages : PolicyTree
 with_messages =
     policy_of_validations (record { expression = yes; message = Some (str "a") }
-        ∷ record { expression = no; message = Some (str "b") } ∷ [])
+    ∷ record { expression = no; message = Some (str "b") } ∷ [])
 
 pub record BudgetRowsStand : Type 0 where
   -- the policy, the validation, an operator, two selections, a name and a literal

@@ -25,7 +25,7 @@ pub record NamingRowsStand : Type 0 where
   -- {'a': [namespaceObject.name]}
   pub within :
       with_second (map (more_entries (literal (text (codes "a"))) (list
-          (more_trees (select root (codes "name")) no_trees)) no_entries)) ≡ true
+      (more_trees (select root (codes "name")) no_trees)) no_entries)) ≡ true
   -- [].all(namespaceObject, true)
   pub bound : with_second (method (list no_trees) (codes "all") (more_trees root (more_trees (literal (truth true)) no_trees))) ≡ true
   -- object.namespaceObject

@@ -31,4 +31,4 @@ pub record HasOtherType (types : List CelType) (scope : List Declaration) (text 
 abbrev pub HasNoOtherType : Type 0
 HasNoOtherType =
     (types : List CelType) (scope : List Declaration) (text : List ℕ) (a : Tree) → IsOneOf types scope text a
-        → HasOtherType types scope text → ⊥
+    → HasOtherType types scope text → ⊥

@@ -118,7 +118,7 @@ plain = denied_as (codes "{\"code\":422,\"message\":\"failed expression: object.
 abbrev pub two_denials : List Validation
 two_denials =
     record { expression = codes "false"; message = codes "a"; reason = Forbidden; message_expression = None }
-        ∷ plain_validation (codes "1/0 == 1") ∷ []
+    ∷ plain_validation (codes "1/0 == 1") ∷ []
 
 abbrev pub two_findings : Verdict
 two_findings =
