@@ -11,7 +11,8 @@ use Rattle.admission.specs.declared.run_error.RunError.{RunError}
 use Rattle.admission.specs.declared.run_error.RunError.TheVariants.{PolicyRefused, ReviewRefused, NamespaceOrParamsRefused, OutOfSteps, OverLimit, Memory}
 -- documents that may be absent, reviews with their parts, the roots, and the uid
 pub use Rattle.value_store.specs.Documents.{document_given, is_text, text_or_empty}
-pub use Rattle.value_store.specs.Reviews.{is_review, members_in, request_of, without, member_or_null, ReviewRoots, null_parts, parts_in, parts_given, roots_from}
+pub use Rattle.value_store.specs.Reviews.{is_review, members_in, request_of, without, member_or_null}
+pub use Rattle.value_store.specs.Reviews.{ReviewRoots, null_parts, parts_in, parts_given, roots_from}
 unfoldable pub use Rattle.value_store.specs.Reviews.{parts_of, uid_in}
 
 -- ---- roots

@@ -119,7 +119,8 @@ pub record FormRowsStand : Type 0 where
         validations = plain_validation (codes "d") ∷ [];
       })
   pub condition_without_name :
-      said (codes "{\"matchConditions\":[{\"name\":\"\",\"expression\":\"c\"}],\"validations\":[{\"expression\":\"d\"}]}") ≡ Err InvalidField
+      said (codes "{\"matchConditions\":[{\"name\":\"\",\"expression\":\"c\"}],\"validations\":[{\"expression\":\"d\"}]}")
+      ≡ Err InvalidField
   pub constraints_are_null : said (codes "{\"matchConstraints\":null,\"validations\":[{\"expression\":\"d\"}]}") ≡ Err InvalidField
   pub kind_is_text : said (codes "{\"paramKind\":\"a\",\"validations\":[{\"expression\":\"d\"}]}") ≡ Err InvalidField
   pub other_version : policy_of (json.object (json.member (codes "kind") (json.string (codes "ValidatingAdmissionPolicy")) json.no_members))
