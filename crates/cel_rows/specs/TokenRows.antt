@@ -54,7 +54,7 @@ pub record OpeningRowsStand : Type 0 where
   pub raw_backslash : piece true (codes "\\n") ≡ Some (1, 92 ∷ [])
   pub line_feed : piece true (codes "\n") ≡ None
 
--- escapes with more digits behind them (ESCAPE)
+-- escapes that more digits follow (ESCAPE)
 pub record TextEscapeRowsStand : Type 0 where
   pub hex_of_two_digits : escape (codes "x413") ≡ Some (0x41, 3)
   pub octal_of_three_digits : escape (codes "1012") ≡ Some (0x41, 3)

@@ -11,7 +11,7 @@ use value_store::ValueStore;
 /// The number of places.
 const COUNT: usize = 32_768;
 
-/// The number of places at which a text may stand: its own, and those after it.
+/// The number of places where a text may be kept: its own, and those after it.
 const TRIED: usize = 256;
 
 /// What the searches of a text count for when they are enough.

@@ -1,5 +1,5 @@
 -- Lines of sources and their items, by hand: a label is a letter or an underscore followed by letters, underscores and
--- digits, with a colon behind it.
+-- digits, with a colon after it.
 use Rattle.std.specs.Prelude.{◌≡◌, pos, [], ◌∷◌, codes}
 use Rattle.insn_codec.specs.declared.alu_op.AluOp.TheVariants.{Mov}
 use Rattle.insn_codec.specs.declared.insn.Insn.TheVariants.{Alu, Exit, LoadWide}

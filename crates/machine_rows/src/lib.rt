@@ -1,5 +1,5 @@
-//! Literal rows over the definitions of the machine's crates. They stand apart from the crates whose definitions they
-//! pin, so that a further row proves no crate above these again.
+//! Literal rows over the definitions of the machine's crates. They are in a crate of their own, so that no other crate
+//! is proved again when a row is added.
 #![tactic(auto)]
 
 mod rows;

@@ -11,7 +11,7 @@ use Rattle.policy_glue.specs.Response.{review_tree}
 use Rattle.policy_glue.specs.ResponseTokens.{allowed_tokens, denied_tokens, rejection_tokens, review_tokens, start_text}
 use Rattle.policy_glue.specs.Policy.{reason_code, reason_name}
 
--- a text that is written behind others
+-- a text that is written after others
 pub text_added : {E : Type 0} (old new : Written) (bytes s : List ℕ)
     → old.before ≡ bytes → old.tokens ≡ [] → Writes {E = E} (Ok tt) old new (string s) → new.before ++ print new.tokens ≡ bytes ++ quoted s
 unfolding print_from
@@ -19,7 +19,7 @@ text_added old new bytes s b t w =
     (λ i. (w.room.0 ∙ b) i ++ print ((w.ok ∙ ap (λ ts. ts ++ string s ∷ []) t) i))
     ∙ ap (λ (xs : List ℕ). bytes ++ xs) (append-nil (quoted s))
 
--- a number that is written behind others
+-- a number that is written after others
 pub number_added : {E : Type 0} (old new : Written) (bytes digits : List ℕ)
     → old.before ≡ bytes → old.tokens ≡ [] → Writes {E = E} (Ok tt) old new (number digits)
     → new.before ++ print new.tokens ≡ bytes ++ digits

@@ -15,7 +15,7 @@ pub record ReadMembers : Type 0 where
 abbrev pub str_cmp : Bor (List ℕ) → Bor (List ℕ) → Ordering
 str_cmp x y = slice_cmp nat_cmp x.now y.now
 
--- how a key stands to another
+-- the order of a key and another
 abbrev pub key_at : List ℕ → Bor (List ℕ) → Ordering
 key_at key k = slice_cmp nat_cmp key k.now
 
@@ -27,7 +27,7 @@ AboveFirst compare es zero = Unit {0}
 AboveFirst compare [] (suc i) = ⊥
 AboveFirst compare (e ∷ es) (suc i) = (compare e.0 ≡ Greater) × AboveFirst compare es i
 
--- how the key stands to the one at a place, if there is one
+-- the order of the key and the one at a place, if there is one
 abbrev pub AnswersAt : (Bor (List ℕ) → Ordering) → List PlacedEntry → ℕ → Ordering → Type 0
 AnswersAt compare [] i r = Unit {0}
 AnswersAt compare (e ∷ es) zero r = compare e.0 ≡ r

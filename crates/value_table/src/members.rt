@@ -123,7 +123,7 @@ fn place(entries: &[(&str, Option<Placed>)], key: &str) -> Result<usize, usize>
     Err(0)
 }
 
-// How a key stands to another. The first bytes of most keys differ.
+// The order of two keys. The first bytes of most keys differ.
 fn key_order(key: &str, other: &str) -> Ordering
     ensures { result ≡ slice_cmp nat_cmp key.now other.now }
 {
