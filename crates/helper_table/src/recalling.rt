@@ -1,5 +1,5 @@
-//! Calls that reuse a kept answer. Steps and charge do not count the bytes of a text, so a loop that
-//! reads the same long texts in each turn must not scan them each time.
+//! Calls that reuse a kept answer. Steps and charge do not count the bytes of a text or the items of a
+//! list, so a loop that reads the same long texts or lists in each turn must not scan them each time.
 
 ghost use Rattle.std.specs.Prelude.{◌≡◌, ℕ, true, Some, IfSome, IsSome, slice_get};
 ghost use Rattle.helper_table.specs.Answers.{reads_texts, second_operand, AreAnswers, IsQuestionOf, IsAnswer, IsKeptAnswer, IsLasting};
@@ -22,10 +22,14 @@ use crate::placement::Placement;
 use crate::question::Question;
 use crate::searches::Searches;
 use guest_memory::{Fault, Regions};
-use value_store::ValueStore;
+use value_store::{Shape, ValueStore};
 
 /// The least number of bytes of a long text.
 const LONG: usize = 512;
+
+/// The least number of items of a long list. A search in a shorter one takes about as long as a look
+/// for its kept answer.
+const MANY: u64 = 64;
 
 /// Whether the answers of a helper are kept.
 fn reads_texts(helper: Helper) -> bool
@@ -61,8 +65,22 @@ fn is_long<V: ValueStore>(table: &V, h: u64) -> bool {
     }
 }
 
-/// Whether a helper reads a long text of these operands. A comparison of two texts reads at most the
-/// length of the shorter one. The store itself remembers how lists and maps compare.
+/// Whether a value is a list or a map.
+fn is_compound(value: Option<Shape<'_>>) -> bool {
+    matches!(value, Some(Shape::List(_)) | Some(Shape::Map(_)))
+}
+
+/// Whether a list or a map is sought in a long list.
+fn is_long_search<V: ValueStore>(table: &V, sought: u64, list: u64) -> bool {
+    match table.at(list) {
+        Some(Shape::List(count)) => count >= MANY && is_compound(table.at(sought)),
+        _ => false,
+    }
+}
+
+/// Whether a helper reads a long text of these operands, or compares one value with many. A comparison
+/// of two texts reads at most the length of the shorter one. The store itself remembers how two lists
+/// or maps compare.
 fn reads_long<V: ValueStore>(
     table: &V,
     searches: &mut Searches,
@@ -75,12 +93,13 @@ fn reads_long<V: ValueStore>(
 {
     match helper {
         Helper::Contains => searches.is_long(table, a),
-        Helper::Size | Helper::Equal | Helper::Member => is_long(table, a),
+        Helper::Member => is_long(table, a) || is_long_search(table, a, b),
+        Helper::Size | Helper::Equal => is_long(table, a),
         _ => is_long(table, b),
     }
 }
 
-/// The question of a call, if it reads a long text.
+/// The question of a call, if it reads a long text or searches a long list.
 fn question<V: ValueStore>(
     helper: Helper,
     args: [u64; 5],
