@@ -1,4 +1,4 @@
--- How the answers go on.
+-- How the answers continue.
 use Rattle.line_answers.proofs.Prelude.{◌≡◌, ℕ, ◌<◌, ◌≤◌, true, false, List, [], ◌∷◌, ◌++◌, length, length-drop, take, drop, Option, Some, refl, sym, ap, subst, ◌∙◌, inl, inr, arith, append_assoc, append-nil, true≢false, Result, Ok, Err, ◌⊎◌, take-append-drop, AddsBytes, cut, input_lines, readable, with_rest, SessionError, ReadFailed, WriteFailed, Pieces, cut-none, cut-line, cut-part, input_lines-ended, readable-all, HasNoFeed, HeardByResult, AnswersInputLine, LineTexts, no_memory, passed_over, too_long, decided, is_blank, IsKeptOfLine, KeepsLine, Answered, AnsweredPart, AnswersEach, AnswersByResult, AnswersSoFar, AnswersToEnd, AnswersCut, AnswersEnd, AnswersBreak, AnsweredPartOfLines, AnsweredAllLines, AnsweredSomeLines, JoinedTexts}
 use Rattle.streams.specs.declared.session_error.SessionError.TheVariants.{Memory as SessionMemory}
 use Rattle.line_answers.specs.declared.line.Line.{Line}
@@ -18,7 +18,7 @@ PassesNone texts = (text : List ℕ) → texts [] text → text ≡ []
 pub passes_none : (most : ℕ) (long : List ℕ) (decides : LineTexts) → PassesNone (AnswersInputLine most long decides)
 passes_none most long decides text answers = no_answer most long decides [] text refl answers
 
--- the answers to ended lines and to the rest behind them
+-- the answers to ended lines and to the rest after them
 with_last : (texts : LineTexts) (none : PassesNone texts) (lines : List (List ℕ)) (rest text answer : List ℕ) → AnswersEach texts lines text → texts rest answer
     → AnswersEach texts (with_rest lines rest) (text ++ answer)
 with_last texts none lines [] text answer each last = rw (none answer last, append-nil text) each
@@ -41,7 +41,7 @@ module _ (each : JoinedTexts) where
     pub going_part : (part : List ℕ) → HasNoFeed part → AnswersSoFar each before (heard ++ part) written
     going_part part plain = record { text = g.text; lines = rw (cut-part heard part plain) g.lines; written_is = g.written_is }
 
-    -- the end, where the rest behind the last line feed is answered
+    -- the end, when the rest after the last line feed is answered
     pub ends : (next : JoinedTexts) (text : List ℕ) (new : Option (List ℕ)) → AddsBytes written new text → next (input_lines heard) (g.text ++ text)
         → AnswersToEnd next before heard new
     ends next text new adds lines = record { text = g.text ++ text; lines = lines; written_is = written-more text new adds }
@@ -87,7 +87,7 @@ module _ (each : JoinedTexts) where
       pub end_part : PassesNone texts → (new : Option (List ℕ)) → AnsweredPart texts (cut heard).1 written new → AnswersCut texts each before heard new
       end_part none new a = part_told (cut heard).1 heard new a (is_line texts none (cut heard).0 (cut heard).1 a.text a.many a.answers a.is_cut)
 
--- the same for the joined answers alone
+-- likewise for the joined answers alone
 module _ (texts : LineTexts) where
   pub going_start : (before : List ℕ) (written : Option (List ℕ)) → written ≡ Some before → AnswersSoFar (AnswersEach texts) before [] written
   going_start before written w = starts (AnswersEach texts) told.none before written w
@@ -164,7 +164,7 @@ module _ (texts : LineTexts) (each : JoinedTexts) (input before : List ℕ) (lef
       (subst (λ (bytes : List ℕ). AnswersCut texts each before bytes written) (sym (readable-all input)) a) (inr refl)
 
 module _ (texts : LineTexts) (input before : List ℕ) (left written : Option (List ℕ)) where
-  -- what a listener's state says of the bytes that were heard
+  -- what a listener's state implies about the bytes that were heard
   pub heard_told : (same : Type 0) (keeps : List ℕ → Type 0) (result : Result (Unit {0}) SessionError)
       → HeardByResult (λ heard new. same × AnswersSoFar (AnswersEach texts) before heard new × keeps heard)
       (λ last heard new. AnswersEnd last (AnswersEach texts) before heard new) (λ last heard new. AnswersBreak last texts (AnswersEach texts) before heard new) input left written result

@@ -1,4 +1,4 @@
--- A line has one answer where what decides it has one text.
+-- A line has one answer if what decides it has one text.
 use Rattle.line_answers.proofs.Prelude.{◌≡◌, ◌≢◌, ℕ, List, ap, arith, refl, sym, ◌∙◌, true≢false, AnswersInputLine, LineTexts, line_of, decided, no_memory, no_memory_text, passed_over, too_long}
 
 module _ (most : ℕ) (long : List ℕ) (decides : LineTexts) (line : List ℕ) where

@@ -90,7 +90,7 @@ pub written_part : (texts : LineTexts) (line text : List ℕ) (old new : Option 
 written_part texts line text old new answers part =
     record { text = text; answers = answers; many = part.0; is_cut = part.1; written = part.2 }
 
--- the first bytes of one text behind another
+-- the first bytes of two joined texts
 front_more : (n : ℕ) (xs ys : List ℕ) → length xs ≤ n → take n (xs ++ ys) ≡ xs ++ take (n - length xs) ys
 front_more n xs ys short =
     let whole : length xs + (n - length xs) ≡ n = omega (arith, short) in

@@ -1,4 +1,4 @@
--- How the telling of refused lines goes on.
+-- How the reports on refused lines continue.
 use Rattle.line_answers.proofs.Prelude.{◌≡◌, ℕ, suc, ◌+◌, ◌<◌, ◌≤◌, ◌^◌, Bool, true, false, List, [], ◌∷◌, ◌++◌, length, length-append, length-take, take, Option, Some, refl, sym, ap, subst, ◌∙◌, inl, inr, arith, append_assoc, append-nil, Result, Ok, Err, ◌⊎◌, AddsBytes, Stream, WritesBytes, WritesPart, cut, input_lines, readable, with_rest, one_more, SessionError, ReadFailed, WriteFailed, cut-none, cut-line, cut-part, take-append-le, HasNoFeed, HeardByResult, AnswersInputLine, LineTexts, AnsweredPart, AnswersByResult, JoinedTexts, TakesOf, TellsBreak, TellsEach, TellsEnd, TellsSoFar, told_of, true≢false}
 use Rattle.std.proofs.Common.{codes, decimal, if◌then◌else◌, suc-add, zero-add}
 use Rattle.line_answers.specs.Telling.{is_refusal}
@@ -8,11 +8,11 @@ use Rattle.line_answers.specs.Telling as telling
 
 -- ---- bytes that a stream takes
 
--- a text, and another behind it
+-- one text, and another after it
 pub adds_both : (old known new : Option (List ℕ)) (xs ys : List ℕ) → AddsBytes old known xs → AddsBytes known new ys → AddsBytes old new (xs ++ ys)
 adds_both old known new xs ys first second before is = second (before ++ xs) (first before is) ∙ ap Some (append_assoc before xs ys)
 
--- a beginning of a text, by which a stream was left
+-- a stream took a beginning of a text
 abbrev pub AddsPart : Option (List ℕ) → Option (List ℕ) → List ℕ → Type 0
 AddsPart old new text = (n : ℕ) × (n < length text) × AddsBytes old new (take n text)
 
@@ -34,7 +34,7 @@ part_behind old known new xs ys first p = (
   subst (AddsBytes old new) (sym (take-both p.0 xs ys)) (adds_both old known new xs (take p.0 ys) first p.2),
 )
 
--- ---- what is told
+-- ---- what is reported
 
 pub told_both : (start old new : Stream) (xs ys : List ℕ) → WritesBytes start old xs → AddsBytes old.bytes new.bytes ys → new.failed ≡ old.failed
     → WritesBytes start new (xs ++ ys)
@@ -55,7 +55,7 @@ told_no_more start now xs ys w =
 pub told_nothing : (failed : Bool) (start now : Stream) (xs ys : List ℕ) → ys ≡ [] → TakesOf failed start now xs → TakesOf failed start now (xs ++ ys)
 told_nothing failed start now xs ys none takes = subst (TakesOf failed start now) (sym (ap (λ (zs : List ℕ). xs ++ zs) none ∙ append-nil xs)) takes
 
--- the line that tells of a refused line
+-- the report on a refused line
 abbrev report : ℕ → List ℕ → List ℕ
 report number answer = codes "celbpf: line " ++ (decimal number ++ (codes ": " ++ answer))
 
@@ -87,13 +87,13 @@ either_of true start now text w = inr w
 
 -- ---- lines
 
--- the answers to ended lines and to the rest behind them, and what is told of them
+-- the answers to ended lines and to the rest after them, and the reports on them
 tells_last : (texts : LineTexts) (none : PassesNone texts) (lines : List (List ℕ)) (rest text said answer : List ℕ) → TellsEach texts lines text said → texts rest answer
     → TellsEach texts (with_rest lines rest) (text ++ answer) (said ++ told_of (suc (length lines)) answer)
 tells_last texts none lines [] text said answer each last = rw (none answer last, append-nil text, append-nil said) each
 tells_last texts none lines (b ∷ bs) text said answer each last = telling.more each last
 
--- the relation for what is told
+-- the relation for the reports
 abbrev pub telling_of : LineTexts → List ℕ → JoinedTexts
 telling_of texts said lines answers = TellsEach texts lines answers said
 
@@ -118,7 +118,7 @@ module _ (texts : LineTexts) (count : ℕ) (failed : Bool) (e e_now : Stream) (b
   }
 
   module _ (rest : List ℕ) (plain : HasNoFeed rest) (new : Option (List ℕ)) where
-    -- a line that is answered, and told
+    -- a line that is answered and reported
     pub tells_line : (answer : List ℕ) (next : ℕ) (broken : Bool) (e_new : Stream) → texts ((cut heard).1 ++ rest) answer → AddsBytes written new answer
         → next ≡ suc count → TakesOf broken e e_new (t.text ++ told_of (suc count) answer)
         → TellsSoFar texts next broken e e_new before (heard ++ (rest ++ 10 ∷ [])) new
@@ -184,7 +184,7 @@ taken-fits read input inside = omega (arith, inside, readable-fits input, length
 
 module _ (texts : LineTexts) (count : ℕ) (failed : Bool) (e e_now : Stream) (input before : List ℕ) (left written : Option (List ℕ)) (same named : Type 0)
     (keeps : List ℕ → Type 0) where
-  -- what was read, written and told once the input was heard
+  -- what was read, written and reported once the input was heard
   pub tells_told : (result : Result (Unit {0}) SessionError)
       → HeardByResult (λ heard new. same × named × keeps heard × (length heard ≤ 2 ^ 63 → TellsSoFar texts count failed e e_now before heard new))
       (λ last heard new. named × (length heard ≤ 2 ^ 63 → TellsEnd last texts e e_now before heard new))
@@ -206,7 +206,7 @@ module _ (texts : LineTexts) (count : ℕ) (failed : Bool) (e e_now : Stream) (i
       (r.of_bytes.0, t.0, end_cut_told texts (telling_of texts t.0) input before left written r.left_is t.1, t.2)
   tells_told (Err SessionMemory) none = absurd none
 
--- the same for the rules and the stream that the listener was made of
+-- likewise for the rules and the stream from which the listener was made
 pub tells_all : (most due : ℕ) (long : List ℕ) (decides : LineTexts) (count : ℕ) (failed : Bool) (e first e_now : Stream) (input before : List ℕ)
     (left written : Option (List ℕ)) (same named : Type 0) (keeps : List ℕ → Type 0) → most ≡ due → e ≡ first → (result : Result (Unit {0}) SessionError)
     → HeardByResult (λ heard new. same × named × keeps heard × (length heard ≤ 2 ^ 63 → TellsSoFar (AnswersInputLine most long decides) count failed e e_now before heard new))

@@ -1,4 +1,4 @@
--- What is read and written where lines are answered. Each definition takes `texts`, what may be written for a line.
+-- What is read and written when lines are answered. Each definition takes `texts`, what may be written for a line.
 use Rattle.std.specs.Prelude.{◌≡◌, ℕ, ◌<◌, ◌≤◌, ◌⊎◌, Bool, true, false, List, [], ◌∷◌, ◌++◌, length, take, drop, Option, Some, Result, Ok, Err}
 use Rattle.streams.specs.Lines.{cut, input_lines, readable}
 use Rattle.streams.specs.Streams.{AddsBytes, Stream}
@@ -34,7 +34,7 @@ pub record AnsweredSomeLines (each : JoinedTexts) (input before : List ℕ) (lef
   pub some_lines : each (cut (take read input)).0 text
   pub some_written : written ≡ Some (before ++ text)
 
--- so many bytes were read, up to a line's end: the answers to the lines before it were written whole, and its own but
+-- `read` bytes were read, up to a line's end: the answers to the lines before it were written whole, and its own except
 -- for a rest
 pub record AnsweredPartOfLines (texts : LineTexts) (each : JoinedTexts) (input before : List ℕ)
     (left written : Option (List ℕ)) : Type 0 where
@@ -70,7 +70,7 @@ pub record AnswersInput (texts : LineTexts) (r r_after w w_after : Stream)
 
 -- ---- parts
 
--- so it is with the line of which this is kept, and the most bytes of it that are read
+-- the property holds for the line of which this is kept, and for the most bytes of it that are read
 abbrev pub OfLine : Line → (ℕ → List ℕ → Type 0) → Type 0
 OfLine line Q = (most : ℕ) (bytes : List ℕ) → KeepsLine most line bytes → Q most bytes
 
@@ -80,7 +80,7 @@ pub record Answered (texts : LineTexts) (line : List ℕ) (old new : Option (Lis
   pub answers : texts line text
   pub written : AddsBytes old new text
 
--- the answer to a line was written but for a rest
+-- the answer to a line was written except for a rest
 pub record AnsweredPart (texts : LineTexts) (line : List ℕ) (old new : Option (List ℕ)) : Type 0 where
   pub text : List ℕ
   pub answers : texts line text
@@ -100,7 +100,7 @@ pub record AnswersToEnd (each : JoinedTexts) (before heard : List ℕ) (written 
   pub lines : each (input_lines heard) text
   pub written_is : written ≡ Some (before ++ text)
 
--- the answers to all lines of the bytes that were heard but the last were written whole, and its own but for a rest
+-- the answers to all lines of the bytes that were heard but the last were written whole, and the last except for a rest
 pub record AnswersCut (texts : LineTexts) (each : JoinedTexts) (before heard : List ℕ) (written : Option (List ℕ)) : Type 0 where
   pub lines : List (List ℕ)
   pub last : List ℕ

@@ -13,7 +13,7 @@ LineTexts = List ℕ → List ℕ → Type 0
 abbrev pub is_blank_byte : ℕ → Bool
 is_blank_byte b = nat_eq b 32 || (nat_eq b 9 || nat_eq b 13)
 
--- no other byte, or none at all
+-- every byte is blank; so is a line without bytes
 abbrev pub is_blank : List ℕ → Bool
 is_blank line = list_all is_blank_byte line
 
@@ -25,20 +25,20 @@ line_of text = text ++ 10 ∷ []
 abbrev pub no_memory_text : List ℕ
 no_memory_text = codes "{\"refused\":\"memory\"}\n"
 
--- a line, and what is written for it, which depends on no other line: by the most bytes that are read of one, the text
--- for a longer one, and the texts for a line that is decided
+-- a line, and what is written for it, which depends on no other line: by the most bytes of a line that are read, the
+-- text for a longer one, and the texts for a line that is decided
 pub data AnswersInputLine (most : ℕ) (too_long_text : List ℕ) (decides : LineTexts) (line : List ℕ) : List ℕ → Type 0 where
   -- a line of more bytes is refused unread
   too_long : most < length line → AnswersInputLine most too_long_text decides line (line_of too_long_text)
   passed_over : length line ≤ most → is_blank line ≡ true → AnswersInputLine most too_long_text decides line []
   decided : {text : List ℕ} → length line ≤ most → is_blank line ≡ false → decides line text
       → AnswersInputLine most too_long_text decides line (line_of text)
-  -- an allocation fails, which says nothing of the line
+  -- an allocation fails, which implies nothing about the line
   no_memory : 0 < length line → AnswersInputLine most too_long_text decides line no_memory_text
 
 -- ---- the line that is read
 
--- what is kept of a line: its bytes up to one more than the most, or that there was no memory for them
+-- what is kept of a line: at most its first `most` + 1 bytes, or nothing if an allocation for them failed
 abbrev pub IsKeptOfLine : Bool → ℕ → List ℕ → List ℕ → Type 0
 IsKeptOfLine true most kept line = 0 < length line
 IsKeptOfLine false most kept line = kept ≡ take (suc most) line

@@ -1,9 +1,9 @@
--- What is told of lines, worked by hand.
+-- Reports on lines, worked by hand.
 use Rattle.std.specs.Prelude.{◌≡◌, [], ◌∷◌, codes}
 use Rattle.line_answers.specs.Lines.{LineTexts, no_memory_text}
 use Rattle.line_answers.specs.Telling.{TellsEach, told_of}
 
--- an answer that refuses is told with the number, any other is not
+-- an answer that refuses is reported with its number, any other is not
 pub record ToldRowsStand : Type 0 where
   pub refused : told_of 3 (codes "{\"refused\":\"N2\",\"uid\":\"u\"}\n") ≡ codes "celbpf: line 3: {\"refused\":\"N2\",\"uid\":\"u\"}\n"
   pub by_a_policy : told_of 12 (codes "{\"policy\":\"p\",\"refused\":\"C7\",\"uid\":\"u\"}\n")
@@ -13,12 +13,12 @@ pub record ToldRowsStand : Type 0 where
   pub passed_over : told_of 1 [] ≡ []
   pub refused_within : told_of 1 (codes " {\"refused\":\"N2\"}\n") ≡ []
 
--- the texts of the rows below: a refusal for each line but the empty one
+-- the texts of the rows below: a refusal for each line except the empty one
 abbrev pub row_texts : LineTexts
 row_texts [] text = text ≡ []
 row_texts (b ∷ bs) text = text ≡ codes "{\"refused\":\"N2\"}\n"
 
--- an empty line counts, and nothing is told of it
+-- an empty line counts, and is not reported
 pub record TellsRowsStand : Type 0 where
   pub first : TellsEach row_texts (codes "a" ∷ []) (codes "{\"refused\":\"N2\"}\n") (codes "celbpf: line 1: {\"refused\":\"N2\"}\n")
   pub second : TellsEach row_texts ([] ∷ codes "a" ∷ []) (codes "{\"refused\":\"N2\"}\n") (codes "celbpf: line 2: {\"refused\":\"N2\"}\n")

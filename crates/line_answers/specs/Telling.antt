@@ -1,4 +1,4 @@
--- What is told of lines that are refused, on a stream of their own.
+-- Reports on refused lines, on a stream of their own.
 use Rattle.std.specs.Prelude.{◌≡◌, ℕ, ◌≤◌, ◌⊎◌, Bool, true, false, nat_eq, List, [], ◌∷◌, ◌++◌, ◌||◌, codes, decimal, length, suc, Option, Some}
 use Rattle.std.specs.Prelude.{Result, Ok, Err, Vec, if◌then◌else◌}
 use Rattle.std.specs.declared.alloc.AllocError.{AllocError}
@@ -16,20 +16,20 @@ use Rattle.line_answers.specs.Lines.{LineTexts, no_memory_text}
 abbrev pub is_refusal : List ℕ → Bool
 is_refusal answer = starts_with nat_eq answer (codes "{\"refused\":\"") || starts_with nat_eq answer (codes "{\"policy\":\"")
 
--- what is told of a line, by its number, counted from 1, and its answer: a line with both if it is refused, else nothing
+-- the report on a line, by its number, counted from 1, and its answer: a line with both if it is refused, else nothing
 abbrev pub told_of : ℕ → List ℕ → List ℕ
 told_of number answer =
     if is_refusal answer then codes "celbpf: line " ++ (decimal number ++ (codes ": " ++ answer)) else []
 
--- the joined answers to lines, and what is told of these lines
+-- the joined answers to lines, and the reports on these lines
 pub data TellsEach (texts : LineTexts) : List (List ℕ) → List ℕ → List ℕ → Type 0 where
   none : TellsEach texts [] [] []
   more : {lines : List (List ℕ)} {text told : List ℕ} {line answer : List ℕ} → TellsEach texts lines text told
       → texts line answer
       → TellsEach texts (lines ++ line ∷ []) (text ++ answer) (told ++ told_of (suc (length lines)) answer)
 
--- what answering does to a reader, a writer and the stream that refused lines are told on: it took what is told of the
--- lines whose answers were written whole, or a beginning of that if a write to it failed
+-- what answering does to a reader, a writer and the stream of the reports: that took the reports on the lines whose
+-- answers were written whole, or a beginning of them if a write to it failed
 pub record TellsInput (texts : LineTexts) (r r_after w w_after e e_after : Stream)
     (result : Result (Unit {0}) SessionError) : Type 0 where
   pub told : (input before : List ℕ) → r.bytes ≡ Some input → w.bytes ≡ Some before
@@ -40,7 +40,7 @@ pub record TellsInput (texts : LineTexts) (r r_after w w_after e e_after : Strea
 
 -- ---- parts
 
--- the text of an answer, or that an allocation failed for it
+-- the text of an answer, or of a failed allocation for it
 abbrev pub answer_bytes : Result (Vec ℕ Global) AllocError → List ℕ
 answer_bytes (Ok text) = text.items
 answer_bytes (Err e) = no_memory_text
@@ -50,7 +50,7 @@ abbrev pub TakesOf : Bool → Stream → Stream → List ℕ → Type 0
 TakesOf false old new bytes = WritesBytes old new bytes
 TakesOf true old new bytes = WritesPart old new bytes
 
--- the lines that ended among the bytes that were heard were answered and told, and counted
+-- the lines that ended among the bytes that were heard were answered, reported and counted
 pub record TellsSoFar (texts : LineTexts) (count : ℕ) (failed : Bool) (e e_now : Stream) (before heard : List ℕ)
     (written : Option (List ℕ)) : Type 0 where
   pub text : List ℕ
@@ -59,7 +59,7 @@ pub record TellsSoFar (texts : LineTexts) (count : ℕ) (failed : Bool) (e e_now
   pub few : count ≤ length heard
   pub tells : TakesOf failed e e_now text
 
--- how telling ends: never at a line
+-- how reporting ends: never at a line
 abbrev pub TellsEnd : Bool → LineTexts → Stream → Stream → List ℕ → List ℕ → Option (List ℕ) → Type 0
 TellsEnd last texts e e_now before heard written =
     (text : List ℕ) × AnswersEnd last (λ lines answers. TellsEach texts lines answers text) before heard written

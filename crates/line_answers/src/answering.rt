@@ -1,4 +1,4 @@
-//! Line after line.
+//! Answers one line after another.
 ghost use Rattle.std.specs.Prelude.{◌≡◌, ◌<◌, ◌≤◌, false, length, IfOk, OnErr, OnOk};
 ghost use Rattle.streams.specs.Streams.{one_more, stream};
 ghost use Rattle.line_answers.specs.Lines.{is_blank, line_of, AnswersInputLine};
@@ -9,15 +9,15 @@ use crate::line::Line;
 use std::alloc::{AllocError, Global};
 use streams::{Failed, LineSource, Listener, SessionError, Sink, write_all};
 
-/// What is written if an allocation fails for a line's answer.
+/// What is written if an allocation for a line's answer fails.
 pub const NO_MEMORY: &[u8] = b"{\"refused\":\"memory\"}\n";
 
-/// Answers each line before the next is read, until the input's end. A line of more than `max_line`
-/// bytes is refused. Of an input only the first 2^63 bytes are read.
+/// Answers each line before the next is read, until the end of the input. A line of more than
+/// `max_line` bytes is refused. At most the first 2^63 bytes of an input are read.
 ///
 /// # Errors
 ///
-/// `ReadFailed` if a read failed and `WriteFailed` if a write failed or took no byte, which end it.
+/// `ReadFailed` if a read failed, `WriteFailed` if a write failed or took no byte. Either ends it.
 pub fn answer_lines<D: Decider, R: LineSource, W: Sink>(
     alloc: Global,
     decider: &D,
@@ -143,7 +143,7 @@ pub fn answer_of<D: Decider>(
     with_line_feed(decider.answer(line)?)
 }
 
-/// Whether no byte is other than a space, a tab or a carriage return.
+/// Whether every byte is a space, a tab or a carriage return.
 fn is_blank(line: &[u8]) -> bool
     ensures { result ≡ is_blank line.now }
 {

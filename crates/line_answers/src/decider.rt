@@ -15,7 +15,7 @@ pub trait Decider {
     ///
     /// # Errors
     ///
-    /// An allocation failed, which says nothing of the line.
+    /// An allocation failed, which implies nothing about the line.
     fn answer(&self, line: &[u8]) -> Result<Vec<u8>, AllocError>
         ensures { IfOk result (λ text. decides self.now line.now text.items) };
 

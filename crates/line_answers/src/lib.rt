@@ -1,5 +1,5 @@
-//! The lines of an input, each answered before the next is read, and by itself. What decides a line
-//! is a `Decider`; `answer_lines` is the loop, and `answer_and_tell` the one that tells of refused lines.
+//! Answers the lines of an input, each by itself and before the next is read. A `Decider` decides a
+//! line. `answer_lines` is the loop; `answer_and_tell` is the loop that also reports refused lines.
 #![tactic(auto)]
 
 mod answering;

@@ -54,7 +54,7 @@ impl Line {
         self.lacks = false;
     }
 
-    /// Whether no byte was read.
+    /// Whether the line has no byte yet.
     pub fn is_empty(&self) -> bool
         ensures empty { (most : ℕ) (line : List ℕ) → KeepsLine most self.now line → result ≡ true → line ≡ [] }
         ensures some { (most : ℕ) (line : List ℕ) → KeepsLine most self.now line → result ≡ false → 0 < length line }
@@ -70,7 +70,7 @@ impl Line {
     }
 }
 
-/// The first bytes, at most `most` and one more.
+/// The first bytes, at most `most` + 1.
 fn front(bytes: &[u8], most: u64) -> &[u8]
     ensures { result.now ≡ take (suc most) bytes.now }
 {

@@ -1,4 +1,4 @@
-//! What the lines of an input are answered by.
+//! The rules by which the lines of an input are answered.
 
 use std::alloc::Global;
 

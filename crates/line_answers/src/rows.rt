@@ -1,12 +1,12 @@
-//! Lines with what is told of them by the definitions.
+//! Reports on lines by the definitions, worked by hand.
 ghost use Rattle.line_answers.specs.Rows.{TellsRowsStand, ToldRowsStand};
 
-/// What is told of one line.
+/// Reports on single lines.
 pub fn told_rows_stand()
     ensures { ToldRowsStand }
 {}
 
-/// What is told of several lines.
+/// Reports on several lines.
 pub fn tells_rows_stand()
     ensures { TellsRowsStand }
 {}

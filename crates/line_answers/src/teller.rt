@@ -1,4 +1,4 @@
-//! What tells of the lines that are refused.
+//! Reports the lines that are refused.
 ghost use Rattle.std.specs.Prelude.{◌≡◌, ◌≢◌, ◌+◌, ◌++◌, ◌<◌, ◌^◌, false, ℕ, List, codes, decimal, length, nat_eq, suc, take, OnErr, OnOk};
 ghost use Rattle.streams.specs.Streams.{one_more, stream, AddsBytes, Stream};
 ghost use Rattle.line_answers.specs.Telling.{is_refusal, told_of, TakesOf};
@@ -6,13 +6,13 @@ ghost use Rattle.line_answers.specs.Telling.{is_refusal, told_of, TakesOf};
 use itoa::Buffer;
 use streams::{Failed, Sink, write_all};
 
-/// Counts the lines, and tells of those that are refused.
+/// Counts the lines, and reports those that are refused.
 #[derive(Drop)]
 pub struct Teller<'e, E> {
     pub errors: &'e mut E,
     /// The number of lines that were answered.
     pub count: u64,
-    /// Whether a write to `errors` failed. Nothing more is told then.
+    /// Whether a write to `errors` failed. Nothing is reported after that.
     pub failed: bool,
 }
 
@@ -31,7 +31,7 @@ impl<'e, E: Sink> Teller<'e, E> {
         }
     }
 
-    /// Counts a line, and tells of it if the answer refuses it.
+    /// Counts a line, and reports it if the answer refuses it.
     pub fn tell(&mut self, answer: &[u8])
         ensures same_reference { self.new.errors.ghost_name ≡ self.old.errors.ghost_name }
         ensures count { suc self.old.count < 2 ^ 64 → self.new.count ≡ suc self.old.count }
@@ -64,7 +64,7 @@ fn is_refusal(answer: &[u8]) -> bool
     answer.starts_with(b"{\"refused\":\"") || answer.starts_with(b"{\"policy\":\"")
 }
 
-/// Writes the line that tells of a refused line.
+/// Writes the report on a refused line.
 fn write_refused<E: Sink>(number: u64, answer: &[u8], e: &mut E) -> Result<(), Failed>
     ensures whole { OnOk result (AddsBytes (E.taken e.old) (E.taken e.new) (codes "celbpf: line " ++ (decimal number ++ (codes ": " ++ answer.now)))) }
     ensures ok { OnOk result (E.failed e.new ≡ E.failed e.old) }

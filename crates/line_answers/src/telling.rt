@@ -1,4 +1,4 @@
-//! Line after line, where those that are refused are told of.
+//! Answers one line after another, and reports those that are refused.
 ghost use Rattle.std.specs.Prelude.{◌≡◌};
 ghost use Rattle.streams.specs.Streams.{stream};
 ghost use Rattle.line_answers.specs.Lines.{AnswersInputLine};
@@ -13,13 +13,13 @@ use crate::teller::Teller;
 use std::alloc::{AllocError, Global};
 use streams::{Failed, LineSource, Listener, SessionError, Sink, write_all};
 
-/// Answers the lines as `answer_lines` does, and tells of each line that is refused on `e`. If a
-/// write to `e` fails, nothing more is told, and the lines are answered all the same.
+/// Answers the lines as `answer_lines` does, and reports each refused line on `e`. If a write to
+/// `e` fails, nothing more is reported, and the lines are answered as before.
 ///
 /// # Errors
 ///
-/// `ReadFailed` if a read failed and `WriteFailed` if a write of an answer failed or took no byte,
-/// which end it.
+/// `ReadFailed` if a read failed and `WriteFailed` if a write of an answer failed or took no byte.
+/// Either ends it.
 pub fn answer_and_tell<D: Decider, R: LineSource, W: Sink, E: Sink>(
     rules: &LineRules<'_, D>,
     r: &mut R,
@@ -47,7 +47,7 @@ pub fn answer_and_tell<D: Decider, R: LineSource, W: Sink, E: Sink>(
         line,
         teller,
     } = answers;
-    // What owns memory goes before `e` is read: it would keep `e` borrowed.
+    // What owns memory is dropped before `e` is read: it would keep `e` borrowed.
     drop(line);
     let Teller {
         errors,
@@ -59,7 +59,7 @@ pub fn answer_and_tell<D: Decider, R: LineSource, W: Sink, E: Sink>(
     result
 }
 
-/// What answers the lines and tells of those that are refused.
+/// Answers the lines and reports those that are refused.
 #[derive(Drop)]
 pub struct TellingAnswers<'a, 'e, D, E> {
     alloc: Global,
@@ -129,7 +129,7 @@ fn answer_to_kept<D: Decider>(
     answer_to(alloc, decider, line.most, line.bytes.as_slice())
 }
 
-/// The answer to a line, which is nothing for one that is empty or blank.
+/// The answer to a line. It is empty if the line is empty or blank.
 fn answer_to<D: Decider>(
     alloc: Global,
     decider: &D,
@@ -144,7 +144,7 @@ fn answer_to<D: Decider>(
     answer_of(alloc, decider, max_line, line)
 }
 
-/// The bytes of an answer, or that memory ran out for it.
+/// The bytes of an answer, or of the text for a failed allocation.
 fn bytes_of(answer: &Result<Vec<u8>, AllocError>) -> &[u8]
     ensures { result.now ≡ answer_bytes answer.now }
 {
