@@ -21,12 +21,12 @@ no_choice rows together = rw together refl
 some_choice : (rows : List Row) → go_together rows ≡ false → choice_faults rows ≡ [] → ⊥
 some_choice rows apart none = let bad = rw apart at none in (cc)
 
--- the words are taken
+-- the words are accepted
 pub taken : (words : List Text) → fault_of gatekeeper_app words ≡ [] → go_together (entered words) ≡ true → faults words ≡ []
 unfolding faults
 taken words none together = none_both _ _ none (no_choice (entered words) together)
 
--- clap does not take them
+-- clap does not accept them
 pub not_taken : (words : List Text) (e : OrderError) → IsNotTaken (fault_of gatekeeper_app words) e → IsNotTaken (faults words) e
 unfolding faults
 not_taken words InvalidArguments some = λ none. some (none_first _ _ none)

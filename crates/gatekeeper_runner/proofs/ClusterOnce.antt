@@ -24,7 +24,7 @@ as_cluster r r_after w w_after result c k keeps answered =
     let gives = line_gives k.max_line too_long_text (DecidesAsCluster OneImage k) (DecidesClusterLine OneImage c.state k.steps) (λ line text by. by c.state keeps.of_state) in
     rw (← keeps.max_line, ← keeps.steps) (input_gives _ _ gives r r_after w w_after result answered)
 
--- and so is what is told of them
+-- the refused lines are reported as the cluster of this state does
 pub tells_as_cluster : (r r_after w w_after e e_after : Stream) (result : Result (Unit {0}) SessionError) (c : AnsweringCluster) (k : ClusterKeeper) → IsKeeperOf c k
     → TellsInput (AnswersInputLine k.max_line too_long_text (DecidesAsCluster OneImage k)) r r_after w w_after e e_after result
     → TellsInput (AnswersClusterLine OneImage c) r r_after w w_after e e_after result

@@ -66,12 +66,12 @@ moved before after total x y z go added many = omega (arith, go, added, many)
 pub from_none : (n m : ℕ) → n ≡ 0 → n + m ≡ m
 from_none n m e = omega (arith, e)
 
--- an object is counted, or passed by
+-- an object is counted, or skipped
 one_more : (b : Bool) (d : json.Data) (rest : List json.Data) → length (if b then d ∷ rest else rest) ≡ (if b then 1 else 0) + length rest
 one_more true d rest = omega arith
 one_more false d rest = omega arith
 
--- one object more of those to count
+-- one more object of those to count
 pub object_next : (k : ParamKind) (objects : List Value) (i : ℕ) (d : Value) (before after total : ℕ) → i < length objects → d ≡ get_or objects i d
     → before + length (filter (is_of_param_kind k) (map view (drop i objects))) ≡ total
     → after ≡ before + (if is_of_param_kind k (view d) then 1 else 0)
@@ -84,7 +84,7 @@ object_next k objects i d before after total within is go added =
     ap (λ (ds : List json.Data). length (filter (is_of_param_kind k) ds)) front ∙ one_more (is_of_param_kind k (view d)) (view d) (filter (is_of_param_kind k) rest) in
     moved before after total _ (if is_of_param_kind k (view d) then 1 else 0) (length (filter (is_of_param_kind k) rest)) go added many
 
--- one list more
+-- one more list
 pub list_next : (k : ParamKind) (lists : List Value) (i : ℕ) (d : Value) (before after total : ℕ) → i < length lists → d ≡ get_or lists i d
     → before + length (listed k (map view (drop i lists))) ≡ total
     → after ≡ before + length (filter (is_of_param_kind k) (objects_in (view d)))

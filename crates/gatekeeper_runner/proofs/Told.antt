@@ -9,7 +9,7 @@ use Rattle.cluster_gate.specs.declared.standing.Standing.{Standing}
 use Rattle.cluster_gate.specs.declared.standing.Standing.TheVariants.{Asked, Blocked}
 use Rattle.gatekeeper_runner.specs.ClusterTelling.{TellsPolicies, cause_of, next, policy_line}
 
--- a policy that stands so is judged so
+-- a policy is judged as its standing shows
 judged : (s : ClusterState) (p : BoundPolicy) (t : Standing) → StandsAs s p t → IsJudged s p (cause_of t)
 judged s p (Asked gate) stands =
     let of = stands.0.gate_of.of_policy in (
@@ -28,7 +28,7 @@ gates_as_many s [] [] are = refl
 gates_as_many s (p ∷ ps) (g ∷ gs) are = ap suc (gates_as_many s ps gs are.1)
 gates_as_many s ps gs are = absurd are
 
--- the gate at a place is of the policy there
+-- the gate at a place is that of the policy there
 gate_for_at : (s : ClusterState) (ps : List BoundPolicy) (gs : List PolicyGate) (i : ℕ) (p : BoundPolicy) (g : PolicyGate) → AreGatesFor s ps gs → i < length gs
     → IsGateFor s (get_or ps i p) (get_or gs i g)
 gate_for_at s (p ∷ ps) (g ∷ gs) zero q h are within = are.0
@@ -41,7 +41,7 @@ some_policy : (ps : List BoundPolicy) → 0 < length ps → BoundPolicy
 some_policy (p ∷ ps) some = p
 some_policy [] some = absurd (omega (arith, some))
 
--- the gates of the policies so far were told of
+-- the lines on the first policies were written
 module _ (lists : List json.Data) (s : ClusterState) (gates : List PolicyGate) (are : AreGatesFor s s.policies gates) (i : ℕ) (text : List ℕ) (so_far : TellsPolicies lists s (take i s.policies) text) where
   pub told_all : length gates ≤ i → TellsPolicies lists s s.policies text
   told_all past = subst (λ (ps : List BoundPolicy). TellsPolicies lists s ps text) (take_all i s.policies (let many = gates_as_many s s.policies gates are in omega (arith, past, many))) so_far

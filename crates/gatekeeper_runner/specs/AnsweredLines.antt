@@ -12,6 +12,6 @@ use Rattle.gatekeeper_runner.specs.declared.gatekeeper.Gatekeeper.{Gatekeeper as
 abbrev pub AnswersLines : Images → Gatekeeper → Stream → Stream → Stream → Stream → Result (Unit {0}) SessionError → Type 0
 AnswersLines chosen t r r_after w w_after result = AnswersInput (AnswersReviewLine chosen t) r r_after w w_after result
 
--- Q holds for the policies that the gates decide by
+-- Q holds for the policies by which the gates decide
 abbrev pub UnderPolicies : CodeGatekeeper → (Gatekeeper → Type 0) → Type 0
 UnderPolicies keeper Q = (policies : List PolicyFile) → AreGates policies keeper.gates.items → Q (gatekeeper_of policies keeper)

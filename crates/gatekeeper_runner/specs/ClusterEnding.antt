@@ -1,4 +1,4 @@
--- How the program ends where lines are answered as a cluster does.
+-- How the program ends if lines are answered as a cluster does.
 use Rattle.std.specs.Prelude.{◌≡◌, ℕ, ◌⊎◌, Bool, true, false, List, Option, Result, Ok, Err}
 use Rattle.streams.specs.Streams.{Stream}
 use Rattle.streams.specs.Writing.{WritesBytes, WritesPart}
@@ -17,13 +17,13 @@ use Rattle.gatekeeper_runner.specs.ClusterTelling.{TellsPolicies}
 use Rattle.gatekeeper_runner.specs.Orders.{ClusterOrder}
 use Rattle.gatekeeper_runner.specs.declared.start_refusal.StartRefusal.{StartRefusal, TheVariants.Plain, TheVariants.Cluster}
 
--- the lines are answered to the input's end, or until a read or a write fails
+-- the lines are answered to the end of the input, or until a read or a write fails
 abbrev pub ending_of : Result (Unit {0}) SessionError → Ending
 ending_of (Ok u) = Ok 0
 ending_of (Err e) = Err (session_refusal e)
 
--- the lines are answered, with what is told of the refused ones on standard error, and then the program ends with this
--- status, and with a line of standard error if a read or a write of an answer failed
+-- the lines are answered, and the refused ones are reported on standard error; then the program ends with this status,
+-- and with a line of standard error if a read or a write of an answer failed
 pub record TellsRefused (texts : LineTexts) (r r_after w w_after e e_after : Stream) (status : ℕ) : Type 0 where
   pub result : Result (Unit {0}) SessionError
   pub told : Stream
@@ -31,12 +31,12 @@ pub record TellsRefused (texts : LineTexts) (r r_after w w_after e e_after : Str
   pub status_is : status ≡ ending_status (ending_of result)
   pub says : WritesError told e_after (ending_of result)
 
--- standard error took the text, or a beginning of it where a write failed
+-- standard error took the text, or a beginning of it if a write failed
 abbrev pub TellsCluster : Stream → Stream → List ℕ → Type 0
 TellsCluster old new text = WritesBytes old new text ⊎ WritesPart old new text
 
--- how a start that is refused ends: with a line of standard error, which tells that memory ran out where that happened at
--- the line, and a status
+-- how a start that is refused ends: with a status, and a line of standard error, which reports that memory ran out if
+-- that happened while the line was made
 abbrev pub TellsStart : Stream → Stream → ℕ → StartRefusal → Type 0
 TellsStart e e_after status (Plain r) = (status ≡ refusal_status r) × WritesError e e_after (Err r)
 TellsStart e e_after status (Cluster fault) =
@@ -47,14 +47,14 @@ pub data AnswersAsCluster (chosen : Images) (c : AnsweringCluster) (r r_after w 
   lines : (result : Result (Unit {0}) SessionError) → AnswersInput (AnswersClusterLine chosen c) r r_after w w_after result
       → AnswersAsCluster chosen c r r_after w w_after (ending_of result)
 
--- how the program ends after that, by whether refused lines are told of
+-- how the program ends after that, by whether refused lines are reported
 abbrev pub EndsAsCluster : Bool → Images → AnsweringCluster → Stream → Stream → Stream → Stream → Stream → Stream → ℕ → Type 0
 EndsAsCluster false chosen c r r_after w w_after e e_after status =
     ProgramEnds (AnswersAsCluster chosen c r r_after w w_after) e e_after status
 EndsAsCluster true chosen c r r_after w w_after e e_after status =
     TellsRefused (AnswersClusterLine chosen c) r r_after w w_after e e_after status
 
--- a line is told of each policy on standard error, then the lines are answered, and the program ends with this status
+-- standard error gets a line on each policy, then the lines are answered, and the program ends with this status
 pub record TellsAndAnswers (chosen : Images) (c : AnsweringCluster) (verbose : Bool)
     (r r_after w w_after e e_after : Stream) (status : ℕ) : Type 0 where
   pub text : List ℕ

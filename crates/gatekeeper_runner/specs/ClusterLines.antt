@@ -1,4 +1,4 @@
--- What is answered to a line as a cluster does.
+-- The answer to a line in a cluster.
 use Rattle.std.specs.Prelude.{◌≡◌, ℕ, false, List, Option, Some, None, Result, Ok, Err, string_bytes}
 use Rattle.serde_json.specs.Data as json
 use Rattle.line_answers.specs.Lines.{AnswersInputLine, LineTexts}
@@ -17,11 +17,11 @@ use Rattle.gatekeeper_runner.specs.declared.cluster_fault.ClusterFault.{TheVaria
 use Rattle.gatekeeper_runner.specs.declared.cluster_keeper.ClusterKeeper.{ClusterKeeper}
 use Rattle.gatekeeper_runner.specs.declared.start_refusal.StartRefusal.{StartRefusal, TheVariants.Plain, TheVariants.Cluster}
 
--- the refusal of a line that is no review
+-- the refusal of a line that is not a review
 abbrev pub no_review_text : List ℕ → List ℕ
 no_review_text line = refusal_text (record { error = ReviewRefused; policy = None }) (uid_shown (document_of line))
 
--- the text of what is decided of the review in a line, if it is one
+-- the text of what is decided about the review in a line, if it is one
 abbrev pub decision_text : List ℕ → Option (List ℕ) → List ℕ
 decision_text line (Some text) = text
 decision_text line None = no_review_text line
@@ -37,18 +37,18 @@ AnswersClusterLine chosen c = AnswersInputLine c.max_line too_long_text (Decides
 
 -- ---- the code's
 
--- so it is with the state of the code's cluster
+-- the line is decided by the state of the code's cluster
 abbrev pub DecidesAsCluster : Images → ClusterKeeper → List ℕ → List ℕ → Type 0
 DecidesAsCluster chosen k line text = (s : ClusterState) → IsClusterFor s k.cluster → DecidesClusterLine chosen s k.steps line text
 
--- the code's cluster, and what is told of its policies, are these
+-- the code's cluster, and its lines on the policies, are these
 pub record IsKeeperOf (c : AnsweringCluster) (k : ClusterKeeper) : Type 0 where
   pub of_state : IsClusterFor c.state k.cluster
   pub steps : k.steps ≡ c.steps
   pub max_line : k.max_line ≡ c.max_line
   pub told : TellsPolicies c.lists c.state c.state.policies k.told.items
 
--- a cluster with this state is opened, or the first policy that is blocked is the refusal
+-- a cluster with this state is opened, or the first blocked policy is the refusal
 abbrev pub OpensKeeper : List json.Data → ClusterOrder → ClusterState → Result ClusterKeeper StartRefusal → Type 0
 OpensKeeper lists order s (Ok k) =
     IsKeeperOf (record { lists = lists; state = s; steps = order.steps; max_line = order.max_line }) k

@@ -41,7 +41,7 @@ pub data HoldLists (known : Option FileSystem) : List Text → List json.Data �
   next : {names : List Text} {name : Text} {lists : List json.Data} {list : json.Data} {text : List ℕ} → HoldLists known names lists
       → IsReading known name (Ok text) → document_of text ≡ Some list → HoldLists known (names ++ name ∷ []) (lists ++ list ∷ [])
 
--- why a file gives no document: it is not read, or is no JSON
+-- why a file gives no document: it is not read, or is not JSON
 pub data IsNoList (known : Option FileSystem) (name : Text) : StartRefusal → Type 0 where
   unread : (e : FileError) → IsReading known name (Err e) → IsNoList known name (Plain (file_refusal e))
   no_json : {text : List ℕ} (told : String Global) → IsReading known name (Ok text) → document_of text ≡ None → string_bytes told ≡ name
@@ -89,7 +89,7 @@ state_text (InvalidBinding name) = codes "C5 " ++ string_bytes name
 state_text (InvalidPolicy name) = codes "C6 " ++ string_bytes name
 state_text state_error.Memory = codes "memory"
 
--- what the line on a blocked policy has beside its code
+-- what the line on a blocked policy has after its code
 abbrev pub cause_text : BlockCause → List ℕ
 cause_text (Refused e) = codes " " ++ policy_text e
 cause_text NamesNamespace = codes " namespaceObject"
@@ -109,18 +109,18 @@ fault_text (NoList name) = code_and_name (codes "C1") (string_bytes name)
 fault_text (NoState e) = state_text e
 fault_text (Blocked name cause) = code_and_name (cause_code cause) (string_bytes name) ++ cause_text cause
 
--- one line of standard error
+-- the line of standard error on a fault
 abbrev pub fault_line : ClusterFault → List ℕ
 fault_line fault = codes "celbpf: " ++ (fault_text fault ++ 10 ∷ [])
 
 -- ---- the code's
 
--- a refusal of the state, where want of memory is told for itself
+-- the refusal of a state; out of memory is a refusal of its own
 abbrev pub refusal_of_state : StateError → StartRefusal
 refusal_of_state state_error.Memory = Plain Memory
 refusal_of_state e = Cluster (NoState e)
 
--- the same of a policy that is blocked
+-- the refusal of a cluster with a blocked policy; out of memory likewise
 abbrev pub refusal_of_cluster : ClusterError → StartRefusal
 refusal_of_cluster cluster_error.Memory = Plain Memory
 refusal_of_cluster (BlockedPolicy name cause) = Cluster (Blocked name cause)

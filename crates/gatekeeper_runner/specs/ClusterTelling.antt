@@ -35,7 +35,7 @@ objects_in list = unwrap_or (array_of (field (codes "items") list)) []
 abbrev pub listed : ParamKind → List json.Data → List json.Data
 listed k lists = flat_map (λ list. filter (is_of_param_kind k) (objects_in list)) lists
 
--- the kind of the policy's params, and how many of it are listed
+-- the kind of the policy's params, and how many of this kind are listed
 abbrev pub params_text : List json.Data → Option ParamKind → List ℕ
 params_text lists None = []
 params_text lists (Some k) =

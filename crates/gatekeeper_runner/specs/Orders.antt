@@ -45,7 +45,7 @@ max_line_rule = record (new_rule (codes "max-line")) {
 unfoldable pub policies_app : App
 policies_app = with_documents (with_rule (new_app (codes "gatekeeper")) (files_rule (codes "policy")))
 
--- the same, and [--cluster F ..] [--partial] [--steps N] [--max-line N] [--verbose]
+-- the arguments under policies, and [--cluster F ..] [--partial] [--steps N] [--max-line N] [--verbose]
 unfoldable pub gatekeeper_app : App
 gatekeeper_app =
     with_rule (with_rule (with_rule (with_rule (with_rule policies_app (files_rule (codes "cluster"))) partial_rule) steps_rule)
@@ -65,7 +65,7 @@ is_partial rows = option_map_or (λ t. bytes_eq t (codes "true")) (first_of (cod
 abbrev pub is_verbose : List Row → Bool
 is_verbose rows = option_map_or (λ t. bytes_eq t (codes "true")) (first_of (codes "verbose") rows) false
 
--- with --cluster there is none of --policy, --namespace and --params; else there is --policy, and no --partial
+-- with --cluster there is no --policy, --namespace or --params; without it there is --policy, and no --partial
 abbrev pub go_together : List Row → Bool
 go_together rows =
     if is_named (codes "cluster") rows
@@ -80,14 +80,14 @@ choice_faults rows = if go_together rows then [] else ArgumentConflict ∷ []
 unfoldable pub entered : List Text → List Row
 entered words = matches_of gatekeeper_app words
 
--- the reasons to refuse the words, of which there are none where they are taken
+-- the reasons to refuse the words; there are none if they are accepted
 unfoldable pub faults : List Text → Kinds
 faults words = fault_of gatekeeper_app words ++ choice_faults (entered words)
 
 -- ---- what they ask for
 
 -- the names of the files, the policies in the order of the words, the most steps, the most bytes of a line, and whether
--- refused lines are told of
+-- refused lines are reported
 pub record GatekeeperOrder : Type 0 where
   pub policies : List Text
   pub namespace : Option Text
@@ -96,8 +96,8 @@ pub record GatekeeperOrder : Type 0 where
   pub max_line : ℕ
   pub verbose : Bool
 
--- the names of the files of a cluster's state in the order of the words, whether a policy may be refused, the most steps,
--- the most bytes of a line, and whether refused lines are told of
+-- the names of the files of a cluster's state in the order of the words, whether a policy may be refused, the most
+-- steps, the most bytes of a line, and whether refused lines are reported
 pub record ClusterOrder : Type 0 where
   pub files : List Text
   pub partial : Bool
@@ -114,7 +114,7 @@ pub data LinesOrder : Type 0 where
 abbrev pub texts_of : Text → List Row → List Text
 texts_of id rows = unwrap_or (all_of id rows) []
 
--- the most steps; a number that is not there is the default one
+-- the most steps; the default if no number is given
 abbrev pub steps_from : List Row → ℕ
 steps_from rows = unwrap_or (number_of (one_of (codes "steps") rows)) default_steps
 

@@ -21,11 +21,11 @@ use Rattle.gatekeeper_runner.specs.declared.start_refusal.StartRefusal.{StartRef
 use Rattle.gatekeeper_runner.specs.declared.task.Task.{Task}
 use Rattle.gatekeeper_runner.specs.declared.task.Task.TheVariants as task
 
--- the words are taken, and ask for this
+-- the words are accepted, and ask for this
 abbrev pub AsksGatekeeper : Given → LinesOrder → Type 0
 AsksGatekeeper given order = Asks faults (λ words. order_from (entered words)) given order
 
--- what becomes of words that ask for no text, and for no cluster
+-- how the program ends if the words ask for no text and for no cluster
 pub data ServesReviews (chosen : Images) (given : Given) (old new : System) : Ending → Type 0 where
   nothing : {r : Refusal} → AsksNothing faults given r → new ≡ old → ServesReviews chosen given old new (Err r)
   not_started : {order : GatekeeperOrder} {r : Refusal} → AsksGatekeeper given (by_policies order)
@@ -89,7 +89,7 @@ abbrev pub Begins : Given → Option FileSystem → Result Task StartRefusal →
 Begins given known (Ok t) = IsTaskOf given known t
 Begins given known (Err r) = (text_asked given ≡ None) × IsNotBegun given known r
 
--- the text is written, or a beginning of it where a write fails
+-- the text is written, or a beginning of it if a write fails
 pub data TellsText (text : Text) (w w_after : Stream) : Ending → Type 0 where
   all : WritesBytes w w_after text → TellsText text w w_after (Ok 0)
   part : WritesPart w w_after text → TellsText text w w_after (Err Output)
@@ -99,7 +99,7 @@ pub data AnswersUnder (chosen : Images) (t : Gatekeeper) (r r_after w w_after : 
   lines : (result : Result (Unit {0}) SessionError) → AnswersLines chosen t r r_after w w_after result
       → AnswersUnder chosen t r r_after w w_after (ending_of result)
 
--- how the program ends under policies, by whether refused lines are told of
+-- how the program ends under policies, by whether refused lines are reported
 abbrev pub EndsUnder : Bool → Images → Gatekeeper → Stream → Stream → Stream → Stream → Stream → Stream → ℕ → Type 0
 EndsUnder false chosen t r r_after w w_after e e_after status = ProgramEnds (AnswersUnder chosen t r r_after w w_after) e e_after status
 EndsUnder true chosen t r r_after w w_after e e_after status =

@@ -14,7 +14,7 @@ abbrev pub LinesHaveOneAnswer : Type 0
 LinesHaveOneAnswer = (t : Gatekeeper) (line a b : List ℕ) → a ≢ no_memory_text → b ≢ no_memory_text
     → AnswersReviewLine OneImage t line a → AnswersReviewLine OneImage t line b → a ≡ b
 
--- so are two answers of a cluster that was read from files
+-- so are two answers of a cluster that was read from files, under the same condition
 abbrev pub ClusterLinesHaveOneAnswer : Type 0
 ClusterLinesHaveOneAnswer = (known : Option FileSystem) (order : ClusterOrder) (c : AnsweringCluster) (line a b : List ℕ)
     → ClusterStarts known order (Ok c) → a ≢ no_memory_text → b ≢ no_memory_text

@@ -1,4 +1,4 @@
-//! What comes before the streams are read and written.
+//! Reads files and compiles policies before the streams are read and written.
 ghost use Rattle.std.specs.Prelude.{◌≡◌, map, string_bytes, None};
 ghost use Rattle.cli.specs.Ending.{given_of, Given};
 ghost use Rattle.gatekeeper_runner.specs.About.{text_asked};
@@ -18,7 +18,7 @@ use cli::texts_of;
 use host::{Files, OrderError};
 use std::alloc::Global;
 
-/// What the words ask for, with the files that it takes.
+/// What the words ask for, with the files that it needs.
 ///
 /// # Errors
 ///

@@ -27,7 +27,7 @@ impl<'s, 'a> Decider for ClusterKeeper<'s, 'a> {
     }
 }
 
-/// The text of what is decided, or the refusal of a line that is no review.
+/// The text of what is decided, or the refusal of a line that is not a review.
 fn decision_text(
     alloc: Global,
     decision: Option<Vec<u8>>,
@@ -41,7 +41,7 @@ fn decision_text(
     }
 }
 
-/// The refusal of a line that is no review.
+/// The refusal of a line that is not a review.
 fn no_review_text(alloc: Global, line: &[u8]) -> Result<Vec<u8>, AllocError>
     ensures { IfOk result (λ text. text.items ≡ no_review_text line.now) }
 {

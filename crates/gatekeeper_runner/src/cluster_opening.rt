@@ -21,7 +21,7 @@ use cluster_state::{State, StateError};
 ///
 /// # Errors
 ///
-/// The first policy that is blocked, unless it may be. `Memory` where memory runs out.
+/// The first policy that is blocked, unless that is allowed. `Memory` if an allocation fails.
 pub fn open_cluster<'s, 'a>(
     task: &'a ClusterTask,
     state: &'s State<'a>,
@@ -60,7 +60,7 @@ fn not_listed(task: &ClusterTask, place: usize) -> StartRefusal
     }
 }
 
-/// The name at this place, and the empty one if there is none.
+/// The name at this place, or the empty name if there is none.
 fn name_at(names: &[String], place: usize) -> &str
     ensures { result.now ≡ get_or (map string_bytes names.now) place [] }
 {

@@ -1,4 +1,4 @@
-//! The program where lines are answered as a cluster does.
+//! The program if lines are answered as a cluster does.
 ghost use Rattle.std.specs.Prelude.{◌≡◌, map, string_bytes, Ok, Option};
 ghost use Rattle.std.specs.Process.{exit_status};
 ghost use Rattle.serde_json.specs.View.{view};
@@ -22,8 +22,8 @@ use line_answers::{LineRules, answer_lines};
 use std::process::ExitCode;
 use streams::{LineSource, Sink};
 
-/// Answers the lines as the cluster does whose lists were read, after a line of standard error for
-/// each policy. Returns the code.
+/// Writes a line to standard error for each policy of the cluster in these lists, and then answers
+/// the lines as the cluster does. Returns the code.
 pub fn answer_as_cluster<R: LineSource, W: Sink, E: Sink>(
     task: &ClusterTask,
     requests: &mut R,
@@ -78,7 +78,7 @@ fn tell_and_answer<R: LineSource, W: Sink, E: Sink>(
     end_cluster(keeper, verbose, requests, answers, errors)
 }
 
-/// Answers the lines, and tells of refused ones if it is so asked. Returns the code.
+/// Answers the lines, and reports refused ones if that is asked for. Returns the code.
 fn end_cluster<R: LineSource, W: Sink, E: Sink>(
     keeper: &ClusterKeeper<'_, '_>,
     verbose: bool,

@@ -4,7 +4,7 @@ use crate::cluster_order::ClusterOrder;
 use serde_json::Value;
 use std::alloc::Global;
 
-/// What is asked of a cluster, and the lists that it is read from.
+/// What is asked of a cluster, and the lists from which it is read.
 #[derive(Drop)]
 pub struct ClusterTask {
     pub alloc: Global,

@@ -1,4 +1,4 @@
-//! Errors that say nothing about a review.
+//! Errors that imply nothing about a review.
 ghost use Rattle.std.specs.Prelude.{◌≡◌, ◌≢◌, true, false};
 ghost use Rattle.admission.specs.declared.run_error.RunError.TheVariants.{Memory};
 

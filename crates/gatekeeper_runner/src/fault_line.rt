@@ -1,4 +1,4 @@
-//! The line of a cluster's state that is refused.
+//! The line of standard error on a cluster's state that is refused.
 ghost use Rattle.std.specs.Prelude.{◌≡◌, ◌++◌, decimal, IfOk, OnOk};
 ghost use Rattle.gatekeeper_runner.specs.ClusterStarting.{code_and_name, fault_line, fault_text, state_text};
 

@@ -36,7 +36,7 @@ impl Gatekeeper {
     ///
     /// # Errors
     ///
-    /// An allocation failed, which says nothing about the review.
+    /// An allocation failed, which implies nothing about the review.
     pub fn decision(&self, review: &[u8]) -> Result<Result<Decision, Refused>, AllocError>
         ensures { IfOk result (λ r. (policies : List PolicyFile) → AreGates policies self.now.gates.items → DecideTogether OneImage (gatekeeper_of policies self.now) review.now (together_view r)) }
     {

@@ -103,7 +103,7 @@ fn add_one<'a>(
     Ok(())
 }
 
-/// The next number. There are never so many objects that it is too great.
+/// The next number. No lists hold enough objects to overflow it.
 fn one_more(count: Option<usize>) -> Result<usize, AllocError>
     ensures { IfOk result (λ n. n ≡ unwrap_or count 0 + 1) }
 {

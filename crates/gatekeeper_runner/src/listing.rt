@@ -13,8 +13,8 @@ use std::alloc::Global;
 ///
 /// # Errors
 ///
-/// The first file that is not read or holds no JSON. `Memory` where memory runs out, which says
-/// nothing of the rest.
+/// The first file that is not read or is not JSON. `Memory` if an allocation fails, which implies
+/// nothing about the rest.
 pub fn read_lists<F: Files>(
     alloc: Global,
     names: &[String],

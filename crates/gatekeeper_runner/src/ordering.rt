@@ -18,7 +18,7 @@ use std::alloc::{AllocError, Global};
 /// # Errors
 ///
 /// `InvalidArguments` exactly if `clap` refuses the words. `Memory` if an allocation fails, which
-/// says nothing about the words.
+/// implies nothing about the words.
 pub fn order_of<'a>(alloc: Global, words: &'a [&'a str]) -> Result<Order, OrderError>
     ensures { GatekeeperOrderReturns (map (λ s. s.now) words.entry.now) result }
 {
@@ -59,7 +59,7 @@ fn is_partial(matches: &ArgMatches) -> bool
     }
 }
 
-/// Whether refused lines are told of.
+/// Whether refused lines are reported.
 fn is_verbose(matches: &ArgMatches) -> bool
     ensures { result ≡ is_verbose (rows_of (found_of matches.now)) }
 {

@@ -11,6 +11,6 @@ pub struct PolicyOrder {
     pub steps: u64,
     /// The most bytes of a line.
     pub max_line: u64,
-    /// Whether refused lines are told of.
+    /// Whether refused lines are reported.
     pub verbose: bool,
 }

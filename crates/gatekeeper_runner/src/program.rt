@@ -79,7 +79,7 @@ fn tell<W: Sink>(text: &str, answers: &mut W) -> Result<u8, Refusal>
     }
 }
 
-/// Answers the lines under policies, and tells of refused ones if it is so asked. Returns the code.
+/// Answers the lines under policies, and reports refused ones if that is asked. Returns the code.
 fn end_under<R: LineSource, W: Sink, E: Sink>(
     keeper: &Gatekeeper,
     verbose: bool,

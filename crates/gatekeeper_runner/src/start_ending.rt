@@ -29,7 +29,7 @@ pub fn end_start<E: Sink>(alloc: Global, refusal: StartRefusal, errors: &mut E) 
     }
 }
 
-/// Writes the line of a fault, or that memory ran out for it.
+/// Writes the line on a fault, or that memory ran out while it was made.
 fn tell_fault<E: Sink>(alloc: Global, fault: &ClusterFault, errors: &mut E)
     ensures { TellsCluster (stream (E.taken errors.old) (E.failed errors.old)) (stream (E.taken errors.new) (E.failed errors.new)) (fault_line fault.now)
         ⊎ TellsCluster (stream (E.taken errors.old) (E.failed errors.old)) (stream (E.taken errors.new) (E.failed errors.new)) (refusal_line Memory) }
@@ -48,7 +48,7 @@ fn tell_memory<E: Sink>(alloc: Global, errors: &mut E)
     tell_bytes(line.as_slice(), errors);
 }
 
-/// Writes bytes. There is nowhere to tell of a write that fails.
+/// Writes bytes. A write that fails cannot be reported anywhere.
 pub fn tell_bytes<E: Sink>(bytes: &[u8], errors: &mut E)
     ensures { TellsCluster (stream (E.taken errors.old) (E.failed errors.old)) (stream (E.taken errors.new) (E.failed errors.new)) bytes.now }
 {

@@ -19,7 +19,7 @@ use value_table::SharedDocuments;
 /// # Errors
 ///
 /// The first refusal: of a policy's file or its policy, then of the namespace's file, then of the
-/// params' file. `Memory` if an allocation fails, which says nothing about the files.
+/// params' file. `Memory` if an allocation fails, which implies nothing about the files.
 pub fn start<F: Files>(
     alloc: Global,
     order: &PolicyOrder,

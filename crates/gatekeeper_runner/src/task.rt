@@ -3,12 +3,12 @@
 use crate::cluster_task::ClusterTask;
 use crate::gatekeeper::Gatekeeper;
 
-/// What the words ask for, with what was read for it.
+/// What the words ask for, with what was read from files.
 #[derive(Drop)]
 pub enum Task {
     /// A text is written.
     Text(&'static str),
-    /// Lines are answered under policies, and refused ones are told of if this is true.
+    /// Lines are answered under policies, and refused ones are reported if this is true.
     Policies(Gatekeeper, bool),
     /// Lines are answered as a cluster does.
     Cluster(ClusterTask),

@@ -68,7 +68,7 @@ fn add_bindings(line: &mut Vec<u8>, bindings: Vec<&Binding<'_>>) -> Result<(), A
     Ok(())
 }
 
-/// Adds the kind of params, and how many of it are listed.
+/// Adds the kind of params, and how many of this kind are listed.
 fn add_params<'a>(
     line: &mut Vec<u8>,
     listed: &Listed<'a>,
@@ -107,7 +107,7 @@ fn add_standing(alloc: Global, line: &mut Vec<u8>, standing: &Standing) -> Resul
     }
 }
 
-/// Adds what the line on a blocked policy has beside its code.
+/// Adds what the line on a blocked policy has after its code.
 pub fn add_cause(alloc: Global, line: &mut Vec<u8>, cause: BlockCause) -> Result<(), AllocError>
     ensures { OnOk result (line.new.items ≡ line.old.items ++ cause_text cause) }
 {

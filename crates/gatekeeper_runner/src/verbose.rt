@@ -1,4 +1,4 @@
-//! Lines that are answered, where refused ones are told of on standard error.
+//! Answers lines, and reports refused ones on standard error.
 ghost use Rattle.std.specs.Prelude.{◌≡◌};
 ghost use Rattle.std.specs.Process.{exit_status};
 ghost use Rattle.streams.specs.Streams.{stream};
@@ -14,7 +14,7 @@ use line_answers::{Decider, LineRules, answer_and_tell};
 use std::process::ExitCode;
 use streams::{LineSource, SessionError, Sink};
 
-/// Answers the lines under policies, and tells of the refused ones. Returns the code.
+/// Answers the lines under policies, and reports the refused ones. Returns the code.
 pub fn tell_under<R: LineSource, W: Sink, E: Sink>(
     keeper: &Gatekeeper,
     requests: &mut R,
@@ -33,7 +33,7 @@ pub fn tell_under<R: LineSource, W: Sink, E: Sink>(
     end_telling(&rules, requests, answers, errors)
 }
 
-/// Answers the lines by these rules, and tells of the refused ones. Returns the code.
+/// Answers the lines by these rules, and reports the refused ones. Returns the code.
 pub fn end_telling<D: Decider, R: LineSource, W: Sink, E: Sink>(
     rules: &LineRules<'_, D>,
     requests: &mut R,
@@ -49,7 +49,7 @@ pub fn end_telling<D: Decider, R: LineSource, W: Sink, E: Sink>(
     exit_with(rules.alloc, ending_of(ended), errors)
 }
 
-/// The end of the program by what became of the lines.
+/// How the program ends, by the result of answering the lines.
 fn ending_of(ended: Result<(), SessionError>) -> Result<u8, Refusal>
     ensures { result ≡ ending_of ended }
 {
