@@ -31,7 +31,7 @@ compiled_with p gate names of naming = record {
 pub compiled_of : (p : BoundPolicy) (gate : PolicyAndImage) → IsAskedGate p gate → IsCompiledPolicy p false
 compiled_of p gate asked = compiled_with p gate false asked.gate_of asked.naming
 
--- what blocks the policy, or that nothing does
+-- what blocks the policy, or that nothing blocks it
 pub judged_of : (s : ClusterState) (p : BoundPolicy) (t : Standing) → StandsAs s p t → (cause : Option BlockCause) × IsJudged s p cause
 judged_of s p (Asked gate) stands = (None, (compiled_of p gate stands.0, stands.1))
 judged_of s p (Blocked cause) stands = (Some cause, stands)
@@ -82,7 +82,7 @@ module _ (s : ClusterState) (review : List ℕ) (n : ℕ) (q : Request) (p : Bou
       asks_by (matching.Trouble trouble) (error_events (fails_closed p.document) p.name (trouble_text trouble q.attributes.namespace)) false t stands is adds
       (λ block. trouble_runs (fails_closed p.document) (trouble_text trouble q.attributes.namespace) (EvaluatesPolicy OneImage review n p))
 
-  -- that the match is not known is told
+  -- the event of an unknown match
   pub asks_unknown : (name : List ℕ) (t : Standing) → StandsAs s p t → name ≡ p.name
       → matching.Unknown ≡ match_answer p.constraints (namespace_labels s.objects) q.attributes
       → Adds before after (undecided_event name refusal.UnknownMatch ∷ []) → AddsPolicy OneImage s review n q p before after false

@@ -37,7 +37,7 @@ before_same _ _ zs (through {xs = xs} {ys = ys} {zs = vs} a b) = through (before
 pub joined : {A : Type 0} (xs ys us vs : List A) → InAnyOrder xs ys → InAnyOrder us vs → InAnyOrder (xs ++ us) (ys ++ vs)
 joined xs ys us vs a b = through (before_same xs ys us a) (after_same ys us vs b)
 
--- the first of two lists goes behind an element
+-- the first of two lists moves after an element
 behind : {A : Type 0} (x : A) (xs zs : List A) → InAnyOrder (x ∷ (xs ++ zs)) (xs ++ x ∷ zs)
 behind x [] zs = as_it_is (x ∷ zs)
 behind x (y ∷ xs) zs = through exchanged (first (behind x xs zs))
@@ -125,7 +125,7 @@ module _ {X Y : Type 0} (R : X → List Y → Type 0) where
   to_flat f _ _ (over_one {x = z} {xs = zs} {es = es} {fs = fs} r others) =
       subst (λ (l : List X). Each R l (es ++ fs)) (sym (flat_map-cons f z zs)) (of_parts (f z) (flat_map f zs) es fs r (to_flat f zs fs others))
 
--- what a relation gives, another gives in any order
+-- what one relation gives, another gives in any order
 pub each_through : {X Y : Type 0} (R S : X → List Y → Type 0) → ((x : X) (es : List Y) → R x es → (fs : List Y) × S x fs × InAnyOrder es fs)
     → (xs : List X) (es : List Y) → Each R xs es → Reordered S xs es
 each_through R S gives _ _ over_none = record { now = []; each = over_none; same = none }

@@ -54,7 +54,7 @@ module _ (p : BoundPolicy) (gate : PolicyAndImage) (review : List ℕ) (n : ℕ)
         runs = runs d asked.gate_of.of_policy asked.gate_of.image gives.returns;
       }
 
-  -- and what is told of it
+  -- the findings, or the refusal instead of them, are the policy's
   pub told : (due : Result (Vec Finding Global) RunError) (r : Result (Vec Finding Global) ClusterRefusal)
       → EvaluatesPolicy OneImage review n p params namespace (findings_view due) → HasFound due r → FindsOrRefuses OneImage review n p params namespace r
   told due (Ok fs) evaluates is = subst (λ (x : Result (List PolicyFinding) RunError). EvaluatesPolicy OneImage review n p params namespace x) is evaluates

@@ -1,4 +1,4 @@
--- The namespace of each evaluation is the request's, so it is beside the review where that is.
+-- The namespace of each evaluation is the request's, so it has the same place beside the review.
 use Rattle.cluster_gate.proofs.Prelude.{◌≡◌, ◌<◌, ◌∷◌, ℕ, zero, suc, arith, get_or, length, List, [], Bool, true, false, Option, Some, None, Result, Ok, Err, map, subst, sym, ClusterState, PlannedStep, Request, bindings_steps}
 use Rattle.std.proofs.lemmas.List.Elements.{All-append, All-cons, All-head, All-nil, All-tail}
 use Rattle.std.proofs.lemmas.List.Concat.{flat_map-cons}
@@ -20,7 +20,7 @@ use Rattle.cluster_plan.specs.declared.step.Step.{Step as CodeStep}
 use Rattle.cluster_gate.specs.Beside.{HasKnownNamespace, IsBesideIf}
 use Rattle.cluster_gate.specs.declared.namespace_place.NamespacePlace.{NamespacePlace}
 
--- what holds of all steps holds of the step at a place
+-- what holds for all steps holds for the step at a place
 pub all_at : (P : PlannedStep → Type 0) (xs : List CodeStep) (i : ℕ) (x : CodeStep) → i < length xs → x ≡ get_or xs i x → All P (map step_view xs) → P (step_view x)
 all_at P (y ∷ ys) zero x within is all = subst (λ (z : CodeStep). P (step_view z)) (sym is) (All-head P (step_view y) (map step_view ys) all)
 all_at P (y ∷ ys) (suc i) x within is all = all_at P ys i x (omega (arith, within)) is (All-tail P (step_view y) (map step_view ys) all)
@@ -48,7 +48,7 @@ module _ (opened : Option (Bor OpenValues)) (place : Option NamespacePlace) wher
   given b namespace (p ∷ ps) is =
       All-cons Known (plan.evaluates b p namespace) (map (λ p. plan.evaluates b p namespace) ps) is (given b namespace ps is)
 
--- null is nowhere
+-- null needs no place
 beside_none : (opened : Option (Bor OpenValues)) (place : Option NamespacePlace) → IsBesideIf opened place None
 beside_none None place = tt
 beside_none (Some o) None = tt

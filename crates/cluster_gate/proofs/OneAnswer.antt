@@ -24,11 +24,11 @@ use Rattle.cluster_gate.specs.Texts.{without_status}
 
 -- ---- steps
 
--- a policy finds one thing at most with these params and this namespace, unless an allocation fails
+-- a policy finds at most one thing with these params and this namespace, unless an allocation fails
 abbrev pub FindsOnce : FindsWith → Option json.Data → Option json.Data → Type 0
 FindsOnce finds params namespace = (a b : Result (List PolicyFinding) RunError) → a ≢ Err Memory → b ≢ Err Memory → finds params namespace a → finds params namespace b → a ≡ b
 
--- so it is at this step
+-- a policy finds at most one thing at this step
 abbrev pub IsOnce : FindsWith → PlannedStep → Type 0
 IsOnce finds (plan.evaluates b params namespace) = FindsOnce finds params namespace
 IsOnce finds (plan.denies b t) = Unit {0}
@@ -62,7 +62,7 @@ module _ (policy : List ℕ) (finds : FindsWith) where
       let same : e ≡ f = cc in
       let some : Some r ≡ Some s = sym is ∙ (ap error_refusal same ∙ also) in cc
 
-  -- the steps of a policy have one list of events, and end the dispatch or not
+  -- the steps of a policy have one list of events, and end the dispatch always or never
   pub runs_once : (steps : List PlannedStep) (es fs : List Event) (x y : Bool) → All (IsOnce finds) steps → RunsSteps policy finds steps es x → RunsSteps policy finds steps fs y
       → (es ≡ fs) × (x ≡ y)
   runs_once _ _ _ _ _ all no_steps no_steps = (refl, refl)

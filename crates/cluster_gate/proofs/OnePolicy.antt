@@ -44,7 +44,7 @@ use Rattle.cluster_gate.specs.declared.block_cause.BlockCause.TheVariants.{Refus
 
 -- ---- replies by findings
 
--- the reply that the findings of a policy give: its allowance tells whether there are any
+-- the reply that the findings of a policy give: it allows exactly if there are none
 pub record HasReply (d : Documents) (n : ℕ) (found : List PolicyFinding) : Type 0 where
   pub reply : Reply
   pub answers : IsAnswerTo d n (Ok reply)
@@ -150,7 +150,7 @@ no_failure e r is failed =
     let same : e ≡ run_error.Memory = cc in
     let none : None ≡ Some r = subst (λ (x : RunError). error_refusal x ≡ Some r) same is in absurd (cc)
 
--- the run agrees with a refusal of any kind of result alike
+-- if the run agrees with a refusal as one kind of result, it agrees with it as any other
 agrees_alike : (A B : Type 0) (d : Documents) (n : ℕ) (e : RunError) → RunAgrees {A = A} OneImage d n (Err e) → RunAgrees {A = B} OneImage d n (Err e)
 agrees_alike A B d n (run_error.PolicyRefused x) runs = runs
 agrees_alike A B d n run_error.ReviewRefused runs = runs

@@ -52,7 +52,7 @@ module _ (s t : ClusterState) (differ : DifferInOrder s t) (review : List ℕ) (
   judged_alike p (Some NamesNamespace) a = a
   judged_alike p (Some UnknownParamKind) a = (a.0, same_lack p ∙ a.1)
 
-  -- the state with the bindings of one and all else of the other
+  -- the state with the bindings of one state and everything else of the other
   abbrev with_objects : Objects → Option KnownKind → BoundPolicy → Binding → List PlannedStep
   with_objects objects kind p b =
       binding_steps (record { items = s.items; objects = objects; bindings = s.bindings; policies = s.policies }) (record { policy = p; kind = kind }) q b
@@ -110,7 +110,7 @@ module _ (s t : ClusterState) (differ : DifferInOrder s t) (review : List ℕ) (
   policies_alike true = none
   policies_alike false = differ.policies
 
-  -- if each policy decides and the dispatch does not end, so it is in the other order, with the same events
+  -- if each policy decides and the dispatch does not end, it has the same events in the other order
   pub other_events : (es : List Event) → Dispatches OneImage s review n q (policies_asked s q) es → GoOn es
       → (fs : List Event) × Dispatches OneImage t review n q (policies_asked t q) fs × InAnyOrder es fs
   other_events es dispatches on =

@@ -21,7 +21,7 @@ use Rattle.cluster_gate.specs.declared.read_document.ReadDocument.{ReadDocument}
 
 -- ---- documents
 
--- a document that was read is there still after others were
+-- a document that was read is still there after others were read
 pub here_stays : (us vs : List kind.Value) (d : json.Data) (p : PooledDocument) → HasGrown us vs → IsReadHere us d p → IsReadHere vs d p
 here_stays us vs d p grown here = record {
   text = here.text;

@@ -13,7 +13,7 @@ pub not_json : (review : List ℕ) → document_of review ≡ None → request_g
 unfolding request_given
 not_json review is = rw is refl
 
--- a document that is no review
+-- a document that is not a review
 pub not_review : (review : List ℕ) (d : json.Data) → document_of review ≡ Some d → request_document d ≡ None → request_given review ≡ None
 unfolding request_given
 not_review review d is none = rw (is, none) refl

@@ -73,14 +73,14 @@ module _ (p : BoundPolicy) (run : PolicyRun) (of : IsRunOf p run) (before after 
       subst (λ (x : Progress). AddsStep p run step before after x) (sym is)
       (undecided_event p.name r ∷ [], subst (λ (name : List ℕ). Adds before after (undecided_event name r ∷ [])) of.name adds, runs)
 
-  -- what is told instead of findings is added
+  -- the event of a refusal instead of findings is added
   pub refused_step : (b : Binding) (params namespace : Option json.Data) (progress : Progress) (r : ClusterRefusal)
       → (progress ≡ NextPolicy) × Adds before after (undecided_event run.name.now r ∷ [])
       → FindsOrRefuses OneImage run.case.now.review.now run.case.now.steps p params namespace (Err r) → AddsStep p run (plan.evaluates b params namespace) before after progress
   refused_step b params namespace progress r told finds =
       told_last (plan.evaluates b params namespace) progress r told.0 told.1 (λ steps. refused finds.1 finds.2)
 
-  -- that the match is not known is added
+  -- the event of a match that is not known is added
   pub unknown_step : (step : PlannedStep) (progress : Progress) → step ≡ plan.unknown_match
       → (progress ≡ NextPolicy) × Adds before after (undecided_event run.name.now refusal.UnknownMatch ∷ []) → AddsStep p run step before after progress
   unknown_step step progress is told =

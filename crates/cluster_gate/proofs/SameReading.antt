@@ -22,7 +22,7 @@ use Rattle.cluster_gate.specs.Texts.{IsJsonTextIf, IsJsonTextOf, without_status}
 
 -- ---- texts
 
--- two texts of a value are read as the same
+-- two texts of one value are read as the same document
 pub same_text : (d : json.Data) (t u : List ℕ) → IsShallow d → IsJsonTextOf d t → IsJsonTextOf d u → document_of t ≡ document_of u
 same_text d t u shallow a b = a.reads shallow ∙ sym (b.reads shallow)
 
@@ -94,7 +94,7 @@ module _ (d e : Documents) (same : SameReading d e) where
     are_given = sym same.values ∙ c.are_given;
   }
 
-  -- so they have no response alike
+  -- if one has no response for this reason, neither has the other
   pub no_response_moved : (n : ℕ) (x : RunError) → HasNoResponse d n x → HasNoResponse e n x
   unfolding case_moved
   no_response_moved n (PolicyRefused r) is = refused_moved d.policy e.policy same.policy r is
@@ -104,7 +104,7 @@ module _ (d e : Documents) (same : SameReading d e) where
   no_response_moved n OverLimit is = record { case = case_moved is.case; beyond = is.beyond }
   no_response_moved n Memory is = is
 
-  -- the same is found
+  -- both have the same findings
   pub findings_moved : (n : ℕ) (r : Result (List PolicyFinding) RunError) → FindsReview d n r → FindsReview e n r
   unfolding case_moved
   findings_moved n (Ok found) is = record { case = case_moved is.case; findings_are = is.findings_are }
@@ -118,7 +118,7 @@ module _ (d e : Documents) (same : SameReading d e) where
     status = is.status;
   }
 
-  -- and the program's run agrees with the same
+  -- the program's run agrees with the same result for both
   pub runs_moved : {A : Type 0} (chosen : Images) (n : ℕ) (r : Result A RunError) → RunAgrees chosen d n r → RunAgrees chosen e n r
   runs_moved chosen n (Ok a) is = status_moved chosen n _ is
   runs_moved chosen n (Err (PolicyRefused x)) is = is

@@ -159,6 +159,6 @@ module _ (s : ClusterState) (shallow : (c : Collection) → Shallow (s.objects c
   answered_by answers block (matching.Trouble t) = an_error (fails_closed p.policy.document) None (trouble_text t q.attributes.namespace)
   answered_by answers block matching.Yes = blocked_by answers block
 
-  -- so it is by the answers of a server
+  -- likewise by the answers of a server
   pub steps_by_are_shallow : (answers : MatchAnswers) (block : Option PolicyBlock) → All IsShallowStep (policy_steps_by answers s p block q)
   steps_by_are_shallow answers block = answered_by answers block (answers p.policy.constraints)

@@ -1,4 +1,4 @@
--- Steps and policies of which each decides, one after another.
+-- Steps and policies, each of which decides, one after another.
 use Rattle.cluster_gate.proofs.Prelude.{◌≡◌, ◌∙◌, ◌∷◌, ◌++◌, ℕ, List, [], Bool, true, false, Option, Ok, option_map, refl, sym, BoundPolicy, ClusterState, Dispatches, Event, IsJudged, OneImage, PlannedStep, Request, RunsSteps, asked_policy, block_of, policy_steps}
 use Rattle.std.proofs.lemmas.List.Folds.{list_any-append}
 use Rattle.std.specs.List.{list_any}
@@ -48,7 +48,7 @@ pub data StepTells (policy : List ℕ) (finds : FindsWith) : PlannedStep → Lis
       → StepTells policy finds (plan.evaluates b params namespace) (findings_events policy b fs)
 
 module _ (policy : List ℕ) (finds : FindsWith) where
-  -- if each step decides, so they are all run
+  -- if each step decides, all steps are run
   pub all_told : (steps : List PlannedStep) (es : List Event) (ended : Bool) → RunsSteps policy finds steps es ended → GoOn es
       → Each (StepTells policy finds) steps es × (ended ≡ false)
   all_told _ _ _ no_steps on = (over_none, refl)

@@ -16,7 +16,7 @@ use Rattle.value_store.specs.Documents.{document_of}
 use Rattle.value_store.specs.Reviews.{without}
 use Rattle.cluster_gate.specs.Texts.{IsJsonTextOf}
 
--- what is written of a value is a text of it
+-- the written text of a value is a text of it
 pub has_text : (d : json.Data) (b : List ℕ) → IsUtf8 b → (has_float d ≡ false → b ≡ compact_text d) → (json.depth d ≤ max_depth → read b ≡ Some d) → IsJsonTextOf d b
 unfolding document_of
 has_text d b utf8 compact reads = record { reads = λ shallow. rw (is_utf8-from_IsUtf8 b utf8) (reads shallow); compact = compact }

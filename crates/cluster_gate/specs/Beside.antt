@@ -26,12 +26,12 @@ IsAtIf o None d = Unit {0}
 IsAtIf o (Some p) None = Unit {0}
 IsAtIf o (Some p) (Some d) = IsPlaceOf o d p
 
--- the same beside a review, if that was read
+-- the document has this place beside a review, if the review was read
 abbrev pub IsBesideIf : Option (Bor OpenValues) → Option NamespacePlace → Option json.Data → Type 0
 IsBesideIf None place d = Unit {0}
 IsBesideIf (Some o) place d = IsAtIf o.now place d
 
--- the namespace of an evaluation is there
+-- the namespace of an evaluation has this place beside the review
 abbrev pub HasKnownNamespace : Option (Bor OpenValues) → Option NamespacePlace → PlannedStep → Type 0
 HasKnownNamespace opened place (plan.evaluates b params namespace) = IsBesideIf opened place namespace
 HasKnownNamespace opened place (plan.denies b t) = Unit {0}

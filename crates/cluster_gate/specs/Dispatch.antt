@@ -1,4 +1,4 @@
--- What a cluster decides of a review (Kubernetes, dispatch of ValidatingAdmissionPolicies).
+-- What a cluster decides about a review (Kubernetes, dispatch of ValidatingAdmissionPolicies).
 use Rattle.std.specs.Prelude.{◌≡◌, ℕ, Bool, true, false, List, [], ◌∷◌, ◌++◌, Option, Some, None, Result, Ok, Err, option_and_then, option_map, if◌then◌else◌}
 use Rattle.serde_json.specs.Data as json
 use Rattle.value_store.specs.Documents.{document_of}
@@ -31,11 +31,11 @@ use Rattle.cluster_gate.specs.declared.block_cause.BlockCause.{BlockCause}
 abbrev pub request_document : json.Data → Option json.Data
 request_document d = option_map json.object (request_of d)
 
--- the request of a review, if it is one and each of the request's fields has its form
+-- the request of a review, if it is one and each of the request's fields has the right form
 unfoldable pub request_given : List ℕ → Option Request
 request_given review = option_and_then request_in (option_and_then request_document (document_of review))
 
--- the policies that a request meets
+-- the policies that are asked about a request
 abbrev pub policies_asked : ClusterState → Request → List BoundPolicy
 policies_asked s q = if is_exempt q.attributes.resource then [] else s.policies
 
@@ -61,7 +61,7 @@ undecided_event policy r = event.refuses (record { policy = policy; refusal = r 
 
 -- ---- evaluations
 
--- what a policy finds with some params and some namespace, each null if it is none, or why it does not
+-- what a policy finds with these params and this namespace, each null if there is none, or why it does not decide
 abbrev pub FindsWith : Type 1
 FindsWith = Option json.Data → Option json.Data → Result (List PolicyFinding) RunError → Type 0
 
@@ -115,7 +115,7 @@ pub data Dispatches (chosen : Images) (s : ClusterState) (review : List ℕ) (n 
   last : {p : BoundPolicy} {ps : List BoundPolicy} {es : List Event} → AsksPolicy chosen s review n q p es true
       → Dispatches chosen s review n q (p ∷ ps) es
 
--- the text that answers a review, which depends on the state and the review alone; none for what is no review
+-- the text that answers a review, which depends on the state and the review alone; none for bytes that are no review
 pub data DecidesInCluster (chosen : Images) (s : ClusterState) (review : List ℕ) (n : ℕ) : Option (List ℕ) → Type 0 where
   no_review : request_given review ≡ None → DecidesInCluster chosen s review n None
   decided : {q : Request} {es : List Event} → request_given review ≡ Some q → Dispatches chosen s review n q (policies_asked s q) es

@@ -48,14 +48,14 @@ pub record IsRefusedPolicy (p : BoundPolicy) (e : PolicyRefusal) : Type 0 where
   pub has_text : IsJsonTextOf (without_status p.document) text
   pub refused : IsPolicyRefused text e
 
--- why a policy is blocked, the first of these: it is refused; a match condition names `namespaceObject`, which the API
--- server has as null there; params of its kind cannot be found
+-- why a policy is blocked, the first of these: it is refused; a match condition names `namespaceObject`, which is null
+-- there in an API server; params of its kind cannot be found
 abbrev pub IsBlockedBy : ClusterState → BoundPolicy → BlockCause → Type 0
 IsBlockedBy s p (Refused e) = IsRefusedPolicy p e
 IsBlockedBy s p NamesNamespace = IsCompiledPolicy p true
 IsBlockedBy s p UnknownParamKind = IsCompiledPolicy p false × (lacks_kind s p ≡ true)
 
--- nothing blocks a policy, or this does
+-- what blocks a policy, if anything does
 abbrev pub IsJudged : ClusterState → BoundPolicy → Option BlockCause → Type 0
 IsJudged s p None = IsCompiledPolicy p false × (lacks_kind s p ≡ false)
 IsJudged s p (Some cause) = IsBlockedBy s p cause
@@ -70,7 +70,7 @@ abbrev pub NoneIsBlocked : ClusterState → List BoundPolicy → Type 0
 NoneIsBlocked s [] = Unit {0}
 NoneIsBlocked s (p ∷ ps) = IsJudged s p None × NoneIsBlocked s ps
 
--- the first policy that is blocked has this name, and is blocked by this
+-- the first blocked policy has this name and this cause
 pub record FirstIsBlocked (s : ClusterState) (policies : List BoundPolicy) (name : List ℕ) (cause : BlockCause) : Type 0 where
   pub before : List BoundPolicy
   pub policy : BoundPolicy
@@ -94,7 +94,7 @@ pub record IsAskedGate (p : BoundPolicy) (gate : PolicyAndImage) : Type 0 where
   pub gate_of : IsGateOfText p gate
   pub naming : conditions_name_namespace gate_of.of_policy.1.trees ≡ false
 
--- a policy is asked by this gate, or blocked by this
+-- a policy has this gate, or is blocked by this cause
 abbrev pub StandsAs : ClusterState → BoundPolicy → Standing → Type 0
 StandsAs s p (Asked gate) = IsAskedGate p gate × (lacks_kind s p ≡ false)
 StandsAs s p (Blocked cause) = IsBlockedBy s p cause

@@ -42,12 +42,12 @@ UnmatchedIsAllowed = (s : ClusterState) (review : List ℕ) (n : ℕ) (q : Reque
 abbrev pub IsShallow : json.Data → Type 0
 IsShallow d = json.depth d ≤ max_depth
 
--- so are the documents of the state
+-- no document of the state is nested deeper than JSON texts that are read
 pub record HasShallowDocuments (s : ClusterState) : Type 0 where
   pub policies : All (λ p. IsShallow p.document) s.policies
   pub objects : (c : Collection) → All (λ o. IsShallow o.1) (s.objects c)
 
--- the state in lists that are nested no deeper has such documents
+-- a state in lists that are nested no deeper has no deeper document
 abbrev pub StatesAreShallow : Type 0
 StatesAreShallow = (lists : List json.Data) (s : ClusterState) → All IsShallow lists → state_of lists ≡ Ok s → HasShallowDocuments s
 
@@ -63,7 +63,7 @@ abbrev pub denies_errors : FailurePolicy → Bool
 denies_errors Fail = true
 denies_errors Ignore = false
 
--- the failure policy that the steps of a compiled policy go by is the compiled policy's
+-- the failure policy that the steps of a compiled policy use is the compiled policy's
 abbrev pub FailsClosedAsCompiled : Type 0
 FailsClosedAsCompiled = (p : BoundPolicy) (names : Bool) (c : IsCompiledPolicy p names) → IsShallow p.document
     → fails_closed p.document ≡ denies_errors c.is_policy.parsed.failure_policy

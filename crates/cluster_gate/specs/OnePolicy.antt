@@ -58,7 +58,7 @@ IsSameDecision name uid (Ok reply) answer = allowed_in answer ≡ Some (json.boo
 IsSameDecision name uid (Err e) answer =
     (r : ClusterRefusal) × (error_refusal e ≡ Some r) × (answer ≡ undecided_tree (record { policy = name; refusal = r }) uid)
 
--- so the cluster decides as a review under the policy
+-- a cluster with one such policy decides as a review under the policy
 abbrev pub OnePolicyIsReview : Type 0
 OnePolicyIsReview = (s : ClusterState) (review : List ℕ) (n : ℕ) (q : Request) (p : BoundPolicy) (b : Binding) (d : Documents)
     (result : Result Reply RunError) (text : List ℕ)

@@ -1,4 +1,4 @@
--- The order of policies and of bindings, which API servers leave open: what does not depend on it.
+-- What does not depend on the order of policies and of bindings, which API servers leave open.
 use Rattle.std.specs.Prelude.{◌≡◌, ℕ, false, true, List, [], ◌∷◌, Option, Some, None, IsPermutation, bytes_eq}
 use Rattle.std.specs.List.{list_any}
 use Rattle.serde_json.specs.Data as json
@@ -40,9 +40,9 @@ IsAllowed d = allowed_in d ≡ Some (json.boolean true)
 abbrev pub EachDecides : List Event → Type 0
 EachDecides es = list_any is_refusal es ≡ false
 
--- What two orders have in common. A request is allowed in both or in neither. If each policy decides in
--- both, both end because the namespace is not found, or neither. If each policy decides in one, which does not end so,
--- then the other has the same events, in any order, and so the same warnings.
+-- What two orders have in common. A request is allowed in both or in neither. If each policy decides in both, either
+-- both dispatches end because the namespace is not found, or neither. If each policy decides in one, whose dispatch
+-- does not end so, the other has the same events, in any order, and so the same warnings.
 pub record HaveInCommon (q : Request) (uid : List ℕ) (es fs : List Event) : Type 0 where
   pub allowed : IsAllowed (answer q uid es) → IsAllowed (answer q uid fs)
   pub allowed_back : IsAllowed (answer q uid fs) → IsAllowed (answer q uid es)
@@ -51,7 +51,7 @@ pub record HaveInCommon (q : Request) (uid : List ℕ) (es fs : List Event) : Ty
   pub warnings : EachDecides es → has_end es ≡ false
       → (t : List ℕ) → list_any (bytes_eq t) (summary_of es).warnings ≡ list_any (bytes_eq t) (summary_of fs).warnings
 
--- the answers in two orders: none to what is no review, and else those by the events of both, with these in common
+-- the answers in two orders: none if there is no review, else those by the events of both, with these in common
 pub data Agree (s t : ClusterState) (review : List ℕ) (n : ℕ) : Option (List ℕ) → Option (List ℕ) → Type 0 where
   no_reviews : request_given review ≡ None → Agree s t review n None None
   decisions : {q : Request} {es fs : List Event} → request_given review ≡ Some q → Dispatches OneImage s review n q (policies_asked s q) es

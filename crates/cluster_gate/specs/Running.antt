@@ -1,4 +1,4 @@
--- How the code goes through the steps of policies.
+-- How the code runs the steps of policies.
 use Rattle.std.specs.Prelude.{◌≡◌, ℕ, Bool, true, false, List, [], ◌∷◌, ◌++◌, map, option_map, Option, None, Some, Result, Ok, Err, Vec}
 use Rattle.std.specs.declared.alloc.Global.{Global}
 use Rattle.serde_json.specs.Data as json
@@ -54,7 +54,7 @@ pub record IsRunOf (p : BoundPolicy) (run : PolicyRun) : Type 0 where
 abbrev pub finds_of : BoundPolicy → PolicyRun → FindsWith
 finds_of p run params namespace result = EvaluatesPolicy OneImage run.case.now.review.now run.case.now.steps p params namespace result
 
--- these are the events of a step before the others, by how the dispatch goes on after it
+-- the events of a step, followed by those of other steps unless the policy or the dispatch ends
 abbrev pub StepRuns : List ℕ → FindsWith → Progress → PlannedStep → List Event → Type 0
 StepRuns policy finds NextStep step fs = (steps : List PlannedStep) (es : List Event) (ended : Bool) → RunsSteps policy finds steps es ended
     → RunsSteps policy finds (step ∷ steps) (fs ++ es) ended
@@ -90,7 +90,7 @@ abbrev pub error_events : Bool → List ℕ → List ℕ → List Event
 error_events true policy message = configuration_event policy None message ∷ []
 error_events false policy message = []
 
--- the events are added that a policy has if the labels of the request's namespace are not known
+-- the events of a policy are added if the labels of the request's namespace are not known
 abbrev pub AddsTrouble : BoundPolicy → Request → Trouble → CodeEvents → CodeEvents → Type 0
 AddsTrouble p q t before after =
     Adds before after (error_events (fails_closed p.document) p.name (trouble_text t q.attributes.namespace))

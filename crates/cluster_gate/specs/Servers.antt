@@ -1,4 +1,4 @@
--- Decisions of an API server that knows other resources which it stores in the same place as the request's.
+-- Decisions of an API server that knows other resources, which it stores in the same place as the request's.
 use Rattle.std.specs.Prelude.{◌≡◌, ℕ, Bool, true, false, List, [], ◌∷◌, ◌++◌, All, Option, Some, None, option_map}
 use Rattle.std.specs.List.{flat_map, list_any}
 use Rattle.policy_glue.specs.OneImage.{OneImage}
@@ -77,7 +77,7 @@ EquivalentsAreFree = (served : List GroupVersionResource) (s : ClusterState) (re
     → Dispatches OneImage s review n q (policies_asked s q) es → ServerDispatches served OneImage s review n q (policies_asked s q) fs
     → fs ≡ es
 
--- and a server has such events
+-- if each policy decides, the server has these events
 abbrev pub ServersHaveAnswers : Type 0
 ServersHaveAnswers = (served : List GroupVersionResource) (s : ClusterState) (review : List ℕ) (n : ℕ) (q : Request) (es : List Event)
     → All (λ c. is_candidate q.attributes.resource c ≡ true) served → list_any is_refusal es ≡ false

@@ -15,7 +15,7 @@ use Rattle.cluster_response.specs.Rows.{bound, denied_by_m, found, pods, request
 use Rattle.cluster_response.specs.declared.cluster_refusal.ClusterRefusal.TheVariants as refusal
 use Rattle.cluster_gate.specs.Dispatch.{FindsWith, RunsSteps, undecided_event}
 
--- a policy that finds a message, which is its params, or does not end in its steps if it has none
+-- a policy that finds its params as a message; without params it does not end in its steps
 abbrev pub finds_params : FindsWith
 finds_params (Some (json.string t)) namespace result = result ≡ Ok (found 0 t Forbidden ∷ [])
 finds_params _ namespace result = result ≡ Err OutOfSteps

@@ -1,4 +1,4 @@
--- Tables of evaluations, and the reviews that they are made of.
+-- Tables of evaluations, and the reviews from which they are made.
 use Rattle.std.specs.Prelude.{◌≡◌, ℕ, List, Option, Some, Result, Ok, Err}
 use Rattle.serde_json.specs.Data as json
 use Rattle.value_store.specs.Documents.{document_given}
@@ -14,7 +14,7 @@ use Rattle.admission.specs.Deciding.{Documents}
 use Rattle.cluster_gate.specs.Opened.{IsReadIf}
 use Rattle.cluster_gate.specs.Texts.{IsJsonTextIf}
 
--- the document is here, and the review and the values before are there still
+-- the document is here, and the review and the earlier values are still there
 pub record IsPlacedIn (before after : OpenValues) (d : Option json.Data) (p : Option PooledDocument) : Type 0 where
   pub review : after.review ≡ before.review
   pub grown : HasGrown before.values after.values
@@ -37,7 +37,7 @@ pub record GivesTable (review : List ℕ) (params namespace : Option json.Data) 
   pub params_is : IsJsonTextIf params params_text
   pub returns : ReviewTableReturns held_contents r (parts_given (Some review)) (document_given namespace_text) (document_given params_text)
 
--- the same, unless it is not known
+-- the table of the roots of a review, params and a namespace, or the first refusal, unless it is not known
 abbrev pub SharesTable : List ℕ → Option json.Data → Option json.Data → Result Held ReviewError → Type 0
 SharesTable review params namespace (Ok t) = GivesTable review params namespace (Ok t)
 SharesTable review params namespace (Err (RootRefused k)) = GivesTable review params namespace (Err (RootRefused k))

@@ -20,8 +20,8 @@ use cluster_response::{ClusterRefusal, Events};
 use cluster_state::{Policy, State};
 use std::alloc::{AllocError, Global};
 
-/// Adds the events of a policy. Returns whether the dispatch ends. The error is that an allocation
-/// failed.
+/// Adds the events of a policy. Returns whether the dispatch ends. The error is a failed
+/// allocation.
 pub(crate) fn ask<'a>(
     alloc: Global,
     state: &State<'a>,
@@ -49,7 +49,7 @@ pub(crate) fn ask<'a>(
     }
 }
 
-/// The labels of the request's namespace are not known, which denies if the policy fails closed.
+/// The labels of the request's namespace are not known. That denies if the policy fails closed.
 fn ask_in_trouble(
     alloc: Global,
     policy: &Policy<'_>,

@@ -9,7 +9,7 @@ use value_table::DocumentPool;
 pub(crate) struct Base<'a> {
     pub(crate) pool: DocumentPool,
     pub(crate) documents: Vec<ReadDocument<'a>>,
-    /// The length in bytes of what was read, with something for what keeps it.
+    /// The length in bytes of what was read, with an amount for the base itself.
     pub(crate) length: usize,
 }
 

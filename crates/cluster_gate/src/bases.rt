@@ -11,7 +11,7 @@ use std::alloc::{AllocError, Global};
 use std::cell::Cell;
 use value_table::{DocumentPool, ReviewError};
 
-/// What a base counts for beside the texts that were read.
+/// The length that is counted for a base itself, in addition to the texts that were read.
 const BASE_LENGTH: usize = 1024;
 
 impl<'a> Base<'a> {

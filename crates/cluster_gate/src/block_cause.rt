@@ -7,12 +7,12 @@ use admission::PolicyRefusal;
 use cluster_response::ClusterRefusal;
 
 /// Why a policy decides none of the requests that its constraints match. If several causes hold,
-/// the first of this list is told.
+/// the first of this list is reported.
 #[derive(Clone, Copy, Debug, PartialEq, Eq)]
 pub enum BlockCause {
     /// The policy is refused.
     Refused(PolicyRefusal),
-    /// A match condition names `namespaceObject`, which the API server has as null there.
+    /// A match condition names `namespaceObject`, which is null there in an API server.
     NamesNamespace,
     /// Params of its kind cannot be found.
     UnknownParamKind,

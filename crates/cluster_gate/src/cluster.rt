@@ -42,8 +42,8 @@ impl<'s, 'a> Cluster<'s, 'a> {
     ///
     /// # Errors
     ///
-    /// The first policy by name that is blocked, unless `partial`. `Memory` where memory runs out,
-    /// which says nothing of the rest.
+    /// The first policy by name that is blocked, unless `partial`. `Memory` if an allocation fails,
+    /// which implies nothing about the rest.
     pub fn new(
         alloc: Global,
         state: &'s State<'a>,
@@ -68,8 +68,8 @@ impl<'s, 'a> Cluster<'s, 'a> {
     }
 
     /// The text that answers a review (AdmissionReview, `admission.k8s.io/v1`), in which each
-    /// evaluation of a policy may take at most `n` steps; none for bytes that are no review. The
-    /// error is that an allocation failed, which says nothing of the review.
+    /// evaluation of a policy may take at most `n` steps; none if the bytes are no review. The
+    /// error is a failed allocation, which implies nothing about the review.
     pub fn decide(&self, review: &[u8], n: u64) -> Result<Option<Vec<u8>>, AllocError>
         ensures { IfOk result (λ o. (s : ClusterState) → IsClusterFor s self.now → DecidesInCluster OneImage s review.now n (option_map (λ b. b.items) o)) }
     {

@@ -22,11 +22,11 @@ use std::alloc::{AllocError, Global};
 use value_table::{ReviewError, Table};
 
 /// What the gate's policy finds against the request with these params and this namespace, each null
-/// if it is none, or why it does not decide.
+/// if there is none, or why it does not decide.
 ///
 /// # Errors
 ///
-/// An allocation failed, which says nothing of the review.
+/// An allocation failed, which implies nothing about the review.
 pub(crate) fn evaluate<'a>(
     alloc: Global,
     gate: &Gate,
@@ -67,7 +67,7 @@ fn evaluate_on(
     found(findings_on(gate, case, table))
 }
 
-/// The findings on a table, or by why there is none.
+/// The findings on the table, or the error for which there is no table.
 fn findings_on(
     gate: &Gate,
     case: &Case<'_, '_, '_>,
@@ -81,7 +81,7 @@ fn findings_on(
     gate.findings_on(table, case.steps)
 }
 
-/// The same, with the review read for this evaluation alone.
+/// `evaluate`, with the review read for this evaluation alone.
 fn evaluate_alone(
     alloc: Global,
     gate: &Gate,

@@ -1,4 +1,4 @@
-//! What the policies of a whole cluster decide of reviews.
+//! Decides reviews as the policies of a whole cluster do.
 #![tactic(auto)]
 
 mod asking;

@@ -19,17 +19,17 @@ use std::cell::Cell;
 use value_store::ValueStore;
 use value_table::{OpenReview, PooledDocument, ReviewError, Table};
 
-/// The largest length in bytes of a document that is wanted before later reviews.
+/// The largest length in bytes of a document that is kept for later reviews.
 const WANTED_LENGTH: usize = 65_536;
 
 impl<'a> OpenedReview<'a, '_> {
-    /// The table of the roots of the review with these params and this namespace, each null if it is
-    /// none. The documents that are not read yet are read beside it. The namespace is at this place,
-    /// if one is known.
+    /// The table of the roots of the review with these params and this namespace, each null if there
+    /// is none. The documents that are not read yet are read beside it. The namespace is at this
+    /// place, if one is known.
     ///
     /// # Errors
     ///
-    /// As `Table::of_review`. `InvalidReview` and `InvalidDocument` say nothing.
+    /// Those of `Table::of_review`. `InvalidReview` and `InvalidDocument` imply nothing.
     pub(crate) fn table_by(
         &self,
         alloc: Global,
@@ -49,7 +49,7 @@ impl<'a> OpenedReview<'a, '_> {
         }
     }
 
-    /// The same, with the namespace of this document at a place that is known.
+    /// `table_by`, with the namespace of this document at a place that is known.
     fn table_beside(
         &self,
         alloc: Global,
@@ -66,7 +66,7 @@ impl<'a> OpenedReview<'a, '_> {
         }
     }
 
-    /// The same without params: a copy of the table that is there, if one is.
+    /// `table_beside` without params: a copy of the table that is there, if one is.
     fn first_table(
         &self,
         alloc: Global,
@@ -92,7 +92,7 @@ impl<'a> OpenedReview<'a, '_> {
         }
     }
 
-    /// This place of a namespace, with the table without params, unless there is none.
+    /// This place of a namespace, with the table without params, if that can be made.
     fn with_first_table(
         &self,
         alloc: Global,
@@ -136,7 +136,7 @@ impl<'a> OpenedReview<'a, '_> {
         review.table(Some(namespace), params)
     }
 
-    /// The table with the namespace where it is found among the documents, or else read.
+    /// The table with the namespace, which is found among the documents or else read.
     fn table(
         &self,
         alloc: Global,
@@ -153,7 +153,7 @@ impl<'a> OpenedReview<'a, '_> {
     }
 }
 
-/// Where the document is beside the review, among these or else read now.
+/// Where the document is beside the review: among these documents, or else it is read now.
 #[tactic(auto, using(crate::proofs::Places::place_none, crate::proofs::Places::place_found))]
 fn with_place<'a, 'r>(
     alloc: Global,
@@ -194,7 +194,7 @@ fn is_read(read: &ReadDocument<'_>, name: &str, document: &Value) -> bool
     read.name == name && is_same(read.document, document)
 }
 
-/// Reads the document beside the review, and tells that it is wanted unless it is long.
+/// Reads the document beside the review, and marks it as wanted unless it is long.
 fn read_beside<'a, 'r>(
     alloc: Global,
     wanted: &Cell<Option<&'a Value>>,

@@ -15,7 +15,7 @@ use cluster_plan::AskedPolicy;
 use cluster_state::{KnownKind, Policy, State};
 use std::alloc::{AllocError, Global};
 
-/// The gate of each bound policy, in the order of their names. Unless `partial` the first policy
+/// The gate of each bound policy, in the order of their names. Unless `partial`, the first policy
 /// that is blocked is the error.
 pub(crate) fn open_gates<'s, 'a>(
     alloc: Global,
@@ -99,7 +99,7 @@ fn standing(alloc: Global, policy: &Policy<'_>, lacks: bool) -> Result<Standing,
     }
 }
 
-/// Whether a policy that is compiled is asked.
+/// Whether a compiled policy is asked.
 fn standing_of(gate: Gate, lacks: bool) -> Result<Standing, AllocError>
     ensures { IfOk result (λ t. (s : ClusterState) (p : BoundPolicy) → lacks_kind s p ≡ lacks → IsGateOfText p gate → StandsAs s p t) }
 {

@@ -12,7 +12,7 @@ pub(crate) struct ReadDocument<'a> {
     pub(crate) pooled: PooledDocument,
 }
 
-/// The name in the document's metadata, and the empty one if there is none.
+/// The name in the document's metadata, or the empty name if there is none.
 pub(crate) fn name_of<'a>(document: &'a Value) -> &'a str {
     match document.get("metadata") {
         Some(metadata) => name_in(metadata),

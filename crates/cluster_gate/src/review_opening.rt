@@ -69,13 +69,13 @@ impl<'a> Cluster<'_, 'a> {
         false
     }
 
-    /// Keeps what an evaluation had to read beside the review, for reviews that come later.
+    /// Keeps the document that an evaluation had to read beside the review, for later reviews.
     pub(crate) fn keep_wanted(&self, case: &Case<'_, '_, 'a>) {
         if let Some(opened) = case.opened {
             if let Some(document) = opened.wanted.get() {
                 let request = case.request;
                 let name = request.attributes.namespace;
-                // After a failure it is read again.
+                // If it cannot be kept, it is read again.
                 drop(self.kept.keep(name, document));
             }
         }

@@ -9,7 +9,7 @@ ghost use Rattle.cluster_gate.specs.Dispatch.{request_document};
 
 use serde_json::Value;
 
-/// The request of a review, which its document lends.
+/// The request of a review, borrowed from its document.
 #[derive(Clone, Copy, Debug, Drop)]
 pub(crate) struct ReviewRequest<'a> {
     pub(crate) document: &'a Value,
@@ -37,7 +37,7 @@ fn is_review(document: &Value) -> bool
     version && kind
 }
 
-/// Whether this text is there.
+/// Whether the value is this text.
 fn equals_string(value: Option<&Value>, text: &str) -> bool
     ensures { result ≡ equals_string (option_map (λ v. view v.now) value.entry) text.now }
 {

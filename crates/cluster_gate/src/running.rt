@@ -20,8 +20,8 @@ use serde_json::Value;
 use std::alloc::AllocError;
 
 impl<'a> PolicyRun<'_, '_, '_, '_, 'a> {
-    /// Adds the events of the steps, up to the first that is the last of the policy. Returns whether
-    /// the dispatch ends.
+    /// Adds the events of the steps, up to the first one that ends the policy. Returns whether the
+    /// dispatch ends.
     pub(crate) fn run(
         &self,
         events: &mut Events,
