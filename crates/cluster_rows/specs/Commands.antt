@@ -1,5 +1,5 @@
--- The program celbpf, as the page on its commands has it: words that it refuses, the statuses of runs, and the ends of
--- sessions.
+-- The program celbpf, as the page on its commands describes it: words that it refuses, the statuses of runs, and how
+-- sessions end.
 use Rattle.std.specs.Prelude.{◌≡◌, List, [], ◌∷◌, Some, None, Ok, Err, codes}
 use Rattle.clap.specs.Words.{Text}
 use Rattle.guest_memory.specs.declared.fault.Fault.TheVariants.{F1, F8}
@@ -35,8 +35,8 @@ pub record CommandWordsHold : Type 0 where
   pub no_step : faults without_a_step ≡ []
   pub two_digits : IsRead (with_steps (codes "10")) (codes "run-image") (Some (codes "a.img") ∷ []) 10
 
--- a run ends with status 0 if it exited, 1 if a fault stopped it, and 4 if it has not stopped; a session that breaks off
--- is refused by S1, S2 or for memory
+-- a run ends with status 0 if it exited, 1 if a fault stopped it, and 4 if it has not stopped; a session that breaks
+-- off is refused with S1, S2 or `memory`
 pub record EndRowsHold : Type 0 where
   pub exited : run_status (status.Exited 3) ≡ 0
   pub exited_with_zero : run_status (status.Exited 0) ≡ 0

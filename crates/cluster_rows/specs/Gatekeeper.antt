@@ -1,5 +1,5 @@
--- What the program gatekeeper writes, as the pages on the gatekeeper and on clusters have it: refusals of lines, joined
--- decisions, and what it tells of a cluster's policies.
+-- What the program gatekeeper writes, as the pages on the gatekeeper and on clusters describe it: refusals of lines,
+-- joined decisions, and its lines on a cluster's policies.
 use Rattle.std.specs.Prelude.{◌≡◌, ℕ, List, [], ◌∷◌, ◌++◌, Option, Some, None, Result, Ok, Err, String, codes, string_bytes}
 use Rattle.std.specs.declared.alloc.Global.{Global}
 use Rattle.serde_json.specs.Data as json
@@ -35,7 +35,7 @@ use Rattle.gatekeeper_runner.specs.declared.cluster_fault.ClusterFault.TheVarian
 
 -- ---- lines
 
--- the review with uid u1 is refused for its form
+-- the review with uid u1 is refused because of its form
 abbrev pub no_review : RefusedReview
 no_review = record { error = run_error.ReviewRefused; policy = None }
 
@@ -120,7 +120,7 @@ pub record FaultLineRowsHold : Type 0 where
   pub code_of_a_name : cause_code NamesNamespace ≡ codes "C7"
   pub code_of_a_kind : cause_code UnknownParamKind ≡ codes "C8"
 
--- and with a name, whatever it is
+-- the texts with a name, for every name
 pub record FaultNameRowsHold : Type 0 where
   pub duplicate : (name : String Global) → state_text (DuplicateItem name) ≡ codes "C3 " ++ string_bytes name
   pub binding : (name : String Global) → state_text (InvalidBinding name) ≡ codes "C5 " ++ string_bytes name

@@ -1,4 +1,4 @@
--- Policies of a cluster that are blocked, refusals of requests, and documents as policies are compiled from them.
+-- Policies of a cluster that are blocked, refusals of requests, and the documents from which policies are compiled.
 use Rattle.std.specs.Prelude.{◌≡◌, true, false, List, [], Option, Some, None, codes, option_map}
 use Rattle.serde_json.specs.Data as json
 use Rattle.serde_json.specs.Read.{read}
@@ -40,7 +40,7 @@ pub record BlockRowsHold : Type 0 where
   pub blocked_policy : block_refusal policy_refused ≡ refusal.PolicyRefused
   pub blocked_kind : block_refusal unknown_kind ≡ refusal.UnknownParamKind
 
--- each refusal of an evaluation is reported as it is; there is none if an allocation failed
+-- each refusal of an evaluation is reported unchanged; there is none if an allocation failed
 pub record ErrorRowsHold : Type 0 where
   pub refused_policy : error_refusal (run_error.PolicyRefused (Unread NotJson)) ≡ Some refusal.PolicyRefused
   pub refused_review : error_refusal run_error.ReviewRefused ≡ Some refusal.ReviewRefused

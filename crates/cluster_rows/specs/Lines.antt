@@ -2,7 +2,7 @@
 use Rattle.std.specs.Prelude.{◌≡◌, true, false, [], ◌∷◌, codes}
 use Rattle.line_answers.specs.Lines.{is_blank, line_of}
 
--- a space, a tab and a carriage return are blank; the bytes beside them are not
+-- a space, a tab and a carriage return are blank; the bytes next to them are not
 pub record BlankRowsHold : Type 0 where
   pub empty : is_blank [] ≡ true
   pub all_three : is_blank (codes " \t\r") ≡ true

@@ -44,7 +44,7 @@ update_namespace = request Update core_namespaces [] (codes "prod") (codes "prod
 abbrev pub update_beta_namespace : Attributes
 update_beta_namespace = request Update beta_namespaces [] (codes "prod") (codes "prod")
 
--- each operation has its name, and only the namespaces of version v1 are cluster-scoped beside a namespace
+-- each operation has its name; a request on a namespace, which has a namespace, is cluster-scoped only in version v1
 pub record RuleRowsHold : Type 0 where
   pub create_is_no_update : fits (on_operation (codes "UPDATE")) create_pod core_pods ≡ false
   pub update : fits (on_operation (codes "UPDATE")) update_pod core_pods ≡ true
@@ -53,7 +53,7 @@ pub record RuleRowsHold : Type 0 where
   pub beta_namespaces_are_namespaced : fits (on_namespaces Namespaced) update_beta_namespace beta_namespaces ≡ true
   pub namespaces_are_not_namespaced : fits (on_namespaces Namespaced) update_namespace core_namespaces ≡ false
 
--- the groups that share a resource, and others beside them
+-- the groups that share a resource, and some that do not
 pub record SharedRowsHold : Type 0 where
   pub extensions_and_another : is_shared (codes "extensions") (codes "example.com") (codes "deployments") ≡ false
   pub another_and_apps : is_shared (codes "example.com") (codes "apps") (codes "deployments") ≡ false
@@ -63,7 +63,7 @@ pub record SharedRowsHold : Type 0 where
   pub ingresses_of_other_groups : is_shared (codes "example.com") (codes "example.org") (codes "ingresses") ≡ false
   pub events_back : is_shared (codes "events.k8s.io") [] (codes "events") ≡ true
 
--- the answer of match resources with these rules alone; no rules are those that match every request
+-- the answer of match resources with only these rules; without rules every request matches
 abbrev pub answer_by : MatchPolicy → List Rule → Attributes → Answer
 answer_by policy rules q = match_answer (record (matching everything everything rules []) { match_policy = policy }) one_namespace q
 
@@ -117,7 +117,7 @@ pub record ExemptGroupsHold : Type 0 where
   pub policies_of_another_group : is_exempt (resource (codes "example.com") v1 (codes "validatingadmissionpolicies")) ≡ false
   pub bindings_of_another_group : is_exempt (resource [] v1 (codes "validatingadmissionpolicybindings")) ≡ false
 
--- a namespace that is not selected keeps a request out, whatever equivalent resources the server knows
+-- a request in a namespace that is not selected does not match, regardless of equivalent resources on the server
 pub record NamespaceAnswersHold : Type 0 where
   pub before_rules_that_may_fit : match_answer (matching no_env everything (on_widgets v1 ∷ []) []) one_namespace create_widget ≡ No
   pub before_excludes_that_may_fit : match_answer (matching no_env everything all_rules (on_widgets v1 ∷ [])) one_namespace create_widget

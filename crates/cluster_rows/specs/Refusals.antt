@@ -1,4 +1,4 @@
--- Refusals of both programs for an allocation that fails, at whatever part it does: each is the word `memory`.
+-- Refusals of both programs for a failed allocation: each is the word `memory`, in every part that reports it.
 use Rattle.std.specs.Prelude.{◌≡◌, codes}
 use Rattle.assembler.specs.declared.asm_error.AsmError.TheVariants as asm_error
 use Rattle.cel_macros.specs.declared.macro_error.MacroError.TheVariants as macro_error

@@ -4,7 +4,7 @@ use Rattle.label_selectors.specs.Storing.{checked_requirement, is_label_key, is_
 use Rattle.label_selectors.specs.declared.operator.Operator.TheVariants.{DoesNotExist}
 
 -- a value begins and ends with one of [A-Za-z0-9] (Kubernetes, IsValidLabelValue): the first and the last character of
--- each range, and the ASCII characters beside them
+-- each range, and the ASCII characters next to them
 pub record ValueRowsHold : Type 0 where
   pub first_capital : is_label_value (codes "A") ≡ true
   pub last_capital : is_label_value (codes "Z") ≡ true

@@ -51,7 +51,7 @@ pub record DueRowsHold : Type 0 where
   pub list_as_namespace : IsDueRefusal (refused (not_a_list 0)) NoNamespace → ⊥
   pub memory : IsDueRefusal (refused no_namespace) Memory
 
--- and with one, whatever the name is
+-- the error of the code for each refusal with a name, for every name
 pub record DueNameRowsHold : Type 0 where
   pub duplicate : (name : String Global) → IsDueRefusal (refused (duplicate_item (string_bytes name))) (DuplicateItem name)
   pub binding : (name : String Global) → IsDueRefusal (refused (invalid_binding (string_bytes name))) (InvalidBinding name)
@@ -63,7 +63,7 @@ pub record DueNameRowsHold : Type 0 where
 abbrev pub with_actions : List ℕ → List ℕ
 with_actions actions = codes "{\"policyName\":\"p\",\"validationActions\":[" ++ (actions ++ codes "]}")
 
--- any two different actions but Deny with Warn, in any order
+-- any two different actions except Deny with Warn, in any order
 pub record ActionRowsHold : Type 0 where
   pub audit_and_warn : is_binding (with_actions (codes "\"Audit\",\"Warn\"")) ≡ true
   pub audit_and_deny : is_binding (with_actions (codes "\"Audit\",\"Deny\"")) ≡ true
@@ -95,7 +95,7 @@ pub record ParamAnswersHold : Type 0 where
   pub of_the_cluster : scope_by limit_kind [] (definition (codes "Cluster")) ≡ Some Cluster
   pub of_no_scope : scope_by limit_kind [] (definition (codes "Node")) ≡ None
   pub of_another_kind : scope_by (record limit_kind { kind = codes "Other" }) [] (definition (codes "Cluster")) ≡ None
-  -- `served` is a required truth
+  -- `served` is required, and a bool
   pub without_served : scope_by limit_kind [] (definition_in (codes "{\"name\":\"v1\"}")) ≡ None
   pub text_as_served : scope_by limit_kind [] (definition_in (codes "{\"name\":\"v1\",\"served\":\"true\"}")) ≡ None
   pub second_version : scope_by limit_kind [] (definition_in (codes "{\"name\":\"v2\",\"served\":true},{\"name\":\"v1\",\"served\":true}"))
@@ -107,5 +107,5 @@ pub record ParamAnswersHold : Type 0 where
       ≡ Some limits_kind
   -- params of the cluster need no namespace
   pub of_the_cluster_for_a_node : params_of held limits_kind (to_name (codes "l") []) [] ≡ Ok (texts_of (codes "l" ∷ []))
-  -- an allocation that fails has no message of the API server
+  -- a failed allocation has no message of the API server
   pub no_memory : param_error_text param_error.Memory ≡ codes "out of memory"

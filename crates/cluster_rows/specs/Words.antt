@@ -1,4 +1,4 @@
--- The program gatekeeper: its command lines, with what they ask for by the pages on it, and its help.
+-- The program gatekeeper: its command lines, with what they ask for according to its pages, and its help.
 use Rattle.std.specs.Prelude.{◌≡◌, true, false, List, [], ◌∷◌, ◌++◌, Some, None, Ok, Err, codes}
 use Rattle.clap.specs.Words.{Text}
 use Rattle.host.specs.declared.order_error.OrderError.TheVariants.{InvalidArguments}
@@ -17,7 +17,7 @@ as_cluster = codes "gatekeeper" ∷ codes "--cluster" ∷ codes "c.json" ∷ []
 abbrev pub with_line : Text → List Text
 with_line number = under_policy ++ codes "--max-line" ∷ number ∷ []
 
--- what command lines ask for: 10,000,000 steps and lines of 16 MiB, if they do not say so
+-- what command lines ask for: 10,000,000 steps and lines of 16 MiB by default
 pub record CommandOrdersHold : Type 0 where
   pub policy : order_from (entered under_policy)
       ≡ by_policies (record {

@@ -1,5 +1,5 @@
 //! Literal rows over the definitions of clusters, reviews and both programs. They are apart from the crates whose
-//! definitions they pin, so that one row more proves no crate above these again.
+//! definitions they pin, so that a new row does not prove the crates above these again.
 #![tactic(auto)]
 
 pub mod rows;

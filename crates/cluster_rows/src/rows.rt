@@ -1,4 +1,4 @@
-//! Rows worked out by hand, each record of them a clause of an empty function.
+//! Rows worked by hand, each record of them a clause of an empty function.
 ghost use Rattle.cluster_rows.specs.Commands.{EndRowsHold, HeldRowsHold, CommandWordsHold};
 ghost use Rattle.cluster_rows.specs.Gatekeeper.{FaultLineRowsHold, FaultNameRowsHold, GatekeeperLinesHold, TellingRowsHold, TogetherRowsHold};
 ghost use Rattle.cluster_rows.specs.Gates.{BlockRowsHold, ErrorRowsHold, JsonTextsHold};
@@ -54,7 +54,7 @@ pub fn review_rows_stand()
     ensures names { CodeRowsHold }
 {}
 
-/// Texts of refusals where an allocation fails.
+/// Texts of refusals for failed allocations.
 pub fn refusal_rows_stand()
     ensures { MemoryRefusalsHold }
 {}
