@@ -11,7 +11,7 @@ use streams::Buffered;
 
 const BOTH: &str = "gatekeeper --cluster policies --cluster bindings";
 
-/// Deployments of 3 and of 5 replicas, and a document that is no review.
+/// Deployments of 3 and of 5 replicas, and a document that is not a review.
 const THREE: &str =
     r#"{"apiVersion":"admission.k8s.io/v1","kind":"AdmissionReview","request":{"uid":"u1","kind":{"group":"apps","version":"v1","kind":"Deployment"},"resource":{"group":"apps","version":"v1","resource":"deployments"},"operation":"CREATE","name":"web","namespace":"prod","object":{"metadata":{"name":"web"},"spec":{"replicas":3}}}}
 {"apiVersion":"admission.k8s.io/v1","kind":"AdmissionReview","request":{"uid":"u2","kind":{"group":"apps","version":"v1","kind":"Deployment"},"resource":{"group":"apps","version":"v1","resource":"deployments"},"operation":"CREATE","name":"web","namespace":"prod","object":{"metadata":{"name":"web"},"spec":{"replicas":5}}}}
@@ -52,20 +52,20 @@ const ROWS: [(&str, u8, &str, &str); 23] = [
     ("gatekeeper --cluster", 2, "", "celbpf: U1\n"),
 ];
 
-/// The answers where no policy is bound.
+/// The answers if no policy is bound.
 const NOTHING_BOUND: &str =
     r#"{"apiVersion":"admission.k8s.io/v1","kind":"AdmissionReview","response":{"allowed":true,"uid":"u1"}}
 {"apiVersion":"admission.k8s.io/v1","kind":"AdmissionReview","response":{"allowed":true,"uid":"u2"}}
 {"refused":"N2","uid":"u3"}
 "#;
 
-/// The answers where the policy that matches is blocked.
+/// The answers if the policy that matches is blocked.
 const C7_REFUSED: &str = r#"{"policy":"p","refused":"C7","uid":"u1"}
 {"policy":"p","refused":"C7","uid":"u2"}
 {"refused":"N2","uid":"u3"}
 "#;
 
-/// What is told with `--verbose`: of the policies, and then of the lines that are refused.
+/// Standard error with `--verbose`: first the lines on the policies, then the refused lines.
 const THREE_TOLD: &str = r#"celbpf: policy p, bindings b
 celbpf: policy q, bindings c
 celbpf: line 3: {"refused":"N2","uid":"u3"}

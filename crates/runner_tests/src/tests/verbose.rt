@@ -31,7 +31,7 @@ celbpf: line 3: {"refused":"N2","uid":"u3"}
 celbpf: line 5: {"refused":"N2"}
 "#;
 
-/// What is told before each answer that cannot be written whole, and then of the write that failed.
+/// What is reported before each answer that cannot be written whole, and then on the write that failed.
 const TOLD_BEFORE: [&str; 3] = [
     "celbpf: S2\n",
     r#"celbpf: line 1: {"refused":"N2","uid":"u1"}
@@ -55,7 +55,7 @@ const ROWS: [(&str, &str, u8, &str, &str); 6] = [
 ];
 
 /// Whether the program ends with this status and both outputs, if standard output and standard error have
-/// room for so many bytes.
+/// these capacities in bytes.
 fn ends(
     alloc: Global,
     line: &str,
