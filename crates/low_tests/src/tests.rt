@@ -6,6 +6,5 @@ mod instructions;
 mod lines;
 mod listings;
 mod memory;
-mod scans;
 mod sources;
 mod words;

@@ -3,8 +3,7 @@
 use Register::{R0, R1, R2, R3, R9, R10};
 use insn_codec::{
     AluOp, AtomicOp, ByteOrder, Comparison, Extension, Insn, Operand, Register, SignedSize, Size,
-    SwapWidth, Width, decode, encode, one_reading, round_trip, rows_stand, slots_are_filled,
-    spelled_is_spelling,
+    SwapWidth, Width, decode, encode, round_trip,
 };
 use std::process::Abort;
 
@@ -364,12 +363,4 @@ fn nothing_is_spelled(rt: HostRuntime) {
             assert_eq!(rt; decode(word, second), None, "at {bytes:?}");
         }
     }
-}
-
-#[test]
-fn laws_can_be_called(_rt: HostRuntime) {
-    one_reading();
-    spelled_is_spelling();
-    slots_are_filled();
-    rows_stand();
 }

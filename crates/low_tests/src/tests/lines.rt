@@ -1,7 +1,6 @@
 //! Lines that were written by hand.
 use insn_codec::{
     AluOp, AtomicOp, Comparison, Insn, Operand, Register, SignedSize, Size, Statement, Width,
-    no_line_feed, statement_is_spelled,
 };
 use std::alloc::{AllocError, Global};
 use std::test::Fail;
@@ -104,10 +103,4 @@ fn each_statement_has_its_line(rt: HostRuntime) -> Result<(), Fail> {
         assert!(rt; statement.slots() == *slots);
     }
     Ok(())
-}
-
-#[test]
-fn laws_can_be_called(_rt: HostRuntime) {
-    no_line_feed();
-    statement_is_spelled();
 }

@@ -1,5 +1,5 @@
 //! Listings that were made by hand.
-use disassembler::{DisError, line_at, listing, one_listing, rows_stand};
+use disassembler::{DisError, line_at, listing};
 use std::alloc::Global;
 use std::test::Fail;
 
@@ -148,66 +148,10 @@ fn code_has_its_listing(rt: HostRuntime) -> Result<(), Fail> {
     Ok(())
 }
 
-/// The slots of a jump, a wide load and an exit, in this order.
-#[test]
-fn a_line_begins_at_each_slot(rt: HostRuntime) -> Result<(), Fail> {
-    let (code, _) = LISTINGS[3];
-    let rows = [
-        (0, "ja +1", 1),
-        (1, "lddw r0, 0x0000000000000005", 2),
-        (2, ".slot 0x0000000000000000", 1),
-        (3, "exit", 1),
-    ];
-    for (slot, line, slots) in rows {
-        assert!(rt; has_line(rt.alloc(), code, slot, line, slots)?, "at {slot}");
-    }
-    Ok(())
-}
-
-/// Lengths in bytes of code that has no listing; both errors apply to the last.
-#[test]
-fn refuses_lengths(rt: HostRuntime) -> Result<(), Fail> {
-    let rows = [
-        (1, DisError::PartialSlot),
-        (12, DisError::PartialSlot),
-        (524_296, DisError::CodeTooLong),
-        (524_300, DisError::PartialSlot),
-    ];
-    for (length, error) in rows {
-        let code = vec![in rt.alloc(); 0; length]?;
-        let listed = listing(rt.alloc(), &code).err();
-        assert!(rt; listed == Some(error), "lists {length}");
-        let read = line_at(rt.alloc(), &code, 0).err();
-        assert!(rt; read == Some(error), "reads {length}");
-    }
-    Ok(())
-}
-
 /// The longest code, of slots that encode no instruction: each line has 25 bytes.
 #[test]
 fn lists_the_longest_code(rt: HostRuntime) -> Result<(), Fail> {
     let code = vec![in rt.alloc(); 0; 524_288]?;
     assert_eq!(rt; listing(rt.alloc(), &code)?.len(), 1_638_400);
     Ok(())
-}
-
-#[test]
-fn errors_are_told_in_words(rt: HostRuntime) -> Result<(), Fail> {
-    let text = format!(in rt.alloc();
-        "{}; {}; {}",
-        DisError::PartialSlot,
-        DisError::CodeTooLong,
-        DisError::Memory
-    )?;
-    assert_eq!(rt;
-        text.as_str(),
-        "the code is not a whole number of slots; the code has more than 65536 slots; out of memory"
-    );
-    Ok(())
-}
-
-#[test]
-fn laws_can_be_called(_rt: HostRuntime) {
-    one_listing();
-    rows_stand();
 }

@@ -4,10 +4,6 @@ use AluOp::{Add, And, Arsh, Div, Lsh, Mod, Mov, Mul, Or, Rsh, Sdiv, Smod, Sub, X
 use Comparison::{Eq, Ge, Gt, Le, Lt, Ne, Set, Sge, Sgt, Sle, Slt};
 use SignedSize::{B, H, W};
 use SwapWidth::{Bits16, Bits32, Bits64};
-use bpf_word::laws::{
-    comparisons_tell, operations_are, results_are_words, rows_stand, sums_overflow,
-    upper_half_is_zero,
-};
 use bpf_word::{alu32, alu64, holds, sext, swap};
 use insn_codec::{AluOp, Comparison, SignedSize, SwapWidth};
 
@@ -192,14 +188,4 @@ fn compares(rt: HostRuntime) {
         let is_so = holds(comparison, left, right);
         assert_eq!(rt; is_so, result, "{comparison:?} {left} {right}");
     }
-}
-
-#[test]
-fn laws_can_be_called(_rt: HostRuntime) {
-    rows_stand();
-    upper_half_is_zero();
-    operations_are();
-    comparisons_tell();
-    results_are_words();
-    sums_overflow();
 }

@@ -1,6 +1,5 @@
 //! Programs and their slots.
 use super::{around, slots_of};
-use assembler::{listing_is_source, one_answer, refused_by_cause, source_is_assembled};
 use std::alloc::Global;
 use std::test::Fail;
 
@@ -71,12 +70,4 @@ fn jumps_reach_their_labels(rt: HostRuntime) -> Result<(), Fail> {
         assert_eq!(rt; found, Some(*slot), "{first}{last}");
     }
     Ok(())
-}
-
-#[test]
-fn laws_can_be_called(_rt: HostRuntime) {
-    listing_is_source();
-    one_answer();
-    refused_by_cause();
-    source_is_assembled();
 }
