@@ -1,5 +1,5 @@
 -- The outline of the value at a reference determines which calls are allowed there.
-use Rattle.machine_tests.proofs.Prelude.{◌≡◌, ◌<◌, ℕ, zero, suc, List, [], ◌∷◌, length, Option, Some, None, slice_get, option_map, refl, sym, ap, ◌∙◌, arith, ℤ, Bool, IsSome, Items, Entries, ValueOrError, value, list_of, keys_of, pushed, part_at, key_at, joined, put_in, text_at, find_at, equal_at, less_at, member_at, place_of_key, inserted, outcome_view, sees_bool, sees_int, sees_text, sees_list, sees_map, absent_fits}
+use Rattle.machine_tests.proofs.Prelude.{◌≡◌, ◌<◌, ℕ, zero, suc, List, [], ◌∷◌, length, Option, Some, None, slice_get, option_map, refl, sym, ap, ◌∙◌, arith, ℤ, Bool, IsSome, Items, Entries, ValueOrError, value, list_of, keys_of, pushed, part_at, key_at, joined, put_in, text_at, find_at, equal_at, member_at, place_of_key, inserted, outcome_view, sees_bool, sees_int, sees_text, sees_list, sees_map, absent_fits}
 use Rattle.value_store.specs.Value as kind
 
 -- ---- the value for each outline
@@ -99,29 +99,8 @@ put_fits m k x n z key e f t free =
 
 -- ---- values that may be compared
 
-pub texts_equal : (a b : Option ValueOrError) (s t : List ℕ) → Some (sees_text s) ≡ option_map outcome_view a → Some (sees_text t) ≡ option_map outcome_view b → IsSome (equal_at a b)
-texts_equal a b s t e f = let x = text_here a s e in let y = text_here b t f in rw (x.is, y.is) refl
-
 pub lists_equal : (a b : Option ValueOrError) (m n : ℕ) → Some (sees_list m) ≡ option_map outcome_view a → Some (sees_list n) ≡ option_map outcome_view b → IsSome (equal_at a b)
 lists_equal a b m n e f = let x = list_here a m e in let y = list_here b n f in rw (x.is, y.is) refl
 
-pub maps_equal : (a b : Option ValueOrError) (m n : ℕ) → Some (sees_map m) ≡ option_map outcome_view a → Some (sees_map n) ≡ option_map outcome_view b → IsSome (equal_at a b)
-maps_equal a b m n e f = let x = map_here a m e in let y = map_here b n f in rw (x.is, y.is) refl
-
-pub bools_less : (a b : Option ValueOrError) (s t : Bool) → Some (sees_bool s) ≡ option_map outcome_view a → Some (sees_bool t) ≡ option_map outcome_view b → IsSome (less_at a b)
-bools_less a b s t e f = let x = bool_here a s e in let y = bool_here b t f in rw (x.is, y.is) refl
-
-pub ints_less : (a b : Option ValueOrError) (y z : ℤ) → Some (sees_int y) ≡ option_map outcome_view a → Some (sees_int z) ≡ option_map outcome_view b → IsSome (less_at a b)
-ints_less a b y z e f = let p = int_here a y e in let q = int_here b z f in rw (p.is, q.is) refl
-
-pub texts_less : (a b : Option ValueOrError) (s t : List ℕ) → Some (sees_text s) ≡ option_map outcome_view a → Some (sees_text t) ≡ option_map outcome_view b → IsSome (less_at a b)
-texts_less a b s t e f = let x = text_here a s e in let y = text_here b t f in rw (x.is, y.is) refl
-
-pub int_in_list : (x c : Option ValueOrError) (z : ℤ) (n : ℕ) → Some (sees_int z) ≡ option_map outcome_view x → Some (sees_list n) ≡ option_map outcome_view c → IsSome (member_at x c)
-int_in_list x c z n e f = let a = int_here x z e in let b = list_here c n f in rw (a.is, b.is) refl
-
 pub list_in_list : (x c : Option ValueOrError) (m n : ℕ) → Some (sees_list m) ≡ option_map outcome_view x → Some (sees_list n) ≡ option_map outcome_view c → IsSome (member_at x c)
 list_in_list x c m n e f = let a = list_here x m e in let b = list_here c n f in rw (a.is, b.is) refl
-
-pub text_in_map : (x c : Option ValueOrError) (s : List ℕ) (n : ℕ) → Some (sees_text s) ≡ option_map outcome_view x → Some (sees_map n) ≡ option_map outcome_view c → IsSome (member_at x c)
-text_in_map x c s n e f = let a = text_here x s e in let b = map_here c n f in rw (a.is, b.is) refl

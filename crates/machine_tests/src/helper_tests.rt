@@ -1,7 +1,6 @@
 //! Calls of helpers on the plain store and plain memory.
 
 mod rows;
-mod same_calls;
 
 use guest_memory::{Guest, Regions};
 use helper_table::{HelperEnd, call};
@@ -63,59 +62,4 @@ fn called(
 /// The memory of a program with these constants.
 fn memory_of_constants(alloc: Global) -> Result<Guest, AllocError> {
     Guest::of_constants(alloc, CONSTANTS)
-}
-
-/// How many times a list can be nested in a new list before a call is stopped.
-fn nestings(table: &mut PlainTable, memory: &Guest) -> Result<u64, AllocError> {
-    let mut part = 9;
-    for n in 0..300 {
-        let HelperEnd::Word(list) = called(16, [0, 0, 0], table, memory)? else {
-            return Ok(n);
-        };
-        let HelperEnd::Word(whole) = called(17, [list, part, 0], table, memory)? else {
-            return Ok(n);
-        };
-        part = whole;
-    }
-    Ok(300)
-}
-
-#[test]
-fn a_list_is_at_most_255_deep(rt: HostRuntime) -> Result<(), Fail> {
-    let memory = memory_of_constants(rt.alloc())?;
-    let mut table = nulls(rt.alloc())?;
-    assert_eq!(rt;
-        called(16, [0, 0, 0], &mut table, &memory)?,
-        HelperEnd::Word(9)
-    );
-    assert_eq!(rt; nestings(&mut table, &memory)?, 254);
-    assert_eq!(rt; table.len(), 519);
-    assert_eq!(rt; table.charge(), 769);
-    Ok(())
-}
-
-/// How many times a text of one byte can be doubled before a call is stopped.
-fn doublings(table: &mut PlainTable, memory: &Guest) -> Result<u64, AllocError> {
-    let mut text = 9;
-    for n in 0..300 {
-        let HelperEnd::Word(whole) = called(11, [text, text, 0], table, memory)? else {
-            return Ok(n);
-        };
-        text = whole;
-    }
-    Ok(300)
-}
-
-#[test]
-fn a_text_is_doubled_within_the_charge(rt: HostRuntime) -> Result<(), Fail> {
-    let memory = memory_of_constants(rt.alloc())?;
-    let mut table = nulls(rt.alloc())?;
-    assert_eq!(rt;
-        called(4, [BASE, 1, 0], &mut table, &memory)?,
-        HelperEnd::Word(9)
-    );
-    assert_eq!(rt; doublings(&mut table, &memory)?, 22);
-    assert_eq!(rt; table.len(), 32);
-    assert_eq!(rt; table.charge(), 8_388_635);
-    Ok(())
 }

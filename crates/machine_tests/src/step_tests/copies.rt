@@ -49,28 +49,6 @@ fn a_copy_is_equal(rt: HostRuntime) -> Result<(), Fail> {
     Ok(())
 }
 
-/// The byte of a machine after one more step, and that of the copy made before.
-fn bytes_apart(alloc: Global) -> Result<[Option<u64>; 2], Fail> {
-    let machine = first(alloc)?;
-    let copy = copied(&machine)?;
-    let machine = stepped(machine)?;
-    Ok([byte(&machine), byte(&copy)])
-}
-
-/// The byte of a machine, and that of its copy after one more step.
-fn bytes_of_a_stepped_copy(alloc: Global) -> Result<[Option<u64>; 2], Fail> {
-    let machine = first(alloc)?;
-    let copy = stepped(copied(&machine)?)?;
-    Ok([byte(&machine), byte(&copy)])
-}
-
-#[test]
-fn copies_go_their_own_ways(rt: HostRuntime) -> Result<(), Fail> {
-    assert!(rt; bytes_apart(rt.alloc())? == [Some(7), Some(0)]);
-    assert!(rt; bytes_of_a_stepped_copy(rt.alloc())? == [Some(0), Some(7)]);
-    Ok(())
-}
-
 /// The status that the step after this many others returns.
 fn status_after(alloc: Global, steps: u64) -> Result<Status, Fail> {
     step_answer(run_machine(machine(alloc, &STORES_SEVEN, &[])?, steps)?)

@@ -7,7 +7,7 @@ use value_store::{Shape, ValueStore};
 
 /// A call that places a value.
 #[derive(Copy, Clone)]
-pub(crate) enum Step {
+enum Step {
     Int(i64),
     Text(&'static str),
     List,
@@ -44,50 +44,6 @@ const STEPS: [(u64, Step, &str); 20] = [
     (26, Item(16, 1), "-2"),
     (27, Join(14, 15), "[1]"),
     (28, Text("a"), "\"a\""),
-];
-
-/// A question about two values.
-#[derive(Copy, Clone)]
-enum Question {
-    Equal(u64, u64),
-    Less(u64, u64),
-    Member(u64, u64),
-}
-
-use Question::{Equal, Less, Member};
-
-/// Questions about the values above, and their answers.
-const ANSWERS: [(Question, bool); 20] = [
-    (Equal(9, 24), true),
-    (Equal(9, 10), false),
-    (Equal(9, 22), false),
-    (Equal(15, 27), true),
-    (Equal(16, 17), false),
-    (Equal(15, 16), false),
-    (Equal(20, 20), true),
-    (Equal(20, 21), false),
-    (Less(13, 12), true),
-    (Less(12, 13), false),
-    (Less(10, 11), true),
-    (Less(9, 22), true),
-    (Less(22, 10), true),
-    (Less(9, 28), false),
-    (Less(2, 3), true),
-    (Less(3, 2), false),
-    (Member(13, 16), true),
-    (Member(13, 17), false),
-    (Member(11, 21), true),
-    (Member(9, 21), false),
-];
-
-/// Keys, and their positions in maps of the values above.
-const PLACES: [(u64, &[u8], Option<u64>); 6] = [
-    (18, b"a", None),
-    (20, b"a", Some(0)),
-    (20, b"b", Some(1)),
-    (21, b"\xc3\xa9", Some(1)),
-    (21, b"a", None),
-    (21, b"\xff", None),
 ];
 
 /// The list with the bool, the int or the list appended.
@@ -178,58 +134,26 @@ fn placed<V: ValueStore>(table: &mut V, step: Step) -> Result<Option<u64>, Alloc
     }
 }
 
-/// Whether two texts, lists or maps are equal.
-#[tactic(auto, using(crate::proofs::Looks::texts_equal, crate::proofs::Looks::lists_equal, crate::proofs::Looks::maps_equal))]
+/// Whether two lists are equal.
+#[tactic(auto, using(crate::proofs::Looks::lists_equal))]
 pub(crate) fn equal<V: ValueStore>(table: &mut V, a: u64, b: u64) -> Option<bool> {
     match (table.at(a), table.at(b)) {
-        (Some(Shape::Text(_)), Some(Shape::Text(_))) => Some(table.equal(a, b)),
         (Some(Shape::List(_)), Some(Shape::List(_))) => Some(table.equal(a, b)),
-        (Some(Shape::Map(_)), Some(Shape::Map(_))) => Some(table.equal(a, b)),
         _ => None,
     }
 }
 
-/// Whether the first of two bools, ints or texts is less than the second.
-#[tactic(auto, using(crate::proofs::Looks::bools_less, crate::proofs::Looks::ints_less, crate::proofs::Looks::texts_less))]
-fn less<V: ValueStore>(table: &V, a: u64, b: u64) -> Option<bool> {
-    match (table.at(a), table.at(b)) {
-        (Some(Shape::Bool(_)), Some(Shape::Bool(_))) => Some(table.less(a, b)),
-        (Some(Shape::Int(_)), Some(Shape::Int(_))) => Some(table.less(a, b)),
-        (Some(Shape::Text(_)), Some(Shape::Text(_))) => Some(table.less(a, b)),
-        _ => None,
-    }
-}
-
-/// Whether a list has an int or a list, or a map has a key.
-#[tactic(auto, using(crate::proofs::Looks::int_in_list, crate::proofs::Looks::list_in_list, crate::proofs::Looks::text_in_map))]
+/// Whether a list has a list.
+#[tactic(auto, using(crate::proofs::Looks::list_in_list))]
 pub(crate) fn member<V: ValueStore>(table: &mut V, x: u64, c: u64) -> Option<bool> {
     match (table.at(x), table.at(c)) {
-        (Some(Shape::Int(_)), Some(Shape::List(_))) => Some(table.member(x, c)),
         (Some(Shape::List(_)), Some(Shape::List(_))) => Some(table.member(x, c)),
-        (Some(Shape::Text(_)), Some(Shape::Map(_))) => Some(table.member(x, c)),
-        _ => None,
-    }
-}
-
-fn answered<V: ValueStore>(table: &mut V, question: Question) -> Option<bool> {
-    match question {
-        Equal(a, b) => equal(table, a, b),
-        Less(a, b) => less(table, a, b),
-        Member(x, c) => member(table, x, c),
-    }
-}
-
-/// The position of a key in a map; `None` also if it is not a map.
-#[tactic(auto, using(crate::proofs::Looks::find_fits))]
-fn place_of<V: ValueStore>(table: &V, m: u64, key: &[u8]) -> Option<u64> {
-    match table.at(m) {
-        Some(Shape::Map(_)) => table.find(m, key),
         _ => None,
     }
 }
 
 /// The reference at which the first step places a different value.
-pub(crate) fn first_misplaced<V: ValueStore>(
+fn first_misplaced<V: ValueStore>(
     table: &mut V,
     steps: &[(u64, Step, &str)],
 ) -> Result<Option<u64>, AllocError> {
@@ -242,7 +166,7 @@ pub(crate) fn first_misplaced<V: ValueStore>(
 }
 
 /// The first reference with a different value.
-pub(crate) fn first_changed<V: ValueStore>(
+fn first_changed<V: ValueStore>(
     table: &V,
     steps: &[(u64, Step, &str)],
 ) -> Result<Option<u64>, Fail> {
@@ -254,116 +178,21 @@ pub(crate) fn first_changed<V: ValueStore>(
     Ok(None)
 }
 
-/// The first question with a different answer.
-fn first_answered_wrong<V: ValueStore>(table: &mut V, rows: &[(Question, bool)]) -> Option<usize> {
-    for (row, (question, answer)) in rows.iter().enumerate() {
-        if answered(table, *question) != Some(*answer) {
-            return Some(row);
-        }
-    }
-    None
+/// Whether each step places its value, and no value has changed after all of them.
+fn places_all<V: ValueStore>(table: &mut V) -> Result<bool, Fail> {
+    let misplaced = first_misplaced(table, &STEPS)?;
+    let changed = first_changed(table, &STEPS)?;
+    Ok(misplaced.is_none() && changed.is_none())
 }
 
-/// The first key that is found at a different position.
-fn first_found_wrong<V: ValueStore>(
-    table: &V,
-    rows: &[(u64, &[u8], Option<u64>)],
-) -> Option<usize> {
-    for (row, (m, key, place)) in rows.iter().enumerate() {
-        if place_of(table, *m, key) != *place {
-            return Some(row);
-        }
-    }
-    None
-}
-
-/// Executes all steps.
-fn go_all_steps<V: ValueStore>(table: &mut V) -> Result<(), Fail> {
-    match first_misplaced(table, &STEPS)? {
-        Some(_) => Err("a step places something else")?,
-        None => Ok(()),
-    }
-}
-
-/// A value that only a copy places.
-const IN_A_COPY: [(u64, Step, &str); 1] = [(29, Push(16, 12), "[1,-2,1]")];
-
-/// Whether the copy places that value, and has it.
-fn places_its_own<V: ValueStore>(copy: &mut V) -> Result<bool, Fail> {
-    let misplaced = first_misplaced(copy, &IN_A_COPY)?;
-    let changed = first_changed(copy, &IN_A_COPY)?;
-    Ok(misplaced.is_none() && changed.is_none() && copy.charge() == 5)
-}
-
-/// Whether a copy of the table can place a value that the table does not get.
-fn copy_is_apart<V: ValueStore + Drop>(table: &V) -> Result<bool, Fail> {
-    let mut copy = table.copy()?;
-    let places = places_its_own(&mut copy)?;
-    Ok(places && table.len() == 29)
-}
-
-/// Whether a copy of the table has every value.
-fn copy_has_values<V: ValueStore + Drop>(table: &V) -> Result<bool, Fail> {
-    let copy = table.copy()?;
-    Ok(first_changed(&copy, &STEPS)?.is_none())
-}
-
-/// A property of a table after all steps.
-#[derive(Copy, Clone)]
-enum Case {
-    Values,
-    Answers,
-    Keys,
-    CopyApart,
-    CopyValues,
-}
-
-/// Whether the table has the property after all steps.
-fn stands<V: ValueStore + Drop>(table: &mut V, case: Case) -> Result<bool, Fail> {
-    go_all_steps(table)?;
-    match case {
-        Case::Values => Ok(first_changed(table, &STEPS)?.is_none()),
-        Case::Answers => Ok(first_answered_wrong(table, &ANSWERS).is_none()),
-        Case::Keys => Ok(first_found_wrong(table, &PLACES).is_none()),
-        Case::CopyApart => copy_is_apart(table),
-        Case::CopyValues => copy_has_values(table),
-    }
-}
-
-/// Whether the table of five null roots has the property after all steps.
-fn nulls_stand(alloc: Global, case: Case) -> Result<bool, Fail> {
+fn nulls_place_all(alloc: Global) -> Result<bool, Fail> {
     let mut table = table_of(alloc, NULLS)?;
-    stands(&mut table, case)
+    places_all(&mut table)
 }
 
 /// Each value is appended, and does not change.
 #[test]
 fn places(rt: HostRuntime) -> Result<(), Fail> {
-    assert!(rt; nulls_stand(rt.alloc(), Case::Values)?);
-    Ok(())
-}
-
-#[test]
-fn answers(rt: HostRuntime) -> Result<(), Fail> {
-    assert!(rt; nulls_stand(rt.alloc(), Case::Answers)?);
-    Ok(())
-}
-
-#[test]
-fn finds_keys(rt: HostRuntime) -> Result<(), Fail> {
-    assert!(rt; nulls_stand(rt.alloc(), Case::Keys)?);
-    Ok(())
-}
-
-/// A copy has the values and the charge, and what it places is its own.
-#[test]
-fn copies(rt: HostRuntime) -> Result<(), Fail> {
-    assert!(rt; nulls_stand(rt.alloc(), Case::CopyApart)?);
-    Ok(())
-}
-
-#[test]
-fn copies_keep_values(rt: HostRuntime) -> Result<(), Fail> {
-    assert!(rt; nulls_stand(rt.alloc(), Case::CopyValues)?);
+    assert!(rt; nulls_place_all(rt.alloc())?);
     Ok(())
 }

@@ -1,24 +1,10 @@
 //! Lists whose items are stored in place, or are shared.
 
-use crate::table_tests::calls::Step::{Int, List, Push};
-use crate::table_tests::calls::{
-    Step, equal, first_changed, first_misplaced, joined, member, pushed,
-};
+use crate::table_tests::calls::{equal, joined, member, pushed};
 use crate::table_tests::{NULLS, json_of, table_of};
 use std::alloc::Global;
 use std::test::Fail;
 use value_store::{Shape, ValueStore};
-
-/// The values that are placed after the nine of five null roots: one list, and two others made from it.
-const VERSIONS: [(u64, Step, &str); 7] = [
-    (9, List, "[]"),
-    (10, Int(1), "1"),
-    (11, Push(9, 10), "[1]"),
-    (12, Int(2), "2"),
-    (13, Push(11, 12), "[1,2]"),
-    (14, Int(3), "3"),
-    (15, Push(11, 14), "[1,3]"),
-];
 
 /// The list with the value appended.
 fn with_item<V: ValueStore>(table: &mut V, l: u64, x: u64) -> Result<u64, Fail> {
@@ -81,13 +67,6 @@ fn often_joined<V: ValueStore>(table: &mut V) -> Result<u64, Fail> {
     Ok(list)
 }
 
-/// Whether each of these lists is at the reference where it was placed, and does not change.
-fn has_versions<V: ValueStore>(table: &mut V) -> Result<bool, Fail> {
-    let misplaced = first_misplaced(table, &VERSIONS)?;
-    let changed = first_changed(table, &VERSIONS)?;
-    Ok(misplaced.is_none() && changed.is_none())
-}
-
 /// Whether lists that were built separately are found equal by their parts, and have no text.
 fn compares_shared<V: ValueStore>(table: &mut V) -> Result<bool, Fail> {
     let first = shared(table, 1)?;
@@ -124,7 +103,6 @@ fn has_joined<V: ValueStore>(table: &mut V) -> Result<bool, Fail> {
 /// What is built in a table.
 #[derive(Copy, Clone)]
 enum Case {
-    Versions,
     Equality,
     Members,
     Pushes,
@@ -133,7 +111,6 @@ enum Case {
 
 fn stands<V: ValueStore>(table: &mut V, case: Case) -> Result<bool, Fail> {
     match case {
-        Case::Versions => has_versions(table),
         Case::Equality => compares_shared(table),
         Case::Members => finds_shared(table),
         Case::Pushes => has_pushed(table),
@@ -145,13 +122,6 @@ fn stands<V: ValueStore>(table: &mut V, case: Case) -> Result<bool, Fail> {
 fn nulls_stand(alloc: Global, case: Case) -> Result<bool, Fail> {
     let mut table = table_of(alloc, NULLS)?;
     stands(&mut table, case)
-}
-
-/// A list does not change, even if another has grown in its place.
-#[test]
-fn versions_of_a_list(rt: HostRuntime) -> Result<(), Fail> {
-    assert!(rt; nulls_stand(rt.alloc(), Case::Versions)?);
-    Ok(())
 }
 
 /// Lists that were built separately are compared in as many steps as there are lists,
