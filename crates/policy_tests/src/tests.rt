@@ -8,7 +8,6 @@ mod compiling;
 mod documents;
 mod errors;
 mod naming;
-mod verdicts;
 
 /// The concatenation of these texts.
 pub fn joined(alloc: Global, texts: &[&str]) -> Result<String, AllocError> {

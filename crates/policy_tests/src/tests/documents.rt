@@ -98,26 +98,6 @@ fn documents(rt: HostRuntime) -> Result<(), Fail> {
     Ok(())
 }
 
-/// A specification with this many validations after the first.
-fn with_more(alloc: Global, n: usize) -> Result<String, AllocError> {
-    let mut spec = String::from_str(alloc, "{\"validations\":[{\"expression\":\"a\"}")?;
-    spec.push_str(",{\"expression\":\"a\"}".repeat(alloc, n)?.as_str())?;
-    spec.push_str("]}")?;
-    Ok(spec)
-}
-
-/// Numbers of validations after the first, and the error codes.
-const COUNTS: [(usize, &str); 3] = [(0, ""), (63, ""), (64, "K5")];
-
-#[test]
-fn counts(rt: HostRuntime) -> Result<(), Fail> {
-    for (n, want) in &COUNTS {
-        let spec = with_more(rt.alloc(), *n)?;
-        assert_refusal(&rt, rt.alloc(), spec.as_str(), want)?;
-    }
-    Ok(())
-}
-
 /// The error for this many nested lists, if they are refused.
 fn refusal_of_nested(alloc: Global, n: usize) -> Result<Option<PolicyError>, AllocError> {
     let mut text = "[".repeat(alloc, n)?;

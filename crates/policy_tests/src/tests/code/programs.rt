@@ -1,36 +1,15 @@
-//! Expressions, and variables with them, as programs that run on five null roots.
+//! Variables, and expressions that use them, as programs that run on five null roots or on an object.
 
-use super::running::{
-    core, declare, end, refusal, slots, take, take_next, take_variable, variable_refusal,
-};
+use super::running::{end, slots, take, take_variable};
 use crate::tests::nulls;
 use bpf_machine::Status;
 use cel_types::Scope;
-use codegen::{CodeError, Emitter};
+use codegen::Emitter;
 use serde_json::Value;
-use std::alloc::{AllocError, Global};
-use std::test::Fail;
+use std::alloc::Global;
 
 /// More steps than any of these programs needs.
 const STEPS: u64 = 10_000;
-
-/// Texts, and the reference with which their programs exit: 0 the error, 2 false, 3 true.
-const ROWS: [(&str, u64); 14] = [
-    ("1/0 == 1 || true", 3),
-    ("true && 1/0 == 1", 0),
-    ("[0,2].exists(x, 4/x == 2)", 3),
-    ("[0,2].exists_one(x, 4/x == 2)", 0),
-    ("[].all(x, x)", 3),
-    ("9223372036854775807 + 1", 0),
-    ("-9223372036854775808 / -1", 0),
-    ("(false ? 1/0 : 7) == 7", 3),
-    ("[1].map(x, x > 0, x + 1) == [2]", 3),
-    ("{'b':true}.b && true", 3),
-    ("{'a':1,'a':2} == {}", 0),
-    ("'a' in {'a':null}", 3),
-    ("size('é') == 1", 3),
-    ("{'b':1,'a':2}.map(k, k) == ['a','b']", 3),
-];
 
 /// Variables in order, each with its name.
 const VARIABLES: [(&str, &str); 4] = [
@@ -65,15 +44,6 @@ const KEPT: [(&str, usize, u64, u64); 3] = [
 /// The object of these rows.
 const TWO_FIELDS: &str = "{\"spec\":{\"a\":1,\"b\":2}}";
 
-/// The end of the program of the text's expression.
-fn end_of(alloc: Global, text: &str) -> Option<Status> {
-    let mut emitter = Emitter::new(alloc);
-    if !take(alloc, text, &Scope::new(alloc), &mut emitter) {
-        return None;
-    }
-    end(alloc, emitter, &nulls(), STEPS)
-}
-
 /// Compiles the variables, and returns whether that succeeded.
 fn take_variables(alloc: Global, scope: &mut Scope, emitter: &mut Emitter) -> bool {
     for (name, of) in &VARIABLES {
@@ -94,41 +64,6 @@ fn end_with_variables(alloc: Global, text: &str) -> Option<Status> {
         return None;
     }
     end(alloc, emitter, &nulls(), STEPS)
-}
-
-/// The text of this many plus signs, nested to the right.
-fn sums(alloc: Global, signs: usize) -> Result<String, AllocError> {
-    let mut text = "1+(".repeat(alloc, signs)?;
-    text.push_str("1")?;
-    text.push_str(")".repeat(alloc, signs)?.as_str())?;
-    text.push_str(" == 1")?;
-    Ok(text)
-}
-
-/// The compiler's error for the text, if it is an expression.
-fn answer(alloc: Global, text: &str) -> Option<Option<CodeError>> {
-    let core = core(alloc, text)?;
-    let mut emitter = Emitter::new(alloc);
-    Some(refusal(alloc, &core, &Scope::new(alloc), &mut emitter))
-}
-
-/// Compiles a variable, declares it with the depth 6, and returns whether that succeeded.
-fn take_deep_variable(alloc: Global, scope: &mut Scope, emitter: &mut Emitter) -> bool {
-    match take_next(alloc, "1", &*scope, emitter) {
-        Some((found, _)) => declare(scope, "v", found, 6),
-        None => false,
-    }
-}
-
-/// The error for a variable that refers to the one of depth 6.
-fn answer_to_depth(alloc: Global) -> Option<CodeError> {
-    let mut emitter = Emitter::new(alloc);
-    let mut scope = Scope::new(alloc);
-    if !take_deep_variable(alloc, &mut scope, &mut emitter) {
-        return None;
-    }
-    let core = core(alloc, "variables.v")?;
-    variable_refusal(alloc, &core, &scope, &mut emitter)
 }
 
 /// An object with ten thousand items.
@@ -174,39 +109,11 @@ fn slots_of(alloc: Global, text: &str) -> Option<usize> {
 }
 
 #[test]
-fn expressions_leave_their_values(rt: HostRuntime) {
-    for (text, reference) in &ROWS {
-        let found = end_of(rt.alloc(), text);
-        assert_eq!(rt; found, Some(Status::Exited(*reference)), "row {text}");
-    }
-}
-
-#[test]
 fn variables_leave_their_values(rt: HostRuntime) {
     for (text, reference) in &USES {
         let found = end_with_variables(rt.alloc(), text);
         assert_eq!(rt; found, Some(Status::Exited(*reference)), "row {text}");
     }
-}
-
-#[test]
-fn words_are_bounded(rt: HostRuntime) -> Result<(), Fail> {
-    let fits = sums(rt.alloc(), 59)?;
-    assert_eq!(rt; answer(rt.alloc(), fits.as_str()), Some(None));
-    let long = sums(rt.alloc(), 60)?;
-    assert_eq!(rt;
-        answer(rt.alloc(), long.as_str()),
-        Some(Some(CodeError::NeedsTooManyWords))
-    );
-    Ok(())
-}
-
-#[test]
-fn depths_are_bounded(rt: HostRuntime) {
-    assert_eq!(rt;
-        answer_to_depth(rt.alloc()),
-        Some(CodeError::VariableTooDeep)
-    );
 }
 
 #[test]

@@ -19,7 +19,7 @@ fn tree(alloc: Global, text: &str) -> Option<Expr> {
 }
 
 /// The text's expression.
-pub(super) fn core(alloc: Global, text: &str) -> Option<Core> {
+fn core(alloc: Global, text: &str) -> Option<Core> {
     expand(alloc, tree(alloc, text)?).ok()
 }
 
@@ -29,17 +29,12 @@ fn type_of(core: &Core, scope: &Scope) -> Option<CelType> {
 }
 
 /// The compiler's error for the expression, if any.
-pub(super) fn refusal(
-    alloc: Global,
-    core: &Core,
-    scope: &Scope,
-    emitter: &mut Emitter,
-) -> Option<CodeError> {
+fn refusal(alloc: Global, core: &Core, scope: &Scope, emitter: &mut Emitter) -> Option<CodeError> {
     expression(alloc, core, scope, emitter).err()
 }
 
 /// The compiler's error for the expression as a variable, if any.
-pub(super) fn variable_refusal(
+fn variable_refusal(
     alloc: Global,
     core: &Core,
     scope: &Scope,
@@ -57,12 +52,12 @@ pub(super) fn take(alloc: Global, text: &str, scope: &Scope, emitter: &mut Emitt
 }
 
 /// Declares a variable, and returns whether the allocation succeeded.
-pub(super) fn declare(scope: &mut Scope, name: &str, cel_type: CelType, depth: u64) -> bool {
+fn declare(scope: &mut Scope, name: &str, cel_type: CelType, depth: u64) -> bool {
     scope.add(name, cel_type, depth).is_ok()
 }
 
 /// Compiles the text's expression as a variable, and returns its type and its depth.
-pub(super) fn take_next(
+fn take_next(
     alloc: Global,
     text: &str,
     scope: &Scope,
