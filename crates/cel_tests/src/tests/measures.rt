@@ -132,10 +132,3 @@ fn measures_sums_to_the_right(rt: HostRuntime) -> Result<(), Fail> {
     assert_eq!(rt; measures(rt.alloc(), text.as_str()), Some((121, 60)));
     Ok(())
 }
-
-#[test]
-fn measures_long_conjunctions(rt: HostRuntime) -> Result<(), Fail> {
-    let text = repeated(rt.alloc(), "true && ", 254, "true")?;
-    assert_eq!(rt; measures(rt.alloc(), text.as_str()), Some((509, 2)));
-    Ok(())
-}

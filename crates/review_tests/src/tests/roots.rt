@@ -1,10 +1,10 @@
-//! Documents of reviews, and the values of their roots.
+//! Documents of reviews that are refused.
 
 use RunError::{NamespaceOrParamsRefused, ReviewRefused};
 use review_runner::{RunError, roots};
 use std::alloc::{AllocError, Global};
 use std::test::Fail;
-use value_store::{CHARGE_LIMIT, ValueStore};
+use value_store::CHARGE_LIMIT;
 
 /// A review of an object: the text before the object, and the text after it.
 const REVIEW: &[u8] =
@@ -31,28 +31,6 @@ fn review_of(alloc: Global, object: &[u8]) -> Result<Vec<u8>, AllocError> {
     review.extend_from_slice(object)?;
     review.extend_from_slice(TAIL)?;
     Ok(review)
-}
-
-/// The value at a reference among the roots of the review.
-fn shown(alloc: Global, h: u64) -> Result<String, Fail> {
-    let table = roots(alloc, Some(REVIEW), None, None)?;
-    if h < table.len() {
-        return Ok(table.json(h)?);
-    }
-    Err("no such reference")?
-}
-
-#[test]
-fn shows_roots(rt: HostRuntime) -> Result<(), Fail> {
-    for (h, text) in [
-        (4, "{\"spec\":{\"replicas\":5}}"),
-        (5, "null"),
-        (6, "null"),
-        (8, "{\"uid\":\"u1\"}"),
-    ] {
-        assert_eq!(rt; shown(rt.alloc(), h)?.as_str(), text);
-    }
-    Ok(())
 }
 
 /// Objects of reviews, and their errors if they are refused.
