@@ -6,5 +6,6 @@ mod instructions;
 mod lines;
 mod listings;
 mod memory;
+mod scans;
 mod sources;
 mod words;

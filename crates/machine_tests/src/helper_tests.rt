@@ -1,6 +1,7 @@
 //! Calls of helpers on the plain store and plain memory.
 
 mod rows;
+mod same_calls;
 
 use guest_memory::{Guest, Regions};
 use helper_table::{HelperEnd, call};

@@ -5,6 +5,7 @@ use std::alloc::{AllocError, Global};
 mod assembling;
 mod clusters;
 mod doubles;
+mod drawn_images;
 mod errors;
 mod gatekeeper;
 mod orders;
