@@ -6,7 +6,6 @@ mod same_calls;
 use guest_memory::{Guest, Regions};
 use helper_table::{HelperEnd, call};
 use std::alloc::{AllocError, Global};
-use std::test::Fail;
 use value_store::{PlainTable, TableError, ValueStore};
 
 /// The bytes k, t, those of é, and one that is not valid in UTF-8.

@@ -26,7 +26,7 @@ const REFUSED: [([&str; 5], TableError); 9] = [
     (["null", "true", "{\"a\":1.5}", "null", "null"], TableError::NotAnObject(5)),
 ];
 
-fn documents(alloc: Global, texts: [&str; 5]) -> Result<[Value; 5], Fail> {
+pub(crate) fn documents(alloc: Global, texts: [&str; 5]) -> Result<[Value; 5], Fail> {
     let [object, old, params, namespace, request] = texts;
     Ok([
         Value::from_str(alloc, object)?,
@@ -47,7 +47,7 @@ fn refusal_of(alloc: Global, texts: [&str; 5]) -> Result<Option<TableError>, Fai
     Ok(Table::of_roots(alloc, &roots).err())
 }
 
-fn json_of<V: ValueStore>(table: &V, h: u64) -> Result<String, Fail> {
+pub(crate) fn json_of<V: ValueStore>(table: &V, h: u64) -> Result<String, Fail> {
     if h < table.len() {
         return Ok(table.json(h)?);
     }
