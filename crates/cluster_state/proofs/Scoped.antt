@@ -32,7 +32,7 @@ or_either : {A : Type 0} (b c : Bool) (x : A) → option_or (if b then Some x el
 or_either true c x = refl
 or_either false c x = refl
 
--- where nothing is served nothing is added
+-- if nothing is served, nothing is added
 pub or_unless : {A : Type 0} (b : Bool) (o : Option A) (x : A) → b ≡ false → o ≡ option_or o (if b then Some x else None)
 or_unless b o x e = sym (ap (λ c. option_or o (if c then Some x else None)) e ∙ or_none o)
 
@@ -119,7 +119,7 @@ pub name_added : (name v : List ℕ) (m : Versions) (scope : Option ParamScope) 
 name_added name v m scope new has is =
     is ∙ ap (λ b. cond b (Some scope) (version_at m v)) (is_eq-slice_cmp name v) ∙ added_by (bytes_eq name v) name v m scope (same_text name v) has
 
--- one version more of a list
+-- one more version of a list
 pub version_more : (vs : List Value) (i : ℕ) (d : Value) (v : List ℕ) (scope : Option ParamScope) (m new : Option (Option ParamScope)) (total : Option (Option ParamScope))
     → i < length vs → d ≡ get_or vs i d
     → option_or m (if some_item (is_served v) (items_view (drop i vs)) then Some scope else None) ≡ total

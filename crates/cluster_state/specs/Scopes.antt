@@ -75,7 +75,7 @@ is_served_kind k s =
     bytes_eq s.group.now (group_in k.api_version) && bytes_eq s.kind.now k.kind
     && some_item (is_served (version_in k.api_version)) (items_view s.versions.now.items)
 
--- whether the objects of a kind are in namespaces, and back. So two scopes are equal in one way at most
+-- a scope as a bool, true if the objects of a kind are in namespaces, and back; so scopes have unique equality proofs
 abbrev to_bool : ParamScope → Bool
 to_bool Namespaced = true
 to_bool Cluster = false

@@ -58,7 +58,7 @@ Shows k is s =
 abbrev pub ShowAll : Shapes → List CodeItem → Type 0
 ShowAll m is = (k : ParamKind) → Shows k (map item_view is) (shape_of m k)
 
--- ---- an item more
+-- ---- one more item
 
 -- the item is of the group and name of the kind
 abbrev pub is_of_group : ParamKind → CodeItem → Bool

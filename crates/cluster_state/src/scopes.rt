@@ -68,7 +68,7 @@ fn scopes_of<'a>(
     Ok(scopes)
 }
 
-/// Adds the scope of the kinds that a definition with this specification serves, where none is yet.
+/// Adds the scope of the kind that a definition with this specification serves, unless it has one.
 fn add_spec<'a>(
     alloc: Global,
     scopes: &mut Scopes<'a>,
@@ -134,7 +134,7 @@ fn array<'a>(value: Option<&'a Value>) -> Option<&'a Vec<Value>>
     }
 }
 
-/// Adds the scope of those versions of the kind that are served.
+/// Adds the scope of each version of the kind that is served.
 fn add_kind<'a>(
     alloc: Global,
     scopes: &mut Scopes<'a>,
@@ -159,7 +159,7 @@ fn versions_or_none<'a>(alloc: Global, versions: Option<Versions<'a>>) -> Versio
     }
 }
 
-/// Adds the scope of those of the versions that are served.
+/// Adds the scope of each of the versions that is served.
 fn add_versions<'a>(
     served: &mut Versions<'a>,
     versions: &'a Vec<Value>,
