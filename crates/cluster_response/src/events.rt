@@ -94,7 +94,7 @@ impl Events {
         self.ended = true;
     }
 
-    /// Whether nothing counts: then the request is allowed, and no more is said.
+    /// Whether no event counts. Then the response allows the request and has nothing more.
     pub(crate) fn is_empty(&self) -> bool
         ensures { result ≡ true → events_view self.now ≡ summary_of [] }
     {

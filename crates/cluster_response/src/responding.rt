@@ -36,7 +36,7 @@ pub fn response(
     summary_text(alloc, request, uid, events)
 }
 
-/// The text by what counts of the events. Mostly nothing does.
+/// The text by the events that count. Usually none does.
 fn summary_text(
     alloc: Global,
     request: &Request<'_>,
