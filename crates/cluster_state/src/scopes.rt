@@ -68,7 +68,8 @@ fn scopes_of<'a>(
     Ok(scopes)
 }
 
-/// Adds the scope of the kind that a definition with this specification serves, unless it has one.
+/// Adds the scope of each version of the kind that a definition with this specification serves,
+/// unless it has one already.
 fn add_spec<'a>(
     alloc: Global,
     scopes: &mut Scopes<'a>,
