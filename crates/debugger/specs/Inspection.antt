@@ -1,5 +1,5 @@
 -- The parts of a state that a session shows: a value, bytes of memory, and frames.
-use Rattle.std.specs.Prelude.{◌≡◌, ℕ, zero, suc, ◌+◌, ◌≤◌, Bool, ◌&&◌, List, [], ◌∷◌, ◌++◌, take, drop, length, codes, decimal, Option}
+use Rattle.std.specs.Prelude.{◌≡◌, ℕ, zero, suc, ◌+◌, ◌≤◌, ◌&&◌, List, [], ◌∷◌, ◌++◌, take, drop, length, codes, decimal, Option}
 use Rattle.std.specs.Prelude.{Some, None, nat_le, option_map, slice_get, if◌then◌else◌}
 use Rattle.std.specs.Fmt.{signed_decimal}
 use Rattle.bpf_machine.specs.State.{State}

@@ -1,5 +1,5 @@
 -- Proof obligations of `scopes::with_versions`.
-use Rattle.cluster_state.proofs.Prelude.{◌∙◌, bytes_eq, items_view, option_map, sym, view}
+use Rattle.cluster_state.proofs.Prelude.{bytes_eq, items_view, option_map, sym, view}
 use Rattle.cluster_state.specs.Items.{group_in}
 use Rattle.cluster_state.specs.Serving.{is_served, version_in}
 use Rattle.cluster_state.proofs.Scoped.{no_versions, of_versions}
