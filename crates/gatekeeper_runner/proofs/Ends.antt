@@ -1,5 +1,5 @@
 -- What is written to standard error, and how a cluster's start ends.
-use Rattle.gatekeeper_runner.proofs.Prelude.{◌≡◌, ℕ, ◌<◌, List, length, take, Option, Result, Ok, Err, inl, inr, OnErr, OnOk, FileSystem, StartRefusal}
+use Rattle.gatekeeper_runner.proofs.Prelude.{◌≡◌, ◌≢◌, ℕ, ◌<◌, List, length, take, Option, Result, Ok, Err, inl, inr, refl, OnErr, OnOk, FileSystem, StartRefusal}
 use Rattle.serde_json.specs.Data as json
 use Rattle.streams.specs.Streams.{AddsBytes, Stream, one_more}
 use Rattle.streams.specs.declared.failed.Failed.{Failed}
@@ -29,15 +29,16 @@ module _ (known : Option FileSystem) (order : ClusterOrder) (lists : List json.D
   not_listed_at place (Cluster (NoState e)) due told = absurd told
   not_listed_at place (Cluster (Blocked name cause)) due told = absurd told
 
-  -- the lists are not the state of a cluster
-  pub refused_state : (e : StateError) → IsDueRefusal (state_of lists) e → ClusterStarts known order (Err (refusal_of_state e))
-  refused_state state_error.Memory due = no_memory
-  refused_state (state_error.NotAList n) due = no_state _ hold due
-  refused_state (state_error.InvalidItem n) due = no_state _ hold due
-  refused_state (state_error.DuplicateItem name) due = no_state _ hold due
-  refused_state state_error.NoNamespace due = no_state _ hold due
-  refused_state (state_error.InvalidBinding name) due = no_state _ hold due
-  refused_state (state_error.InvalidPolicy name) due = no_state _ hold due
+  -- the lists are not the state of a cluster, though each is a List
+  pub refused_state : (e : StateError) → ((place : ℕ) → e ≢ state_error.NotAList place) → IsDueRefusal (state_of lists) e
+      → ClusterStarts known order (Err (refusal_of_state e))
+  refused_state state_error.Memory listed due = no_memory
+  refused_state (state_error.NotAList place) listed due = absurd (listed place refl)
+  refused_state (state_error.InvalidItem n) listed due = no_state _ hold due
+  refused_state (state_error.DuplicateItem name) listed due = no_state _ hold due
+  refused_state state_error.NoNamespace listed due = no_state _ hold due
+  refused_state (state_error.InvalidBinding name) listed due = no_state _ hold due
+  refused_state (state_error.InvalidPolicy name) listed due = no_state _ hold due
 
   module _ (s : ClusterState) (is : state_of lists ≡ Ok s) where
     -- a policy is blocked

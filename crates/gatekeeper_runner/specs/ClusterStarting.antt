@@ -60,6 +60,12 @@ pub record OneIsNoList (known : Option FileSystem) (names : List Text) (r : Star
 
 -- ---- the start
 
+-- why lists are not the state of a cluster, if each of them is a List and no allocation failed
+abbrev pub IsNoState : List json.Data → StateError → Type 0
+IsNoState lists (NotAList place) = ⊥
+IsNoState lists state_error.Memory = ⊥
+IsNoState lists e = IsDueRefusal (state_of lists) e
+
 -- what every line is answered under, or why no line is read: the files are read first, then the state in their lists, then
 -- the policies are compiled
 pub data ClusterStarts (known : Option FileSystem) (order : ClusterOrder) : Result AnsweringCluster StartRefusal → Type 0 where
@@ -67,7 +73,7 @@ pub data ClusterStarts (known : Option FileSystem) (order : ClusterOrder) : Resu
   not_listed : {lists : List json.Data} (place : ℕ) (told : String Global) → HoldLists known order.files lists
       → state_of lists ≡ Err (not_a_list place) → string_bytes told ≡ get_or order.files place []
       → ClusterStarts known order (Err (Cluster (NoList told)))
-  no_state : {lists : List json.Data} (e : StateError) → HoldLists known order.files lists → IsDueRefusal (state_of lists) e
+  no_state : {lists : List json.Data} (e : StateError) → HoldLists known order.files lists → IsNoState lists e
       → ClusterStarts known order (Err (Cluster (NoState e)))
   is_blocked : {lists : List json.Data} {s : ClusterState} (name : String Global) (cause : BlockCause) → HoldLists known order.files lists
       → state_of lists ≡ Ok s → order.partial ≡ false → FirstIsBlocked s s.policies (string_bytes name) cause

@@ -6,4 +6,4 @@ pub returns-in-NotAList : goal.returns-in-NotAList
 returns-in-NotAList c known hold due = not_listed_at known _ _ hold c.in-NotAList.place _ (rw c.in-NotAList.is at due) c.not_listed.ensures
 
 pub returns-in_default : goal.returns-in_default
-returns-in_default c known hold due = rw c.from.ensures (refused_state known _ _ hold c.args.error due)
+returns-in_default c known hold due = rw c.from.ensures (refused_state known _ _ hold c.args.error c.in_default.not-NotAList due)
