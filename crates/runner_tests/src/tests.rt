@@ -3,6 +3,7 @@
 use std::alloc::{AllocError, Global};
 
 mod assembling;
+mod cluster_answers;
 mod clusters;
 mod doubles;
 mod drawn_images;

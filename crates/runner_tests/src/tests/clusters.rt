@@ -26,7 +26,7 @@ const THREE_ANSWERS: &str =
 
 /// The words, the status, standard output and standard error, on the lines above.
 #[rattlefmt::skip]
-const ROWS: [(&str, u8, &str, &str); 23] = [
+const ROWS: [(&str, u8, &str, &str); 24] = [
     (BOTH, 0, THREE_ANSWERS, "celbpf: policy p, bindings b\ncelbpf: policy q, bindings c\n"),
     ("gatekeeper --cluster policies", 0, NOTHING_BOUND, ""),
     ("gatekeeper --cluster none", 3, "", "celbpf: C1 none\n"),
@@ -38,6 +38,7 @@ const ROWS: [(&str, u8, &str, &str); 23] = [
     ("gatekeeper --cluster no-binding", 3, "", "celbpf: C5 b\n"),
     ("gatekeeper --cluster no-constraints", 3, "", "celbpf: C6 p\n"),
     ("gatekeeper --cluster no-validations", 3, "", "celbpf: C7 p K4\n"),
+    ("gatekeeper --cluster condition", 3, "", "celbpf: C7 p namespaceObject\n"),
     ("gatekeeper --cluster no-kind", 3, "", "celbpf: C8 p\n"),
     ("gatekeeper --cluster no-validations --partial", 0, C7_REFUSED, "celbpf: policy p, bindings b, blocked C7 K4\n"),
     ("gatekeeper --partial --cluster no-kind", 0, C8_REFUSED, "celbpf: policy p, bindings b, params example.com/v1 Limit 0, blocked C8\n"),

@@ -50,7 +50,7 @@ no
 
 /// The words, the input, the status, standard output and the refusal.
 #[rattlefmt::skip]
-const ROWS: [(&str, &str, u8, &str, &str); 19] = [
+const ROWS: [(&str, &str, u8, &str, &str); 20] = [
     (FEW, TWO, 0, TWO_ANSWERS, ""),
     (
         FEW,
@@ -87,6 +87,15 @@ const ROWS: [(&str, &str, u8, &str, &str); 19] = [
         0,
         r#"{"refused":"N4","uid":"u1","policy":"few","failurePolicy":"Fail"}
 {"refused":"N4","uid":"u2","policy":"few","failurePolicy":"Fail"}
+"#,
+        "",
+    ),
+    (
+        "gatekeeper --policy deep",
+        TWO,
+        0,
+        r#"{"refused":"N5","uid":"u1","policy":"p","failurePolicy":"Fail"}
+{"refused":"N5","uid":"u2","policy":"p","failurePolicy":"Fail"}
 "#,
         "",
     ),

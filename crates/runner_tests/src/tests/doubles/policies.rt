@@ -13,8 +13,20 @@ const EVEN: &str =
 const SLOW: &str =
     r#"{"apiVersion":"admissionregistration.k8s.io/v1","kind":"ValidatingAdmissionPolicy","metadata":{"name":"slow-one"},"spec":{"failurePolicy":"Ignore","validations":[{"expression":"[1,2,3,4,5,6,7,8,9,10,11,12,13,14,15,16].all(x, [1,2,3,4,5,6,7,8,9,10,11,12,13,14,15,16].all(y, [1,2,3,4,5,6,7,8,9,10,11,12,13,14,15,16].all(z, x + y + z > 0)))"}]}}"#;
 
+/// A list in a list, 300 levels deep: `a` has 50, and each later variable 50 more. A list has at most
+/// 255.
+pub const DEEP: &str =
+    r#"{"apiVersion":"admissionregistration.k8s.io/v1","kind":"ValidatingAdmissionPolicy","metadata":{"name":"p"},"spec":{"matchConstraints":{"resourceRules":[{"apiGroups":["*"],"apiVersions":["v1"],"operations":["*"],"resources":["*"]}]},"variables":[
+{"name":"a","expression":"[[[[[[[[[[[[[[[[[[[[[[[[[[[[[[[[[[[[[[[[[[[[[[[[[[1]]]]]]]]]]]]]]]]]]]]]]]]]]]]]]]]]]]]]]]]]]]]]]]]]]"},
+{"name":"b","expression":"[[[[[[[[[[[[[[[[[[[[[[[[[[[[[[[[[[[[[[[[[[[[[[[[[[variables.a]]]]]]]]]]]]]]]]]]]]]]]]]]]]]]]]]]]]]]]]]]]]]]]]]]"},
+{"name":"c","expression":"[[[[[[[[[[[[[[[[[[[[[[[[[[[[[[[[[[[[[[[[[[[[[[[[[[variables.b]]]]]]]]]]]]]]]]]]]]]]]]]]]]]]]]]]]]]]]]]]]]]]]]]]"},
+{"name":"d","expression":"[[[[[[[[[[[[[[[[[[[[[[[[[[[[[[[[[[[[[[[[[[[[[[[[[[variables.c]]]]]]]]]]]]]]]]]]]]]]]]]]]]]]]]]]]]]]]]]]]]]]]]]]"},
+{"name":"e","expression":"[[[[[[[[[[[[[[[[[[[[[[[[[[[[[[[[[[[[[[[[[[[[[[[[[[variables.d]]]]]]]]]]]]]]]]]]]]]]]]]]]]]]]]]]]]]]]]]]]]]]]]]]"},
+{"name":"f","expression":"[[[[[[[[[[[[[[[[[[[[[[[[[[[[[[[[[[[[[[[[[[[[[[[[[[variables.e]]]]]]]]]]]]]]]]]]]]]]]]]]]]]]]]]]]]]]]]]]]]]]]]]]"}],
+"validations":[{"expression":"size(variables.f) == 1"}]}}"#;
+
 /// `few` allows at most 3 replicas, `even` an even number of them, `slow` any number
-/// after many steps, and `none` is not a policy.
+/// after many steps, `deep` is stopped, and `none` is not a policy.
 #[derive(Drop)]
 pub struct Policies;
 
@@ -28,6 +40,7 @@ impl Files for Policies {
             "few" => FEW,
             "even" => EVEN,
             "slow" => SLOW,
+            "deep" => DEEP,
             "none" => "no",
             _ => return Err(FileError::Failed),
         };
