@@ -4,7 +4,7 @@ use Rattle.std.proofs.Common.{[], None, Some, codes, if◌then◌else◌, true�
 use Rattle.std.specs.List.{list_any}
 use Rattle.admission_documents.specs.Documents.{field, field_of}
 use Rattle.cluster_state.specs.Objects.{Named}
-use Rattle.cluster_state.specs.Params.{is_in_namespace, is_of_kind, is_of_other_version, known_kind, scope_by, scope_by_items, scope_of, serves, with_scope}
+use Rattle.cluster_state.specs.Params.{if_placed, is_in_namespace, is_of_kind, is_of_other_version, known_kind, scope_by, scope_by_items, scope_of, serves, with_scope}
 use Rattle.cluster_state.specs.Policies.{ParamKind}
 use Rattle.cluster_state.specs.declared.param_scope.ParamScope.TheVariants.{Cluster, Namespaced}
 use Rattle.cluster_state.specs.Laws.{IsReordered}
@@ -49,8 +49,12 @@ same_scope k items others (o ∷ os) e =
 same_kinds : (k : ParamKind) (before : List Item) (i j : Item) (after : List Item) (o : Objects)
     → known_kind k (before ++ i ∷ j ∷ after) o ≡ known_kind k (before ++ j ∷ i ∷ after) o
 same_kinds k before i j after o =
-    ap (λ z. if z then None else with_scope k (scope_by k (before ++ i ∷ j ∷ after) (o definitions))) (same_any (is_of_other_version k) before i j after)
-    ∙ ap (λ z. if list_any (is_of_other_version k) (before ++ j ∷ i ∷ after) then None else with_scope k z)
+    let spaced : List Item → Bool = list_any (is_in_namespace k) in
+    ap (λ z. if z then None else with_scope k (if_placed (spaced (before ++ i ∷ j ∷ after)) (scope_by k (before ++ i ∷ j ∷ after) (o definitions))))
+    (same_any (is_of_other_version k) before i j after)
+    ∙ ap (λ z. if list_any (is_of_other_version k) (before ++ j ∷ i ∷ after) then None else with_scope k (if_placed z (scope_by k (before ++ i ∷ j ∷ after) (o definitions))))
+    (same_any (is_in_namespace k) before i j after)
+    ∙ ap (λ z. if list_any (is_of_other_version k) (before ++ j ∷ i ∷ after) then None else with_scope k (if_placed (spaced (before ++ j ∷ i ∷ after)) z))
     (same_scope k (before ++ i ∷ j ∷ after) (before ++ j ∷ i ∷ after) (o definitions)
     (ap (λ z. if z then Some Namespaced else (if list_any (is_of_kind k) (before ++ i ∷ j ∷ after) then Some Cluster else None)) (same_any (is_in_namespace k) before i j after)
     ∙ ap (λ z. if list_any (is_in_namespace k) (before ++ j ∷ i ∷ after) then Some Namespaced else (if z then Some Cluster else None)) (same_any (is_of_kind k) before i j after)))

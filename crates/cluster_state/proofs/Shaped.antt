@@ -7,7 +7,7 @@ use Rattle.std.proofs.lemmas.Slice.Eq.{bytes_eq-Decides}
 use Rattle.std.specs.BTreeMap.{IsEmpty}
 use Rattle.admission_documents.specs.Documents.{field, field_of}
 use Rattle.cluster_state.specs.Items.{group_in}
-use Rattle.cluster_state.specs.Params.{KnownKind, is_in_namespace, is_of_kind, known_kind, scope_by_items, scope_of, serves, with_scope}
+use Rattle.cluster_state.specs.Params.{KnownKind, if_placed, is_in_namespace, is_of_kind, known_kind, scope_by_items, scope_of, serves, with_scope}
 use Rattle.cluster_state.specs.Shapes.{Shapes, ShowAll, Shows, differs_from, is_item_in_namespace, is_item_of, is_item_of_other_version, is_of_group, is_spaced, shape_cmp, shape_of, shape_with}
 use Rattle.cluster_state.specs.Scopes.{first_scope}
 use Rattle.cluster_state.specs.ShapedScopes.{kind_from, scope_or_shown, scope_shown}
@@ -200,6 +200,8 @@ unless false x y e = e refl
 pub kind_shown : (k : ParamKind) (is : List Item) (objects : Objects) (s : Option Shape) → Shows k is s
     → kind_from k s (first_scope k (objects definitions)) ≡ known_kind k is objects
 kind_shown k is objects s shows =
-    unless (differs_from k s) (with_scope k (scope_or_shown (first_scope k (objects definitions)) s)) (with_scope k (scope_by k is (objects definitions)))
-    (λ e. ap (with_scope k) (scope_same k is s shows e (objects definitions)))
-    ∙ ap (λ b. if b then None else with_scope k (scope_by k is (objects definitions))) (sym shows.0)
+    let scope : Option ParamScope = scope_by k is (objects definitions) in
+    let spaced : Bool = list_any (is_in_namespace k) is in
+    unless (differs_from k s) (with_scope k (if_placed (is_spaced s) (scope_or_shown (first_scope k (objects definitions)) s))) (with_scope k (if_placed spaced scope))
+    (λ e. ap (λ x. with_scope k (if_placed (is_spaced s) x)) (scope_same k is s shows e (objects definitions)) ∙ ap (λ b. with_scope k (if_placed b scope)) (sym (shows.2 e)))
+    ∙ ap (λ b. if b then None else with_scope k (if_placed spaced scope)) (sym shows.0)

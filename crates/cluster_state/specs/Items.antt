@@ -41,6 +41,17 @@ has_other_version version kind =
     bytes_eq (group_in version) (codes "admissionregistration.k8s.io") && is_policy_kind kind
     && not (bytes_eq version (codes "admissionregistration.k8s.io/v1"))
 
+-- a kind of the cluster that a state reads: policies, their bindings, namespaces and definitions of kinds
+unfoldable pub is_of_cluster : List ℕ → List ℕ → Bool
+is_of_cluster version kind =
+    (bytes_eq version (codes "admissionregistration.k8s.io/v1") && is_policy_kind kind)
+    || ((bytes_eq version (codes "v1") && bytes_eq kind (codes "Namespace"))
+    || (bytes_eq version (codes "apiextensions.k8s.io/v1") && bytes_eq kind (codes "CustomResourceDefinition")))
+
+-- an object of such a kind is in a namespace, as none in a cluster is
+abbrev pub is_misplaced : Collection → Bool
+is_misplaced c = is_of_cluster c.api_version c.kind && not (length c.namespace == 0)
+
 -- labels are absent, or a map of texts
 abbrev pub are_labels : Option json.Data → Bool
 are_labels None = true
@@ -62,9 +73,10 @@ item_parts d = item_from d
     (text_of (field_of (codes "name") (field (codes "metadata") d)))
     (text_or_empty_of (field_of (codes "namespace") (field (codes "metadata") d)))
 
--- it has a name, and is not of another API version
+-- it has a name, is not of another API version, and is not misplaced
 abbrev pub is_read : Item → Bool
-is_read i = not (length i.name == 0) && not (has_other_version i.collection.api_version i.collection.kind)
+is_read i =
+    not (length i.name == 0) && not (has_other_version i.collection.api_version i.collection.kind) && not (is_misplaced i.collection)
 
 -- the item, if it can be read
 abbrev pub if_read : Option Item → Option Item

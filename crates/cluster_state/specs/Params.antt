@@ -63,9 +63,17 @@ abbrev pub with_scope : ParamKind → Option ParamScope → Option KnownKind
 with_scope k (Some scope) = Some (record { kind = k; scope = scope })
 with_scope k None = None
 
--- the kind with its scope, if that is known and no object has another version
+-- the scope of a kind, unless it is the cluster and an object of the kind is in a namespace
+abbrev pub if_placed : Bool → Option ParamScope → Option ParamScope
+if_placed spaced None = None
+if_placed spaced (Some Namespaced) = Some Namespaced
+if_placed spaced (Some Cluster) = if spaced then None else Some Cluster
+
+-- the kind with its scope, if that is known, no object has another version, and none is in a namespace that the kind has not
 abbrev pub known_kind : ParamKind → List Item → Objects → Option KnownKind
-known_kind k is objects = if list_any (is_of_other_version k) is then None else with_scope k (scope_by k is (objects definitions))
+known_kind k is objects =
+    if list_any (is_of_other_version k) is then None
+    else with_scope k (if_placed (list_any (is_in_namespace k) is) (scope_by k is (objects definitions)))
 
 -- ---- params
 

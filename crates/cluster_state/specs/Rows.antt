@@ -65,6 +65,12 @@ abbrev pub binding : List ℕ → List ℕ → List ℕ
 binding of_policy actions =
     codes "{\"apiVersion\":\"admissionregistration.k8s.io/v1\",\"kind\":\"ValidatingAdmissionPolicyBinding\",\"metadata\":{\"name\":\"b\"},\"spec\":{\"policyName\":\"" ++ (of_policy ++ (codes "\",\"validationActions\":" ++ (actions ++ codes "}}")))
 
+-- an object of this version and kind in the namespace prod
+abbrev pub placed : List ℕ → List ℕ → List ℕ
+placed version kind =
+    codes "{\"apiVersion\":\""
+    ++ (version ++ (codes "\",\"kind\":\"" ++ (kind ++ codes "\",\"metadata\":{\"name\":\"n\",\"namespace\":\"prod\"}}")))
+
 abbrev pub deny : List ℕ
 deny = codes "[\"Deny\"]"
 
@@ -92,6 +98,16 @@ pub record StateRowsHold : Type 0 where
       refusal (one_list (codes "{\"apiVersion\":\"v1\",\"kind\":\"Pod\",\"metadata\":{\"name\":\"web\",\"labels\":{\"n\":1}}}" ∷ [])) ≡ Some (invalid_item 0)
   pub other_version :
       refusal (one_list (codes "{\"apiVersion\":\"admissionregistration.k8s.io/v1beta1\",\"kind\":\"ValidatingAdmissionPolicy\",\"metadata\":{\"name\":\"p\"}}" ∷ [])) ≡ Some (invalid_item 0)
+  pub policy_in_a_namespace :
+      refusal (one_list (placed (codes "admissionregistration.k8s.io/v1") (codes "ValidatingAdmissionPolicy") ∷ prod
+      ∷ [])) ≡ Some (invalid_item 0)
+  pub binding_in_a_namespace :
+      refusal (one_list (placed (codes "admissionregistration.k8s.io/v1") (codes "ValidatingAdmissionPolicyBinding")
+      ∷ prod ∷ [])) ≡ Some (invalid_item 0)
+  pub definition_in_a_namespace :
+      refusal (one_list (prod ∷ placed (codes "apiextensions.k8s.io/v1") (codes "CustomResourceDefinition") ∷ [])) ≡ Some (invalid_item 1)
+  pub namespace_in_a_namespace : refusal (one_list (placed (codes "v1") (codes "Namespace") ∷ prod ∷ [])) ≡ Some (invalid_item 0)
+  pub other_in_a_namespace : refusal (one_list (placed (codes "x.io/v1") (codes "Namespace") ∷ prod ∷ [])) ≡ None
   pub policy_of_another_group :
       refusal (one_list (codes "{\"apiVersion\":\"x.io/v1\",\"kind\":\"ValidatingAdmissionPolicy\",\"metadata\":{\"name\":\"p\"}}" ∷ prod ∷ [])) ≡ None
   pub twice : refusal (listing prod ∷ listing prod ∷ []) ≡ Some (duplicate_item (codes "prod"))
@@ -219,6 +235,10 @@ definition scope =
 abbrev pub without_versions : Named
 without_versions = named_document (read (codes "{\"spec\":{\"group\":\"x.io\",\"names\":{\"kind\":\"Limit\"},\"scope\":\"Cluster\"}}"))
 
+-- an object of kind Limit in prod
+abbrev pub limit_in_prod : List Item
+limit_in_prod = thing (codes "x.io/v1") (codes "Limit") (codes "prod") (codes "l") ∷ []
+
 pub record KindRowsHold : Type 0 where
   pub by_objects : scope_by config_kind things [] ≡ Some Namespaced
   pub by_objects_of_the_cluster : scope_by limit_kind things [] ≡ Some Cluster
@@ -231,6 +251,9 @@ pub record KindRowsHold : Type 0 where
   pub other_group : scope_by (record limit_kind { api_version = codes "y.io/v1" }) [] (definition (codes "Cluster")) ≡ None
   pub not_listed : known_kind config_kind [] no_objects ≡ None
   pub known : known_kind limit_kind things held ≡ Some limits_kind
+  pub in_a_namespace_by_definition : known_kind limit_kind limit_in_prod (λ c. definition (codes "Namespaced"))
+      ≡ Some (record { kind = limit_kind; scope = Namespaced })
+  pub in_a_namespace_of_the_cluster : known_kind limit_kind limit_in_prod (λ c. definition (codes "Cluster")) ≡ None
   pub in_another_version : known_kind limit_kind (thing (codes "x.io/v2") (codes "Limit") [] (codes "m") ∷ things) held ≡ None
 
 -- ---- the namespace of a request

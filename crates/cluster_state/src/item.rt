@@ -2,7 +2,7 @@
 ghost use Rattle.std.specs.Prelude.{◌≡◌, ◌==◌, ◌<◌, length, option_map, position, IfSome};
 ghost use Rattle.serde_json.specs.View.{view};
 ghost use Rattle.admission_documents.specs.Documents.{field_of};
-ghost use Rattle.cluster_state.specs.Items.{are_labels, group_in, has_other_version, is_policy_kind, is_read, item_in, item_parts, item_view};
+ghost use Rattle.cluster_state.specs.Items.{are_labels, group_in, has_other_version, is_misplaced, is_of_cluster, is_policy_kind, is_read, item_in, item_parts, item_view};
 
 use admission_documents::{field, is_text_map, labels_field, text, text_or_empty};
 use serde_json::Value;
@@ -54,7 +54,16 @@ impl<'a> Item<'a> {
     fn is_read(&self) -> bool
         ensures { result ≡ is_read (item_view self.now) }
     {
-        !self.name.is_empty() && !has_other_version(self.api_version, self.kind)
+        !self.name.is_empty()
+            && !has_other_version(self.api_version, self.kind)
+            && !self.is_misplaced()
+    }
+
+    /// Whether the object is in a namespace, though its kind is of the cluster.
+    fn is_misplaced(&self) -> bool
+        ensures { result ≡ is_misplaced (item_view self.now).collection }
+    {
+        is_of_cluster(self.api_version, self.kind) && !self.namespace.is_empty()
     }
 }
 
@@ -86,6 +95,16 @@ fn has_other_version(api_version: &str, kind: &str) -> bool
     group_in(api_version.as_bytes()) == "admissionregistration.k8s.io".as_bytes()
         && is_policy_kind(kind)
         && api_version != "admissionregistration.k8s.io/v1"
+}
+
+/// Whether this is a kind of the cluster that a state reads.
+#[tactic(auto, unfolding(crate::specs::Items::is_of_cluster))]
+fn is_of_cluster(api_version: &str, kind: &str) -> bool
+    ensures { result ≡ is_of_cluster api_version.now kind.now }
+{
+    (api_version == "admissionregistration.k8s.io/v1" && is_policy_kind(kind))
+        || (api_version == "v1" && kind == "Namespace")
+        || (api_version == "apiextensions.k8s.io/v1" && kind == "CustomResourceDefinition")
 }
 
 #[tactic(auto, unfolding(crate::specs::Items::is_policy_kind))]

@@ -1,9 +1,9 @@
 //! Known kinds of params.
-ghost use Rattle.std.specs.Prelude.{◌≡◌, option_map};
-ghost use Rattle.cluster_state.specs.Params.{known_kind, known_kind_view};
+ghost use Rattle.std.specs.Prelude.{◌≡◌, Some, option_map};
+ghost use Rattle.cluster_state.specs.Params.{if_placed, known_kind, known_kind_view};
 ghost use Rattle.cluster_state.specs.Policies.{param_kind_view};
 ghost use Rattle.cluster_state.specs.ShapedScopes.{kind_from, scope_or_shown, scope_shown};
-ghost use Rattle.cluster_state.specs.Shapes.{differs_from};
+ghost use Rattle.cluster_state.specs.Shapes.{differs_from, is_spaced};
 ghost use Rattle.cluster_state.specs.State.{state_view};
 
 use crate::known_kind::KnownKind;
@@ -14,7 +14,8 @@ use crate::state::State;
 
 impl<'a> State<'a> {
     /// The kind with its scope, if its params can be found: a CustomResourceDefinition serves it or
-    /// there are objects of it, and no object of it is listed in another version.
+    /// there are objects of it, no object of it is listed in another version, and none is in a
+    /// namespace if the kind is of the cluster.
     pub fn known_kind(&self, kind: &ParamKind<'a>) -> Option<KnownKind<'a>>
         ensures { option_map known_kind_view result ≡ known_kind (param_kind_view kind.now) (state_view self.now).items (state_view self.now).objects }
     {
@@ -36,7 +37,33 @@ fn kind_by<'a>(
         return None;
     }
     let scope = scope_or_shown(defined, shape)?;
+    let scope = if_placed(shape, scope)?;
     Some(KnownKind { kind: *kind, scope })
+}
+
+/// The scope, unless it is the cluster and an object of the kind is in a namespace.
+fn if_placed(shape: &Option<Shape<'_>>, scope: ParamScope) -> Option<ParamScope>
+    ensures { result ≡ if_placed (is_spaced shape.now) (Some scope) }
+{
+    match scope {
+        ParamScope::Namespaced => Some(ParamScope::Namespaced),
+        ParamScope::Cluster => {
+            if is_spaced(shape) {
+                None
+            } else {
+                Some(ParamScope::Cluster)
+            }
+        }
+    }
+}
+
+fn is_spaced(shape: &Option<Shape<'_>>) -> bool
+    ensures { result ≡ is_spaced shape.now }
+{
+    match shape {
+        Some(shape) => shape.is_namespaced,
+        None => false,
+    }
 }
 
 fn scope_or_shown(

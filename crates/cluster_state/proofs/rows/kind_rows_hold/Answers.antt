@@ -18,5 +18,7 @@ returns c = record {
   other_group = refl;
   not_listed = refl;
   known = refl;
+  in_a_namespace_by_definition = refl;
+  in_a_namespace_of_the_cluster = refl;
   in_another_version = refl;
 }
