@@ -11,7 +11,7 @@ use crate::refused::Refused;
 use crate::refusing::{line_refusal_text, refusal_text};
 use admission::{Decision, RunError};
 use line_answers::Decider;
-use policy_glue::response_text;
+use policy_glue::into_response_text;
 use std::alloc::{AllocError, Global};
 use streams::{LineSource, SessionError, Sink};
 
@@ -72,7 +72,7 @@ fn outcome_text(
     ensures { IfOk result (λ text. text.items ≡ answer_text line.now (together_view outcome)) }
 {
     match outcome {
-        Ok(decision) => response_text(alloc, &decision.rejection, decision.uid.as_str()),
+        Ok(Decision { rejection, uid }) => into_response_text(alloc, rejection, uid.as_str()),
         Err(refused) => line_refusal_text(alloc, &refused, line),
     }
 }

@@ -3,9 +3,11 @@
 mod Compiles
 mod Distinct
 mod Emission
+mod Escapes
 mod Found
 mod FoundOnLiterals
 mod Judged
+mod Left
 mod Lists
 mod Named
 mod OnLiterals

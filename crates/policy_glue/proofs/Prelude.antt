@@ -184,7 +184,7 @@ pub use Rattle.policy_glue.specs.Checking.{refused, scope_after, taken, texts, t
 pub use Rattle.policy_glue.specs.Checking.{variable_judged, with_depth, with_typing, with_variable}
 pub use Rattle.policy_glue.specs.CompileErrors.{from_macros, from_reader, in_part}
 pub use Rattle.policy_glue.specs.Compiled.{CompilesTo, IsCompiled}
-pub use Rattle.policy_glue.specs.Denials.{denial_view, denials_told, denies_word, lent}
+pub use Rattle.policy_glue.specs.Denials.{denial_view, denials_by, denials_read, denials_told, denies_word, lent}
 pub use Rattle.policy_glue.specs.Documents.{each, keys_within}
 pub use Rattle.policy_glue.specs.Emission.{EmitsProgram, FitInOrder, HasTrees, MayFit, emitted, with_condition}
 pub use Rattle.policy_glue.specs.Emission.{with_conditions, with_decided, with_result, with_validation}

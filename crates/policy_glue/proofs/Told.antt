@@ -1,5 +1,5 @@
 -- The verdict that its words represent.
-use Rattle.policy_glue.proofs.Prelude.{◌≡◌, ◌<◌, ◌≤◌, ◌+◌, ◌*◌, ℕ, Bool, true, false, List, [], length, Option, None, nat_lt, arith, refl, sym, ap, ◌∙◌, zero, suc, ◌∷◌, ◌++◌, Some, ◌-◌, map, subst, ltb-false, nat_tests, slice_get_past, slice_get, if◌then◌else◌, slice_index, Memory, IsMemory, base_of, word_in, read_word, ValueOrError, AreRead, IsLayout, Encodes, VerdictWords, finding_word, first_message, message_at, message_in, part_limit, ok_or_zero, result_at, text_named, verdict_word, outcome_of, outcome_word, truth_word, Finding, Verdict, CheckResult, Outcome, denies, FailurePolicy, IsAcceptedPolicy, Parts, denials_told, denies_word, lent, Validation, Policy, validation_view, policy_view, Rejection, rejection_tree, rejection_by, rejection_of, response_text, Denial, denials_of, response_of, tree_of, Admitted, Skipped}
+use Rattle.policy_glue.proofs.Prelude.{◌≡◌, ◌<◌, ◌≤◌, ◌+◌, ◌*◌, ℕ, Bool, true, false, List, [], length, Option, None, nat_lt, arith, refl, sym, ap, ◌∙◌, zero, suc, ◌∷◌, ◌++◌, Some, ◌-◌, map, subst, ltb-false, nat_tests, slice_get_past, slice_get, if◌then◌else◌, slice_index, Memory, IsMemory, base_of, word_in, read_word, ValueOrError, AreRead, IsLayout, Encodes, VerdictWords, finding_word, first_message, first_result, message_at, message_in, part_limit, ok_or_zero, result_at, text_named, verdict_word, outcome_of, outcome_word, truth_word, Finding, Verdict, CheckResult, Outcome, denies, FailurePolicy, IsAcceptedPolicy, Parts, denials_told, denies_word, lent, Validation, Policy, validation_view, policy_view, Rejection, rejection_tree, rejection_by, rejection_of, response_text, Denial, denials_of, response_of, tree_of, Admitted, Skipped}
 use Rattle.std.proofs.Common.{◌⊎◌}
 use Rattle.guest_memory.specs.Memory.{Verdict as VerdictRegion}
 
@@ -29,6 +29,14 @@ module _ (f : FailurePolicy) (v : Verdict) (values : List ValueOrError) (m : Mem
   -- the words that are read from the layout of a verdict represent this verdict
   pub layout_told : (words : VerdictWords) → AreRead m values count words → Encodes f v words
   layout_told words read = grind (arith, word_is, result_is, message_is)
+
+-- the result word and the message text of a validation in the layout of a verdict
+module _ (f : FailurePolicy) (v : Verdict) (values : List ValueOrError) (m : Memory) (is : IsMemory m) (layout : IsLayout f v values m.verdict) where
+  pub finding_read : (i : ℕ) → i < part_limit → verdict_word m (first_result + i) ≡ finding_word (slice_get v.findings i)
+  finding_read i below = word_is m (first_result + i) is (omega arith) ∙ layout.results i below
+
+  pub message_read : (i : ℕ) → i < part_limit → text_named values (verdict_word m (first_message + i)) ≡ message_in (slice_get v.findings i)
+  message_read = named_is f v values m (length v.findings) is (omega arith) layout
 
 -- ---- the loop over the validations
 

@@ -1,8 +1,10 @@
 -- The denials of a verdict, read from its words.
 use Rattle.std.specs.Prelude.{ℕ, ◌+◌, ◌&&◌, ◌||◌, Bool, true, false, List, [], ◌∷◌, map, nat_eq, slice_get, slice_index}
 use Rattle.std.specs.Prelude.{Option, Some, None, option_map, if◌then◌else◌}
+use Rattle.guest_memory.specs.Memory.{Memory}
+use Rattle.value_store.specs.Value.{ValueOrError}
 use Rattle.policy_glue.specs.Policy.{Validation, validation_view}
-use Rattle.policy_glue.specs.Layout.{VerdictWords, words_view}
+use Rattle.policy_glue.specs.Layout.{VerdictWords, first_message, first_result, text_named, verdict_word, words_view}
 use Rattle.policy_glue.specs.Response.{Denial}
 use Rattle.policy_glue.specs.declared.parts.Parts.{Parts}
 use Rattle.policy_glue.specs.declared.verdict.Verdict.{Verdict}
@@ -31,6 +33,19 @@ denials_told f (r ∷ rs) words i =
     let more = denials_told f rs words (i + 1) in
     if denies_word f (slice_index words.results i)
     then record { validation = r; message = lent (slice_get words.messages i) } ∷ more else more
+
+-- the denials of the validations from place i on, by the result word and the message text of each place
+abbrev pub denials_by : FailurePolicy → List Validation → (ℕ → ℕ) → (ℕ → Option (List ℕ)) → ℕ → List Denial
+denials_by f [] result message i = []
+denials_by f (r ∷ rs) result message i =
+    let more = denials_by f rs result message (i + 1) in
+    if denies_word f (result i) then record { validation = r; message = message i } ∷ more else more
+
+-- the denials by the words of the verdict region
+abbrev pub denials_read : Memory → List ValueOrError → Parts → List Denial
+denials_read m values p =
+    denials_by p.failure_policy (map validation_view p.validations.items) (λ i. verdict_word m (first_result + i))
+    (λ i. text_named values (verdict_word m (first_message + i))) 0
 
 -- the denials of all validations
 abbrev pub denials_in : Parts → Verdict → List Denial

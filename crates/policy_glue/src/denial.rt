@@ -1,6 +1,6 @@
 //! One denial.
 
-ghost use Rattle.std.specs.Prelude.{◌≡◌, string_bytes, IfOk};
+ghost use Rattle.std.specs.Prelude.{◌≡◌, ◌++◌, codes, string_bytes, OnOk};
 ghost use Rattle.std.specs.List.{list_all};
 ghost use Rattle.policy_glue.specs.Policy.{validation_view};
 ghost use Rattle.policy_glue.specs.Denials.{denial_view};
@@ -8,7 +8,7 @@ ghost use Rattle.policy_glue.specs.Response.{denial_text, is_space, plain_messag
 
 use crate::policy::has_line_break;
 use crate::validation::Validation;
-use std::alloc::{AllocError, Global};
+use std::alloc::AllocError;
 
 /// A validation that denies.
 #[derive(Debug, Drop)]
@@ -19,27 +19,36 @@ pub struct Denial<'a> {
 }
 
 impl<'a> Denial<'a> {
-    /// The message of the denial: the text of the message expression if it can be used, else the
-    /// plain message.
-    pub fn text(&self, alloc: Global) -> Result<String, AllocError>
-        ensures { IfOk result (λ s. string_bytes s ≡ denial_text (denial_view self.now)) }
+    /// Appends the message of the denial: the text of the message expression if it can be used,
+    /// else the plain message.
+    pub fn push_text(&self, text: &mut String) -> Result<(), AllocError>
+        ensures { OnOk result (string_bytes text.new ≡ string_bytes text.old ++ denial_text (denial_view self.now)) }
     {
         match self.message {
-            Some(text) if serves(text) => String::from_str(alloc, text),
-            _ => plain_message(alloc, self.validation),
+            Some(own) if serves(own) => text.push_str(own),
+            _ => push_plain_message(text, self.validation),
         }
     }
 }
 
-/// The message that is set, else one that says that the expression failed.
-fn plain_message(alloc: Global, validation: &Validation) -> Result<String, AllocError>
-    ensures { IfOk result (λ s. string_bytes s ≡ plain_message (validation_view validation.now)) }
+/// Appends the message that is set, else that the expression failed.
+fn push_plain_message(text: &mut String, validation: &Validation) -> Result<(), AllocError>
+    ensures { OnOk result (string_bytes text.new ≡ string_bytes text.old ++ plain_message (validation_view validation.now)) }
 {
     if validation.message.is_empty() {
-        format!(in alloc; "failed expression: {}", validation.expression)
+        push_failed(text, validation.expression.as_str())
     } else {
-        validation.message.clone()
+        text.push_str(validation.message.as_str())
     }
+}
+
+/// Appends that this expression failed.
+fn push_failed(text: &mut String, expression: &str) -> Result<(), AllocError>
+    ensures { OnOk result (string_bytes text.new ≡ string_bytes text.old ++ (codes "failed expression: " ++ expression.now)) }
+{
+    text.push_str("failed expression: ")?;
+    text.push_str(expression)?;
+    Ok(())
 }
 
 /// Whether the text can be used as a message: it is not empty, not only spaces, and has no line

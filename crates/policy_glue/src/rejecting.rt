@@ -1,14 +1,16 @@
 //! Rejections, computed from verdicts.
 
-ghost use Rattle.std.specs.Prelude.{◌≡◌, ◌≤◌, length, option_map, vec_len, IfOk};
+ghost use Rattle.std.specs.Prelude.{◌≡◌, ◌≤◌, length, map, option_map, vec_len, IfOk};
 ghost use Rattle.guest_memory.specs.Memory.{IsMemory};
 ghost use Rattle.policy_glue.specs.Verdict as decided;
-ghost use Rattle.policy_glue.specs.Denials.{denials_in};
+ghost use Rattle.policy_glue.specs.Denials.{denial_view, denials_in, denials_read};
 ghost use Rattle.policy_glue.specs.Layout.{outcome_of, words_view, Encodes, IsLayout};
 ghost use Rattle.policy_glue.specs.Rejections.{denied, rejection_by, rejection_of, rejection_view, undecided};
 ghost use Rattle.policy_glue.specs.Policy.{part_limit};
+ghost use Rattle.policy_glue.specs.Response.{denials_of};
 
-use crate::denials::{denials, first_reason, joined};
+use crate::denial::Denial;
+use crate::denials::{denials, denials_left, first_reason, joined};
 use crate::outcome::Outcome;
 use crate::parts::Parts;
 use crate::policy::Policy;
@@ -20,7 +22,7 @@ use std::alloc::{AllocError, Global};
 use value_store::ValueStore;
 
 /// Why the verdict that a program left for the policy in its verdict region rejects the request;
-/// `None` if it allows the request, and then only the outcome is read.
+/// `None` if it allows the request. Only the words that tell so are read.
 pub fn rejection_left<M: Regions, V: ValueStore>(
     alloc: Global,
     policy: &Policy,
@@ -33,24 +35,43 @@ pub fn rejection_left<M: Regions, V: ValueStore>(
 {
     match Outcome::of_word(word(memory, 0)) {
         Outcome::Skipped | Outcome::Admitted => Ok(None),
-        Outcome::Rejected | Outcome::Denied => rejection_read(alloc, policy, memory, values),
+        Outcome::Rejected => Ok(Some(undecided(alloc)?)),
+        Outcome::Denied => Ok(Some(denied_left(alloc, policy, memory, values)?)),
     }
 }
 
-/// `rejection_left` by the whole verdict, which is large. It is kept out of the fast path.
+/// The rejection for the denials of such a verdict.
 #[inline(never)]
-fn rejection_read<M: Regions, V: ValueStore>(
+fn denied_left<M: Regions, V: ValueStore>(
     alloc: Global,
     policy: &Policy,
     memory: &M,
     values: &V,
-) -> Result<Option<Rejection>, AllocError>
-    ensures { (v : decided.Verdict) → IsMemory (M.bytes memory.now) → length v.findings ≤ length policy.now.validations
+) -> Result<Rejection, AllocError>
+    ensures { (v : decided.Verdict) → IsMemory (M.bytes memory.now)
         → IsLayout policy.now.failure_policy v (V.values values.now) (M.bytes memory.now).verdict
-        → IfOk result (λ said. option_map rejection_view said ≡ rejection_of policy.now v) }
+        → IfOk result (λ o. rejection_view o ≡ denied (denials_of policy.now.failure_policy policy.now.validations v.findings)) }
 {
-    let verdict = Verdict::of(memory, values, policy);
-    rejection_of(alloc, policy, &verdict)
+    denied_by(alloc, &policy.parts, memory, values)
+}
+
+fn denied_by<M: Regions, V: ValueStore>(
+    alloc: Global,
+    parts: &Parts,
+    memory: &M,
+    values: &V,
+) -> Result<Rejection, AllocError>
+    requires { vec_len parts.now.validations ≤ part_limit }
+    ensures { IfOk result (λ o. rejection_view o ≡ denied (denials_read (M.bytes memory.now) (V.values values.now) parts.now)) }
+{
+    let denials = denials_left(
+        alloc,
+        parts.failure_policy,
+        parts.validations.as_slice(),
+        memory,
+        values,
+    )?;
+    rejection_for(alloc, denials.as_slice())
 }
 
 /// Why the verdict of the policy rejects the request; `None` if it allows the request.
@@ -99,7 +120,14 @@ fn denied(alloc: Global, parts: &Parts, verdict: &Verdict) -> Result<Rejection, 
         parts.validations.as_slice(),
         verdict,
     )?;
-    let message = joined(alloc, denials.as_slice())?;
-    let reason = first_reason(denials.as_slice());
+    rejection_for(alloc, denials.as_slice())
+}
+
+/// The rejection for these denials.
+fn rejection_for(alloc: Global, denials: &[Denial]) -> Result<Rejection, AllocError>
+    ensures { IfOk result (λ o. rejection_view o ≡ denied (map denial_view denials.now)) }
+{
+    let message = joined(alloc, denials)?;
+    let reason = first_reason(denials);
     Ok(Rejection { message, reason })
 }

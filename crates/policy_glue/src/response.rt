@@ -1,6 +1,6 @@
 //! Responses to reviews.
 
-ghost use Rattle.std.specs.Prelude.{◌≡◌, ◌++◌, decimal, option_map, IfOk, None, Some};
+ghost use Rattle.std.specs.Prelude.{◌≡◌, ◌++◌, decimal, option_map, string_bytes, IfOk, None, Some};
 ghost use Rattle.json.specs.Print.{quoted};
 ghost use Rattle.policy_glue.specs.Verdict as decided;
 ghost use Rattle.policy_glue.specs.Layout.{words_view, Encodes};
@@ -8,6 +8,7 @@ ghost use Rattle.policy_glue.specs.Rejections.{rejection_view, response_text};
 ghost use Rattle.policy_glue.specs.Response.{response_of};
 ghost use Rattle.policy_glue.specs.ResponseTokens.{start_text};
 
+use crate::escaping::quoted_after;
 use crate::policy::Policy;
 use crate::rejecting::rejection_of;
 use crate::rejection::Rejection;
@@ -17,6 +18,9 @@ use std::alloc::{AllocError, Global};
 
 /// The room that a response without a long message takes.
 const ROOM: usize = 256;
+
+/// A message of this length or more is quoted in its own buffer, so that it is not there twice.
+const LONG: usize = 1 << 16;
 
 /// The text of the response to a verdict of the policy, for the request with this uid
 /// (AdmissionReview, `admission.k8s.io/v1`).
@@ -30,7 +34,7 @@ pub fn respond(
     ensures { (v : decided.Verdict) → Encodes policy.now.failure_policy v (words_view verdict.now) → IfOk result (λ bytes. bytes.items ≡ response_of policy.now v uid.now) }
 {
     let said = rejection_of(alloc, policy, verdict)?;
-    response_text(alloc, &said, uid)
+    into_response_text(alloc, said, uid)
 }
 
 /// The text of the response to the request with this uid: it denies the request if there is a
@@ -41,6 +45,20 @@ pub fn response_text(
     uid: &str,
 ) -> Result<Vec<u8>, AllocError>
     ensures { IfOk result (λ bytes. bytes.items ≡ response_text (option_map rejection_view said.now) uid.now) }
+{
+    match said {
+        Some(rejection) => denied_text(alloc, rejection.copy()?, uid),
+        None => allowed_text(alloc, uid),
+    }
+}
+
+/// `response_text` for a rejection that is not needed afterwards: a long message is not copied.
+pub fn into_response_text(
+    alloc: Global,
+    said: Option<Rejection>,
+    uid: &str,
+) -> Result<Vec<u8>, AllocError>
+    ensures { IfOk result (λ bytes. bytes.items ≡ response_text (option_map rejection_view said) uid.now) }
 {
     match said {
         Some(rejection) => denied_text(alloc, rejection, uid),
@@ -61,16 +79,17 @@ fn allowed_text(alloc: Global, uid: &str) -> Result<Vec<u8>, AllocError>
 }
 
 /// The text of the response that denies the request.
-fn denied_text(alloc: Global, rejection: &Rejection, uid: &str) -> Result<Vec<u8>, AllocError>
-    ensures { IfOk result (λ bytes. bytes.items ≡ response_text (Some (rejection_view rejection.now)) uid.now) }
+fn denied_text(alloc: Global, rejection: Rejection, uid: &str) -> Result<Vec<u8>, AllocError>
+    ensures { IfOk result (λ bytes. bytes.items ≡ response_text (Some (rejection_view rejection)) uid.now) }
 {
+    let Rejection { message, reason } = rejection;
     let mut text = start(alloc)?;
     text.extend_from_slice(b"false,\"status\":{\"code\":")?;
-    let mut text = with_number(text, rejection.reason.code())?;
+    let mut text = with_number(text, reason.code())?;
     text.extend_from_slice(b",\"message\":")?;
-    let mut text = with_text(text, rejection.message.as_str())?;
+    let mut text = with_message(text, message)?;
     text.extend_from_slice(b",\"reason\":")?;
-    let mut text = with_text(text, rejection.reason.name())?;
+    let mut text = with_text(text, reason.name())?;
     text.extend_from_slice(b"},\"uid\":")?;
     let mut text = with_text(text, uid)?;
     text.extend_from_slice(b"}}")?;
@@ -85,6 +104,17 @@ fn start(alloc: Global) -> Result<Vec<u8>, AllocError>
     text.extend_from_slice(b"{\"apiVersion\":\"admission.k8s.io/v1\",")?;
     text.extend_from_slice(b"\"kind\":\"AdmissionReview\",\"response\":{\"allowed\":")?;
     Ok(text)
+}
+
+/// Appends a message in JSON.
+fn with_message(bytes: Vec<u8>, message: String) -> Result<Vec<u8>, AllocError>
+    ensures { IfOk result (λ more. more.items ≡ bytes.items ++ quoted (string_bytes message)) }
+{
+    if message.len() < LONG {
+        with_text(bytes, message.as_str())
+    } else {
+        quoted_after(bytes, message.into_bytes())
+    }
 }
 
 /// Appends a text in JSON.

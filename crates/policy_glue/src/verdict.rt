@@ -72,7 +72,7 @@ fn results<M: Regions>(memory: &M, count: usize) -> [u64; PART_LIMIT]
 }
 
 /// The text with this reference; `None` for 0.
-fn text_named<V: ValueStore>(values: &V, word: u64) -> Option<&str>
+pub(crate) fn text_named<V: ValueStore>(values: &V, word: u64) -> Option<&str>
     ensures { option_map (λ t. t.now) result ≡ text_named (V.values values.now) word }
 {
     if word == 0 { None } else { values.text(word) }

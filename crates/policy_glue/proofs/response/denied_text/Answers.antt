@@ -12,8 +12,8 @@ returns c =
     (part _ _ _ _ c.in_ok-extend_from_slice-4.ensures.items
     (part _ _ _ _ (rw c.name.ensures at c.in_ok-text-4.ensures)
     (part _ _ _ _ c.in_ok-extend_from_slice-3.ensures.items
-    (part _ _ _ _ (rw c.as_str.ensures.value at c.in_ok-text-3.ensures)
+    (part _ _ _ _ c.in_ok-text-3.ensures
     (part _ _ _ _ c.in_ok-extend_from_slice-2.ensures.items
     (part _ _ _ _ (rw c.code.ensures at c.in_ok-text-2.ensures)
     (part _ _ _ _ c.in_ok-extend_from_slice.ensures.items c.in_ok-text.ensures))))))))
-    ∙ denied_written (rejection_view c.args.rejection.now) c.args.uid.now
+    ∙ denied_written (rejection_view c.args.rejection) c.args.uid.now
