@@ -1,16 +1,11 @@
 -- The failure policy in a policy's document is that of the compiled policy.
-use Rattle.cluster_gate.proofs.Prelude.{◌≡◌, ◌∙◌, ℕ, List, Bool, true, false, Option, Some, None, Result, Ok, Err, ap, refl, subst, sym}
-use Rattle.std.proofs.Common.{arith}
-use Rattle.std.proofs.lemmas.Map.Text.{is_eq-slice_cmp}
+use Rattle.cluster_gate.proofs.Prelude.{◌≡◌, ◌∙◌, ℕ, List, Bool, true, false, Option, Some, None, Result, Ok, Err, ap, option_map, refl, subst, sym}
 use Rattle.std.proofs.lemmas.Slice.Eq.{bytes_eq-Decides}
-use Rattle.std.specs.Ordering.{is_eq, match_ordering}
 use Rattle.std.specs.Prelude.{bytes_eq, codes, if◌then◌else◌, not, option_and_then}
 use Rattle.std.specs.Option.{option_map_or}
-use Rattle.std.specs.declared.cmp.Ordering.{Ordering}
 use Rattle.serde_json.specs.Data as json
-use Rattle.serde_json.specs.Find.{get, get_member}
+use Rattle.serde_json.specs.Find.{get}
 use Rattle.value_store.specs.Documents.{equals_string}
-use Rattle.value_store.specs.Reviews.{without}
 use Rattle.policy_glue.specs.Policy.{NamedExpression, Policy, Validation}
 use Rattle.policy_glue.specs.Reading.{failure_in, has_head, has_spec_form, has_top_form, judged, named_list_in, policy_in, policy_of, policy_parts_in, spec_in, spec_parts, validation_in}
 use Rattle.policy_glue.specs.declared.name_rule.NameRule.TheVariants.{NotEmpty, Identifier}
@@ -19,31 +14,10 @@ use Rattle.policy_glue.specs.declared.failure_policy.FailurePolicy.{FailurePolic
 use Rattle.policy_glue.specs.declared.policy_error.PolicyError.{PolicyError, TheVariants.InvalidField, TheVariants.MessageWithLineBreak, TheVariants.NoValidations, TheVariants.NotAPolicy, TheVariants.NotJson, TheVariants.TooManyParts}
 use Rattle.admission_documents.specs.Documents.{field, field_of, present}
 use Rattle.cluster_plan.specs.Steps.{fails_closed}
-use Rattle.cluster_gate.proofs.SameReading.{without_status_shallow}
+use Rattle.cluster_gate.proofs.Compiled.{failure_compiled, spec_compiled}
+use Rattle.cluster_gate.proofs.SameReading.{compiled_shallow}
 use Rattle.cluster_gate.specs.Laws.{FailsClosedAsCompiled, denies_errors}
-use Rattle.cluster_gate.specs.Texts.{without_status}
-
--- ---- members
-
-either : (o : Ordering) (a b : Option json.Data) → is_eq o ≡ false → match_ordering o a b a ≡ a
-either o a b e = grind arith
-
-kept_by : (key other k : List ℕ) (d : json.Data) (ms : json.Members) (b : Bool) → bytes_eq key k ≡ b → bytes_eq other key ≡ false → get_member other (without key ms) ≡ get_member other ms
-    → get_member other (if b then ms else json.member k d (without key ms)) ≡ get_member other (json.member k d ms)
-kept_by key other k d ms b is apart later = grind (arith, either, is_eq-slice_cmp, bytes_eq-Decides)
-
--- the other keys keep their values
-member_kept : (key other : List ℕ) (ms : json.Members) → bytes_eq other key ≡ false → get_member other (without key ms) ≡ get_member other ms
-member_kept key other json.no_members apart = refl
-member_kept key other (json.member k d ms) apart = kept_by key other k d ms (bytes_eq key k) refl apart (member_kept key other ms apart)
-
-spec_kept : (d : json.Data) → get (codes "spec") (without_status d) ≡ get (codes "spec") d
-spec_kept json.null = refl
-spec_kept (json.boolean b) = refl
-spec_kept (json.number n) = refl
-spec_kept (json.string s) = refl
-spec_kept (json.array ds) = refl
-spec_kept (json.object ms) = member_kept (codes "status") (codes "spec") ms refl
+use Rattle.cluster_gate.specs.CompiledDocuments.{compiled_document, in_object, spec_members}
 
 -- ---- what a policy is read from
 
@@ -108,8 +82,17 @@ failure_is d q e =
     first_part (failure_in (get (codes "failurePolicy") d)) (named_list_in NotEmpty (get (codes "matchConditions") d))
     (named_list_in Identifier (get (codes "variables") d)) (list_in validation_in (get (codes "validations") d)) q e
 
--- a specification is present
-shown : (d : json.Data) → has_spec_form d ≡ true → present (Some d) ≡ Some d
+-- the specification that is compiled is that of the document, which is present
+record IsSpecIn (o : Option json.Data) (compiled : json.Data) : Type 0 where
+  spec : json.Data
+  is : o ≡ Some spec
+  compiled_is : in_object spec_members spec ≡ compiled
+
+spec_in_state : (o : Option json.Data) (compiled : json.Data) → option_map (in_object spec_members) o ≡ Some compiled → IsSpecIn o compiled
+spec_in_state None compiled e = absurd (cc)
+spec_in_state (Some d) compiled e = record { spec = d; is = refl; compiled_is = cc }
+
+shown : (d : json.Data) → has_spec_form (in_object spec_members d) ≡ true → present (Some d) ≡ Some d
 unfolding has_spec_form
 shown json.null e = absurd (cc)
 shown (json.boolean b) e = refl
@@ -127,7 +110,7 @@ named false false f e h = absurd (cc)
 not_ignore : (s : List ℕ) → bytes_eq s (codes "Fail") ≡ true → bytes_eq s (codes "Ignore") ≡ false
 not_ignore s is = ap (λ (t : List ℕ). bytes_eq t (codes "Ignore")) ((bytes_eq-Decides s (codes "Fail")).0 is)
 
-denies_alike : (o : Option json.Data) (f : FailurePolicy) → failure_in o ≡ Some f → not (equals_string (present o) (codes "Ignore")) ≡ denies_errors f
+denies_alike : (o : Option json.Data) (f : FailurePolicy) → failure_in o ≡ Some f → not (equals_string o (codes "Ignore")) ≡ denies_errors f
 denies_alike None f e = let same : Fail ≡ f = cc in ap denies_errors same
 denies_alike (Some json.null) f e = absurd (cc)
 denies_alike (Some (json.boolean b)) f e = absurd (cc)
@@ -140,9 +123,14 @@ pub fails_closed_as_compiled : FailsClosedAsCompiled
 unfolding fails_closed field policy_in
 fails_closed_as_compiled p names c shallow =
     let q = c.is_policy.parsed in
-    let reads = c.has_text.reads (without_status_shallow p.document shallow) in
-    let read : policy_of (without_status p.document) ≡ Ok q = subst (λ (o : Option json.Data). option_map_or policy_of o (Err NotJson) ≡ Ok q) reads c.is_policy.is_said in
-    let spec = read_spec (without_status p.document) q read in
+    let reads = c.has_text.reads (compiled_shallow p.document shallow) in
+    let read : policy_of (compiled_document p.document) ≡ Ok q = subst (λ (o : Option json.Data). option_map_or policy_of o (Err NotJson) ≡ Ok q) reads c.is_policy.is_said in
+    let spec = read_spec (compiled_document p.document) q read in
+    let found = spec_in_state (get (codes "spec") p.document) spec.spec (sym (spec_compiled p.document) ∙ spec.is) in
     let ignores = λ (o : Option json.Data). not (equals_string (field_of (codes "failurePolicy") o) (codes "Ignore")) in
-    ap (λ (o : Option json.Data). ignores (present o)) (sym (spec_kept p.document) ∙ spec.is)
-    ∙ (ap ignores (shown spec.spec spec.form) ∙ denies_alike (get (codes "failurePolicy") spec.spec) q.failure_policy (failure_is spec.spec q spec.parts))
+    let form : has_spec_form (in_object spec_members found.spec) ≡ true = ap has_spec_form found.compiled_is ∙ spec.form in
+    let failure : failure_in (present (get (codes "failurePolicy") found.spec)) ≡ Some q.failure_policy =
+    ap failure_in (sym (failure_compiled found.spec) ∙ ap (get (codes "failurePolicy")) found.compiled_is) ∙ failure_is spec.spec q spec.parts in
+    ap (λ (o : Option json.Data). ignores (present o)) found.is
+    ∙ ap ignores (shown found.spec form)
+    ∙ denies_alike (present (get (codes "failurePolicy") found.spec)) q.failure_policy failure

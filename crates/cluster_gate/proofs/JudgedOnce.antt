@@ -10,10 +10,11 @@ use Rattle.policy_glue.specs.declared.compile_error.CompileError.{CompileError}
 use Rattle.admission.specs.Deciding.{IsPolicyRefused}
 use Rattle.admission.specs.declared.policy_refusal.PolicyRefusal.{PolicyRefusal, TheVariants.Unread, TheVariants.Uncompiled}
 use Rattle.admission.specs.declared.policy_refusal.PolicyRefusal.TheVariants as policy_refusal
-use Rattle.cluster_gate.proofs.SameReading.{same_policy, same_text, without_status_shallow}
+use Rattle.cluster_gate.proofs.SameReading.{same_policy, same_text, compiled_shallow}
 use Rattle.cluster_gate.specs.Gates.{IsCompiledPolicy, IsRefusedPolicy}
 use Rattle.cluster_gate.specs.Laws.{IsShallow}
-use Rattle.cluster_gate.specs.Texts.{IsJsonTextOf, without_status}
+use Rattle.cluster_gate.specs.CompiledDocuments.{compiled_document}
+use Rattle.cluster_gate.specs.Texts.{IsJsonTextOf}
 use Rattle.cluster_gate.specs.declared.block_cause.BlockCause.{BlockCause}
 use Rattle.cluster_gate.specs.declared.block_cause.BlockCause.TheVariants.{Refused, NamesNamespace, UnknownParamKind}
 
@@ -27,8 +28,8 @@ module _ (compiles_once : CompileHasOneResult) where
       let both : ◌≡◌ {A = Result PolicyTree CompileError} (Ok t) (Err e) = compiles_once q (Ok t) (Err e) (subst (λ (x : Policy). Compiles x (Ok t)) same a) b in absurd (cc)
 
   module _ (p : BoundPolicy) (shallow : IsShallow p.document) where
-    pub one_reading : (t u : List ℕ) → IsJsonTextOf (without_status p.document) t → IsJsonTextOf (without_status p.document) u → policy_in t ≡ policy_in u
-    one_reading t u a b = same_policy t u (same_text (without_status p.document) t u (without_status_shallow p.document shallow) a b)
+    pub one_reading : (t u : List ℕ) → IsJsonTextOf (compiled_document p.document) t → IsJsonTextOf (compiled_document p.document) u → policy_in t ≡ policy_in u
+    one_reading t u a b = same_policy t u (same_text (compiled_document p.document) t u (compiled_shallow p.document shallow) a b)
 
     -- a policy names the namespace in its conditions or not
     naming_once : (x y : Bool) → IsCompiledPolicy p x → IsCompiledPolicy p y → x ≡ y

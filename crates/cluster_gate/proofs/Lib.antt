@@ -9,6 +9,7 @@ pub mod Dispatched
 pub mod Requested
 pub mod Opened
 pub mod Allowed
+pub mod Compiled
 pub mod SameReading
 pub mod JudgedOnce
 pub mod ShallowSteps

@@ -16,11 +16,11 @@ use Rattle.cluster_response.specs.Events.{configuration_event, findings_events}
 use Rattle.cluster_response.specs.Response.{cluster_response}
 use Rattle.cluster_response.specs.declared.cluster_refusal.ClusterRefusal.{ClusterRefusal}
 use Rattle.cluster_gate.proofs.JudgedOnce.{judged_once}
-use Rattle.cluster_gate.proofs.SameReading.{IsShallowIf, SameReading, findings_moved, runs_moved, same_contents, same_policy, same_text, same_text_if, without_status_shallow}
+use Rattle.cluster_gate.proofs.SameReading.{IsShallowIf, SameReading, findings_moved, runs_moved, same_contents, same_policy, same_text, same_text_if, compiled_shallow}
 use Rattle.cluster_gate.proofs.ShallowSteps.{IsShallowStep, steps_are_shallow}
 use Rattle.cluster_gate.specs.Dispatch.{DecidesInCluster, EvaluatesPolicy, FindsWith, error_refusal, undecided_event, no_review, decided, no_policies, next, last, no_steps, denied, not_known, blocked, found, refused, at_end}
 use Rattle.cluster_gate.specs.Laws.{HasShallowDocuments, IsShallow, ReviewsHaveOneAnswer}
-use Rattle.cluster_gate.specs.Texts.{without_status}
+use Rattle.cluster_gate.specs.CompiledDocuments.{compiled_document}
 
 -- ---- steps
 
@@ -90,7 +90,7 @@ module _ (compiles : CompileHasOneResult) (findings : FindingsHaveOneResult) (re
       → FindsOnce (EvaluatesPolicy OneImage review n p) params namespace
   evaluates_once p params namespace deep its own a b some other x y =
       let same : SameReading y.documents x.documents = record {
-        policy = same_policy y.documents.policy x.documents.policy (same_text (without_status p.document) y.documents.policy x.documents.policy (without_status_shallow p.document deep) y.policy x.policy);
+        policy = same_policy y.documents.policy x.documents.policy (same_text (compiled_document p.document) y.documents.policy x.documents.policy (compiled_shallow p.document deep) y.policy x.policy);
         values = same_contents y.documents.review x.documents.review y.documents.namespace x.documents.namespace y.documents.params x.documents.params
             (y.review_is ∙ sym x.review_is)
             (same_text_if namespace y.documents.namespace x.documents.namespace own y.namespace_text x.namespace_text)

@@ -1,10 +1,9 @@
 -- Documents whose texts are read as the same values decide alike.
 use Rattle.cluster_gate.proofs.Prelude.{◌≡◌, ◌∙◌, ◌≤◌, ℕ, Bool, true, false, List, Option, Some, None, Result, Ok, Err, ap, arith, refl, sym}
-use Rattle.std.specs.Prelude.{bytes_eq, codes, if◌then◌else◌}
 use Rattle.std.specs.Option.{option_map_or}
 use Rattle.serde_json.specs.Data as json
 use Rattle.value_store.specs.Documents.{document_given, document_of}
-use Rattle.value_store.specs.Reviews.{parts_given, without}
+use Rattle.value_store.specs.Reviews.{parts_given}
 use Rattle.policy_glue.specs.Findings.{PolicyFinding}
 use Rattle.policy_glue.specs.Reading.{policy_in, policy_of}
 use Rattle.policy_glue.specs.declared.policy_error.PolicyError.{TheVariants.NotJson}
@@ -17,8 +16,10 @@ use Rattle.admission.specs.declared.policy_refusal.PolicyRefusal.TheVariants as 
 use Rattle.admission.specs.declared.run_error.RunError.{RunError, TheVariants.PolicyRefused, TheVariants.ReviewRefused, TheVariants.NamespaceOrParamsRefused, TheVariants.OutOfSteps, TheVariants.OverLimit, TheVariants.Memory}
 use Rattle.bpf_machine.specs.declared.status.Status.{Status}
 use Rattle.policy_glue.specs.Verdict.{Verdict}
+use Rattle.cluster_gate.proofs.Compiled.{compiled_depth}
 use Rattle.cluster_gate.specs.Laws.{IsShallow}
-use Rattle.cluster_gate.specs.Texts.{IsJsonTextIf, IsJsonTextOf, without_status}
+use Rattle.cluster_gate.specs.CompiledDocuments.{compiled_document}
+use Rattle.cluster_gate.specs.Texts.{IsJsonTextIf, IsJsonTextOf}
 
 -- ---- texts
 
@@ -51,24 +52,9 @@ same_contents r s n m p q review namespace params =
     ∙ ap (λ (x : Option json.Data). contents_from (documents_from (parts_given (Some s)) x (document_given p))) namespace
     ∙ ap (λ (x : Option json.Data). contents_from (documents_from (parts_given (Some s)) (document_given m) x)) params
 
-picked_depth : (b : Bool) (k : List ℕ) (d : json.Data) (ms rest : json.Members) → json.members_depth rest ≤ json.members_depth ms
-    → json.members_depth (if b then ms else json.member k d rest) ≤ json.members_depth (json.member k d ms)
-picked_depth true k d ms rest below = omega arith
-picked_depth false k d ms rest below = omega arith
-
--- without a member a value is nested no deeper
-members_without : (key : List ℕ) (ms : json.Members) → json.members_depth (without key ms) ≤ json.members_depth ms
-members_without key json.no_members = omega arith
-members_without key (json.member k d ms) = picked_depth (bytes_eq key k) k d ms (without key ms) (members_without key ms)
-
-pub without_status_shallow : (d : json.Data) → IsShallow d → IsShallow (without_status d)
-without_status_shallow json.null shallow = shallow
-without_status_shallow (json.boolean b) shallow = shallow
-without_status_shallow (json.number n) shallow = shallow
-without_status_shallow (json.string s) shallow = shallow
-without_status_shallow (json.array ds) shallow = shallow
-without_status_shallow (json.object ms) shallow =
-    let fewer = members_without (codes "status") ms in omega arith
+-- the document of a policy is nested no deeper as it is compiled
+pub compiled_shallow : (d : json.Data) → IsShallow d → IsShallow (compiled_document d)
+compiled_shallow d shallow = let fewer = compiled_depth d in omega arith
 
 -- ---- documents
 

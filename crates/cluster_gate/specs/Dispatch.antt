@@ -22,7 +22,8 @@ use Rattle.cluster_response.specs.Response.{cluster_response}
 use Rattle.cluster_response.specs.declared.cluster_refusal.ClusterRefusal.{ClusterRefusal}
 use Rattle.cluster_response.specs.declared.cluster_refusal.ClusterRefusal.TheVariants as refusal
 use Rattle.cluster_gate.specs.Gates.{IsJudged, asked_policy, block_of}
-use Rattle.cluster_gate.specs.Texts.{IsJsonTextOf, IsJsonTextIf, without_status}
+use Rattle.cluster_gate.specs.CompiledDocuments.{compiled_document}
+use Rattle.cluster_gate.specs.Texts.{IsJsonTextOf, IsJsonTextIf}
 use Rattle.cluster_gate.specs.declared.block_cause.BlockCause.{BlockCause}
 
 -- ---- requests
@@ -69,7 +70,7 @@ FindsWith = Option json.Data → Option json.Data → Result (List PolicyFinding
 pub record EvaluatesPolicy (chosen : Images) (review : List ℕ) (n : ℕ) (p : BoundPolicy) (params namespace : Option json.Data)
     (result : Result (List PolicyFinding) RunError) : Type 0 where
   pub documents : Documents
-  pub policy : IsJsonTextOf (without_status p.document) documents.policy
+  pub policy : IsJsonTextOf (compiled_document p.document) documents.policy
   pub review_is : documents.review ≡ review
   pub namespace_text : IsJsonTextIf namespace documents.namespace
   pub params_text : IsJsonTextIf params documents.params

@@ -10,7 +10,8 @@ use Rattle.cluster_state.specs.Params.{KnownKind, known_kind}
 use Rattle.cluster_state.specs.Policies.{BoundPolicy}
 use Rattle.cluster_state.specs.State.{ClusterState, state_view}
 use Rattle.cluster_plan.specs.Steps.{AskedPolicy, PolicyBlock, asked_view, policy_refused, unknown_kind}
-use Rattle.cluster_gate.specs.Texts.{IsJsonTextOf, without_status}
+use Rattle.cluster_gate.specs.CompiledDocuments.{compiled_document}
+use Rattle.cluster_gate.specs.Texts.{IsJsonTextOf}
 use Rattle.cluster_gate.specs.declared.block_cause.BlockCause.{BlockCause}
 use Rattle.cluster_gate.specs.declared.block_cause.BlockCause.TheVariants.{Refused, NamesNamespace, UnknownParamKind}
 use Rattle.cluster_gate.specs.declared.cluster.Cluster.{Cluster}
@@ -38,14 +39,14 @@ asked_policy s p = record { policy = p; kind = kind_of s p }
 -- the policy is compiled, and whether its match conditions name the namespace
 pub record IsCompiledPolicy (p : BoundPolicy) (names : Bool) : Type 0 where
   pub text : List ℕ
-  pub has_text : IsJsonTextOf (without_status p.document) text
+  pub has_text : IsJsonTextOf (compiled_document p.document) text
   pub is_policy : IsPolicy text
   pub naming : conditions_name_namespace is_policy.trees ≡ names
 
 -- the policy is refused
 pub record IsRefusedPolicy (p : BoundPolicy) (e : PolicyRefusal) : Type 0 where
   pub text : List ℕ
-  pub has_text : IsJsonTextOf (without_status p.document) text
+  pub has_text : IsJsonTextOf (compiled_document p.document) text
   pub refused : IsPolicyRefused text e
 
 -- why a policy is blocked, the first of these: it is refused; a match condition names `namespaceObject`, which is null
@@ -85,7 +86,7 @@ pub record FirstIsBlocked (s : ClusterState) (policies : List BoundPolicy) (name
 -- the gate is of the policy, whose match conditions may name the namespace
 pub record IsGateOfText (p : BoundPolicy) (gate : PolicyAndImage) : Type 0 where
   pub text : List ℕ
-  pub has_text : IsJsonTextOf (without_status p.document) text
+  pub has_text : IsJsonTextOf (compiled_document p.document) text
   pub of_policy : IsPolicyOf text gate
   pub image : OneImage gate.policy gate.image
 

@@ -1,5 +1,6 @@
 -- The definitions of cluster_gate, file by file.
 pub mod Texts
+pub mod CompiledDocuments
 pub mod Gates
 pub mod Dispatch
 pub mod Running

@@ -23,7 +23,8 @@ use Rattle.cluster_response.specs.declared.cluster_refusal.ClusterRefusal.{Clust
 use Rattle.cluster_gate.specs.Dispatch.{DecidesInCluster, error_refusal, request_given}
 use Rattle.cluster_gate.specs.Gates.{IsCompiledPolicy}
 use Rattle.cluster_gate.specs.Laws.{HasShallowDocuments}
-use Rattle.cluster_gate.specs.Texts.{IsJsonTextIf, IsJsonTextOf, without_status}
+use Rattle.cluster_gate.specs.CompiledDocuments.{compiled_document}
+use Rattle.cluster_gate.specs.Texts.{IsJsonTextIf, IsJsonTextOf}
 
 -- the state has one policy, without params, and one binding of it that denies; both match the request, whose namespace is
 -- found, if it needs one. No match condition names the namespace
@@ -47,7 +48,7 @@ namespace_seen missing = None
 
 -- the documents of a review under that policy: its text without `status`, the review, the namespace and no params
 pub record AreDocumentsOf (s : ClusterState) (review : List ℕ) (q : Request) (p : BoundPolicy) (d : Documents) : Type 0 where
-  pub policy : IsJsonTextOf (without_status p.document) d.policy
+  pub policy : IsJsonTextOf (compiled_document p.document) d.policy
   pub review_is : d.review ≡ review
   pub namespace : IsJsonTextIf (namespace_seen (namespace_object s.objects q.kind q.attributes.namespace)) d.namespace
   pub no_params : d.params ≡ None

@@ -15,6 +15,7 @@ mod namespace_place;
 mod opened_review;
 mod opened_tables;
 mod opening;
+mod policy_document;
 mod policy_gate;
 mod policy_run;
 mod progress;

@@ -9,7 +9,7 @@ use crate::block_cause::BlockCause;
 use crate::cluster_error::ClusterError;
 use crate::policy_gate::PolicyGate;
 use crate::standing::Standing;
-use crate::texts::text_without_status;
+use crate::texts::compiled_text;
 use admission::{Gate, PolicyRefusal};
 use cluster_plan::AskedPolicy;
 use cluster_state::{KnownKind, Policy, State};
@@ -86,7 +86,7 @@ fn kind_of<'a>(state: &State<'a>, policy: &Policy<'a>) -> Option<KnownKind<'a>>
 fn standing(alloc: Global, policy: &Policy<'_>, lacks: bool) -> Result<Standing, AllocError>
     ensures { IfOk result (λ t. (s : ClusterState) → lacks_kind s (policy_view policy.now) ≡ lacks → StandsAs s (policy_view policy.now) t) }
 {
-    let text = text_without_status(alloc, policy.document)?;
+    let text = compiled_text(alloc, policy.document)?;
     match Gate::new(alloc, text.as_slice()) {
         Ok(gate) => standing_of(gate, lacks),
         Err(PolicyRefusal::Memory) => Err(AllocError),

@@ -1,17 +1,18 @@
 //! JSON texts of values.
-ghost use Rattle.std.specs.Prelude.{◌≡◌, codes, option_map, IfOk};
-ghost use Rattle.serde_json.specs.View.{members_view, view};
-ghost use Rattle.value_store.specs.Reviews.{without};
-ghost use Rattle.cluster_gate.specs.Texts.{without_status, IsJsonTextOf, IsJsonTextIf};
+ghost use Rattle.std.specs.Prelude.{option_map, IfOk};
+ghost use Rattle.serde_json.specs.View.{view};
+ghost use Rattle.cluster_gate.specs.CompiledDocuments.{compiled_document};
+ghost use Rattle.cluster_gate.specs.Texts.{IsJsonTextOf, IsJsonTextIf};
 
-use serde_json::{Map, Value};
+use crate::policy_document::compiled_document;
+use serde_json::Value;
 use std::alloc::{AllocError, Global};
 
-/// The text of a document without its `status`.
-pub(crate) fn text_without_status(alloc: Global, document: &Value) -> Result<Vec<u8>, AllocError>
-    ensures { IfOk result (λ b. IsJsonTextOf (without_status (view document.now)) b.items) }
+/// The text of the document of a policy as it is compiled.
+pub(crate) fn compiled_text(alloc: Global, document: &Value) -> Result<Vec<u8>, AllocError>
+    ensures { IfOk result (λ b. IsJsonTextOf (compiled_document (view document.now)) b.items) }
 {
-    let document = without_status(document.clone()?);
+    let document = compiled_document(alloc, document)?;
     text_of(alloc, &document)
 }
 
@@ -31,25 +32,4 @@ pub(crate) fn text_of(alloc: Global, value: &Value) -> Result<Vec<u8>, AllocErro
 {
     let text = value.to_vec(alloc)?;
     Ok(text)
-}
-
-fn without_status(document: Value) -> Value
-    ensures { view result ≡ without_status (view document) }
-{
-    match document {
-        Value::Null => Value::Null,
-        Value::Bool(truth) => Value::Bool(truth),
-        Value::Number(number) => Value::Number(number),
-        Value::String(text) => Value::String(text),
-        Value::Array(items) => Value::Array(items),
-        Value::Object(members) => Value::Object(others(members)),
-    }
-}
-
-fn others(members: Map<String, Value>) -> Map<String, Value>
-    ensures { members_view result.entries ≡ without (codes "status") (members_view members.entries) }
-{
-    let mut members = members;
-    let _status = members.remove("status");
-    members
 }

@@ -13,9 +13,10 @@ use Rattle.cluster_state.specs.Rows.{held, limit_kind, things}
 use Rattle.cluster_state.specs.State.{ClusterState}
 use Rattle.cluster_plan.specs.Steps.{policy_refused, unknown_kind}
 use Rattle.cluster_response.specs.declared.cluster_refusal.ClusterRefusal.TheVariants as refusal
+use Rattle.cluster_gate.specs.CompiledDocuments.{compiled_document}
 use Rattle.cluster_gate.specs.Dispatch.{block_refusal, error_refusal}
 use Rattle.cluster_gate.specs.Gates.{block_of, lacks_kind}
-use Rattle.cluster_gate.specs.Texts.{IsJsonTextIf, IsJsonTextOf, without_status}
+use Rattle.cluster_gate.specs.Texts.{IsJsonTextIf, IsJsonTextOf}
 use Rattle.cluster_gate.specs.declared.block_cause.BlockCause.TheVariants.{Refused, NamesNamespace, UnknownParamKind}
 
 -- ---- blocks
@@ -59,7 +60,33 @@ pub record JsonTextsHold : Type 0 where
   pub text : IsJsonTextIf (Some json.null) (Some (codes "null"))
   pub other_text : IsJsonTextIf (Some json.null) (Some (codes "true")) → ⊥
   pub text_with_a_blank : IsJsonTextOf json.null (codes " null") → ⊥
-  pub status : option_map without_status (read (codes "{\"a\":1,\"status\":{},\"b\":2}")) ≡ read (codes "{\"a\":1,\"b\":2}")
-  pub truth : without_status (json.boolean true) ≡ json.boolean true
-  pub number : option_map without_status (read (codes "1")) ≡ read (codes "1")
-  pub name : without_status (json.string (codes "status")) ≡ json.string (codes "status")
+
+-- the document that is compiled of the one in this text
+abbrev pub compiled : List ℕ → Option json.Data
+compiled text = option_map compiled_document (read text)
+
+-- a policy is compiled without its status and without the fields that are null. A key that no policy has, and a field of
+-- another part, stay null, so they are refused
+pub record CompiledRowsHold : Type 0 where
+  pub status : compiled (codes "{\"a\":1,\"status\":{},\"b\":2}") ≡ read (codes "{\"a\":1,\"b\":2}")
+  pub truth : compiled_document (json.boolean true) ≡ json.boolean true
+  pub number : compiled (codes "1") ≡ read (codes "1")
+  pub name : compiled_document (json.string (codes "status")) ≡ json.string (codes "status")
+  pub array : compiled (codes "[{\"status\":{}}]") ≡ read (codes "[{\"status\":{}}]")
+  pub optional_fields :
+      compiled (codes "{\"spec\":{\"failurePolicy\":null,\"matchConditions\":null,\"paramKind\":null,\"variables\":null}}")
+      ≡ read (codes "{\"spec\":{}}")
+  pub required_fields : compiled (codes "{\"spec\":{\"matchConstraints\":null,\"validations\":null}}") ≡ read (codes "{\"spec\":{}}")
+  pub annotations : compiled (codes "{\"spec\":{\"auditAnnotations\":null}}") ≡ read (codes "{\"spec\":{}}")
+  pub given_annotations :
+      compiled (codes "{\"spec\":{\"auditAnnotations\":[]}}") ≡ read (codes "{\"spec\":{\"auditAnnotations\":[]}}")
+  pub ignore : compiled (codes "{\"spec\":{\"failurePolicy\":\"Ignore\"}}") ≡ read (codes "{\"spec\":{\"failurePolicy\":\"Ignore\"}}")
+  pub validation :
+      compiled (codes "{\"spec\":{\"validations\":[{\"expression\":\"true\",\"message\":null,\"messageExpression\":null,\"reason\":null}]}}")
+      ≡ read (codes "{\"spec\":{\"validations\":[{\"expression\":\"true\"}]}}")
+  pub second_validation : compiled (codes "{\"spec\":{\"validations\":[{\"message\":\"m\"},{\"reason\":null}]}}")
+      ≡ read (codes "{\"spec\":{\"validations\":[{\"message\":\"m\"},{}]}}")
+  pub no_validation : compiled (codes "{\"spec\":{\"validations\":[null]}}") ≡ read (codes "{\"spec\":{\"validations\":[null]}}")
+  pub unknown_field : compiled (codes "{\"spec\":{\"other\":null}}") ≡ read (codes "{\"spec\":{\"other\":null}}")
+  pub field_of_another_part : compiled (codes "{\"spec\":{\"reason\":null}}") ≡ read (codes "{\"spec\":{\"reason\":null}}")
+  pub no_specification : compiled (codes "{\"spec\":null}") ≡ read (codes "{\"spec\":null}")

@@ -1,7 +1,7 @@
 //! Rows worked by hand, each record of them a clause of an empty function.
 ghost use Rattle.cluster_rows.specs.Commands.{EndRowsHold, HeldRowsHold, CommandWordsHold};
 ghost use Rattle.cluster_rows.specs.Gatekeeper.{FaultLineRowsHold, FaultNameRowsHold, GatekeeperLinesHold, TellingRowsHold, TogetherRowsHold};
-ghost use Rattle.cluster_rows.specs.Gates.{BlockRowsHold, ErrorRowsHold, JsonTextsHold};
+ghost use Rattle.cluster_rows.specs.Gates.{BlockRowsHold, CompiledRowsHold, ErrorRowsHold, JsonTextsHold};
 ghost use Rattle.cluster_rows.specs.Lines.{BlankRowsHold};
 ghost use Rattle.cluster_rows.specs.Matching.{EquivalentAnswersHold, ExactRowsHold, ExemptGroupsHold, NamespaceAnswersHold, RuleRowsHold, SharedRowsHold};
 ghost use Rattle.cluster_rows.specs.Refusals.{MemoryRefusalsHold};
@@ -64,6 +64,7 @@ pub fn gate_rows_stand()
     ensures blocks { BlockRowsHold }
     ensures errors { ErrorRowsHold }
     ensures texts { JsonTextsHold }
+    ensures documents { CompiledRowsHold }
 {}
 
 /// Command lines of celbpf, statuses of runs, and ends of sessions.
