@@ -1,5 +1,5 @@
 -- Policies of a cluster that are blocked, refusals of requests, and the documents from which policies are compiled.
-use Rattle.std.specs.Prelude.{◌≡◌, true, false, List, [], Option, Some, None, codes, option_map}
+use Rattle.std.specs.Prelude.{◌≡◌, ℕ, true, false, List, [], Option, Some, None, codes, option_map}
 use Rattle.serde_json.specs.Data as json
 use Rattle.serde_json.specs.Read.{read}
 use Rattle.admission_documents.specs.Matching.{match_all}
