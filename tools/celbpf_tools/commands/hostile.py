@@ -12,13 +12,14 @@ documents of those are written to a folder. An interrupt ends it early, with wha
 
 With --loops the policies are loops that read large parts of a document in each turn, and values that are alike but
 for one place. A gatekeeper gets 25 reviews, one after another. With --rows it is given the documents that once
-stalled it, of celbpf_tools/hostile/rows.py.
+stalled it, of rows.py and repeats.py in celbpf_tools/hostile.
 """
 
 import argparse
 import json
 import signal
 import tempfile
+from itertools import chain
 from pathlib import Path
 from typing import Any, Iterator
 
@@ -26,6 +27,7 @@ from ..entry import usage_of
 from ..home import built
 from ..hostile import loops
 from ..hostile.costs import Cost, cost_of, worst
+from ..hostile.repeats import repeats
 from ..hostile.reviews import hostile
 from ..hostile.rows import rows
 from ..hostile.watched import Watched
@@ -129,7 +131,7 @@ class Attack:
 
     def give_rows(self, folder: Path) -> None:
         """Gives gatekeepers the documents that once stalled one."""
-        for name, policy, review in rows():
+        for name, policy, review in chain(rows(), repeats()):
             case = Case(json.dumps(policy).encode(), b"")
             line = json.dumps(review, separators=(",", ":")).encode() + b"\n"
             self.keep(name, case, line, cost_of(self.asked.program, hold(folder, case), line))

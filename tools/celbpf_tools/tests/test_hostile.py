@@ -4,7 +4,7 @@ import json
 import unittest
 from typing import Any
 
-from ..hostile import alike, loops, rows
+from ..hostile import alike, loops, repeats, rows
 from ..hostile.costs import Cost, worst
 from ..hostile.reviews import MOST, hostile
 from ..hostile.shapes import at, changed, large, long_text, many, nested, places, put, size, wide_map
@@ -91,7 +91,8 @@ class Loops(unittest.TestCase):
                 self.assertNotRegex(one["expression"], r"\b[PQR]\b")
 
     def test_rows_are_within_the_bound(self) -> None:
-        for part in (rows.membership, rows.equality, rows.memory):
+        parts = (rows.membership, rows.equality, rows.memory, repeats.texts, repeats.values, repeats.lists)
+        for part in parts:
             for name, policy, review in part():
                 length = len(json.dumps(review, separators=(",", ":")))
                 self.assertLess(length, MOST, name)
@@ -102,6 +103,24 @@ class Loops(unittest.TestCase):
         for part in rows.near_parts(text, 5, 60):
             self.assertIn(part[1:], text)
             self.assertNotIn(part, text)
+
+    def test_alike_texts_differ_where_no_sample_looks(self) -> None:
+        name, _, made = next(repeats.texts())
+        first, *others = made["request"]["object"]["a"]
+        self.assertEqual(name, "sizes of alike texts")
+        self.assertEqual(len({first, *others}), 28)
+        places = [place for place in range(len(first)) if any(first[place] != other[place] for other in others)]
+        for place in places:
+            # the words of eight bytes at which a text of this length is sampled
+            self.assertGreaterEqual(place % (len(first) // 16), 8)
+            self.assertGreaterEqual(place % (len(first) // 2_048), 8)
+
+    def test_lists_differ_at_places_of_their_own(self) -> None:
+        made = repeats.by_places(5, 40)
+        found = {next(place for place, item in enumerate(items) if item) for items in made["b"]}
+        self.assertEqual(len(found), 5)
+        self.assertEqual({len(items) for items in made["a"] + made["b"]}, {40})
+        self.assertFalse([items for items in made["a"] if items in made["b"]])
 
 
 class Costs(unittest.TestCase):
