@@ -1,7 +1,8 @@
--- Rows of cluster_rows: the list of their modules.
+-- Rows and laws of cluster_rows: the list of their modules.
 pub mod Selectors
 pub mod Matching
 pub mod State
+pub mod ParamOrder
 pub mod Lines
 pub mod Responses
 pub mod Reviews

@@ -1,0 +1,2 @@
+-- The lemmas of cluster_rows.
+pub mod ParamOrder
