@@ -1,7 +1,7 @@
 -- The objects of a state are in the order of their names, and so are params.
-use Rattle.cluster_state.proofs.Prelude.{◌≡◌, ◌∙◌, ◌∷◌, ◌&&◌, ℕ, Bool, true, false, List, [], Option, Some, None, Result, Ok, Err, ap, cond, refl, sym, Equal, Greater, Less, Ordering, bytes_eq, insert_entry, is_eq, is_eq-slice_cmp, lookup, map, match_ordering, nat_cmp, option_map, slice_cmp, if◌then◌else◌, Binding, BoundPolicy, ClusterState, Collection, Item, Named, Objects, ParamRef, Refusal, bindings_in, bindings_then, by_labels, chosen, duplicate_item, is_collection, is_taken, items_of, items_then, no_objects, object_named, objects_of, policies, policies_in, policies_then, state_of, state_with, with_item, with_items, with_name, bindings}
+use Rattle.cluster_state.proofs.Prelude.{◌≡◌, ◌∙◌, ◌∷◌, ◌&&◌, ℕ, Bool, true, false, List, [], Option, Some, None, Result, Ok, Err, ap, cond, refl, sym, Equal, Greater, Less, Ordering, bytes_eq, insert_entry, is_eq, is_eq-slice_cmp, match_ordering, nat_cmp, slice_cmp, if◌then◌else◌, Binding, BoundPolicy, ClusterState, Collection, Item, Named, Objects, Refusal, bindings_in, bindings_then, by_labels, chosen, duplicate_item, is_collection, is_taken, items_of, items_then, no_objects, object_named, objects_of, policies, policies_in, policies_then, state_with, with_item, with_items, with_name, bindings}
 use Rattle.serde_json.specs.Data as json
-use Rattle.std.proofs.Common.{◌==◌, length, subst, true≢false}
+use Rattle.std.proofs.Common.{◌==◌, length, subst}
 use Rattle.std.proofs.lemmas.Cmp.{nat_list_cmp_total}
 use Rattle.std.proofs.lemmas.List.Elements.{All-cons, All-head, All-nil, All-tail}
 use Rattle.std.proofs.lemmas.Slice.Eq.{bytes_eq-Decides}
@@ -14,7 +14,7 @@ use Rattle.label_selectors.specs.Selectors.{selects}
 use Rattle.admission_documents.specs.Selectors.{labels_in}
 use Rattle.cluster_state.specs.Bindings.{ParamChoice, by_name}
 use Rattle.cluster_rows.specs.ParamOrder.{AreByName, AreSomeByName, ParamsAreByName}
-use Rattle.cluster_state.specs.Params.{KnownKind, has_needless_namespace, if_found, lacks_namespace, params_of, params_place}
+use Rattle.cluster_state.specs.Params.{has_needless_namespace, if_found, lacks_namespace, params_place}
 use Rattle.cluster_state.specs.Refusals.{no_namespace}
 use Rattle.cluster_state.specs.State.{if_has_namespace, namespaces}
 use Rattle.cluster_state.specs.declared.param_error.ParamError.{ParamError}
