@@ -7,6 +7,7 @@ mod code;
 mod compiling;
 mod documents;
 mod errors;
+mod long_messages;
 mod naming;
 
 /// The concatenation of these texts.
