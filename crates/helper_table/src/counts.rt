@@ -2,7 +2,7 @@
 
 ghost use Rattle.std.specs.Prelude.{◌≡◌};
 
-use crate::question::text_place;
+use crate::question::{sample_place, text_place};
 use crate::recalling::is_same;
 use crate::searched::Searched;
 use std::alloc::Global;
@@ -14,6 +14,9 @@ const COUNT: usize = 32_768;
 /// The number of places where a text may be kept: its own, and those after it.
 const TRIED: usize = 256;
 
+/// The number of samples for which a place is kept.
+const SAMPLES: usize = 4096;
+
 /// What the searches of a text count for when they are enough.
 const ENOUGH: u64 = 64;
 
@@ -21,6 +24,8 @@ const ENOUGH: u64 = 64;
 #[derive(Drop)]
 pub(crate) struct Counts {
     pub(crate) places: Vec<Searched>,
+    /// For each sample of a text, the place of the last text with it.
+    likely: Vec<usize>,
     /// The place of the text that was searched last.
     pub(crate) last: usize,
 }
@@ -30,6 +35,7 @@ impl Counts {
     pub(crate) fn new(alloc: Global) -> Counts {
         Counts {
             places: Vec::new(alloc),
+            likely: Vec::new(alloc),
             last: 0,
         }
     }
@@ -38,11 +44,13 @@ impl Counts {
     fn make_places(&mut self) {
         if self.places.is_empty() {
             let _ = self.places.resize(COUNT, Searched::NONE);
+            let _ = self.likely.resize(SAMPLES, 0);
         }
     }
 
     /// The place of a text that is counted. It is sought first where the text that was searched last was followed by
-    /// another before, since loops come back to the same texts in the same order.
+    /// another before, since loops come back to the same texts in the same order, and then where one with the same
+    /// sample was, since a sample takes less time than a look at the whole text.
     pub(crate) fn find<V: ValueStore>(&mut self, table: &mut V, text: u64) -> Option<usize>
         ensures values { V.values table.new ≡ V.values table.old }
         ensures charge { V.charge table.new ≡ V.charge table.old }
@@ -52,10 +60,32 @@ impl Counts {
             self.last = next;
             return Some(next);
         }
+        let sample = sample_place(table, text) % SAMPLES;
+        let likely = self.likely_place(sample);
+        if is_at(table, &self.places, text, likely) {
+            self.follow(likely);
+            return Some(likely);
+        }
         let first = text_place(table, text);
         let place = known(table, &self.places, text, first)?;
+        self.keep_sample(sample, place);
         self.follow(place);
         Some(place)
+    }
+
+    // The place of the last text with a sample.
+    fn likely_place(&self, sample: usize) -> usize {
+        match self.likely.get(sample) {
+            Some(place) => *place,
+            None => 0,
+        }
+    }
+
+    // Keeps the place of a text with a sample.
+    fn keep_sample(&mut self, sample: usize, place: usize) {
+        if let Some(likely) = self.likely.get_mut(sample) {
+            *likely = place;
+        }
     }
 
     // The place that followed the last one before.

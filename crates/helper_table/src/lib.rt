@@ -9,6 +9,7 @@ mod calling;
 mod comparisons;
 mod conversions;
 mod counts;
+mod cursor;
 mod helper;
 mod helper_effect;
 mod helper_end;

@@ -35,6 +35,14 @@ pub(crate) fn text_place<V: ValueStore>(table: &V, text: u64) -> usize {
     }
 }
 
+/// A place for a text, from a sample of it. Equal texts have the same place.
+pub(crate) fn sample_place<V: ValueStore>(table: &V, text: u64) -> usize {
+    match table.text(text) {
+        Some(text) => (sampled(text.as_bytes()) >> 32) as usize,
+        None => 0,
+    }
+}
+
 // A number for a text, from each of its words, or from words at equal distances. The words are mixed in four rows, which
 // takes less time than one after another.
 fn read(bytes: &[u8]) -> u64 {

@@ -15,6 +15,7 @@ use crate::answer::Answer;
 use crate::answers::Answers;
 use crate::calling::effect_of;
 use crate::comparisons::are_values;
+use crate::cursor::Cursor;
 use crate::helper::Helper;
 use crate::helper_effect::HelperEffect;
 use crate::kept::Kept;
@@ -24,12 +25,20 @@ use crate::searches::Searches;
 use guest_memory::{Fault, Regions};
 use value_store::{Shape, ValueStore};
 
-/// The least number of bytes of a long text.
+/// The least number of bytes of a long text that is sought among keys or items. It is compared with several.
 const LONG: usize = 512;
 
-/// The least number of items of a long list. A search in a shorter one takes about as long as a look
+/// The least number of bytes of a long text that is read once. To read a shorter one takes about as long as a look
 /// for its kept answer.
-const MANY: u64 = 64;
+const VERY_LONG: usize = 12_288;
+
+/// The least number of items of a long list. For a search in it the store writes the value that is sought as
+/// JSON; a search in a shorter one takes about as long as a look for its kept answer.
+const MANY: u64 = 16;
+
+/// The number of places of the ring at which an answer is sought: more than one, since a loop may leave out
+/// a question.
+const TRIED: usize = 3;
 
 /// Whether the answers of a helper are kept.
 fn reads_texts(helper: Helper) -> bool
@@ -57,10 +66,10 @@ fn second_operand(helper: Helper, a: u64, b: u64) -> u64
     }
 }
 
-/// Whether a reference names a long text.
-fn is_long<V: ValueStore>(table: &V, h: u64) -> bool {
+/// Whether a reference names a text of at least this number of bytes.
+fn is_long<V: ValueStore>(table: &V, h: u64, least: usize) -> bool {
     match table.text(h) {
-        Some(text) => text.len() >= LONG,
+        Some(text) => text.len() >= least,
         None => false,
     }
 }
@@ -93,9 +102,10 @@ fn reads_long<V: ValueStore>(
 {
     match helper {
         Helper::Contains => searches.is_long(table, a),
-        Helper::Member => is_long(table, a) || is_long_search(table, a, b),
-        Helper::Size | Helper::Equal => is_long(table, a),
-        _ => is_long(table, b),
+        Helper::Member => is_long(table, a, LONG) || is_long_search(table, a, b),
+        Helper::Index => is_long(table, b, LONG),
+        Helper::Size | Helper::Equal => is_long(table, a, VERY_LONG),
+        _ => is_long(table, b, VERY_LONG),
     }
 }
 
@@ -173,24 +183,89 @@ fn recalled<V: ValueStore>(
     Some(answer.effect)
 }
 
-/// The effect of the answer to a question, if it is kept at a place or the next one.
-fn found<V: ValueStore>(
+/// The effect of the answer at a place, if it answers this question. A cursor is then moved to it.
+fn tried<V: ValueStore>(
     table: &mut V,
-    answers: &Answers,
+    answers: &mut Answers,
     question: Question,
+    cursor: Cursor,
     place: usize,
 ) -> Option<HelperEffect<'static>>
-    requires { AreAnswers (V.values table.old) answers.now.kept.items }
+    requires { AreAnswers (V.values table.old) answers.old.kept.items }
     ensures answer { IfSome result (IsAnswer (V.values table.old) question) }
     ensures values { V.values table.new ≡ V.values table.old }
     ensures charge { V.charge table.new ≡ V.charge table.old }
+    ensures kept { answers.new.kept ≡ answers.old.kept }
 {
-    let first = recalled(table, answers.at(place), question);
+    let effect = recalled(table, answers.at(place), question);
+    if effect.is_some() {
+        answers.move_to(cursor, place);
+    }
+    effect
+}
+
+/// The effect of the answer to a question, if it is kept at a place or the next one.
+fn found<V: ValueStore>(
+    table: &mut V,
+    answers: &mut Answers,
+    question: Question,
+    place: usize,
+) -> Option<HelperEffect<'static>>
+    requires { AreAnswers (V.values table.old) answers.old.kept.items }
+    ensures answer { IfSome result (IsAnswer (V.values table.old) question) }
+    ensures values { V.values table.new ≡ V.values table.old }
+    ensures charge { V.charge table.new ≡ V.charge table.old }
+    ensures kept { answers.new.kept ≡ answers.old.kept }
+{
+    let first = tried(table, answers, question, Cursor::Beside, place);
     if first.is_some() {
         return first;
     }
-    let next = answers.at(place.wrapping_add(1));
-    recalled(table, next, question)
+    let next = place.wrapping_add(1);
+    tried(table, answers, question, Cursor::Beside, next)
+}
+
+/// The effect of the answer to a question, if it follows the last one by a cursor in the ring, or almost.
+fn following<V: ValueStore>(
+    table: &mut V,
+    answers: &mut Answers,
+    question: Question,
+    cursor: Cursor,
+) -> Option<HelperEffect<'static>>
+    requires { AreAnswers (V.values table.old) answers.old.kept.items }
+    ensures answer { IfSome result (IsAnswer (V.values table.old) question) }
+    ensures values { V.values table.new ≡ V.values table.old }
+    ensures charge { V.charge table.new ≡ V.charge table.old }
+    ensures kept { answers.new.kept ≡ answers.old.kept }
+{
+    let mut place = answers.last(cursor);
+    for _ in 0..TRIED {
+        place = answers.after(place);
+        let effect = tried(table, answers, question, cursor, place);
+        if effect.is_some() {
+            return effect;
+        }
+    }
+    None
+}
+
+/// The effect of the answer to a question, if it is one of those that a loop is expected to ask for next.
+fn expected<V: ValueStore>(
+    table: &mut V,
+    answers: &mut Answers,
+    question: Question,
+) -> Option<HelperEffect<'static>>
+    requires { AreAnswers (V.values table.old) answers.old.kept.items }
+    ensures answer { IfSome result (IsAnswer (V.values table.old) question) }
+    ensures values { V.values table.new ≡ V.values table.old }
+    ensures charge { V.charge table.new ≡ V.charge table.old }
+    ensures kept { answers.new.kept ≡ answers.old.kept }
+{
+    let first = following(table, answers, question, Cursor::Loop);
+    if first.is_some() {
+        return first;
+    }
+    following(table, answers, question, Cursor::Beside)
 }
 
 /// The same effect, if it does not depend on the constants.
@@ -263,8 +338,11 @@ fn answered<'a, V: ValueStore, M: Regions>(
     ensures charge { V.charge table.new ≡ V.charge table.old }
     ensures kept { IsKept (V.values table.old) kept.new }
 {
+    if let Some(effect) = expected(table, &mut kept.answers, question) {
+        return Ok(effect);
+    }
     let place = question.place(table);
-    if let Some(effect) = found(table, &kept.answers, question, place) {
+    if let Some(effect) = found(table, &mut kept.answers, question, place) {
         return Ok(effect);
     }
     count_search(question, table, &mut kept.searches);

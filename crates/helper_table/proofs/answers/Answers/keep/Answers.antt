@@ -2,4 +2,4 @@
 use Rattle.helper_table.proofs.answers.Answers.keep.Goals as goal
 
 pub returns : goal.returns
-returns c = λ vs are is. let room = c.make_places.ensures vs are in c.put-2.ensures vs (c.put.ensures vs room (c.at-old.ensures vs room)) is
+returns c = λ vs are is. rw c.enter.ensures (c.put.ensures vs (c.make_places.ensures vs are) is)

@@ -1,0 +1,11 @@
+//! The answers that a loop is expected to ask for next.
+
+/// A place in the ring of answers.
+#[derive(Clone, Copy)]
+pub(crate) enum Cursor {
+    /// The last answer in the order of the loop.
+    Loop,
+    /// The last answer out of this order: one that was found at its question's own place, or one that followed it. A
+    /// loop asks for it again between its other answers.
+    Beside,
+}
