@@ -46,7 +46,7 @@ namespace_seen (object d) = Some d
 namespace_seen no_object = None
 namespace_seen missing = None
 
--- the documents of a review under that policy: its text without `status`, the review, the namespace and no params
+-- the documents of a review under that policy: its text without `status` and nulls, the review, the namespace and no params
 pub record AreDocumentsOf (s : ClusterState) (review : List ℕ) (q : Request) (p : BoundPolicy) (d : Documents) : Type 0 where
   pub policy : IsJsonTextOf (compiled_document p.document) d.policy
   pub review_is : d.review ≡ review

@@ -205,8 +205,6 @@ module _ {e : Emitted} {l : Laid} {code : List Insn} {n : ℕ} (s : Same e l cod
       → Same (with_variable e ds (expanded v.expression)) (with_routine ds l v) (code ++ passed (variable_code ds l v)) (n + part_nodes v.expression)
   same_variable ds v = grind (arith, size-append, size-cons, either, nodes_more, has_room_in, slots-append)
 
--- ---- variables
-
 -- a variable with its declaration
 abbrev taken_declaration : List Declaration → VariableTree → Declaration
 taken_declaration ds v = declared v.name (type_or_any (type_of v.expression (scope_of ds))) (depth_in ds v.expression)
@@ -229,8 +227,6 @@ same_variables all ds i (v ∷ more) {e} {l} {code} {n} is long s =
     Same (with_variable e xs (expanded v.expression)) (with_routine ds l v) (code ++ passed (variable_code ds l v)) (n + part_nodes v.expression) in
     let first : Here (take i all) = subst Here (sym (first_declared all ds i (v ∷ more) is long)) (same_variable s ds v) in
     same_at (same_variables all (with_declared ds v) (i + 1) more is (omega (arith, long, long_more)) first) (simp append_assoc) (omega (arith, counted))
-
--- ---- conditions
 
 same_condition : {e : Emitted} {l : Laid} {code : List Insn} {n : ℕ} (f : FailurePolicy) (a : Tree) → Same e l code n
     → Same (with_condition f e (expanded a)) (after_condition l a) (code ++ (tree_code [] l a ++ condition_tail f)) (n + part_nodes a)
