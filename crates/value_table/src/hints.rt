@@ -3,8 +3,14 @@
 use crate::content::Content;
 use std::alloc::Global;
 
-/// The number of hints that are kept.
-const COUNT: usize = 4096;
+/// The number of hints for which there is room at first.
+const FEW_HINTS: usize = 4096;
+
+/// The number of hints for which there is room after many were stored.
+const MANY_HINTS: usize = 1 << 20;
+
+/// From this number of stored hints on, there is room for many. Most of them replaced another.
+const ENOUGH: u32 = 8192;
 
 /// The number of levels that are looked at below two values that a program compares.
 const MOST: u32 = 128;
@@ -18,6 +24,8 @@ const FEW: u32 = 8;
 #[derive(Drop)]
 pub(crate) struct Hints {
     places: Vec<u64>,
+    /// The number of hints that were stored, while they are not many.
+    stored: u32,
     /// The number of levels that are looked at below the next two values.
     levels: u32,
 }
@@ -26,6 +34,7 @@ impl Hints {
     pub(crate) fn new(alloc: Global) -> Hints {
         Hints {
             places: Vec::new(alloc),
+            stored: 0,
             levels: MOST,
         }
     }
@@ -48,7 +57,7 @@ impl Hints {
     /// The place at which to begin comparing two texts, lists or maps, or the keys of two maps, by their
     /// names. A text's name is its first byte's place.
     pub(crate) fn start(&self, a: u64, b: u64) -> usize {
-        match self.places.get(slot(a, b)) {
+        match self.places.get(self.slot(a, b)) {
             Some(place) => *place as usize,
             None => 0,
         }
@@ -56,12 +65,30 @@ impl Hints {
 
     /// Stores the place at which they differ, unless the allocation fails.
     pub(crate) fn note(&mut self, a: u64, b: u64, place: usize) {
-        if self.places.is_empty() {
-            let _ = self.places.resize(COUNT, 0);
-        }
-        if let Some(kept) = self.places.get_mut(slot(a, b)) {
+        self.make_room();
+        let slot = self.slot(a, b);
+        if let Some(kept) = self.places.get_mut(slot) {
             *kept = place as u64;
         }
+    }
+
+    // Makes room at the first hint, and more after many.
+    fn make_room(&mut self) {
+        if self.places.is_empty() {
+            let _ = self.places.resize(FEW_HINTS, 0);
+        }
+        if self.stored >= ENOUGH {
+            return;
+        }
+        self.stored += 1;
+        if self.stored == ENOUGH {
+            let _ = self.places.resize(MANY_HINTS, 0);
+        }
+    }
+
+    // The slot of the hint for two names. The number of slots is a power of two.
+    fn slot(&self, a: u64, b: u64) -> usize {
+        spread(a, b) & self.places.len().wrapping_sub(1)
     }
 }
 
@@ -78,9 +105,9 @@ pub(crate) fn keys_name(first: u32) -> u64 {
     1 << 41 | first as u64
 }
 
-// The upper twelve bits of a product with the fraction of the golden ratio, which spreads well.
-fn slot(a: u64, b: u64) -> usize {
-    let spread = 0x9e37_79b9_7f4a_7c15u64;
-    let mixed = a.wrapping_mul(spread).wrapping_add(b);
-    (mixed.wrapping_mul(spread) >> 52) as usize
+// The upper twenty bits of a product with the fraction of the golden ratio, which spreads well.
+fn spread(a: u64, b: u64) -> usize {
+    let fraction = 0x9e37_79b9_7f4a_7c15u64;
+    let mixed = a.wrapping_mul(fraction).wrapping_add(b);
+    (mixed.wrapping_mul(fraction) >> 44) as usize
 }

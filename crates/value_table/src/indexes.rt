@@ -10,11 +10,17 @@ use crate::index::Index;
 use std::alloc::{AllocError, Global};
 use std::collections::BTreeMap;
 
+/// From this search of a backing on, its index is used. To build one takes as long as many searches without it, and the
+/// texts of the items are copied, so lists that are made in each turn of a loop and searched a few times get none.
+const ENOUGH: u32 = 16;
+
 /// The indexes of the backings that were searched.
 #[derive(Drop)]
 pub(crate) struct Indexes {
     /// The slot of each backing's index.
     slots: BTreeMap<u64, u64>,
+    /// For each slot, how often its backing was searched, up to enough.
+    searches: Vec<u32>,
     pub(crate) all: Vec<Index>,
 }
 
@@ -27,23 +33,42 @@ impl Indexes {
     {
         Indexes {
             slots: BTreeMap::new(alloc),
+            searches: Vec::new(alloc),
             all: Vec::new(alloc),
         }
     }
 
-    /// The slot of a backing's index, if it has one. Otherwise it gets an empty index, unless the
+    /// The slot of a backing's index, if it was searched often. At the first search it gets an empty index, unless the
     /// allocation fails.
     pub(crate) fn slot(&mut self, alloc: Global, backing: u64) -> Option<usize>
         ensures found { IfSome result (λ s. option_map (λ x. x.backing) (slice_get self.new.all.items s) ≡ Some backing) }
         ensures kept { (bs : Backings) (vs : List Value) → backing < length bs.lists → AreIndexes bs vs self.old.all.items → AreIndexes bs vs self.new.all.items }
     {
         match self.slots.get(&backing).copied() {
-            Some(slot) => self.checked(slot as usize, backing),
+            Some(slot) => {
+                if !self.is_searched_often(slot as usize) {
+                    return None;
+                }
+                self.checked(slot as usize, backing)
+            }
             None => {
                 let _ = self.make(alloc, backing);
                 None
             }
         }
+    }
+
+    // Counts a search of the backing of a slot after the first.
+    fn is_searched_often(&mut self, slot: usize) -> bool
+        ensures { self.new.all ≡ self.old.all }
+    {
+        let Some(searches) = self.searches.get_mut(slot) else {
+            return false;
+        };
+        if *searches < ENOUGH {
+            *searches += 1;
+        }
+        *searches >= ENOUGH
     }
 
     fn checked(&self, slot: usize, backing: u64) -> Option<usize>
@@ -70,6 +95,7 @@ impl Indexes {
         ensures { (bs : Backings) (vs : List Value) → backing < length bs.lists → AreIndexes bs vs self.old.all.items → AreIndexes bs vs self.new.all.items }
     {
         self.all.reserve(1)?;
+        self.searches.resize(self.all.len().saturating_add(1), 1)?;
         self.slots.insert(backing, self.all.len() as u64)?;
         self.all.push_reserved(Index::new(alloc, backing));
         Ok(())
