@@ -11,6 +11,7 @@ ghost use Rattle.value_table.specs.Heap.{heap_values, IsHeap};
 
 mod alike;
 mod classes;
+mod front;
 mod member;
 mod start;
 mod unlike;
@@ -24,7 +25,7 @@ pub(crate) use crate::equality::walk::parts_of;
 use crate::heap::Heap;
 use crate::text::text;
 
-/// From this number of items on, the second search builds an index.
+/// From this number of items on, a list that is searched often gets an index.
 const FEW: u64 = 16;
 
 // No comparison fails for memory: capacity for the words of all cells is reserved, and hints are
@@ -108,7 +109,7 @@ impl Heap {
     }
 
     // A place among the first items of a backing; no earlier item equals the value at `x`. The
-    // second search of many items builds an index, unless its allocation fails.
+    // sixteenth search of many items builds an index, unless its allocation fails.
     #[tactic(auto, using(crate::proofs::Comparisons::contents_of, crate::proofs::Growth::count_values, crate::proofs::Indexed::known_of))]
     fn start(&mut self, x: u64, backing: u64, count: u64) -> u64
         requires heap { IsHeap self.old }

@@ -12,6 +12,7 @@ use crate::cell::Cell;
 use crate::content::Content;
 use crate::equality::alike::alike;
 use crate::equality::classes::{representative, unite};
+use crate::equality::front::same_front;
 use crate::equality::unlike::are_seen_to_differ;
 use crate::hints::{Hints, parts_name};
 use crate::sequence::Sequence;
@@ -50,7 +51,7 @@ pub(crate) fn equal(
     hints.look_at_parts();
     let xs = parts_of(backings, left.content);
     let ys = parts_of(backings, right.content);
-    for i in 0..xs.len() {
+    for i in same_front(cells, xs, ys)..xs.len() {
         if !equal(cells, backings, same, hints, xs[i] as u64, ys[i] as u64) {
             note_parts(hints, left.content, right.content, i);
             return false;
