@@ -23,6 +23,9 @@ def texts() -> Iterator[tuple]:
     alike = numbered(28, 99_996, HIDDEN)
     sizes = {"l": turns(40_000), "a": alike}
     yield "sizes of alike texts", policy("object.l.all(i, object.a.all(x, size(x) != 7))"), review(sizes)
+    again = {"l": turns(40_000), "a": alike[:27], "t": "z" * 99_000}
+    both = "object.l.all(i, object.a.all(x, size(x) > 5 && size(object.t) > 5))"
+    yield "one text between alike texts", policy(both), review(again)
     ordered = {"l": turns(5_000), "a": numbered(40, 69_992, 69_992)}
     yield "texts in order", each_with_each("x < y || true"), review(ordered)
     begins = {
