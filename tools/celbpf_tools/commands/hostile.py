@@ -12,7 +12,7 @@ documents of those are written to a folder. An interrupt ends it early, with wha
 
 With --loops the policies are loops that read large parts of a document in each turn, and values that are alike but
 for one place. A gatekeeper gets 25 reviews, one after another. With --rows it is given the documents that once
-stalled it, of rows.py and repeats.py in celbpf_tools/hostile.
+stalled it, of rows.py, repeats.py and stalls.py in celbpf_tools/hostile.
 """
 
 import argparse
@@ -30,6 +30,7 @@ from ..hostile.costs import Cost, cost_of, worst
 from ..hostile.repeats import repeats
 from ..hostile.reviews import hostile
 from ..hostile.rows import rows
+from ..hostile.stalls import stalls
 from ..hostile.watched import Watched
 from ..seeded.cases import Case, case_of, wanted
 from ..seeded.examples import examples
@@ -131,7 +132,7 @@ class Attack:
 
     def give_rows(self, folder: Path) -> None:
         """Gives gatekeepers the documents that once stalled one."""
-        for name, policy, review in chain(rows(), repeats()):
+        for name, policy, review in chain(rows(), repeats(), stalls()):
             case = Case(json.dumps(policy).encode(), b"")
             line = json.dumps(review, separators=(",", ":")).encode() + b"\n"
             self.keep(name, case, line, cost_of(self.asked.program, hold(folder, case), line))
