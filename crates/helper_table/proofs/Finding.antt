@@ -1,6 +1,6 @@
 -- A text contains another exactly if the search finds it.
-use Rattle.helper_table.proofs.Prelude.{◌≡◌, ℕ, suc, List, [], ◌∷◌, length, take, Option, Some, None, true, false, sym, ap, ⊎_elim, arith, length-take, cases_Bool, or_cases, or_left, or_right, starts_with, is_some, nat_eq, OccursAt, FindsNeedle, OccursAt-part, OccursAt-from_part, contains}
-use Rattle.std.proofs.Common.{drop, ◌<◌, ◌≤◌, ◌+◌, ◌∙◌}
+use Rattle.helper_table.proofs.Prelude.{◌≡◌, ℕ, suc, List, [], ◌∷◌, length, take, Option, Some, None, true, sym, ap, ⊎_elim, arith, length-take, cases_Bool, or_cases, or_left, or_right, starts_with, is_some, nat_eq, OccursAt, FindsNeedle, OccursAt-part, OccursAt-from_part, contains}
+use Rattle.std.proofs.Common.{subst, true≢false, drop, ◌≤◌, ◌+◌, ◌∙◌}
 use lib.Pointwise.{bytes_decides}
 
 starts_at : (hay needle : List ℕ) → starts_with nat_eq hay needle ≡ true → OccursAt hay needle 0
@@ -42,8 +42,12 @@ finds_part hay needle None h =
     ⊎_elim (λ yes_is. let found = stands hay needle yes_is in let fits = found.at.fits in absurd (h found.place (omega arith) (omega arith) found.at))
     (λ no_is. sym no_is) (cases_Bool (contains hay needle))
 
--- a longer text is no part
-pub too_long : (hay needle : List ℕ) → length hay < length needle → contains hay needle ≡ false
-too_long hay needle long =
-    ⊎_elim (λ yes_is. let found = stands hay needle yes_is in let fits = found.at.fits in absurd (omega arith))
-    (λ no_is. no_is) (cases_Bool (contains hay needle))
+-- a text that is as long as another, or longer, can only be at its start
+pub only_at_start : (hay needle : List ℕ) → length hay ≤ length needle → starts_with nat_eq hay needle ≡ contains hay needle
+only_at_start hay needle long =
+    ⊎_elim (λ yes_is. let found = stands hay needle yes_is in let fits = found.at.fits in
+    let first : found.place ≡ 0 = omega arith in
+    starts_if hay needle (subst (OccursAt hay needle) first found.at) ∙ sym yes_is)
+    (λ no_is. ⊎_elim (λ starts. absurd (true≢false (sym (contains_if hay needle 0 (starts_at hay needle starts)) ∙ no_is))) (λ no_start. no_start ∙ sym no_is)
+    (cases_Bool (starts_with nat_eq hay needle)))
+    (cases_Bool (contains hay needle))

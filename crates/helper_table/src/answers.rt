@@ -16,9 +16,9 @@ const FEW: usize = 1024;
 /// The greatest number of answers that are kept, which take four megabytes. A number of places is a power of two.
 const MOST: usize = 65_536;
 
-/// The answers of helpers that read much. Each is at the place of its question or the next one, or, if both are taken, at
-/// any. All are in a ring, in the order in which they were first asked for, since loops ask the same questions in the
-/// same order.
+/// The answers of helpers that read much. Each is put at the place of its question or the next one, or, if both are
+/// taken, at any. All are in a ring, each behind the one that was last when it was put there, since loops ask the same
+/// questions in the same order. When there are more places than before, most answers are reached by the ring alone.
 #[derive(Drop)]
 pub(crate) struct Answers {
     pub(crate) kept: Vec<Option<Answer>>,
@@ -96,7 +96,7 @@ impl Answers {
         self.free = 0;
     }
 
-    // Makes as many places, with those that there are. If the allocation fails, there are no more.
+    // Makes more places, until there are `count`. If the allocation fails, there are no more.
     fn make(&mut self, count: usize)
         ensures { (vs : List ValueOrError) → AreAnswers vs self.old.kept.items → AreAnswers vs self.new.kept.items }
     {

@@ -131,13 +131,14 @@ pub(crate) fn member<V: ValueStore>(
     Ok(HelperEffect::truth(truth))
 }
 
-/// Whether a text contains a part. A longer part is not read, as it would be before a search.
-#[tactic(auto, using(crate::proofs::Finding::finds_part, crate::proofs::Finding::too_long))]
+/// Whether a text contains a part. A part that is as long as the text, or longer, can only be at its start, and is not
+/// read before a search.
+#[tactic(auto, using(crate::proofs::Finding::finds_part, crate::proofs::Finding::only_at_start))]
 fn contains(text: &[u8], part: &[u8]) -> bool
     ensures { result ≡ contains text.now part.now }
 {
-    if part.len() > text.len() {
-        return false;
+    if part.len() >= text.len() {
+        return text.starts_with(part);
     }
     memmem::find(text, part).is_some()
 }

@@ -15,7 +15,7 @@ const COUNT: usize = 32_768;
 const TRIED: usize = 256;
 
 /// The number of samples for which a place is kept.
-const SAMPLES: usize = 4096;
+const SAMPLE_PLACES: usize = 4096;
 
 /// What the searches of a text count for when they are enough.
 const ENOUGH: u64 = 64;
@@ -24,7 +24,7 @@ const ENOUGH: u64 = 64;
 #[derive(Drop)]
 pub(crate) struct Counts {
     pub(crate) places: Vec<Searched>,
-    /// For each sample of a text, the place of the last text with it.
+    /// For each sample of a text, the place of the last text with it that was found by all its words.
     likely: Vec<usize>,
     /// The place of the text that was searched last.
     pub(crate) last: usize,
@@ -44,7 +44,7 @@ impl Counts {
     fn make_places(&mut self) {
         if self.places.is_empty() {
             let _ = self.places.resize(COUNT, Searched::NONE);
-            let _ = self.likely.resize(SAMPLES, 0);
+            let _ = self.likely.resize(SAMPLE_PLACES, 0);
         }
     }
 
@@ -60,7 +60,7 @@ impl Counts {
             self.last = next;
             return Some(next);
         }
-        let sample = sample_place(table, text) % SAMPLES;
+        let sample = sample_place(table, text) % SAMPLE_PLACES;
         let likely = self.likely_place(sample);
         if is_at(table, &self.places, text, likely) {
             self.follow(likely);

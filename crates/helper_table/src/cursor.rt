@@ -5,7 +5,7 @@
 pub(crate) enum Cursor {
     /// The last answer in the order of the loop.
     Loop,
-    /// The last answer out of this order: one that was found at its question's own place, or one that followed it. A
-    /// loop asks for it again between its other answers.
+    /// The last answer out of this order: one that was found at its question's own place or the next
+    /// one, or that followed such a one. A loop asks for it again between its other answers.
     Beside,
 }

@@ -74,6 +74,14 @@ fn is_long<V: ValueStore>(table: &V, h: u64, least: usize) -> bool {
     }
 }
 
+/// Whether a text is shorter than another. Only a shorter one has to be searched for in another.
+fn is_shorter<V: ValueStore>(table: &V, part: u64, text: u64) -> bool {
+    match (table.text(part), table.text(text)) {
+        (Some(part), Some(text)) => part.len() < text.len(),
+        _ => false,
+    }
+}
+
 /// Whether a value is a list or a map.
 fn is_compound(value: Option<Shape<'_>>) -> bool {
     matches!(value, Some(Shape::List(_)) | Some(Shape::Map(_)))
@@ -101,7 +109,7 @@ fn reads_long<V: ValueStore>(
     ensures { AreSearched (V.values table.now) searches.new }
 {
     match helper {
-        Helper::Contains => searches.is_long(table, a),
+        Helper::Contains => is_shorter(table, b, a) && searches.is_long(table, a, b),
         Helper::Member => is_long(table, a, LONG) || is_long_search(table, a, b),
         Helper::Index => is_long(table, b, LONG),
         Helper::Size | Helper::Equal => is_long(table, a, VERY_LONG),
