@@ -48,7 +48,7 @@ pub list_back : (vs : List Value) → list_of (items_of vs) ≡ vs
 list_back [] = refl
 list_back (v ∷ vs) = ap (λ ws. v ∷ ws) (list_back vs)
 
-keys_back : (ks : List (List ℕ)) (vs : List Value) → length ks ≡ length vs → keys_of (entries_of ks vs) ≡ ks
+pub keys_back : (ks : List (List ℕ)) (vs : List Value) → length ks ≡ length vs → keys_of (entries_of ks vs) ≡ ks
 keys_back [] vs e = refl
 keys_back (k ∷ ks) [] e = absurd (omega arith)
 keys_back (k ∷ ks) (v ∷ vs) e = ap (λ ls. k ∷ ls) (keys_back ks vs (omega arith))

@@ -38,3 +38,4 @@ pub mod ReviewTables
 pub mod Pools
 pub mod MemberTexts
 mod Membered
+mod Mixed

@@ -6,6 +6,7 @@ use Rattle.value_store.specs.Value.{Value}
 use Rattle.value_table.specs.Meaning.{grown}
 use Rattle.value_table.specs.Heaps.{AreCells, AreSame, AddsValue}
 use Rattle.value_table.specs.Index.{AreIndexes}
+use Rattle.value_table.specs.Fingerprints.{AreFingerprints}
 use Rattle.value_table.specs.declared.cell.Cell.{Cell}
 use Rattle.value_table.specs.declared.content.Content.{Content}
 use Rattle.value_table.specs.declared.content.Content.TheVariants as cell
@@ -20,6 +21,7 @@ pub record IsHeap (h : Heap) : Type 0 where
   -- there is capacity for a word of each cell, so that comparisons allocate nothing
   pub room : length h.cells ≤ vec_capacity h.same
   pub indexes : AreIndexes h.backings (heap_values h) h.indexes.all.items
+  pub fingerprints : AreFingerprints (heap_values h) h.fingerprints.items
 
 -- the heap has the same cells, backings and words
 pub record IsUnchangedHeap (old new : Heap) : Type 0 where

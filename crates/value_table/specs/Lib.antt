@@ -9,6 +9,7 @@ pub mod Heap
 pub mod References
 pub mod Heads
 pub mod Equality
+pub mod Fingerprints
 pub mod Search
 pub mod Index
 pub mod Entries

@@ -10,6 +10,7 @@ ghost use Rattle.value_table.specs.Heaps.{IsRange};
 ghost use Rattle.value_table.specs.Heap.{heap_values, IsHeap};
 
 mod alike;
+mod apart;
 mod classes;
 mod front;
 mod member;
@@ -18,6 +19,7 @@ mod unlike;
 mod walk;
 
 use crate::content::Content;
+use crate::equality::apart::are_told_apart;
 use crate::equality::member::is_among;
 use crate::equality::start::{is_long_at, start_at};
 use crate::equality::walk::first;
@@ -28,8 +30,8 @@ use crate::text::text;
 /// From this number of items on, a list that is searched often gets an index.
 const FEW: u64 = 16;
 
-// No comparison fails for memory: capacity for the words of all cells is reserved, and hints are
-// optional.
+// No comparison fails for memory: capacity for the words of all cells is reserved, and hints and fingerprints
+// are optional.
 impl Heap {
     /// Whether the values of two cells are deeply equal. Equal values are put into one class, so
     /// that they are not compared again.
@@ -45,6 +47,9 @@ impl Heap {
         ensures one { result ≡ true → AreOneClass self.new.same.items a b }
     {
         self.complete_words();
+        if are_told_apart(&self.cells, &self.backings, &mut self.fingerprints, a, b) {
+            return false;
+        }
         self.hints.look_at_wholes();
         walk::equal(
             &self.cells,
@@ -92,6 +97,7 @@ impl Heap {
                     &self.backings,
                     &mut self.same,
                     &mut self.hints,
+                    &mut self.fingerprints,
                     x,
                     longs,
                 );
@@ -103,6 +109,7 @@ impl Heap {
             &self.backings,
             &mut self.same,
             &mut self.hints,
+            &mut self.fingerprints,
             x,
             items,
         )

@@ -29,6 +29,8 @@ pub(crate) struct Heap {
     pub(crate) indexes: Indexes,
     /// Where compared values differ. A copy starts without them.
     pub(crate) hints: Hints,
+    /// For each cell, the fingerprint of its value, or zero while that is not known. A copy starts without them.
+    pub(crate) fingerprints: Vec<u128>,
 }
 
 impl Heap {
@@ -44,6 +46,7 @@ impl Heap {
             same: Vec::new(alloc),
             indexes: Indexes::new(alloc),
             hints: Hints::new(alloc),
+            fingerprints: Vec::new(alloc),
         })
     }
 
@@ -67,6 +70,7 @@ impl Heap {
             same: Vec::with_capacity(self.cells.alloc(), words)?,
             indexes: Indexes::new(self.cells.alloc()),
             hints: Hints::new(self.cells.alloc()),
+            fingerprints: Vec::new(self.cells.alloc()),
         })
     }
 

@@ -13,6 +13,7 @@ mod document_pool;
 mod documents;
 mod entries;
 mod equality;
+mod fingerprints;
 mod found_members;
 mod gathering;
 mod heap;

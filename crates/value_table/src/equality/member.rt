@@ -6,11 +6,13 @@ ghost use Rattle.value_store.specs.Equality.{equal};
 ghost use Rattle.value_store.specs.Lookup.{has_item};
 ghost use Rattle.value_table.specs.Meaning.{value_in, items_at};
 ghost use Rattle.value_table.specs.Heaps.{AreBelow, AreSame};
-ghost use Rattle.value_table.specs.Equality.{AreContents};
+ghost use Rattle.value_table.specs.Equality.{AreContents, AreMeanings};
+ghost use Rattle.value_table.specs.Fingerprints.{AreFingerprints};
 ghost use Rattle.value_table.specs.Index.{AreKnown};
 
 use crate::backings::Backings;
 use crate::cell::Cell;
+use crate::equality::apart::are_told_apart;
 use crate::equality::walk;
 use crate::hints::Hints;
 use crate::sequence::Sequence;
@@ -22,39 +24,41 @@ pub(crate) fn is_among(
     backings: &Backings,
     same: &mut [u64],
     hints: &mut Hints,
+    words: &mut Vec<u128>,
     x: u64,
     places: &[u32],
 ) -> bool
     requires contents { AreContents backings.now cells.now }
     requires value { x < length cells.now }
     requires places { AreBelow (length cells.now) places.now }
-    ensures { (vs : List Value) → AreKnown backings.now vs cells.now → AreSame vs same.old → AreSame vs same.new × (result ≡ has_item (value_in vs x) (items_at vs places.now)) }
+    ensures words { (vs : List Value) → AreMeanings backings.now vs cells.now → AreFingerprints vs words.old.items → AreFingerprints vs words.new.items }
+    ensures answer { (vs : List Value) → AreKnown backings.now vs cells.now → AreSame vs same.old → AreFingerprints vs words.old.items → AreSame vs same.new × (result ≡ has_item (value_in vs x) (items_at vs places.now)) }
 {
     for i in 0..places.len() {
-        if are_equal(cells, backings, same, hints, x, places[i] as u64) {
+        if are_equal(cells, backings, same, hints, words, x, places[i] as u64) {
             return true;
         }
     }
     false
 }
 
-// Whether the values of two cells are equal. If their JSON texts differ in length, they are not compared.
+// Whether the values of two cells are equal. They are compared if nothing tells them apart.
 fn are_equal(
     cells: &Sequence<Cell>,
     backings: &Backings,
     same: &mut [u64],
     hints: &mut Hints,
+    words: &mut Vec<u128>,
     a: u64,
     b: u64,
 ) -> bool
     requires contents { AreContents backings.now cells.now }
     requires left { a < length cells.now }
     requires right { b < length cells.now }
-    ensures { (vs : List Value) → AreKnown backings.now vs cells.now → AreSame vs same.old → AreSame vs same.new × (result ≡ equal (value_in vs a) (value_in vs b)) }
+    ensures words { (vs : List Value) → AreMeanings backings.now vs cells.now → AreFingerprints vs words.old.items → AreFingerprints vs words.new.items }
+    ensures answer { (vs : List Value) → AreKnown backings.now vs cells.now → AreSame vs same.old → AreFingerprints vs words.old.items → AreSame vs same.new × (result ≡ equal (value_in vs a) (value_in vs b)) }
 {
-    let left = cells.at(a as usize).json;
-    let right = cells.at(b as usize).json;
-    if left != right {
+    if are_told_apart(cells, backings, words, a, b) {
         return false;
     }
     hints.look_at_wholes();

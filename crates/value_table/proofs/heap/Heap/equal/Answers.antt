@@ -1,9 +1,18 @@
 -- Proofs of `heap::Heap::equal`: the result meets the contract.
 
-use Rattle.value_table.proofs.Prelude.{◌≡◌, length, refl, ap, arith, heap_values, Compares}
+use Rattle.value_table.proofs.Prelude.{◌≡◌, length, refl, sym, ap, arith, heap_values, Compares}
 use Rattle.value_table.proofs.Growth.{count_values}
 use Rattle.value_table.proofs.Comparisons.{answer_is, meanings_of}
+use Rattle.value_table.proofs.Indexed.{known_of}
 use Rattle.value_table.proofs.heap.Heap.equal.Goals as goal
+
+pub returns-then-are_told_apart-clause-answer : goal.returns-then-are_told_apart-clause-answer
+returns-then-are_told_apart-clause-answer c =
+    let heap = c.complete_words.new.self in
+    let vs = heap_values c.args.self.now in
+    let same : heap_values heap ≡ vs = rw (c.complete_words.ensures.backings, c.complete_words.ensures.cells) refl in
+    let is = c.complete_words.ensures.heap in
+    sym (c.are_told_apart.ensures.apart vs (rw same at (known_of heap.backings heap.cells is.cells)) (rw same at is.fingerprints) c.if-are_told_apart.true)
 
 pub returns-clause-answer : goal.returns-clause-answer
 returns-clause-answer c =

@@ -15,4 +15,4 @@ returns-in-Some-clause-answer c =
     let same : AreSame vs c.deref_mut.result.now = subst (AreSame vs) (sym c.deref_mut.ensures.value) (rw kept at is.same) in
     let longs = c.in-Some.ensures heap.backings vs (rw kept at is.indexes) in
     let long : is_long x ≡ true = sym (c.is_long_at.ensures heap.backings vs known) ∙ c.if-is_long_at.true in
-    (c.is_among.ensures vs known same).1 ∙ longs.members x long ∙ ap (λ bs. has_item x (items_at vs (refs_at bs.lists c.args.backing c.args.count))) c.start-start.ensures.backings
+    (c.is_among.ensures.answer vs known same (rw kept at is.fingerprints)).1 ∙ longs.members x long ∙ ap (λ bs. has_item x (items_at vs (refs_at bs.lists c.args.backing c.args.count))) c.start-start.ensures.backings

@@ -19,7 +19,7 @@ returns-clause-gained c =
     let made = counted (ap (cell.List c.in_ok-pushed.pushed) c.in_ok-longer.ensures) (made_by deep c.pushed_length-json.ensures
     (list_pushed c.args.self.now.backings c.push_item.new.self _ c.args.l c.args.x c.in-List.backing c.in-List.count c.in_ok-pushed.pushed x list c.cell-item.ensures.found holds)) in
     gained c.args.self.now _ _ _ _ _ c.requires.heap c.push_item.ensures.grown
-    (record { words = c.room_for_cell.ensures.words; fits = c.in_ok-cells.ensures.word; same = c.in_ok-cells.ensures.cells; cells = c.append.ensures.items; at = c.append.ensures.place; indexes = refl })
+    (record { words = c.room_for_cell.ensures.words; fits = c.in_ok-cells.ensures.word; same = c.in_ok-cells.ensures.cells; cells = c.append.ensures.items; at = c.append.ensures.place; indexes = refl; fingerprints = refl })
     made
 
 pub returns-clause-shared : goal.returns-clause-shared

@@ -71,7 +71,7 @@ returns c =
     (map_put bs (heap_values heap) c.args.m c.args.k c.args.x c.put_entry.new.self c.in-Map.row c.in-Map.backing c.in-Map.count c.in_ok-entry.entry.0 c.in_ok-entry.entry.1 c.in-Err.gap c.in-Text.key put
     (record { bytes = c.put_entry.ensures.bytes; values = holds; keys = c.in_ok-entry.ensures.keys }))) in
     gained heap _ _ _ _ _ c.requires.heap c.put_entry.ensures.grown
-    (record { words = c.room_for_cell.ensures.words; fits = c.in_ok-cells.ensures.word; same = c.in_ok-cells.ensures.cells; cells = c.append.ensures.items; at = c.append.ensures.place; indexes = refl })
+    (record { words = c.room_for_cell.ensures.words; fits = c.in_ok-cells.ensures.word; same = c.in_ok-cells.ensures.cells; cells = c.append.ensures.items; at = c.append.ensures.place; indexes = refl; fingerprints = refl })
     made
 
 pub returns-in_err-entry : goal.returns-in_err-entry

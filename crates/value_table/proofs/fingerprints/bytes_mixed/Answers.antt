@@ -1,0 +1,16 @@
+-- Proofs of `fingerprints::bytes_mixed`: each turn of the loop keeps the invariant.
+
+use Rattle.value_table.proofs.Prelude.{refl, sym, ap, ◌∙◌, arith, get_or, mixed}
+use Rattle.value_table.proofs.Mixed.{bytes_more}
+use Rattle.value_table.proofs.fingerprints.bytes_mixed.Goals as goal
+
+pub loop-byte-preserved : goal.loop-byte-preserved
+loop-byte-preserved c =
+    let inv = c.loop-byte.invariant in
+    let i = c.loop-byte.byte-index in
+    let bytes = c.args.bytes.now in
+    record {
+      number = c.mixed-number.ensures ∙ ap (λ n. mixed n (get_or bytes i 0)) inv.number ∙ sym (bytes_more bytes c.args.start i 0 (omega arith));
+      end = refl;
+      within = omega arith;
+    }

@@ -1,0 +1,8 @@
+-- Proofs of `fingerprints::turned`: the result meets the contract.
+
+use Rattle.value_table.proofs.Prelude.{◌∙◌}
+use Rattle.value_table.proofs.Mixed.{turned_is}
+use Rattle.value_table.proofs.fingerprints.turned.Goals as goal
+
+pub returns : goal.returns
+returns c = c.rotate_left.ensures ∙ turned_is c.args.number

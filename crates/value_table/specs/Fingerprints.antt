@@ -1,0 +1,53 @@
+-- Fingerprints: a number for each value. Equal values have the same one.
+use Rattle.std.specs.Prelude.{◌≡◌, ◌≢◌, ℕ, ◌+◌, ◌-◌, ◌*◌, ◌%◌, ◌^◌, List, [], ◌∷◌, length, take, drop, Some, true, false, option_map, slice_get}
+use Rattle.std.specs.Int.{w64, w128, cast_unsigned, rotate_left}
+use Rattle.value_store.specs.Value.{Value, null, boolean, int, text, list, map, Items, no_items, item, Entries, no_entries, entry, keys_of}
+use Rattle.value_table.specs.Heads.{Head, simple, items, entries}
+
+-- a product with the fraction of the golden ratio modulo 2^128, its bits rotated
+unfoldable pub turned : ℕ → ℕ
+turned n = rotate_left w128 (n * 210306068529402873165736369884012333109 % 2 ^ 128) 47
+
+-- a number for a sequence, from that of its numbers before the last, and the last
+unfoldable pub mixed : ℕ → ℕ → ℕ
+mixed n m = (turned ((turned ((turned ((n + m) % 2 ^ 128) + m) % 2 ^ 128) + n) % 2 ^ 128) + n) % 2 ^ 128
+
+abbrev pub bytes_mixed : ℕ → List ℕ → ℕ
+bytes_mixed n [] = n
+bytes_mixed n (b ∷ bs) = bytes_mixed (mixed n b) bs
+
+-- of a text the length and the bytes at its ends, so that a new text costs little
+abbrev pub text_mixed : ℕ → List ℕ → ℕ
+text_mixed n s = bytes_mixed (bytes_mixed (mixed n (length s)) (take 32 s)) (drop (length s - 32) s)
+
+abbrev pub keys_mixed : ℕ → List (List ℕ) → ℕ
+keys_mixed n [] = n
+keys_mixed n (k ∷ ks) = keys_mixed (text_mixed n k) ks
+
+abbrev mutual
+  pub fingerprint : Value → ℕ
+  fingerprint null = 1
+  fingerprint (boolean false) = 2
+  fingerprint (boolean true) = 3
+  fingerprint (int n) = mixed 4 (cast_unsigned w64 n)
+  fingerprint (text s) = text_mixed 5 s
+  fingerprint (list is) = items_mixed 6 is
+  fingerprint (map es) = entries_mixed (keys_mixed 7 (keys_of es)) es
+
+  pub items_mixed : ℕ → Items → ℕ
+  items_mixed n no_items = n
+  items_mixed n (item v more) = items_mixed (mixed n (fingerprint v)) more
+
+  pub entries_mixed : ℕ → Entries → ℕ
+  entries_mixed n no_entries = n
+  entries_mixed n (entry k v more) = entries_mixed (mixed n (fingerprint v)) more
+
+-- the number with which the fingerprint of a value with this head begins; of a simple value, the whole fingerprint
+abbrev pub head_number : Head → ℕ
+head_number (simple v) = fingerprint v
+head_number (items n) = 6
+head_number (entries ks) = keys_mixed 7 ks
+
+-- each word that is not zero is the fingerprint of the value at its place
+pub record AreFingerprints (vs : List Value) (words : List ℕ) : Type 0 where
+  pub each : (r n : ℕ) → slice_get words r ≡ Some n → n ≢ 0 → option_map fingerprint (slice_get vs r) ≡ Some n
