@@ -12,7 +12,7 @@ documents of those are written to a folder. An interrupt ends it early, with wha
 
 With --loops the policies are loops that read large parts of a document in each turn, and values that are alike but
 for one place. A gatekeeper gets 25 reviews, one after another. With --rows it is given the documents that once
-stalled it, of rows.py, repeats.py and stalls.py in celbpf_tools/hostile.
+stalled it, of rows.py, repeats.py, stalls.py and written.py in celbpf_tools/hostile.
 """
 
 import argparse
@@ -31,6 +31,7 @@ from ..hostile.repeats import repeats
 from ..hostile.reviews import hostile
 from ..hostile.rows import rows
 from ..hostile.stalls import stalls
+from ..hostile.written import written
 from ..hostile.watched import Watched
 from ..seeded.cases import Case, case_of, wanted
 from ..seeded.examples import examples
@@ -132,7 +133,7 @@ class Attack:
 
     def give_rows(self, folder: Path) -> None:
         """Gives gatekeepers the documents that once stalled one."""
-        for name, policy, review in chain(rows(), repeats(), stalls()):
+        for name, policy, review in chain(rows(), repeats(), stalls(), written()):
             case = Case(json.dumps(policy).encode(), b"")
             line = json.dumps(review, separators=(",", ":")).encode() + b"\n"
             self.keep(name, case, line, cost_of(self.asked.program, hold(folder, case), line))

@@ -59,3 +59,14 @@ def stalls() -> Iterator[tuple]:
     numbers = random.Random(5)
     images = [{"image": "".join(numbers.choices(LETTERS, k=33))} for _ in range(66_000)]
     yield "images of 33 bytes", example("image-tags"), review({"spec": {"containers": images}})
+    yield from towers()
+
+
+def towers() -> Iterator[tuple]:
+    """Lists nested 15 deep around a number."""
+    short = [tower(1_000 + place % 9_000, 13) for place in range(2_500)]
+    others = [[tower(1_000 + (7 * place + at) % 9_000, 13) for at in range(15)] for place in range(126)]
+    rules = {"rules": [{"host": each} for each in short], "tls": [*({"hosts": few} for few in others), {"hosts": 0}]}
+    yield "towers in short lists", example("ingress-tls"), review({"spec": rules})
+    many = [tower(100_000 + place, 12) for place in range(95_000)]
+    yield "towers in a list", example("external-ips"), additions([tower(900_000 + place, 12) for place in range(90)], many)
