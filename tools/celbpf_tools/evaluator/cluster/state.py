@@ -11,6 +11,9 @@ from .fields import demand, field, in_name_order
 from .lists import BINDINGS, DEFINITIONS, NAMESPACES, POLICIES, group_version, kind_of, name_of, namespace_of
 
 NAMESPACED, CLUSTER = "Namespaced", "Cluster"
+# the fields of a policy that count as absent if they are null
+SPEC_KEYS = {"auditAnnotations", "failurePolicy", "matchConditions", "matchConstraints", "paramKind", "validations", "variables"}
+VALIDATION_KEYS = {"expression", "message", "messageExpression", "reason"}
 
 
 @dataclass
@@ -86,12 +89,28 @@ def cluster_scoped(items: list, kind: tuple) -> list:
     return sorted(found, key=lambda item: in_name_order(name_of(item)))
 
 
+def without_nulls(value: Any, keys: set) -> Any:
+    """An object without those of these fields that are null; another value as it is."""
+    if not isinstance(value, dict):
+        return value
+    return {key: part for key, part in value.items() if part is not None or key not in keys}
+
+
+def compiled_document(item: dict) -> dict:
+    """The document of a policy as it is compiled, without its status."""
+    document = {key: value for key, value in item.items() if key != "status"}
+    spec = without_nulls(document.get("spec"), SPEC_KEYS)
+    if isinstance(spec, dict) and isinstance(spec.get("validations"), list):
+        spec["validations"] = [without_nulls(each, VALIDATION_KEYS) for each in spec["validations"]]
+    return {**document, "spec": spec} if "spec" in document else document
+
+
 def read_policy(item: dict, own: list) -> Policy:
     """A policy with these bindings, or C6."""
     name, spec = name_of(item), field(item, "spec")
     constraints = matching.read(field(spec, "matchConstraints"), f"C6 {name}", True)
     kind = bindings.read_kind(spec, f"C6 {name}")
-    document = {key: value for key, value in item.items() if key != "status"}
+    document = compiled_document(item)
     return Policy(name, field(spec, "failurePolicy") == "Ignore", constraints, kind, document, own)
 
 
