@@ -62,11 +62,19 @@ def stalls() -> Iterator[tuple]:
     yield from towers()
 
 
+def in_short_lists(hosts: list, others: list) -> tuple:
+    """Hosts that are sought in lists of 15, by `ingress-tls`."""
+    lists = [{"hosts": others[at : at + 15]} for at in range(0, len(others), 15)]
+    rules = {"rules": [{"host": host} for host in hosts], "tls": [*lists, {"hosts": 0}]}
+    return example("ingress-tls"), review({"spec": rules})
+
+
 def towers() -> Iterator[tuple]:
-    """Lists nested 15 deep around a number."""
+    """Lists nested around a number, and around texts that differ in their middle."""
     short = [tower(1_000 + place % 9_000, 13) for place in range(2_500)]
-    others = [[tower(1_000 + (7 * place + at) % 9_000, 13) for at in range(15)] for place in range(126)]
-    rules = {"rules": [{"host": each} for each in short], "tls": [*({"hosts": few} for few in others), {"hosts": 0}]}
-    yield "towers in short lists", example("ingress-tls"), review({"spec": rules})
+    others = [tower(1_000 + (7 * place + at) % 9_000, 13) for place in range(126) for at in range(15)]
+    yield "towers in short lists", *in_short_lists(short, others)
     many = [tower(100_000 + place, 12) for place in range(95_000)]
     yield "towers in a list", example("external-ips"), additions([tower(900_000 + place, 12) for place in range(90)], many)
+    texts = [tower("q" * 36 + f"{place:06}" + "q" * 36, 30) for place in range(4_390)]
+    yield "towers around texts", *in_short_lists(texts[:2_500], texts[2_500:])
