@@ -2,7 +2,7 @@
 
 ghost use Rattle.std.specs.Prelude.{◌≡◌};
 
-use crate::question::{sample_place, text_place};
+use crate::question::{sample_place, text_number};
 use crate::recalling::is_same;
 use crate::searched::Searched;
 use std::alloc::Global;
@@ -12,7 +12,7 @@ use value_store::ValueStore;
 const COUNT: usize = 32_768;
 
 /// The number of places where a text may be kept: its own, and those after it.
-const TRIED: usize = 256;
+const TRIED: usize = 32;
 
 /// The number of samples for which a place is kept.
 const SAMPLE_PLACES: usize = 4096;
@@ -66,8 +66,8 @@ impl Counts {
             self.follow(likely);
             return Some(likely);
         }
-        let first = text_place(table, text);
-        let place = known(table, &self.places, text, first)?;
+        let number = text_number(table, text);
+        let place = known(table, &self.places, text, number)?;
         self.keep_sample(sample, place);
         self.follow(place);
         Some(place)
@@ -122,7 +122,7 @@ impl Counts {
         match self.find(table, text) {
             Some(place) => self.add_search(place, weight),
             None => {
-                self.begin(text, text_place(table, text), weight);
+                self.begin(text, text_number(table, text), weight);
                 None
             }
         }
@@ -142,12 +142,13 @@ impl Counts {
     }
 
     // Begins to count the searches of a text, in place of the one that was searched least.
-    fn begin(&mut self, text: u64, first: usize, weight: u64) {
-        let Some(place) = least(&self.places, first) else {
+    fn begin(&mut self, text: u64, number: u64, weight: u64) {
+        let Some(place) = least(&self.places, number) else {
             return;
         };
         let searched = Searched {
             text,
+            number,
             count: weight,
             index: None,
             next: place,
@@ -199,22 +200,30 @@ fn is_free(places: &[Searched], place: usize) -> bool {
     }
 }
 
-// The place of a text that is counted.
-fn known<V: ValueStore>(
-    table: &mut V,
-    places: &[Searched],
-    text: u64,
-    first: usize,
-) -> Option<usize>
+// One of the places where a text with a number may be kept.
+fn place_for(number: u64, i: usize) -> usize {
+    (number as usize).wrapping_add(i) % COUNT
+}
+
+// Whether the text that is counted at a place has a number.
+fn has_number(places: &[Searched], place: usize, number: u64) -> bool {
+    match places.get(place) {
+        Some(searched) => searched.number == number,
+        None => false,
+    }
+}
+
+// The place of a text that is counted. Only a text with the same number is compared with it.
+fn known<V: ValueStore>(table: &mut V, places: &[Searched], text: u64, number: u64) -> Option<usize>
     ensures values { V.values table.new ≡ V.values table.old }
     ensures charge { V.charge table.new ≡ V.charge table.old }
 {
     for i in 0..TRIED {
-        let place = first.wrapping_add(i) % COUNT;
+        let place = place_for(number, i);
         if is_free(places, place) {
             return None;
         }
-        if is_at(table, places, text, place) {
+        if has_number(places, place, number) && is_at(table, places, text, place) {
             return Some(place);
         }
     }
@@ -222,11 +231,11 @@ fn known<V: ValueStore>(
 }
 
 // The place of the text without an index that was searched least.
-fn least(places: &[Searched], first: usize) -> Option<usize> {
+fn least(places: &[Searched], number: u64) -> Option<usize> {
     let mut found: Option<usize> = None;
     let mut fewest = u64::MAX;
     for i in 0..TRIED {
-        let place = first.wrapping_add(i) % COUNT;
+        let place = place_for(number, i);
         if let Some(searched) = places.get(place) {
             if searched.index.is_none() && searched.count < fewest {
                 found = Some(place);

@@ -23,14 +23,14 @@ impl Question {
     pub(crate) fn place<V: ValueStore>(self, table: &V) -> usize {
         let helper = self.helper as u64;
         let first = mixed(helper, seen(table.at(self.a)));
-        (mixed(first, seen(table.at(self.b))) >> 32) as usize
+        spread(mixed(first, seen(table.at(self.b)))) as usize
     }
 }
 
-/// A place for a text. Equal texts have the same place.
-pub(crate) fn text_place<V: ValueStore>(table: &V, text: u64) -> usize {
+/// A number for a text. Equal texts have the same number, and few others have it.
+pub(crate) fn text_number<V: ValueStore>(table: &V, text: u64) -> u64 {
     match table.text(text) {
-        Some(text) => (read(text.as_bytes()) >> 32) as usize,
+        Some(text) => spread(read(text.as_bytes())),
         None => 0,
     }
 }
@@ -38,7 +38,7 @@ pub(crate) fn text_place<V: ValueStore>(table: &V, text: u64) -> usize {
 /// A place for a text, from a sample of it. Equal texts have the same place.
 pub(crate) fn sample_place<V: ValueStore>(table: &V, text: u64) -> usize {
     match table.text(text) {
-        Some(text) => (sampled(text.as_bytes()) >> 32) as usize,
+        Some(text) => spread(sampled(text.as_bytes())) as usize,
         None => 0,
     }
 }
@@ -106,4 +106,11 @@ fn end(bytes: &[u8]) -> u64 {
 // Multiplies by the golden ratio's fraction, which spreads the bits.
 fn mixed(a: u64, b: u64) -> u64 {
     (a ^ b).wrapping_mul(0x9e37_79b9_7f4a_7c15).rotate_left(29)
+}
+
+// Spreads the bits of a number, so that each bit of the result depends on all (the last steps of MurmurHash3).
+fn spread(a: u64) -> u64 {
+    let b = (a ^ (a >> 33)).wrapping_mul(0xff51_afd7_ed55_8ccd);
+    let c = (b ^ (b >> 33)).wrapping_mul(0xc4ce_b9fe_1a85_ec53);
+    c ^ (c >> 33)
 }
