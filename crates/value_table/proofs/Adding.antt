@@ -1,5 +1,5 @@
 -- A heap after a cell is added, and after its backings have grown.
-use Rattle.value_table.proofs.Prelude.{◌≡◌, ℕ, ◌+◌, ◌<◌, ◌≤◌, List, [], ◌∷◌, ◌++◌, length, refl, sym, ap, ◌∙◌, arith, length-append, append-nil, slice_get, subst, Option, Some, Ok, get_or_append_left, slice_get-get_or, slice_index_or, vec_capacity, Value, meaning, grown, AreSame, ExtendsBackings, heap_values, content_at, IsHeap, IsUnchangedHeap, Gains, AreIndexes, Heap, Cell, Content, Backings}
+use Rattle.value_table.proofs.Prelude.{◌≡◌, ℕ, ◌+◌, ◌<◌, ◌≤◌, List, [], ◌∷◌, ◌++◌, length, refl, sym, ap, ◌∙◌, arith, length-append, append-nil, slice_get, subst, Option, Some, Ok, get_or_append_left, slice_get-get_or, slice_index_or, vec_capacity, Value, meaning, grown, AreSame, ExtendsBackings, heap_values, content_at, IsHeap, IsUnchangedHeap, Gains, AreIndexes, AreFingerprints, Heap, Cell, Content, Backings}
 use Rattle.value_store.specs.Value as kind
 use Rattle.value_table.specs.declared.content.Content.TheVariants as cell
 use Rattle.value_table.proofs.Growth.{grown_kept, cells_kept, grown_one, cells_one, count_values}
@@ -35,7 +35,7 @@ pub heap_grown : (old new : Heap) → IsHeap old → ExtendsBackings old.backing
 heap_grown old new h e cells same indexes fingerprints =
     let kept = values_grown old new.backings new.cells h e cells in
     let all = subst (λ vs. AreIndexes new.backings vs old.indexes.all.items) (append-nil (heap_values old)) (indexes_kept old.backings new.backings (heap_values old) [] old.indexes.all.items e h.indexes) in
-    record { cells = rw cells (cells_kept old.backings new.backings [] old.cells e h.cells); same = rw (kept, same) h.same; room = rw (cells, same) h.room; indexes = rw (kept, indexes) all; fingerprints = rw (kept, fingerprints) h.fingerprints }
+    record { cells = rw cells (cells_kept old.backings new.backings [] old.cells e h.cells); same = rw (kept, same) h.same; room = rw (cells, same) h.room; indexes = rw (kept, indexes) all; fingerprints = rw (kept, fingerprints) (subst (λ vs. AreFingerprints new.backings.bytes vs old.fingerprints) (append-nil (heap_values old)) (fingerprints_more old.backings.bytes new.backings.bytes (heap_values old) [] old.fingerprints e.bytes h.fingerprints)) }
 
 -- cell c is added at place i to the cells `mid`, which were there once capacity was reserved; nothing else changed
 pub record IsAppended (old new : Heap) (mid : List Cell) (c : Cell) (i : ℕ) : Type 0 where
@@ -68,7 +68,7 @@ gained old new mid c i due h e appended made =
         same = rw (put, words) (same_more (heap_values old) (v ∷ []) old.same.items h.same);
         room = omega (arith, length-append old.cells (c ∷ []), ap length all, fits);
         indexes = rw (put, indexes) (indexes_kept old.backings new.backings (heap_values old) (v ∷ []) old.indexes.all.items e h.indexes);
-        fingerprints = rw (put, fingerprints) (fingerprints_more (heap_values old) (v ∷ []) old.fingerprints.items h.fingerprints);
+        fingerprints = rw (put, fingerprints) (fingerprints_more old.backings.bytes new.backings.bytes (heap_values old) (v ∷ []) old.fingerprints e.bytes h.fingerprints);
       };
       added = rw made.value (at ∙ ap length same ∙ sym (count_values old.backings old.cells), put);
       kept = tt;

@@ -1,8 +1,10 @@
 -- Fingerprints of values that are built from their heads and parts, and the words in which they are kept.
 use Rattle.std.specs.Int.{w128, rotate_left}
-use Rattle.std.specs.Prelude.{nat_eq}
-use Rattle.value_table.proofs.Prelude.{◌≡◌, ◌≢◌, ℕ, zero, suc, ◌+◌, ◌*◌, ◌%◌, ◌^◌, ◌<◌, List, [], ◌∷◌, ◌++◌, length, take, get_or, Some, option_map, slice_get, true, false, refl, sym, ap, ◌∙◌, subst, arith, false_from_ne_true, take_more, map-append, length-map, nil_from_length, Value, items_of, equal, equal_decides, value_in, meaning, IsContent, Head, simple, items, entries, head, parts, values_at, entries_of, built, texts_of, part_of, turned, mixed, bytes_mixed, text_mixed, keys_mixed, items_mixed, entries_mixed, fingerprint, head_number, AreFingerprints, Part, Content, Backings}
+use Rattle.std.specs.Prelude.{nat_eq, All}
+use Rattle.std.proofs.lemmas.List.Elements.{All-weaker}
+use Rattle.value_table.proofs.Prelude.{length-append, ◌≡◌, ◌≢◌, ℕ, zero, suc, ◌+◌, ◌*◌, ◌%◌, ◌^◌, ◌<◌, List, [], ◌∷◌, ◌++◌, length, take, get_or, Some, option_map, slice_get, true, false, refl, sym, ap, ◌∙◌, subst, arith, false_from_ne_true, take_more, map-append, length-map, nil_from_length, Value, items_of, equal, equal_decides, value_in, meaning, IsContent, Head, simple, items, entries, head, parts, values_at, entries_of, built, texts_of, part_of, turned, mixed, bytes_mixed, text_number, keys_mixed, items_mixed, entries_mixed, fingerprint, head_number, IsTextPrint, AreWords, AreFingerprints, Part, Content, Backings, Fingerprints, TextPrint}
 use Rattle.value_table.proofs.Heads.{Fits, fits, keys_back, meaning_built}
+use Rattle.value_table.proofs.Growth.{range_kept}
 
 -- the fingerprints of values mixed into a number
 abbrev pub all_mixed : ℕ → List Value → ℕ
@@ -49,12 +51,12 @@ bytes_after n (c ∷ bs) b = bytes_after (mixed n c) bs b
 pub bytes_more : (bs : List ℕ) (n i d : ℕ) → i < length bs → bytes_mixed n (take (i + 1) bs) ≡ mixed (bytes_mixed n (take i bs)) (get_or bs i d)
 bytes_more bs n i d h = rw (take_more bs i d h) (bytes_after n (take i bs) (get_or bs i d))
 
-keys_after : (n : ℕ) (ks : List (List ℕ)) (k : List ℕ) → keys_mixed n (ks ++ k ∷ []) ≡ text_mixed (keys_mixed n ks) k
+keys_after : (n : ℕ) (ks : List (List ℕ)) (k : List ℕ) → keys_mixed n (ks ++ k ∷ []) ≡ mixed (keys_mixed n ks) (text_number k)
 keys_after n [] k = refl
-keys_after n (l ∷ ks) k = keys_after (text_mixed n l) ks k
+keys_after n (l ∷ ks) k = keys_after (mixed n (text_number l)) ks k
 
 pub keys_more : (bytes : List ℕ) (ks : List Part) (n i : ℕ) (d : Part) → i < length ks
-    → keys_mixed n (texts_of bytes (take (i + 1) ks)) ≡ text_mixed (keys_mixed n (texts_of bytes (take i ks))) (part_of bytes (get_or ks i d))
+    → keys_mixed n (texts_of bytes (take (i + 1) ks)) ≡ mixed (keys_mixed n (texts_of bytes (take i ks))) (text_number (part_of bytes (get_or ks i d)))
 keys_more bytes ks n i d h =
     rw (take_more ks i d h, map-append (part_of bytes) (take i ks) (get_or ks i d ∷ [])) (keys_after n (texts_of bytes (take i ks)) (part_of bytes (get_or ks i d)))
 
@@ -66,8 +68,23 @@ front_some (v ∷ vs) ws zero n e = e
 front_some (v ∷ vs) ws (suc r) n e = front_some vs ws r n e
 
 -- words stay right when values are added
-pub fingerprints_more : (vs ws : List Value) (ps : List ℕ) → AreFingerprints vs ps → AreFingerprints (vs ++ ws) ps
-fingerprints_more vs ws ps h = record { each = λ r n e apart. front_some vs ws r n (h.each r n e apart) }
+words_more : (vs ws : List Value) (ps : List ℕ) → AreWords vs ps → AreWords (vs ++ ws) ps
+words_more vs ws ps h = record { each = λ r n e apart. front_some vs ws r n (h.each r n e apart) }
+
+-- fingerprints of texts stay right when bytes are added
+print_kept : (bytes rest : List ℕ) (p : TextPrint) → IsTextPrint bytes p → IsTextPrint (bytes ++ rest) p
+print_kept bytes rest p h = record {
+  order = h.order;
+  inside = omega (arith, h.inside, length-append bytes rest);
+  number = h.number ∙ ap text_number (sym (range_kept bytes rest p.from p.to h.order h.inside));
+}
+
+prints_kept : (bytes rest : List ℕ) (ps : List TextPrint) → All (IsTextPrint bytes) ps → All (IsTextPrint (bytes ++ rest)) ps
+prints_kept bytes rest ps h = All-weaker (IsTextPrint bytes) (IsTextPrint (bytes ++ rest)) (print_kept bytes rest) ps h
+
+pub fingerprints_more : (bytes longer : List ℕ) (vs ws : List Value) (f : Fingerprints) → (rest : List ℕ) × (longer ≡ bytes ++ rest)
+    → AreFingerprints bytes vs f → AreFingerprints longer (vs ++ ws) f
+fingerprints_more bytes longer vs ws f grown h = record { words = words_more vs ws f.words.items h.words; texts = rw grown.1 (prints_kept bytes grown.0 f.texts.items h.texts) }
 
 -- values that a function tells apart are not equal
 pub apart_by : (f : Value → ℕ) (v w : Value) → f v ≢ f w → equal v w ≡ false

@@ -1,8 +1,10 @@
 -- Fingerprints: a number for each value. Equal values have the same one.
-use Rattle.std.specs.Prelude.{◌≡◌, ◌≢◌, ℕ, ◌+◌, ◌-◌, ◌*◌, ◌%◌, ◌^◌, List, [], ◌∷◌, length, take, drop, Some, true, false, option_map, slice_get}
+use Rattle.std.specs.Prelude.{◌≡◌, ◌≢◌, ◌≤◌, ℕ, ◌+◌, ◌*◌, ◌%◌, ◌^◌, List, [], ◌∷◌, length, All, Some, true, false, option_map, slice_get, slice_range}
 use Rattle.std.specs.Int.{w64, w128, cast_unsigned, rotate_left}
 use Rattle.value_store.specs.Value.{Value, null, boolean, int, text, list, map, Items, no_items, item, Entries, no_entries, entry, keys_of}
 use Rattle.value_table.specs.Heads.{Head, simple, items, entries}
+use Rattle.value_table.specs.declared.fingerprints.Fingerprints.{Fingerprints}
+use Rattle.value_table.specs.declared.text_print.TextPrint.{TextPrint}
 
 -- a product with the fraction of the golden ratio modulo 2^128, its bits rotated
 unfoldable pub turned : ℕ → ℕ
@@ -16,13 +18,12 @@ abbrev pub bytes_mixed : ℕ → List ℕ → ℕ
 bytes_mixed n [] = n
 bytes_mixed n (b ∷ bs) = bytes_mixed (mixed n b) bs
 
--- of a text the length and the bytes at its ends, so that a new text costs little
-abbrev pub text_mixed : ℕ → List ℕ → ℕ
-text_mixed n s = bytes_mixed (bytes_mixed (mixed n (length s)) (take 32 s)) (drop (length s - 32) s)
+abbrev pub text_number : List ℕ → ℕ
+text_number s = bytes_mixed 5 s
 
 abbrev pub keys_mixed : ℕ → List (List ℕ) → ℕ
 keys_mixed n [] = n
-keys_mixed n (k ∷ ks) = keys_mixed (text_mixed n k) ks
+keys_mixed n (k ∷ ks) = keys_mixed (mixed n (text_number k)) ks
 
 abbrev mutual
   pub fingerprint : Value → ℕ
@@ -30,7 +31,7 @@ abbrev mutual
   fingerprint (boolean false) = 2
   fingerprint (boolean true) = 3
   fingerprint (int n) = mixed 4 (cast_unsigned w64 n)
-  fingerprint (text s) = text_mixed 5 s
+  fingerprint (text s) = text_number s
   fingerprint (list is) = items_mixed 6 is
   fingerprint (map es) = entries_mixed (keys_mixed 7 (keys_of es)) es
 
@@ -48,6 +49,16 @@ head_number (simple v) = fingerprint v
 head_number (items n) = 6
 head_number (entries ks) = keys_mixed 7 ks
 
+-- a range of bytes, and the fingerprint of the text that they are
+pub record IsTextPrint (bytes : List ℕ) (p : TextPrint) : Type 0 where
+  pub order : p.from ≤ p.to
+  pub inside : p.to ≤ length bytes
+  pub number : p.number ≡ text_number (slice_range bytes p.from p.to)
+
 -- each word that is not zero is the fingerprint of the value at its place
-pub record AreFingerprints (vs : List Value) (words : List ℕ) : Type 0 where
+pub record AreWords (vs : List Value) (words : List ℕ) : Type 0 where
   pub each : (r n : ℕ) → slice_get words r ≡ Some n → n ≢ 0 → option_map fingerprint (slice_get vs r) ≡ Some n
+
+pub record AreFingerprints (bytes : List ℕ) (vs : List Value) (f : Fingerprints) : Type 0 where
+  pub words : AreWords vs f.words.items
+  pub texts : All (IsTextPrint bytes) f.texts.items

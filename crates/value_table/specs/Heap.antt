@@ -21,7 +21,7 @@ pub record IsHeap (h : Heap) : Type 0 where
   -- there is capacity for a word of each cell, so that comparisons allocate nothing
   pub room : length h.cells ≤ vec_capacity h.same
   pub indexes : AreIndexes h.backings (heap_values h) h.indexes.all.items
-  pub fingerprints : AreFingerprints (heap_values h) h.fingerprints.items
+  pub fingerprints : AreFingerprints h.backings.bytes (heap_values h) h.fingerprints
 
 -- the heap has the same cells, backings and words
 pub record IsUnchangedHeap (old new : Heap) : Type 0 where

@@ -15,7 +15,6 @@ mod classes;
 mod front;
 mod member;
 mod start;
-mod unlike;
 mod walk;
 
 use crate::content::Content;
@@ -50,7 +49,6 @@ impl Heap {
         if are_told_apart(&self.cells, &self.backings, &mut self.fingerprints, a, b) {
             return false;
         }
-        self.hints.look_at_wholes();
         walk::equal(
             &self.cells,
             &self.backings,
@@ -115,7 +113,7 @@ impl Heap {
         )
     }
 
-    // A place among the first items of a backing; no earlier item equals the value at `x`. The
+    // How many of the first items of a backing a search for the value at `x` may leave out. The
     // sixteenth search of many items builds an index, unless its allocation fails.
     #[tactic(auto, using(crate::proofs::Comparisons::contents_of, crate::proofs::Growth::count_values, crate::proofs::Indexed::known_of))]
     fn start(&mut self, x: u64, backing: u64, count: u64) -> u64

@@ -1,12 +1,12 @@
 //! Fingerprints: a number for each value. Equal values have the same one.
 
-ghost use Rattle.std.specs.Prelude.{◌≡◌, ◌<◌, List, length, Some, IfSome, option_map, slice_get, take};
+ghost use Rattle.std.specs.Prelude.{◌≡◌, ◌<◌, List, [], length, All, Some, IfSome, option_map, slice_get};
 ghost use Rattle.value_store.specs.Value.{Value};
 ghost use Rattle.value_table.specs.Meaning.{value_in};
 ghost use Rattle.value_table.specs.Heaps.{AreTexts};
 ghost use Rattle.value_table.specs.Heads.{head, texts_of, IsReadable};
 ghost use Rattle.value_table.specs.Equality.{AreContents, AreMeanings};
-ghost use Rattle.value_table.specs.Fingerprints.{turned, mixed, bytes_mixed, text_mixed, keys_mixed, head_number, fingerprint, AreFingerprints};
+ghost use Rattle.value_table.specs.Fingerprints.{turned, mixed, bytes_mixed, keys_mixed, head_number, fingerprint, IsTextPrint, AreFingerprints, AreWords};
 
 use crate::backings::Backings;
 use crate::cell::Cell;
@@ -14,42 +14,63 @@ use crate::content::Content;
 use crate::equality::parts_of;
 use crate::part::Part;
 use crate::sequence::Sequence;
-use crate::text::{keys, text};
-
-/// The number of bytes at each end of a text that count. A loop may make a cell for the same long text in each turn.
-const ENDS: usize = 32;
+use crate::text::keys;
+use crate::text_print::{TextPrint, text_number};
+use std::alloc::Global;
 
 /// The fraction of the golden ratio. A product with it spreads the bits.
 const FRACTION: u128 = 0x9e37_79b9_7f4a_7c15_f39c_c060_5ced_c835;
+
+/// The fingerprints that are kept.
+#[derive(Drop)]
+pub(crate) struct Fingerprints {
+    /// For each cell, the fingerprint of its value, or zero while that is not known.
+    pub(crate) words: Vec<u128>,
+    /// For each 64 bytes of texts, the fingerprint of a text that begins among them.
+    pub(crate) texts: Vec<TextPrint>,
+}
+
+impl Fingerprints {
+    /// No fingerprints.
+    pub(crate) fn new(alloc: Global) -> Fingerprints
+        ensures words { result.words.items ≡ [] }
+        ensures texts { result.texts.items ≡ [] }
+    {
+        Fingerprints {
+            words: Vec::new(alloc),
+            texts: Vec::new(alloc),
+        }
+    }
+}
 
 /// The fingerprint of the value of a cell. It is kept if the cell has a word. The recursion is as deep as the value.
 pub(crate) fn fingerprint(
     cells: &Sequence<Cell>,
     backings: &Backings,
-    words: &mut [u128],
+    prints: &mut Fingerprints,
     place: u64,
 ) -> u128
     requires contents { AreContents backings.now cells.now }
     requires inside { place < length cells.now }
-    ensures { (vs : List Value) → AreMeanings backings.now vs cells.now → AreFingerprints vs words.old → AreFingerprints vs words.new × (result ≡ fingerprint (value_in vs place)) }
+    ensures { (vs : List Value) → AreMeanings backings.now vs cells.now → AreFingerprints backings.now.bytes vs prints.old → AreFingerprints backings.now.bytes vs prints.new × (result ≡ fingerprint (value_in vs place)) }
 {
-    if let Some(number) = kept(words, place) {
+    if let Some(number) = kept(&prints.words, place) {
         return number;
     }
     let content = cells.at(place as usize).content;
     let parts = parts_of(backings, content);
-    let mut number = own_number(backings, content);
+    let mut number = own_number(backings, &mut prints.texts, content);
     for i in 0..parts.len() {
-        let part = fingerprint(cells, backings, words, parts[i] as u64);
+        let part = fingerprint(cells, backings, prints, parts[i] as u64);
         number = mixed(number, part);
     }
-    keep(words, place, number);
+    keep(&mut prints.words, place, number);
     number
 }
 
 // The fingerprint in the word of a cell, if it is there.
 fn kept(words: &[u128], place: u64) -> Option<u128>
-    ensures { (vs : List Value) → AreFingerprints vs words.now → IfSome result (λ n. n ≡ fingerprint (value_in vs place)) }
+    ensures { (vs : List Value) → AreWords vs words.now → IfSome result (λ n. n ≡ fingerprint (value_in vs place)) }
 {
     match words.get(place as usize) {
         Some(number) if *number != 0 => Some(*number),
@@ -59,7 +80,7 @@ fn kept(words: &[u128], place: u64) -> Option<u128>
 
 // Keeps the fingerprint of the value of a cell, if the cell has a word.
 fn keep(words: &mut [u128], place: u64, number: u128)
-    ensures { (vs : List Value) → AreFingerprints vs words.old → option_map fingerprint (slice_get vs place) ≡ Some number → AreFingerprints vs words.new }
+    ensures { (vs : List Value) → AreWords vs words.old → option_map fingerprint (slice_get vs place) ≡ Some number → AreWords vs words.new }
 {
     if (place as usize) < words.len() {
         words[place as usize] = number;
@@ -68,7 +89,7 @@ fn keep(words: &mut [u128], place: u64, number: u128)
 
 /// Adds a word for each cell that has none, as far as there is memory.
 pub(crate) fn add_words(words: &mut Vec<u128>, count: usize)
-    ensures { (vs : List Value) → AreFingerprints vs words.old.items → AreFingerprints vs words.new.items }
+    ensures { (vs : List Value) → AreWords vs words.old.items → AreWords vs words.new.items }
 {
     if words.is_empty() {
         let _ = words.reserve_exact(count);
@@ -81,57 +102,41 @@ pub(crate) fn add_words(words: &mut Vec<u128>, count: usize)
 }
 
 // The number with which a value's fingerprint begins. The fingerprints of its parts are mixed into it.
-fn own_number(backings: &Backings, content: Content) -> u128
+fn own_number(backings: &Backings, texts: &mut Vec<TextPrint>, content: Content) -> u128
     requires { IsReadable backings.now content }
-    ensures { result ≡ head_number (head backings.now content) }
+    ensures texts { All (IsTextPrint backings.now.bytes) texts.old.items → All (IsTextPrint backings.now.bytes) texts.new.items }
+    ensures number { All (IsTextPrint backings.now.bytes) texts.old.items → result ≡ head_number (head backings.now content) }
 {
     match content {
         Content::Null => 1,
         Content::Bool(false) => 2,
         Content::Bool(true) => 3,
         Content::Int(n) => mixed(4, n.cast_unsigned() as u128),
-        Content::Text(part) => text_mixed(5, text(backings.bytes.items(), part)),
+        Content::Text(part) => text_number(backings.bytes.items(), texts, part),
         Content::List(_, _) => 6,
         Content::Map(first, _, count) => {
             let keys = keys(backings.keys.items(), first as u64, count as u64);
-            keys_mixed(7, backings.bytes.items(), keys)
+            keys_mixed(7, backings.bytes.items(), texts, keys)
         }
     }
 }
 
-// Mixes a text into a number, by its length and the bytes at its ends.
-fn text_mixed(start: u128, text: &[u8]) -> u128
-    ensures { result ≡ text_mixed start text.now }
-{
-    let number = mixed(start, text.len() as u128);
-    let last = text.len().saturating_sub(ENDS);
-    bytes_mixed(bytes_mixed(number, first_bytes(text, ENDS)), &text[last..])
-}
-
-fn first_bytes(text: &[u8], count: usize) -> &[u8]
-    ensures { result.now ≡ take count text.now }
-{
-    if count < text.len() {
-        &text[..count]
-    } else {
-        text
-    }
-}
-
-// Mixes keys into a number.
-fn keys_mixed(start: u128, bytes: &[u8], keys: &[Part]) -> u128
+// Mixes the fingerprints of keys into a number.
+fn keys_mixed(start: u128, bytes: &[u8], texts: &mut Vec<TextPrint>, keys: &[Part]) -> u128
     requires { AreTexts bytes.now keys.now }
-    ensures { result ≡ keys_mixed start (texts_of bytes.now keys.now) }
+    ensures texts { All (IsTextPrint bytes.now) texts.old.items → All (IsTextPrint bytes.now) texts.new.items }
+    ensures number { All (IsTextPrint bytes.now) texts.old.items → result ≡ keys_mixed start (texts_of bytes.now keys.now) }
 {
     let mut number = start;
     for i in 0..keys.len() {
-        number = text_mixed(number, text(bytes, keys[i]));
+        let key = text_number(bytes, texts, keys[i]);
+        number = mixed(number, key);
     }
     number
 }
 
-// Mixes bytes into a number.
-fn bytes_mixed(start: u128, bytes: &[u8]) -> u128
+/// Mixes bytes into a number.
+pub(crate) fn bytes_mixed(start: u128, bytes: &[u8]) -> u128
     ensures { result ≡ bytes_mixed start bytes.now }
 {
     let mut number = start;

@@ -11,6 +11,7 @@ use crate::backings::Backings;
 use crate::cell::Cell;
 use crate::chunks::{Chunks, SPARE};
 use crate::content::Content;
+use crate::fingerprints::Fingerprints;
 use crate::hints::Hints;
 use crate::indexes::Indexes;
 use crate::lengths::int_length;
@@ -27,10 +28,10 @@ pub(crate) struct Heap {
     pub(crate) same: Vec<u64>,
     /// Indexes of the items of lists. A copy starts without them.
     pub(crate) indexes: Indexes,
-    /// Where compared values differ. A copy starts without them.
+    /// Where compared texts differ. A copy starts without them.
     pub(crate) hints: Hints,
-    /// For each cell, the fingerprint of its value, or zero while that is not known. A copy starts without them.
-    pub(crate) fingerprints: Vec<u128>,
+    /// Fingerprints of values. A copy starts without them.
+    pub(crate) fingerprints: Fingerprints,
 }
 
 impl Heap {
@@ -46,7 +47,7 @@ impl Heap {
             same: Vec::new(alloc),
             indexes: Indexes::new(alloc),
             hints: Hints::new(alloc),
-            fingerprints: Vec::new(alloc),
+            fingerprints: Fingerprints::new(alloc),
         })
     }
 
@@ -70,7 +71,7 @@ impl Heap {
             same: Vec::with_capacity(self.cells.alloc(), words)?,
             indexes: Indexes::new(self.cells.alloc()),
             hints: Hints::new(self.cells.alloc()),
-            fingerprints: Vec::new(self.cells.alloc()),
+            fingerprints: Fingerprints::new(self.cells.alloc()),
         })
     }
 

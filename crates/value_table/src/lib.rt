@@ -60,6 +60,7 @@ mod shared_documents;
 mod small;
 mod table;
 mod text;
+mod text_print;
 mod texts;
 mod writing;
 

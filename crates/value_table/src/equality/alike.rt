@@ -7,7 +7,7 @@ ghost use Rattle.value_table.specs.Heads.{head, texts_of, IsReadable};
 
 use crate::backings::Backings;
 use crate::content::Content;
-use crate::hints::{Hints, keys_name};
+use crate::hints::Hints;
 use crate::part::Part;
 use crate::text::{keys, text};
 use text_kernels::first_difference;
@@ -31,23 +31,15 @@ pub(crate) fn alike(backings: &Backings, hints: &mut Hints, left: Content, right
             let all = backings.keys.items();
             let left = keys(all, k as u64, m as u64);
             let right = keys(all, l as u64, n as u64);
-            let names = (keys_name(k), keys_name(l));
-            same_keys(backings.bytes.items(), hints, left, right, names)
+            same_keys(backings.bytes.items(), hints, left, right)
         }
         _ => false,
     }
 }
 
-// Whether two maps have the same keys. The place at which they differ is kept by their names, for the two
-// and for the first with others.
+// Whether two maps have the same keys.
 #[tactic(auto, using(crate::proofs::Maps::map_part, crate::proofs::Maps::map_more))]
-fn same_keys(
-    bytes: &[u8],
-    hints: &mut Hints,
-    left: &[Part],
-    right: &[Part],
-    names: (u64, u64),
-) -> bool
+fn same_keys(bytes: &[u8], hints: &mut Hints, left: &[Part], right: &[Part]) -> bool
     requires left { AreTexts bytes.now left.now }
     requires right { AreTexts bytes.now right.now }
     ensures { Decides result (texts_of bytes.now left.now ≡ texts_of bytes.now right.now) }
@@ -57,17 +49,15 @@ fn same_keys(
     }
     for i in 0..left.len() {
         if !same_texts(bytes, hints, left[i], right[i]) {
-            hints.note(names.0, names.1, i);
-            hints.note(names.0, names.0, i);
             return false;
         }
     }
     true
 }
 
-/// Whether two texts are the same. The place at which two long ones differ is kept and tested first
-/// the next time.
-pub(crate) fn same_texts(bytes: &[u8], hints: &mut Hints, left: Part, right: Part) -> bool
+// Whether two texts are the same. The place at which two long ones differ is kept and tested first
+// the next time.
+fn same_texts(bytes: &[u8], hints: &mut Hints, left: Part, right: Part) -> bool
     requires left { IsText bytes.now left }
     requires right { IsText bytes.now right }
     ensures { Decides result (part_of bytes.now left ≡ part_of bytes.now right) }

@@ -14,7 +14,7 @@ use crate::backings::Backings;
 use crate::cell::Cell;
 use crate::content::Content;
 use crate::equality::walk::parts_of;
-use crate::fingerprints::{add_words, fingerprint};
+use crate::fingerprints::{Fingerprints, add_words, fingerprint};
 use crate::sequence::Sequence;
 
 /// Whether two values are seen to differ: in the lengths of their JSON texts, as ints, or in their fingerprints if they
@@ -22,15 +22,15 @@ use crate::sequence::Sequence;
 pub(crate) fn are_told_apart(
     cells: &Sequence<Cell>,
     backings: &Backings,
-    words: &mut Vec<u128>,
+    prints: &mut Fingerprints,
     a: u64,
     b: u64,
 ) -> bool
     requires contents { AreContents backings.now cells.now }
     requires left { a < length cells.now }
     requires right { b < length cells.now }
-    ensures words { (vs : List Value) → AreMeanings backings.now vs cells.now → AreFingerprints vs words.old.items → AreFingerprints vs words.new.items }
-    ensures apart { (vs : List Value) → AreKnown backings.now vs cells.now → AreFingerprints vs words.old.items → result ≡ true → equal (value_in vs a) (value_in vs b) ≡ false }
+    ensures prints { (vs : List Value) → AreMeanings backings.now vs cells.now → AreFingerprints backings.now.bytes vs prints.old → AreFingerprints backings.now.bytes vs prints.new }
+    ensures apart { (vs : List Value) → AreKnown backings.now vs cells.now → AreFingerprints backings.now.bytes vs prints.old → result ≡ true → equal (value_in vs a) (value_in vs b) ≡ false }
 {
     let left = cells.at(a as usize);
     let right = cells.at(b as usize);
@@ -43,25 +43,25 @@ pub(crate) fn are_told_apart(
     if parts_of(backings, left.content).is_empty() {
         return false;
     }
-    add_words(words, cells.len());
-    fingerprints_differ(cells, backings, words, a, b)
+    add_words(&mut prints.words, cells.len());
+    fingerprints_differ(cells, backings, prints, a, b)
 }
 
 fn fingerprints_differ(
     cells: &Sequence<Cell>,
     backings: &Backings,
-    words: &mut [u128],
+    prints: &mut Fingerprints,
     a: u64,
     b: u64,
 ) -> bool
     requires contents { AreContents backings.now cells.now }
     requires left { a < length cells.now }
     requires right { b < length cells.now }
-    ensures words { (vs : List Value) → AreMeanings backings.now vs cells.now → AreFingerprints vs words.old → AreFingerprints vs words.new }
-    ensures apart { (vs : List Value) → AreMeanings backings.now vs cells.now → AreFingerprints vs words.old → result ≡ true → equal (value_in vs a) (value_in vs b) ≡ false }
+    ensures prints { (vs : List Value) → AreMeanings backings.now vs cells.now → AreFingerprints backings.now.bytes vs prints.old → AreFingerprints backings.now.bytes vs prints.new }
+    ensures apart { (vs : List Value) → AreMeanings backings.now vs cells.now → AreFingerprints backings.now.bytes vs prints.old → result ≡ true → equal (value_in vs a) (value_in vs b) ≡ false }
 {
-    let number = fingerprint(cells, backings, words, a);
-    number != fingerprint(cells, backings, words, b)
+    let number = fingerprint(cells, backings, prints, a);
+    number != fingerprint(cells, backings, prints, b)
 }
 
 // Whether two contents are different ints.

@@ -14,6 +14,7 @@ use crate::backings::Backings;
 use crate::cell::Cell;
 use crate::equality::apart::are_told_apart;
 use crate::equality::walk;
+use crate::fingerprints::Fingerprints;
 use crate::hints::Hints;
 use crate::sequence::Sequence;
 
@@ -24,18 +25,18 @@ pub(crate) fn is_among(
     backings: &Backings,
     same: &mut [u64],
     hints: &mut Hints,
-    words: &mut Vec<u128>,
+    prints: &mut Fingerprints,
     x: u64,
     places: &[u32],
 ) -> bool
     requires contents { AreContents backings.now cells.now }
     requires value { x < length cells.now }
     requires places { AreBelow (length cells.now) places.now }
-    ensures words { (vs : List Value) → AreMeanings backings.now vs cells.now → AreFingerprints vs words.old.items → AreFingerprints vs words.new.items }
-    ensures answer { (vs : List Value) → AreKnown backings.now vs cells.now → AreSame vs same.old → AreFingerprints vs words.old.items → AreSame vs same.new × (result ≡ has_item (value_in vs x) (items_at vs places.now)) }
+    ensures prints { (vs : List Value) → AreMeanings backings.now vs cells.now → AreFingerprints backings.now.bytes vs prints.old → AreFingerprints backings.now.bytes vs prints.new }
+    ensures answer { (vs : List Value) → AreKnown backings.now vs cells.now → AreSame vs same.old → AreFingerprints backings.now.bytes vs prints.old → AreSame vs same.new × (result ≡ has_item (value_in vs x) (items_at vs places.now)) }
 {
     for i in 0..places.len() {
-        if are_equal(cells, backings, same, hints, words, x, places[i] as u64) {
+        if are_equal(cells, backings, same, hints, prints, x, places[i] as u64) {
             return true;
         }
     }
@@ -48,19 +49,18 @@ fn are_equal(
     backings: &Backings,
     same: &mut [u64],
     hints: &mut Hints,
-    words: &mut Vec<u128>,
+    prints: &mut Fingerprints,
     a: u64,
     b: u64,
 ) -> bool
     requires contents { AreContents backings.now cells.now }
     requires left { a < length cells.now }
     requires right { b < length cells.now }
-    ensures words { (vs : List Value) → AreMeanings backings.now vs cells.now → AreFingerprints vs words.old.items → AreFingerprints vs words.new.items }
-    ensures answer { (vs : List Value) → AreKnown backings.now vs cells.now → AreSame vs same.old → AreFingerprints vs words.old.items → AreSame vs same.new × (result ≡ equal (value_in vs a) (value_in vs b)) }
+    ensures prints { (vs : List Value) → AreMeanings backings.now vs cells.now → AreFingerprints backings.now.bytes vs prints.old → AreFingerprints backings.now.bytes vs prints.new }
+    ensures answer { (vs : List Value) → AreKnown backings.now vs cells.now → AreSame vs same.old → AreFingerprints backings.now.bytes vs prints.old → AreSame vs same.new × (result ≡ equal (value_in vs a) (value_in vs b)) }
 {
-    if are_told_apart(cells, backings, words, a, b) {
+    if are_told_apart(cells, backings, prints, a, b) {
         return false;
     }
-    hints.look_at_wholes();
     walk::equal(cells, backings, same, hints, a, b)
 }

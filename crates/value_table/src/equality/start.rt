@@ -140,8 +140,8 @@ fn enter(
     Ok(())
 }
 
-// A place among the first `count` items of a backing; no earlier item equals the value at `x`. It
-// is the first item with the same text, or the end.
+// How many of the first `count` items of a backing a search for the value at `x` may leave out:
+// those before the first with the same text.
 fn start_in(
     index: &mut Index,
     cells: &Sequence<Cell>,

@@ -13,14 +13,11 @@ use crate::content::Content;
 use crate::equality::alike::alike;
 use crate::equality::classes::{representative, unite};
 use crate::equality::front::same_front;
-use crate::equality::unlike::are_seen_to_differ;
-use crate::hints::{Hints, parts_name};
+use crate::hints::Hints;
 use crate::sequence::Sequence;
 
 /// Whether the values of two cells are equal. Each equal pair is remembered, so that values with
-/// shared parts take about as many steps as they have cells. Where two values differ is remembered
-/// too, and the next comparison looks there first, as many levels below as the hints say. The
-/// recursion is as deep as the values.
+/// shared parts take about as many steps as they have cells. The recursion is as deep as the values.
 #[tactic(auto, using(crate::proofs::Classes::both_found, crate::proofs::Walks::same_heads, crate::proofs::Walks::same_long))]
 pub(crate) fn equal(
     cells: &Sequence<Cell>,
@@ -40,32 +37,20 @@ pub(crate) fn equal(
     if x == y {
         return true;
     }
-    if are_seen_to_differ(cells, backings, hints, x, y) {
-        return false;
-    }
     let left = cells.at(x as usize);
     let right = cells.at(y as usize);
     if !alike(backings, hints, left.content, right.content) {
         return false;
     }
-    hints.look_at_parts();
     let xs = parts_of(backings, left.content);
     let ys = parts_of(backings, right.content);
     for i in same_front(cells, xs, ys)..xs.len() {
         if !equal(cells, backings, same, hints, xs[i] as u64, ys[i] as u64) {
-            note_parts(hints, left.content, right.content, i);
             return false;
         }
     }
     unite(same, x, y);
     true
-}
-
-// Keeps the place at which two lists or maps differ, for the two and for the first with others.
-fn note_parts(hints: &mut Hints, left: Content, right: Content, place: usize) {
-    let (x, y) = (parts_name(left), parts_name(right));
-    hints.note(x, y, place);
-    hints.note(x, x, place);
 }
 
 pub(crate) fn parts_of(backings: &Backings, content: Content) -> &[u32]

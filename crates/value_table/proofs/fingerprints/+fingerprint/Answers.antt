@@ -1,6 +1,7 @@
 -- Proofs of `fingerprints::fingerprint`: the result meets the contract; the loop invariant holds at first and is kept;
 -- its calls meet their requirements.
 
+use Rattle.std.proofs.lemmas.List.{with_items_is}
 use Rattle.value_store.specs.Value as kind
 use Rattle.value_table.proofs.Prelude.{get_or_from_slice_get, ◌≡◌, Some, option_map, take, sym, ap, ◌∙◌, arith, same_Some, take_all, values_at, head, head_number, meaning, mixed, fingerprint, Cell, ap₂}
 use Rattle.value_table.proofs.Walks.{part_before}
@@ -15,7 +16,7 @@ returns t c = λ vs m w.
     let number = inv.1 cell c.at-content.ensures.value ∙ ap (λ rs. all_mixed (head_number (head c.args.backings.now cell.content)) (values_at vs rs)) (all ∙ c.parts_of-parts.ensures)
     ∙ sym (number_of c.args.backings.now vs c.args.place cell.content (c.requires.contents c.args.place cell c.at-content.ensures.value)) in
     let here = m c.args.place cell c.at-content.ensures.value in
-    (c.keep.ensures vs inv.0 (ap (option_map fingerprint) here ∙ ap Some (sym number)), number ∙ ap fingerprint (sym (get_or_from_slice_get vs c.args.place (meaning c.args.backings.now vs cell.content) kind.null here)))
+    (record { words = rw (with_items_is c.loop-i.prints.words c.keep.new.words (omega arith)) (c.keep.ensures vs (rw c.deref_mut.ensures.value inv.0.words) (ap (option_map fingerprint) here ∙ ap Some (sym number))); texts = inv.0.texts }, number ∙ ap fingerprint (sym (get_or_from_slice_get vs c.args.place (meaning c.args.backings.now vs cell.content) kind.null here)))
 
 pub fingerprint-part-requires : goal.fingerprint-part-requires
 fingerprint-part-requires t c =
@@ -24,7 +25,7 @@ fingerprint-part-requires t c =
 
 pub loop-i-init : goal.loop-i-init
 loop-i-init t c = λ vs m w.
-    (w, λ cell is. c.own_number-number.ensures ∙ ap (λ (d : Cell). head_number (head c.args.backings.now d.content)) (same_Some _ _ (sym c.at-content.ensures.value ∙ is)))
+    (record { words = w.words; texts = c.own_number-number.ensures.texts w.texts }, λ cell is. c.own_number-number.ensures.number w.texts ∙ ap (λ (d : Cell). head_number (head c.args.backings.now d.content)) (same_Some _ _ (sym c.at-content.ensures.value ∙ is)))
 
 pub loop-i-preserved : goal.loop-i-preserved
 loop-i-preserved t c = λ vs m w.

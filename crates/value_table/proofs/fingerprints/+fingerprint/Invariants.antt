@@ -8,6 +8,6 @@ abbrev pub decreases-fingerprint : goal.decreases-fingerprint
 decreases-fingerprint l = l.place
 
 abbrev pub invariant-loop-i : goal.invariant-loop-i
-invariant-loop-i l = (vs : List Value) → AreMeanings l.backings vs l.cells → AreFingerprints vs l.fn.words
-    → AreFingerprints vs l.words
+invariant-loop-i l = (vs : List Value) → AreMeanings l.backings vs l.cells → AreFingerprints l.backings.bytes vs l.fn.prints
+    → AreFingerprints l.backings.bytes vs l.prints
     × ((c : Cell) → slice_get l.cells l.place ≡ Some c → l.number ≡ all_mixed (head_number (head l.backings c.content)) (values_at vs (take l.i l.parts)))

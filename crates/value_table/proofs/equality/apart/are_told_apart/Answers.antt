@@ -20,4 +20,4 @@ returns-then-are_unlike_ints-clause-apart c = λ vs k w t.
 
 pub returns-clause-apart : goal.returns-clause-apart
 returns-clause-apart c = λ vs k w t.
-    c.fingerprints_differ.ensures.apart vs k.meanings (rw c.deref_mut.ensures.value (c.add_words.ensures vs w)) t
+    c.fingerprints_differ.ensures.apart vs k.meanings (record { words = c.add_words.ensures vs w.words; texts = w.texts }) t

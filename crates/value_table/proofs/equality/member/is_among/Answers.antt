@@ -7,14 +7,14 @@ use Rattle.value_table.proofs.equality.member.is_among.Goals as goal
 pub returns-then-are_equal-clause-answer : goal.returns-then-are_equal-clause-answer
 returns-then-are_equal-clause-answer c = λ vs k s w.
     let inv = c.loop-i.invariant.answer vs k s w in
-    let here = c.are_equal.ensures.answer vs k inv.0 (c.loop-i.invariant.words vs k.meanings w) in
+    let here = c.are_equal.ensures.answer vs k inv.0 (c.loop-i.invariant.prints vs k.meanings w) in
     (here.0, sym (inv.1 ∙ item_step vs (value_in vs c.args.x) c.args.places.now c.loop-i.i _ (omega arith) (sym c.if-are_equal.true ∙ here.1)))
 
 pub loop-i-preserved : goal.loop-i-preserved
 loop-i-preserved c = record {
-  words = λ vs m w. c.are_equal.ensures.words vs m (c.loop-i.invariant.words vs m w);
+  prints = λ vs m w. c.are_equal.ensures.prints vs m (c.loop-i.invariant.prints vs m w);
   answer = λ vs k s w.
       let inv = c.loop-i.invariant.answer vs k s w in
-      let here = c.are_equal.ensures.answer vs k inv.0 (c.loop-i.invariant.words vs k.meanings w) in
+      let here = c.are_equal.ensures.answer vs k inv.0 (c.loop-i.invariant.prints vs k.meanings w) in
       (here.0, inv.1 ∙ item_step vs (value_in vs c.args.x) c.args.places.now c.loop-i.i _ (omega arith) (sym c.if-are_equal.false ∙ here.1));
 }

@@ -5,7 +5,7 @@ use Rattle.value_table.proofs.equality.member.is_among.Given as goal
 
 abbrev pub invariant-loop-i : goal.invariant-loop-i
 invariant-loop-i l = record {
-  words : (vs : List Value) → AreMeanings l.backings vs l.cells → AreFingerprints vs l.fn.words.items → AreFingerprints vs l.words.items;
-  answer : (vs : List Value) → AreKnown l.backings vs l.cells → AreSame vs l.fn.same → AreFingerprints vs l.fn.words.items
+  prints : (vs : List Value) → AreMeanings l.backings vs l.cells → AreFingerprints l.backings.bytes vs l.fn.prints → AreFingerprints l.backings.bytes vs l.prints;
+  answer : (vs : List Value) → AreKnown l.backings vs l.cells → AreSame vs l.fn.same → AreFingerprints l.backings.bytes vs l.fn.prints
       → AreSame vs l.same × (has_item (value_in vs l.x) (items_at vs l.places) ≡ has_item (value_in vs l.x) (items_at vs (drop l.i l.places)));
 }
