@@ -1,13 +1,14 @@
 -- What an index contains, and which items a search may skip.
-use Rattle.value_table.proofs.Prelude.{◌≡◌, ◌≢◌, ℕ, zero, suc, ◌+◌, ◌<◌, ◌≤◌, min, List, [], ◌∷◌, ◌++◌, length, get_or, take, drop, set, Bool, true, false, cond, bytes_eq, Option, Some, None, slice_get, refl, sym, ap, ◌∙◌, subst, arith, true≢false, length-append, if◌then◌else◌, option_map, is_some, nat_le, nat_lt, ◌||◌, slice_index_or, get_by_text, update, drop-nil, false_from_ne_true, nat_tests, take_more, take-append-le, map-append, get_or-take, length-take-le, slice_get-get_or, bytes_eq-Decides as bytes_decides, get_or_from_slice_get, text_part, Value, json_text, equal, has_item, equal_decides, value_in, items_at, refs_at, grown, meaning, json_length, AreMeanings, Part, Content, AreBelow, IsRange, AreCells, ExtendsBackings, place_among, looked_up_by, is_long, with_long, long_if, HasLongs, texts_at, IsIndex, Covers, IsIndexed, AreIndexes, AreKnown, Cell, Index, Backings}
-use Rattle.value_store.specs.Value as kind
-use Rattle.value_table.specs.declared.content.Content.TheVariants as cell
-use Rattle.value_table.proofs.Growth.{mapped_stable, items_stable, found, count_values}
+use Rattle.std.specs.BTreeMap.{get}
+use Rattle.std.specs.Prelude.{nat_eq}
+use Rattle.value_table.proofs.Prelude.{◌≡◌, ℕ, zero, suc, ◌+◌, ◌<◌, ◌≤◌, min, List, [], ◌∷◌, ◌++◌, length, get_or, take, drop, set, Bool, true, false, cond, Option, Some, None, slice_get, refl, sym, ap, ◌∙◌, subst, arith, true≢false, length-append, if◌then◌else◌, option_map, is_some, is_eq, nat_cmp, ◌||◌, slice_index_or, drop-nil, false_from_ne_true, nat_tests, take_more, take-append-le, map-append, get_or-take, length-take-le, slice_get-get_or, Value, equal, has_item, equal_decides, value_in, refs_at, items_at, grown, json_length, fingerprint, AreBelow, IsRange, AreCells, ExtendsBackings, first_place, fingerprints_at, IsIndex, Covers, IsIndexed, AreIndexes, AreKnown, Cell, Index, Backings}
+use Rattle.value_table.proofs.Growth.{mapped_stable, found, count_values}
 use Rattle.value_table.proofs.Walks.{below_here}
 use Rattle.value_table.proofs.Listed.{below_le, below_append}
 use Rattle.value_table.proofs.Comparisons.{meanings_of}
+use Rattle.value_table.proofs.Mixed.{same_numbers}
 
--- ---- the first place of a text
+-- ---- the first place of a number
 
 abbrev or_else : Option ℕ → Option ℕ → Option ℕ
 or_else (Some p) o = Some p
@@ -20,38 +21,58 @@ push_step : (b c : Bool) (o : Option ℕ) (n : ℕ)
     → (if b then Some 0 else option_map suc (or_else o (place_if c n))) ≡ or_else (if b then Some 0 else option_map suc o) (place_if c (suc n))
 push_step b c o n = grind arith
 
-place_push : (t k : List ℕ) (ts : List (List ℕ)) → place_among t (ts ++ k ∷ []) ≡ or_else (place_among t ts) (place_if (bytes_eq k t) (length ts))
-place_push t k [] = refl
-place_push t k (u ∷ ts) = grind (arith, bytes_eq, push_step, place_push t k ts)
+place_push : (n k : ℕ) (ns : List ℕ) → first_place n (ns ++ k ∷ []) ≡ or_else (first_place n ns) (place_if (nat_eq k n) (length ns))
+place_push n k [] = refl
+place_push n k (m ∷ ns) = grind (arith, push_step, place_push n k ns)
 
--- the text is already there
+-- the number is already there
 none_more : (o : Option ℕ) (b : Bool) (n : ℕ) → (b ≡ true → is_some o ≡ true) → or_else o (place_if b n) ≡ o
 none_more o b n h = grind arith
 
--- the text is not there
+-- the number is not there
 one_more : (o : Option ℕ) (b : Bool) (n : ℕ) → (b ≡ true → is_some o ≡ false) → cond b (Some n) o ≡ or_else o (place_if b n)
 one_more o b n h = grind arith
 
-same_text : (k t : List ℕ) (ts : List (List ℕ)) (b : Bool) → is_some (place_among k ts) ≡ b → bytes_eq k t ≡ true → is_some (place_among t ts) ≡ b
-same_text k t ts b e same = ap (λ u. is_some (place_among u ts)) (sym ((bytes_decides k t).0 same)) ∙ e
+eq_same : (k n : ℕ) → nat_eq k n ≡ true → k ≡ n
+eq_same k n e = grind (arith, nat_tests)
 
-counted : (ts : List (List ℕ)) (k : List ℕ) (m n : ℕ) → m ≡ length ts → n ≡ m + 1 → n ≡ length (ts ++ k ∷ [])
-counted ts k m n e f = let l = length-append ts (k ∷ []) in omega (arith, e, f, l)
+cmp_eq : (k n : ℕ) → is_eq (nat_cmp k n) ≡ nat_eq k n
+cmp_eq k n = grind (arith, nat_tests)
 
-pub index_kept : (old new : Index) (ts : List (List ℕ)) (k : List ℕ) → IsIndex old ts → new.count ≡ old.count + 1 → new.places ≡ old.places
-    → is_some (get_by_text old.places k) ≡ true → IsIndex new (ts ++ k ∷ [])
-index_kept old new ts k h n same there = grind (arith, counted, place_push, none_more, bytes_eq, same_text)
+same_number : (k n : ℕ) (ns : List ℕ) (b : Bool) → is_some (first_place k ns) ≡ b → nat_eq k n ≡ true → is_some (first_place n ns) ≡ b
+same_number k n ns b e same = ap (λ u. is_some (first_place u ns)) (sym (eq_same k n same)) ∙ e
 
-pub index_more : (old new : Index) (ts : List (List ℕ)) (k : List ℕ) → IsIndex old ts → new.count ≡ old.count + 1
-    → ((t : List ℕ) → get_by_text new.places t ≡ update bytes_eq (λ u. get_by_text old.places u) k (Some old.count) t)
-    → is_some (get_by_text old.places k) ≡ false
-    → IsIndex new (ts ++ k ∷ [])
-index_more old new ts k h n put none = grind (arith, counted, bytes_eq, one_more, same_text, place_push)
+counted : (ns : List ℕ) (k : ℕ) (m n : ℕ) → m ≡ length ns → n ≡ m + 1 → n ≡ length (ns ++ k ∷ [])
+counted ns k m n e f = let l = length-append ns (k ∷ []) in omega (arith, e, f, l)
 
--- ---- the items before the first one with the same text
+pub index_kept : (old new : Index) (ns : List ℕ) (k : ℕ) → IsIndex old ns → new.count ≡ old.count + 1 → new.places ≡ old.places
+    → is_some (get nat_cmp old.places k) ≡ true → IsIndex new (ns ++ k ∷ [])
+index_kept old new ns k h n same there = record {
+  count = counted ns k old.count new.count h.count n;
+  least = λ m.
+      ap (λ ps. get nat_cmp ps m) same ∙ h.least m
+      ∙ sym (none_more (first_place m ns) (nat_eq k m) (length ns) (same_number k m ns true (ap is_some (sym (h.least k)) ∙ there)))
+      ∙ sym (place_push m k ns);
+}
 
-differs : (x v : Value) → bytes_eq (looked_up_by v) (looked_up_by x) ≡ false → equal x v ≡ false
-differs x v e = grind (arith, false_from_ne_true, true≢false, bytes_decides, equal_decides)
+pub index_more : (old new : Index) (ns : List ℕ) (k : ℕ) → IsIndex old ns → new.count ≡ old.count + 1
+    → ((m : ℕ) → get nat_cmp new.places m ≡ cond (is_eq (nat_cmp k m)) (Some old.count) (get nat_cmp old.places m))
+    → is_some (get nat_cmp old.places k) ≡ false
+    → IsIndex new (ns ++ k ∷ [])
+index_more old new ns k h n put none = record {
+  count = counted ns k old.count new.count h.count n;
+  least = λ m.
+      put m ∙ ap (λ b. cond b (Some old.count) (get nat_cmp old.places m)) (cmp_eq k m)
+      ∙ ap (λ o. cond (nat_eq k m) (Some old.count) o) (h.least m)
+      ∙ one_more (first_place m ns) (nat_eq k m) old.count (same_number k m ns false (ap is_some (sym (h.least k)) ∙ none))
+      ∙ ap (λ c. or_else (first_place m ns) (place_if (nat_eq k m) c)) h.count
+      ∙ sym (place_push m k ns);
+}
+
+-- ---- the items before the first one with the same fingerprint
+
+differs : (x v : Value) → nat_eq (fingerprint v) (fingerprint x) ≡ false → equal x v ≡ false
+differs x v e = false_from_ne_true (equal x v) (λ t. true≢false (sym (same_numbers (fingerprint v) (fingerprint x) (ap fingerprint (sym ((equal_decides x v).0 t)))) ∙ e))
 
 abbrev pub start_of : Option ℕ → ℕ → ℕ
 start_of (Some p) n = min p n
@@ -63,75 +84,29 @@ skip_step : (b : Bool) (vs : List Value) (x : Value) (r : ℕ) (rs : List ℕ) (
 skip_step b vs x r rs o n h e = grind arith
 
 skips : (vs : List Value) (x : Value) (rs : List ℕ) (n k : ℕ) → n ≤ k
-    → has_item x (items_at vs (take n rs)) ≡ has_item x (items_at vs (drop (start_of (place_among (looked_up_by x) (texts_at vs (take k rs))) n) (take n rs)))
+    → has_item x (items_at vs (take n rs)) ≡ has_item x (items_at vs (drop (start_of (first_place (fingerprint x) (fingerprints_at vs (take k rs))) n) (take n rs)))
 skips vs x rs zero k h = ap (λ xs. has_item x (items_at vs xs)) (sym (drop-nil {A = ℕ} _))
 skips vs x [] (suc n) k h = ap (λ xs. has_item x (items_at vs xs)) (sym (drop-nil {A = ℕ} _))
 skips vs x (r ∷ rs) (suc n) zero h = absurd (omega arith)
-skips vs x (r ∷ rs) (suc n) (suc k) h = grind (arith, skip_step, bytes_eq, differs, skips vs x rs n k (omega arith))
+skips vs x (r ∷ rs) (suc n) (suc k) h = skip_step (nat_eq (fingerprint (value_in vs r)) (fingerprint x)) vs x r (take n rs) (first_place (fingerprint x) (fingerprints_at vs (take k rs))) n (differs x (value_in vs r)) (skips vs x rs n k (omega arith))
 
-pub skips_from : (vs : List Value) (x : Value) (rs : List ℕ) (n k s : ℕ) (o : Option ℕ) → n ≤ k → o ≡ place_among (looked_up_by x) (texts_at vs (take k rs))
+pub skips_from : (vs : List Value) (x : Value) (rs : List ℕ) (n k s : ℕ) (o : Option ℕ) → n ≤ k → o ≡ first_place (fingerprint x) (fingerprints_at vs (take k rs))
     → s ≡ start_of o n → has_item x (items_at vs (take n rs)) ≡ has_item x (items_at vs (drop s (take n rs)))
 skips_from vs x rs n k s o h e f = skips vs x rs n k h ∙ ap (λ i. has_item x (items_at vs (drop i (take n rs)))) (ap (λ p. start_of p n) (sym e) ∙ sym f)
 
--- ---- long values
-
-or_false : (b : Bool) → b ≡ b || false
-or_false true = refl
-or_false false = refl
-
-or_each : (a b c : Bool) → a || (b || c) ≡ (a || b) || c
-or_each true b c = refl
-or_each false b c = refl
-
-item_after : (x : Value) (vs : List Value) (rs : List ℕ) (r : ℕ) → has_item x (items_at vs (rs ++ r ∷ [])) ≡ has_item x (items_at vs rs) || equal x (value_in vs r)
-item_after x vs [] r = sym (or_false (equal x (value_in vs r)))
-item_after x vs (s ∷ rs) r =
-    ap (λ b. equal x (value_in vs s) || b) (item_after x vs rs r) ∙ or_each (equal x (value_in vs s)) (has_item x (items_at vs rs)) (equal x (value_in vs r))
-
--- a long value is equal to no other
-apart : (x v : Value) → is_long x ≡ true → is_long v ≡ false → equal x v ≡ false
-apart x v l s = false_from_ne_true (equal x v) (λ e. absurd (true≢false (sym l ∙ ap is_long ((equal_decides x v).0 e) ∙ s)))
-
-long_step : (vs : List Value) (rs ls : List ℕ) (r : ℕ) (b : Bool) → is_long (value_in vs r) ≡ b → r < length vs → HasLongs vs rs ls
-    → HasLongs vs (rs ++ r ∷ []) (if b then ls ++ r ∷ [] else ls)
-long_step vs rs ls r true e low h = record {
-  below = below_append (length vs) ls (r ∷ []) h.below (low, tt);
-  members = λ x l. item_after x vs ls r ∙ ap (λ b. b || equal x (value_in vs r)) (h.members x l) ∙ sym (item_after x vs rs r);
-}
-long_step vs rs ls r false e low h = record {
-  below = h.below;
-  members = λ x l. h.members x l ∙ or_false (has_item x (items_at vs rs)) ∙ ap (λ b. has_item x (items_at vs rs) || b) (sym (apart x (value_in vs r) l e)) ∙ sym (item_after x vs rs r);
-}
-
-longs_more : (vs : List Value) (rs : List ℕ) (old new : Index) (d : ℕ) → HasLongs vs (take old.count rs) old.longs.items → old.count < length rs
-    → get_or rs old.count d < length vs → new.count ≡ old.count + 1
-    → new.longs.items ≡ with_long (value_in vs (get_or rs old.count d)) (get_or rs old.count d) old.longs.items
-    → HasLongs vs (take new.count rs) new.longs.items
-longs_more vs rs old new d h inside low n is =
-    let r = get_or rs old.count d in
-    let t : take new.count rs ≡ take old.count rs ++ r ∷ [] = ap (λ c. take c rs) n ∙ take_more rs old.count d inside in
-    let s = long_step vs (take old.count rs) old.longs.items r (is_long (value_in vs r)) refl low h in
-    subst (λ ps. HasLongs vs ps new.longs.items) (sym t) (subst (HasLongs vs (take old.count rs ++ r ∷ [])) (sym is) s)
-
-longs_stable : (vs ws : List Value) (rs ls : List ℕ) → AreBelow (length vs) rs → HasLongs vs rs ls → HasLongs (vs ++ ws) rs ls
-longs_stable vs ws rs ls b h = record {
-  below = below_le (length vs) (length (vs ++ ws)) ls (omega (arith, length-append vs ws)) h.below;
-  members = λ x l. ap (has_item x) (items_stable vs ws ls h.below) ∙ h.members x l ∙ sym (ap (has_item x) (items_stable vs ws rs b));
-}
-
 -- ---- one more item
 
--- an index with one more text
-pub record AddsText (old new : Index) (k : List ℕ) : Type 0 where
+-- an index with one more number
+pub record AddsNumber (old new : Index) (k : ℕ) : Type 0 where
   pub backing : new.backing ≡ old.backing
   pub count : new.count ≡ old.count + 1
-  pub texts : (ts : List (List ℕ)) → IsIndex old ts → IsIndex new (ts ++ k ∷ [])
+  pub numbers : (ns : List ℕ) → IsIndex old ns → IsIndex new (ns ++ k ∷ [])
 
-pub covers_more : (vs : List Value) (rs : List ℕ) (old new : Index) (d : ℕ) (k : List ℕ) → Covers vs rs old → old.count < length rs
-    → get_or rs old.count d < length vs → k ≡ looked_up_by (value_in vs (get_or rs old.count d)) → AddsText old new k → Covers vs rs new
+pub covers_more : (vs : List Value) (rs : List ℕ) (old new : Index) (d k : ℕ) → Covers vs rs old → old.count < length rs
+    → get_or rs old.count d < length vs → k ≡ fingerprint (value_in vs (get_or rs old.count d)) → AddsNumber old new k → Covers vs rs new
 covers_more vs rs old new d k h inside low is adds =
     let n = adds.count in
-    let more = adds.texts in
+    let more = adds.numbers in
     let r = get_or rs old.count d in
     let t : take new.count rs ≡ take old.count rs ++ r ∷ [] = ap (λ c. take c rs) n ∙ take_more rs old.count d inside in
     grind (arith, map-append, below_append)
@@ -151,35 +126,30 @@ indexed_kept bs cs vs ws x e h =
     let old = get_or bs.lists x.backing [] in
     let longer = length-append vs ws in
     let t : take x.count (get_or cs.lists x.backing []) ≡ take x.count old = ap (take x.count) m.1 ∙ take-append-le x.count old m.0 h.covers.long in
-    let u = ap (texts_at (vs ++ ws)) t ∙ mapped_stable looked_up_by vs ws (take x.count old) h.covers.below in
-    let ls = longs_stable vs ws (take x.count old) x.longs.items h.covers.below h.longs in
+    let u = ap (fingerprints_at (vs ++ ws)) t ∙ mapped_stable fingerprint vs ws (take x.count old) h.covers.below in
     record {
       inside = omega (arith, e.lists, h.inside);
       covers = grind (arith, length-append, below_le);
-      longs = subst (λ ps. HasLongs (vs ++ ws) ps x.longs.items) (sym t) ls;
     }
 
 -- a new index
-pub new_indexed : (bs : Backings) (vs : List Value) (x : Index) (b : ℕ) → b < length bs.lists → x.backing ≡ b → IsIndex x [] → x.longs.items ≡ []
-    → IsIndexed bs vs x
-new_indexed bs vs x b inside is h none = record {
+pub new_indexed : (bs : Backings) (vs : List Value) (x : Index) (b : ℕ) → b < length bs.lists → x.backing ≡ b → IsIndex x [] → IsIndexed bs vs x
+new_indexed bs vs x b inside is h = record {
   inside = omega arith;
   covers = grind arith;
-  longs = rw (none, h.count) (record { below = tt; members = λ y l. refl });
 }
 
 -- an index that is unchanged
-pub indexed_same : (bs : Backings) (vs : List Value) (old new : Index) → new.backing ≡ old.backing → ((ts : List (List ℕ)) → IsIndex old ts → IsIndex new ts)
-    → new.longs.items ≡ old.longs.items → IsIndexed bs vs old → IsIndexed bs vs new
-indexed_same bs vs old new at same longs h =
+pub indexed_same : (bs : Backings) (vs : List Value) (old new : Index) → new.backing ≡ old.backing → ((ns : List ℕ) → IsIndex old ns → IsIndex new ns)
+    → IsIndexed bs vs old → IsIndexed bs vs new
+indexed_same bs vs old new at same h =
     let covers = h.covers in
     let n = same _ covers.index in
     let e : new.count ≡ old.count = n.count ∙ sym covers.index.count in
     let both : take new.count (get_or bs.lists new.backing []) ≡ take old.count (get_or bs.lists old.backing []) = rw (e, at) refl in
     record {
       inside = rw at h.inside;
-      covers = record { long = rw (e, at) covers.long; below = rw (e, at) covers.below; index = subst (λ ps. IsIndex new (texts_at vs ps)) (sym both) n };
-      longs = rw (e, at, longs) h.longs;
+      covers = record { long = rw (e, at) covers.long; below = rw (e, at) covers.below; index = subst (λ ps. IsIndex new (fingerprints_at vs ps)) (sym both) n };
     }
 
 -- the index covers fewer than the first `n` items of its backing
@@ -192,9 +162,8 @@ pub record IsFilling (bs : Backings) (vs : List Value) (index : Index) (i b n : 
 
 -- one more item is added
 pub entered : (bs : Backings) (vs : List Value) (old new : Index) (i b n r : ℕ) → IsFilling bs vs old i b n
-    → r ≡ get_or (refs_at bs.lists b n) old.count 0 → AddsText old new (looked_up_by (value_in vs r))
-    → new.longs.items ≡ with_long (value_in vs r) r old.longs.items → IsIndexed bs vs new
-entered bs vs old new i b n r fills is adds longs =
+    → r ≡ get_or (refs_at bs.lists b n) old.count 0 → AddsNumber old new (fingerprint (value_in vs r)) → IsIndexed bs vs new
+entered bs vs old new i b n r fills is adds =
     let h = fills.indexed in
     let range = fills.range in
     let long = fills.long in
@@ -206,23 +175,20 @@ entered bs vs old new i b n r fills is adds longs =
     let c : Covers vs (get_or bs.lists b []) old = subst (λ j. Covers vs (get_or bs.lists j []) old) at h.covers in
     let rs = get_or bs.lists b [] in
     let there : r ≡ get_or rs old.count 0 = is ∙ it.0 in
-    let d : Covers vs rs new = covers_more vs rs old new 0 _ c it.2 (omega arith) (ap (λ q. looked_up_by (value_in vs q)) there) adds in
-    let before : HasLongs vs (take old.count rs) old.longs.items = subst (λ j. HasLongs vs (take old.count (get_or bs.lists j [])) old.longs.items) at h.longs in
-    let ls = longs_more vs rs old new 0 before it.2 (omega arith) more (longs ∙ ap (λ q. with_long (value_in vs q) q old.longs.items) there) in
+    let d : Covers vs rs new = covers_more vs rs old new 0 _ c it.2 (omega arith) (ap (λ q. fingerprint (value_in vs q)) there) adds in
     let now : new.backing ≡ b = same ∙ at in
     record {
       inside = rw now range.inside;
       covers = subst (λ j. Covers vs (get_or bs.lists j []) new) (sym now) d;
-      longs = subst (λ j. HasLongs vs (take new.count (get_or bs.lists j [])) new.longs.items) (sym now) ls;
     }
 
 -- the items that a search skips
--- the place of a text in an index
-abbrev pub IsFoundBy : Index → List ℕ → Option ℕ → Type 0
-IsFoundBy y text o = (ts : List (List ℕ)) → IsIndex y ts → o ≡ place_among text ts
+-- the place of a number in an index
+abbrev pub IsFoundBy : Index → ℕ → Option ℕ → Type 0
+IsFoundBy y number o = (ns : List ℕ) → IsIndex y ns → o ≡ first_place number ns
 
 pub skips_by : (bs : Backings) (vs : List Value) (x : Value) (y : Index) (n s : ℕ) (o : Option ℕ) → IsIndexed bs vs y → n ≤ y.count
-    → IsFoundBy y (looked_up_by x) o → s ≡ start_of o n
+    → IsFoundBy y (fingerprint x) o → s ≡ start_of o n
     → has_item x (items_at vs (refs_at bs.lists y.backing n)) ≡ has_item x (items_at vs (drop s (refs_at bs.lists y.backing n)))
 skips_by bs vs x y n s o h long find f = skips_from vs x (get_or bs.lists y.backing []) n y.count s o long (find _ h.covers.index) f
 
@@ -272,49 +238,3 @@ at_slot bs vs xs s d h l = h.each s (get_or xs s d) (slice_get-get_or xs s d l)
 
 pub known_of : (bs : Backings) (cs : List Cell) → AreCells bs [] cs → AreKnown bs (grown bs [] cs) cs
 known_of bs cs h = record { meanings = meanings_of bs cs h; lengths = λ r c e. let f = found bs cs r c e h in f.json ∙ ap json_length (sym f.is); count = count_values bs cs }
-
-pub by_json : (v : Value) (n : ℕ) → text_part v ≡ None → n ≡ json_length v → n ≤ 512 → json_text v ≡ looked_up_by v
-unfolding looked_up_by
-by_json v n none e h = let b : nat_le (json_length v) 512 ≡ true = grind (arith, nat_tests, e, h) in rw (none, b) refl
-
-pub by_none : (v : Value) (n : ℕ) → text_part v ≡ None → n ≡ json_length v → 512 < n → [] ≡ looked_up_by v
-unfolding looked_up_by
-by_none v n none e h = let b : nat_le (json_length v) 512 ≡ false = grind (arith, nat_tests, e, h) in rw (none, b) refl
-
-pub by_itself : (v : Value) (s : List ℕ) → Some s ≡ text_part v → s ≡ looked_up_by v
-unfolding looked_up_by
-by_itself v s some = rw (sym some) refl
-
--- ---- the text of a cell
-
-pub cell_text : (bs : Backings) (vs : List Value) (cs : List Cell) (r : ℕ) (c : Cell) → AreMeanings bs vs cs → slice_get cs r ≡ Some c
-    → text_part (meaning bs vs c.content) ≡ text_part (value_in vs r)
-cell_text bs vs cs r c m h = ap text_part (sym (get_or_from_slice_get vs r (meaning bs vs c.content) kind.null (m r c h)))
-
-pub no_text : (bs : Backings) (vs : List Value) (k : Content) → ((p : Part) → k ≢ cell.Text p) → None ≡ text_part (meaning bs vs k)
-no_text bs vs cell.Null h = refl
-no_text bs vs (cell.Bool b) h = refl
-no_text bs vs (cell.Int n) h = refl
-no_text bs vs (cell.Text p) h = absurd (h p refl)
-no_text bs vs (cell.List b n) h = refl
-no_text bs vs (cell.Map k b n) h = refl
-
--- ---- whether a cell's value is long
-
-pub long_text : (bs : Backings) (vs : List Value) (cs : List Cell) (r : ℕ) (c : Cell) (p : Part) → AreKnown bs vs cs → slice_get cs r ≡ Some c
-    → c.content ≡ cell.Text p → false ≡ is_long (value_in vs r)
-unfolding is_long
-long_text bs vs cs r c p k h e =
-    ap (λ o. long_if o (json_length (value_in vs r))) (ap (λ d. text_part (meaning bs vs d)) (sym e) ∙ cell_text bs vs cs r c k.meanings h)
-
-pub long_other : (bs : Backings) (vs : List Value) (cs : List Cell) (r : ℕ) (c : Cell) → AreKnown bs vs cs → slice_get cs r ≡ Some c
-    → ((p : Part) → c.content ≢ cell.Text p) → nat_lt 512 c.json ≡ is_long (value_in vs r)
-unfolding is_long
-long_other bs vs cs r c k h e =
-    ap (λ o. long_if o c.json) (no_text bs vs c.content e ∙ cell_text bs vs cs r c k.meanings h) ∙ ap (λ n. long_if (text_part (value_in vs r)) n) (k.lengths r c h)
-
--- ---- the long values of an index
-
-pub longs_at : (bs : Backings) (vs : List Value) (x : Index) (b n : ℕ) (ls : List ℕ) → IsIndexed bs vs x → x.backing ≡ b → x.count ≡ n → ls ≡ x.longs.items
-    → HasLongs vs (refs_at bs.lists b n) ls
-longs_at bs vs x b n ls h at count is = rw (is, ← at, ← count) h.longs

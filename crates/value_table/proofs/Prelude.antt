@@ -79,7 +79,7 @@ pub use Rattle.value_table.specs.Heap.{Gains, IsUnchangedHeap, IsHeap, content_a
 pub use Rattle.value_table.specs.Heaps.{AddsValue, AreBelow, AreCells, AreKeys, AreSame, AreTexts, ExtendsBackings}
 pub use Rattle.value_table.specs.Heaps.{CellFound, HoldsItems, IsCell, IsContent, IsRange, IsText}
 pub use Rattle.value_table.specs.Held.{Held}
-pub use Rattle.value_table.specs.Index.{AreIndexes, AreKnown, Covers, HasLongs, IsIndex, IsIndexed, long_if, texts_at, with_long}
+pub use Rattle.value_table.specs.Index.{AreIndexes, AreKnown, Covers, IsIndex, IsIndexed, fingerprints_at, first_place}
 pub use Rattle.value_table.specs.Lengths.{commas, json_length}
 pub use Rattle.value_table.specs.Meaning.{entries_at, grown, items_at, key_in, keys_at, meaning, part_of}
 pub use Rattle.value_table.specs.Meaning.{reference_of, refs_at, value_in}
@@ -99,4 +99,3 @@ pub use Rattle.value_table.specs.declared.measure.Measure.{Measure}
 pub use Rattle.value_table.specs.declared.part.Part.{Part}
 pub use Rattle.value_table.specs.declared.text_print.TextPrint.{TextPrint}
 unfoldable pub use Rattle.value_table.specs.Fingerprints.{mixed, turned}
-unfoldable pub use Rattle.value_table.specs.Index.{is_long, looked_up_by}

@@ -20,9 +20,10 @@ mod walk;
 use crate::content::Content;
 use crate::equality::apart::are_told_apart;
 use crate::equality::member::is_among;
-use crate::equality::start::{is_long_at, start_at};
+use crate::equality::start::start_at;
 use crate::equality::walk::first;
 pub(crate) use crate::equality::walk::parts_of;
+use crate::fingerprints::add_words;
 use crate::heap::Heap;
 use crate::text::text;
 
@@ -88,19 +89,6 @@ impl Heap {
         ensures answer { result ≡ has_item (value_in (heap_values self.old) x) (items_at (heap_values self.old) (refs_at self.old.backings.lists backing count)) }
     {
         let start = self.start(x, backing, count);
-        if is_long_at(&self.cells, x) {
-            if let Some(longs) = self.indexes.longs(backing, count) {
-                return is_among(
-                    &self.cells,
-                    &self.backings,
-                    &mut self.same,
-                    &mut self.hints,
-                    &mut self.fingerprints,
-                    x,
-                    longs,
-                );
-            }
-        }
         let items = &first(&self.backings, backing, count)[start as usize..];
         is_among(
             &self.cells,
@@ -136,14 +124,15 @@ impl Heap {
         let Some(slot) = self.indexes.slot(self.cells.alloc(), backing) else {
             return 0;
         };
+        add_words(&mut self.fingerprints.words, self.cells.len());
         match start_at(
             &mut self.indexes.all,
             slot,
             &self.cells,
             &self.backings,
-            backing,
+            &mut self.fingerprints,
+            (backing, count),
             x,
-            count,
         ) {
             Ok(start) => start,
             Err(_) => 0,

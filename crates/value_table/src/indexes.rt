@@ -2,16 +2,14 @@
 
 ghost use Rattle.std.specs.Prelude.{◌≡◌, ◌<◌, [], List, length, slice_get, Some, IfSome, option_map};
 ghost use Rattle.value_store.specs.Value.{Value};
-ghost use Rattle.value_table.specs.Meaning.{refs_at};
-ghost use Rattle.value_table.specs.Index.{IsIndexed, HasLongs};
 ghost use Rattle.value_table.specs.declared.backings.Backings.{Backings};
 
 use crate::index::Index;
 use std::alloc::{AllocError, Global};
 use std::collections::BTreeMap;
 
-/// From this search of a backing on, its index is used. To build one takes as long as many searches without it, and the
-/// texts of the items are copied, so lists that are made in each turn of a loop and searched a few times get none.
+/// From this search of a backing on, its index is used. To build one takes as long as many searches without it, so lists
+/// that are made in each turn of a loop and searched a few times get none.
 const ENOUGH: u32 = 16;
 
 /// The indexes of the backings that were searched.
@@ -25,8 +23,7 @@ pub(crate) struct Indexes {
 }
 
 impl Indexes {
-    ghost use Rattle.value_table.specs.Meaning.{refs_at};
-    ghost use Rattle.value_table.specs.Index.{AreIndexes, HasLongs};
+    ghost use Rattle.value_table.specs.Index.{AreIndexes};
 
     pub(crate) fn new(alloc: Global) -> Indexes
         ensures { result.all.items ≡ [] }
@@ -80,17 +77,6 @@ impl Indexes {
         }
     }
 
-    /// The long values among the first items of a backing, if its index covers these and no more.
-    pub(crate) fn longs(&self, backing: u64, count: u64) -> Option<&[u32]>
-        ensures { (bs : Backings) (vs : List Value) → AreIndexes bs vs self.now.all.items → IfSome result (λ ls. HasLongs vs (refs_at bs.lists backing count) ls.now) }
-    {
-        let slot = self.slots.get(&backing).copied()? as usize;
-        if slot >= self.all.len() {
-            return None;
-        }
-        longs_of(&self.all[slot], backing, count)
-    }
-
     fn make(&mut self, alloc: Global, backing: u64) -> Result<(), AllocError>
         ensures { (bs : Backings) (vs : List Value) → backing < length bs.lists → AreIndexes bs vs self.old.all.items → AreIndexes bs vs self.new.all.items }
     {
@@ -100,13 +86,4 @@ impl Indexes {
         self.all.push_reserved(Index::new(alloc, backing));
         Ok(())
     }
-}
-
-fn longs_of(index: &Index, backing: u64, count: u64) -> Option<&[u32]>
-    ensures { (bs : Backings) (vs : List Value) → IsIndexed bs vs index.now → IfSome result (λ ls. HasLongs vs (refs_at bs.lists backing count) ls.now) }
-{
-    if index.backing != backing || index.count != count {
-        return None;
-    }
-    Some(index.longs.as_slice())
 }

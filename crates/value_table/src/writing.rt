@@ -36,8 +36,8 @@ impl Heap {
     }
 }
 
-/// The value at a place as JSON.
-pub(crate) fn json_at(
+// The value at a place as JSON.
+fn json_at(
     alloc: Global,
     cells: &Sequence<Cell>,
     backings: &Backings,

@@ -12,4 +12,4 @@ returns-in_err-insert c = λ bs vs l h. rw c.reserve.ensures.items h
 
 pub returns : goal.returns
 returns c = λ bs vs l h.
-    indexes_push bs vs c.args.self.now.all.items _ c.new.result (c.push_reserved.ensures.items ∙ ap (λ xs. xs ++ c.new.result ∷ []) c.reserve.ensures.items) h (new_indexed bs vs c.new.result c.args.backing l c.new.ensures.backing c.new.ensures.empty c.new.ensures.longs)
+    indexes_push bs vs c.args.self.now.all.items _ c.new.result (c.push_reserved.ensures.items ∙ ap (λ xs. xs ++ c.new.result ∷ []) c.reserve.ensures.items) h (new_indexed bs vs c.new.result c.args.backing l c.new.ensures.backing c.new.ensures.empty)
