@@ -60,6 +60,7 @@ def stalls() -> Iterator[tuple]:
     images = [{"image": "".join(numbers.choices(LETTERS, k=33))} for _ in range(66_000)]
     yield "images of 33 bytes", example("image-tags"), review({"spec": {"containers": images}})
     yield from towers()
+    yield from indexed()
 
 
 def in_short_lists(hosts: list, others: list) -> tuple:
@@ -78,3 +79,22 @@ def towers() -> Iterator[tuple]:
     yield "towers in a list", example("external-ips"), additions([tower(900_000 + place, 12) for place in range(90)], many)
     texts = [tower("q" * 36 + f"{place:06}" + "q" * 36, 30) for place in range(4_390)]
     yield "towers around texts", *in_short_lists(texts[:2_500], texts[2_500:])
+
+
+def digits(place: int) -> list:
+    return [place // 10**power % 10 for power in range(4)]
+
+
+def indexed() -> Iterator[tuple]:
+    """Values that are sought in lists with an index."""
+    added = example("external-ips")
+    hosts = [[[]] * 167 + digits(place) for place in range(300)]
+    lists = [{"hosts": [*range(place, place + 16)]} for place in range(1_300)]
+    rules = {"rules": [{"host": host} for host in hosts], "tls": [*lists, {"hosts": 0}]}
+    yield "lists of 510 bytes in short lists", example("ingress-tls"), review({"spec": rules})
+    sides = [[[first] * 252 + digits(place) for place in range(2_950)] for first in (0, 1)]
+    yield "lists of 513 bytes in a list", added, additions(*sides)
+    ints = [*range(100_000, 210_000)]
+    yield "ints beside their texts", added, additions(ints, [*map(str, ints), *[0] * 600_000])
+    shuffled = random.Random(5).sample(range(200_000, 630_000), 430_000)
+    yield "ints in no order in a list", added, additions(shuffled[:215_000], shuffled[215_000:])
