@@ -44,11 +44,11 @@ pub parts_more : (vs : List Value) (rs : List ℕ) (n i d : ℕ) → i < length 
 parts_more vs rs n i d h =
     rw (take_more rs i d h, map-append (value_in vs) (take i rs) (get_or rs i d ∷ [])) (all_more n (values_at vs (take i rs)) (value_in vs (get_or rs i d)))
 
-bytes_after : (n : ℕ) (bs : List ℕ) (b : ℕ) → bytes_mixed n (bs ++ b ∷ []) ≡ mixed (bytes_mixed n bs) b
+bytes_after : (n : ℕ) (bs : List ℕ) (b : ℕ) → bytes_mixed n (bs ++ b ∷ []) ≡ turned ((bytes_mixed n bs + b) % 2 ^ 128)
 bytes_after n [] b = refl
-bytes_after n (c ∷ bs) b = bytes_after (mixed n c) bs b
+bytes_after n (c ∷ bs) b = bytes_after (turned ((n + c) % 2 ^ 128)) bs b
 
-pub bytes_more : (bs : List ℕ) (n i d : ℕ) → i < length bs → bytes_mixed n (take (i + 1) bs) ≡ mixed (bytes_mixed n (take i bs)) (get_or bs i d)
+pub bytes_more : (bs : List ℕ) (n i d : ℕ) → i < length bs → bytes_mixed n (take (i + 1) bs) ≡ turned ((bytes_mixed n (take i bs) + get_or bs i d) % 2 ^ 128)
 bytes_more bs n i d h = rw (take_more bs i d h) (bytes_after n (take i bs) (get_or bs i d))
 
 keys_after : (n : ℕ) (ks : List (List ℕ)) (k : List ℕ) → keys_mixed n (ks ++ k ∷ []) ≡ mixed (keys_mixed n ks) (text_number k)

@@ -16,7 +16,7 @@ mixed n m = (turned ((turned ((turned ((n + m) % 2 ^ 128) + m) % 2 ^ 128) + n) %
 
 abbrev pub bytes_mixed : ℕ → List ℕ → ℕ
 bytes_mixed n [] = n
-bytes_mixed n (b ∷ bs) = bytes_mixed (mixed n b) bs
+bytes_mixed n (b ∷ bs) = bytes_mixed (turned ((n + b) % 2 ^ 128)) bs
 
 abbrev pub text_number : List ℕ → ℕ
 text_number s = bytes_mixed 5 s
@@ -49,7 +49,7 @@ head_number (simple v) = fingerprint v
 head_number (items n) = 6
 head_number (entries ks) = keys_mixed 7 ks
 
--- a range of bytes, and the fingerprint of the text that they are
+-- a range of bytes, and the fingerprint of the text in it
 pub record IsTextPrint (bytes : List ℕ) (p : TextPrint) : Type 0 where
   pub order : p.from ≤ p.to
   pub inside : p.to ≤ length bytes
@@ -59,6 +59,7 @@ pub record IsTextPrint (bytes : List ℕ) (p : TextPrint) : Type 0 where
 pub record AreWords (vs : List Value) (words : List ℕ) : Type 0 where
   pub each : (r n : ℕ) → slice_get words r ≡ Some n → n ≢ 0 → option_map fingerprint (slice_get vs r) ≡ Some n
 
+-- what is kept for cells and for texts is right
 pub record AreFingerprints (bytes : List ℕ) (vs : List Value) (f : Fingerprints) : Type 0 where
   pub words : AreWords vs f.words.items
   pub texts : All (IsTextPrint bytes) f.texts.items

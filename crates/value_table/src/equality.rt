@@ -125,6 +125,9 @@ impl Heap {
             return 0;
         };
         add_words(&mut self.fingerprints.words, self.cells.len());
+        if self.fingerprints.words.len() < self.cells.len() {
+            return 0;
+        }
         match start_at(
             &mut self.indexes.all,
             slot,

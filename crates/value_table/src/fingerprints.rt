@@ -141,7 +141,7 @@ pub(crate) fn bytes_mixed(start: u128, bytes: &[u8]) -> u128
 {
     let mut number = start;
     for byte in bytes {
-        number = mixed(number, *byte as u128);
+        number = turned(number.wrapping_add(*byte as u128));
     }
     number
 }

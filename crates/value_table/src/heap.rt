@@ -28,7 +28,7 @@ pub(crate) struct Heap {
     pub(crate) same: Vec<u64>,
     /// Indexes of the items of lists. A copy starts without them.
     pub(crate) indexes: Indexes,
-    /// Where compared texts differ. A copy starts without them.
+    /// Places where compared texts differ. A copy starts without any.
     pub(crate) hints: Hints,
     /// Fingerprints of values. A copy starts without them.
     pub(crate) fingerprints: Fingerprints,

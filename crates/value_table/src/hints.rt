@@ -11,8 +11,8 @@ const MANY_HINTS: usize = 1 << 20;
 /// From this number of stored hints on, there is room for many. Most of them replaced another.
 const ENOUGH: u32 = 8192;
 
-/// Places at which two compared texts differ, stored by a hash of the two. A hint only
-/// says where a comparison begins; the result does not depend on it.
+/// Places at which two compared texts differ, stored by a hash of the two. A hint only says where a comparison begins;
+/// the result does not depend on it.
 #[derive(Drop)]
 pub(crate) struct Hints {
     places: Vec<u64>,

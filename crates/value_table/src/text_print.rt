@@ -9,13 +9,13 @@ use crate::fingerprints::bytes_mixed;
 use crate::part::Part;
 use crate::text::text;
 
-/// The least number of bytes of a text whose fingerprint is kept. No two such texts begin among the same 64 bytes.
+/// The least number of bytes of a text whose fingerprint is kept here. No two such texts begin among the same 64 bytes.
 const LONG: usize = 64;
 
 /// The number with which the fingerprint of a text begins.
 const TEXT: u128 = 5;
 
-/// A range of the bytes of all texts, and the fingerprint of the text that they are.
+/// A range of the bytes of all texts, and the fingerprint of the text in it.
 #[derive(Clone, Copy)]
 pub(crate) struct TextPrint {
     pub(crate) from: u32,

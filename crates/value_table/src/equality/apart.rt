@@ -44,6 +44,10 @@ pub(crate) fn are_told_apart(
         return false;
     }
     add_words(&mut prints.words, cells.len());
+    // Without words a fingerprint takes a time that doubles with each level of shared parts.
+    if prints.words.len() < cells.len() {
+        return false;
+    }
     fingerprints_differ(cells, backings, prints, a, b)
 }
 
