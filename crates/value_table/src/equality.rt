@@ -101,8 +101,8 @@ impl Heap {
         )
     }
 
-    // How many of the first items of a backing a search for the value at `x` may leave out. The
-    // sixteenth search of many items builds an index, unless its allocation fails.
+    // How many of the first items of a backing a search for the value at `x` may leave out. From the
+    // eighth search of many items on there is an index, unless its allocation fails.
     #[tactic(auto, using(crate::proofs::Comparisons::contents_of, crate::proofs::Growth::count_values, crate::proofs::Indexed::known_of))]
     fn start(&mut self, x: u64, backing: u64, count: u64) -> u64
         requires heap { IsHeap self.old }

@@ -8,9 +8,9 @@ use crate::index::Index;
 use std::alloc::{AllocError, Global};
 use std::collections::BTreeMap;
 
-/// From this search of a backing on, its index is used. To build one takes as long as many searches without it, so lists
+/// From this search of a backing on, its index is used. To build one takes as long as some searches without it, so lists
 /// that are made in each turn of a loop and searched a few times get none.
-const ENOUGH: u32 = 16;
+const ENOUGH: u32 = 8;
 
 /// The indexes of the backings that were searched.
 #[derive(Drop)]
