@@ -1,5 +1,5 @@
 -- Fingerprints of values that are built from their heads and parts, and the words in which they are kept.
-use Rattle.std.specs.Int.{w128, rotate_left}
+use Rattle.value_table.specs.Fingerprints.{folded}
 use Rattle.std.specs.Prelude.{nat_eq, All}
 use Rattle.std.proofs.lemmas.List.Elements.{All-weaker}
 use Rattle.value_table.proofs.Prelude.{length-append, ◌≡◌, ◌≢◌, ℕ, zero, suc, ◌+◌, ◌*◌, ◌%◌, ◌^◌, ◌<◌, List, [], ◌∷◌, ◌++◌, length, take, get_or, Some, option_map, slice_get, true, false, refl, sym, ap, ◌∙◌, subst, arith, false_from_ne_true, take_more, map-append, length-map, nil_from_length, Value, items_of, equal, equal_decides, value_in, meaning, IsContent, Head, simple, items, entries, head, parts, values_at, entries_of, built, texts_of, part_of, turned, mixed, bytes_mixed, text_number, keys_mixed, items_mixed, entries_mixed, fingerprint, head_number, IsTextPrint, AreWords, AreFingerprints, Part, Content, Backings, Fingerprints, TextPrint}
@@ -90,7 +90,7 @@ fingerprints_more bytes longer vs ws f grown h = record { words = words_more vs 
 pub apart_by : (f : Value → ℕ) (v w : Value) → f v ≢ f w → equal v w ≡ false
 apart_by f v w apart = false_from_ne_true (equal v w) (λ e. apart (ap f ((equal_decides v w).0 e)))
 
-pub turned_is : (n : ℕ) → rotate_left w128 (n * 210306068529402873165736369884012333109 % 2 ^ 128) 47 ≡ turned n
+pub turned_is : (n : ℕ) → folded (n * 210306068529402873165736369884012333109 % 2 ^ 128) ≡ turned n
 unfolding turned
 turned_is n = refl
 

@@ -1,14 +1,18 @@
 -- Fingerprints: a number for each value. Equal values have the same one.
-use Rattle.std.specs.Prelude.{◌≡◌, ◌≢◌, ◌≤◌, ℕ, ◌+◌, ◌*◌, ◌%◌, ◌^◌, List, [], ◌∷◌, length, All, Some, true, false, option_map, slice_get, slice_range}
-use Rattle.std.specs.Int.{w64, w128, cast_unsigned, rotate_left}
+use Rattle.std.specs.Prelude.{◌≡◌, ◌≢◌, ◌≤◌, ℕ, ◌+◌, ◌*◌, ◌/◌, ◌%◌, ◌^◌, List, [], ◌∷◌, length, All, Some, true, false, option_map, slice_get, slice_range, bit_xor}
+use Rattle.std.specs.Int.{w64, cast_unsigned}
 use Rattle.value_store.specs.Value.{Value, null, boolean, int, text, list, map, Items, no_items, item, Entries, no_entries, entry, keys_of}
 use Rattle.value_table.specs.Heads.{Head, simple, items, entries}
 use Rattle.value_table.specs.declared.fingerprints.Fingerprints.{Fingerprints}
 use Rattle.value_table.specs.declared.text_print.TextPrint.{TextPrint}
 
--- a product with the fraction of the golden ratio modulo 2^128, its bits rotated
+-- the upper half of a number added to the lower one bit by bit
+abbrev pub folded : ℕ → ℕ
+folded n = bit_xor n (n / 2 ^ 64)
+
+-- a product with the fraction of the golden ratio modulo 2^128, folded
 unfoldable pub turned : ℕ → ℕ
-turned n = rotate_left w128 (n * 210306068529402873165736369884012333109 % 2 ^ 128) 47
+turned n = folded (n * 210306068529402873165736369884012333109 % 2 ^ 128)
 
 -- a number for a sequence, from that of its numbers before the last, and the last
 unfoldable pub mixed : ℕ → ℕ → ℕ

@@ -146,8 +146,8 @@ pub(crate) fn bytes_mixed(start: u128, bytes: &[u8]) -> u128
     number
 }
 
-// Mixes the next number of a sequence into that of the earlier ones. Both count twice, so that values with one
-// fingerprint are not easily made on purpose.
+// Mixes the next number of a sequence into that of the earlier ones. Both count twice, so that the step cannot be
+// undone.
 #[inline(always)]
 fn mixed(number: u128, next: u128) -> u128
     ensures { result ≡ mixed number next }
@@ -157,10 +157,13 @@ fn mixed(number: u128, next: u128) -> u128
     turned(second.wrapping_add(number)).wrapping_add(number)
 }
 
-// Spreads the bits of a number.
+// Spreads the bits of a number: the product takes each into the higher ones, the exclusive or the upper half into the
+// lower one. By products and rotations alone, values with one fingerprint are short vectors of a lattice, which take
+// milliseconds to find.
 #[inline(always)]
 fn turned(number: u128) -> u128
     ensures { result ≡ turned number }
 {
-    number.wrapping_mul(FRACTION).rotate_left(47)
+    let product = number.wrapping_mul(FRACTION);
+    product ^ (product >> 64)
 }

@@ -1,8 +1,7 @@
 -- Proofs of `fingerprints::turned`: the result meets the contract.
 
-use Rattle.value_table.proofs.Prelude.{◌∙◌}
 use Rattle.value_table.proofs.Mixed.{turned_is}
 use Rattle.value_table.proofs.fingerprints.turned.Goals as goal
 
 pub returns : goal.returns
-returns c = c.rotate_left.ensures ∙ turned_is c.args.number
+returns c = turned_is c.args.number
