@@ -200,12 +200,12 @@ fn is_free(places: &[Searched], place: usize) -> bool {
     }
 }
 
-// One of the places where a text with a number may be kept.
+// One of the places where a text with this number may be kept.
 fn place_for(number: u64, i: usize) -> usize {
     (number as usize).wrapping_add(i) % COUNT
 }
 
-// Whether the text that is counted at a place has a number.
+// Whether the text that is counted at a place has this number.
 fn has_number(places: &[Searched], place: usize, number: u64) -> bool {
     match places.get(place) {
         Some(searched) => searched.number == number,

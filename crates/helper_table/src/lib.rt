@@ -1,8 +1,10 @@
 //! The helpers that a BPF program calls: the rows of the helper table, for any store of values and any memory.
 #![tactic(auto)]
 
+mod alphabet;
 mod answer;
 mod answers;
+mod buckets;
 mod building;
 mod caller;
 mod calling;
@@ -27,8 +29,10 @@ mod recalling;
 mod searched;
 mod searches;
 mod sorting;
+mod suffix_order;
 mod suffixes;
 mod text_test;
+mod word_order;
 
 pub use caller::Caller;
 pub use calling::call;

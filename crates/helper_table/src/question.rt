@@ -3,9 +3,11 @@
 use crate::helper::Helper;
 use value_store::{Shape, ValueStore};
 
-/// The number of words of a text that its question's place depends on, and of those that its own depends on.
+/// The number of words of a text, beside its last one, that its question's place depends on.
 const SAMPLES: usize = 16;
 
+/// The number of words of a text, or almost, that its number depends on. A long text is not read as a whole, since it may
+/// have an index, by which a search takes less time.
 const WORDS: usize = 2048;
 
 /// A call of a helper that reads texts.

@@ -1,5 +1,5 @@
-//! Calls that reuse a kept answer. Steps and charge do not count the bytes of a text or the items of a
-//! list, so a loop that reads the same long texts or lists in each turn must not scan them each time.
+//! Calls that reuse a kept answer. Steps and charge do not count the bytes of a text, so a loop that reads the same long
+//! texts in each turn must not scan them each time.
 
 ghost use Rattle.std.specs.Prelude.{◌≡◌, ℕ, true, Some, IfSome, IsSome, slice_get};
 ghost use Rattle.helper_table.specs.Answers.{reads_texts, second_operand, AreAnswers, IsQuestionOf, IsAnswer, IsKeptAnswer, IsLasting};
@@ -25,16 +25,12 @@ use crate::searches::Searches;
 use guest_memory::{Fault, Regions};
 use value_store::{Shape, ValueStore};
 
-/// The least number of bytes of a long text that is sought among keys or items. It is compared with several.
+/// The least number of bytes of a long text that is sought among keys. It is compared with several.
 const LONG: usize = 512;
 
 /// The least number of bytes of a long text that is read once. To read a shorter one takes about as long as a look
 /// for its kept answer.
 const VERY_LONG: usize = 12_288;
-
-/// The least number of items of a long list. For a search in it the store writes the value that is sought as
-/// JSON; a search in a shorter one takes about as long as a look for its kept answer.
-const MANY: u64 = 16;
 
 /// The number of places of the ring at which an answer is sought: more than one, since a loop may leave out
 /// a question.
@@ -82,22 +78,16 @@ fn is_shorter<V: ValueStore>(table: &V, part: u64, text: u64) -> bool {
     }
 }
 
-/// Whether a value is a list or a map.
-fn is_compound(value: Option<Shape<'_>>) -> bool {
-    matches!(value, Some(Shape::List(_)) | Some(Shape::Map(_)))
-}
-
-/// Whether a list or a map is sought in a long list.
-fn is_long_search<V: ValueStore>(table: &V, sought: u64, list: u64) -> bool {
-    match table.at(list) {
-        Some(Shape::List(count)) => count >= MANY && is_compound(table.at(sought)),
-        _ => false,
+/// Whether a long text is sought among keys, or a very long one among items.
+fn is_long_search<V: ValueStore>(table: &V, sought: u64, container: u64) -> bool {
+    match table.at(container) {
+        Some(Shape::Map(_)) => is_long(table, sought, LONG),
+        _ => is_long(table, sought, VERY_LONG),
     }
 }
 
-/// Whether a helper reads a long text of these operands, or compares one value with many. A comparison
-/// of two texts reads at most the length of the shorter one. The store itself remembers how two lists
-/// or maps compare.
+/// Whether a helper reads a long text of these operands. A comparison of two texts reads at most the length of the
+/// shorter one. The store itself has indexes of lists, and remembers how two lists or maps compare.
 fn reads_long<V: ValueStore>(
     table: &V,
     searches: &mut Searches,
@@ -110,14 +100,14 @@ fn reads_long<V: ValueStore>(
 {
     match helper {
         Helper::Contains => is_shorter(table, b, a) && searches.is_long(table, a, b),
-        Helper::Member => is_long(table, a, LONG) || is_long_search(table, a, b),
+        Helper::Member => is_long_search(table, a, b),
         Helper::Index => is_long(table, b, LONG),
         Helper::Size | Helper::Equal => is_long(table, a, VERY_LONG),
         _ => is_long(table, b, VERY_LONG),
     }
 }
 
-/// The question of a call, if it reads a long text or searches a long list.
+/// The question of a call, if it reads a long text.
 fn question<V: ValueStore>(
     helper: Helper,
     args: [u64; 5],
