@@ -2,7 +2,7 @@
 use Rattle.value_table.specs.Fingerprints.{folded}
 use Rattle.std.specs.Prelude.{nat_eq, All}
 use Rattle.std.proofs.lemmas.List.Elements.{All-weaker}
-use Rattle.value_table.proofs.Prelude.{length-append, ◌≡◌, ◌≢◌, ℕ, zero, suc, ◌+◌, ◌*◌, ◌%◌, ◌^◌, ◌<◌, List, [], ◌∷◌, ◌++◌, length, take, get_or, Some, option_map, slice_get, true, false, refl, sym, ap, ◌∙◌, subst, arith, false_from_ne_true, take_more, map-append, length-map, nil_from_length, Value, items_of, equal, equal_decides, value_in, meaning, IsContent, Head, simple, items, entries, head, parts, values_at, entries_of, built, texts_of, part_of, turned, mixed, bytes_mixed, text_number, keys_mixed, items_mixed, entries_mixed, fingerprint, head_number, IsTextPrint, AreWords, AreFingerprints, Part, Content, Backings, Fingerprints, TextPrint}
+use Rattle.value_table.proofs.Prelude.{length-append, ◌≡◌, ◌≢◌, ℕ, zero, suc, ◌+◌, ◌*◌, ◌%◌, ◌^◌, ◌<◌, List, [], ◌∷◌, ◌++◌, length, take, get_or, Some, option_map, slice_get, true, false, refl, sym, ap, ◌∙◌, subst, arith, false_from_ne_true, take_more, map-append, length-map, nil_from_length, Value, items_of, equal, equal_decides, value_in, meaning, IsContent, Head, simple, items, entries, head, parts, values_at, entries_of, built, texts_of, part_of, turned, mixed, bytes_mixed, text_number, keys_mixed, items_mixed, entries_mixed, fingerprint, head_number, IsTextPrint, AreCellPrints, AreFingerprints, Part, Content, Backings, Fingerprints, TextPrint}
 use Rattle.value_table.proofs.Heads.{Fits, fits, keys_back, meaning_built}
 use Rattle.value_table.proofs.Growth.{range_kept}
 
@@ -68,7 +68,7 @@ front_some (v ∷ vs) ws zero n e = e
 front_some (v ∷ vs) ws (suc r) n e = front_some vs ws r n e
 
 -- words stay right when values are added
-words_more : (vs ws : List Value) (ps : List ℕ) → AreWords vs ps → AreWords (vs ++ ws) ps
+words_more : (vs ws : List Value) (ps : List ℕ) → AreCellPrints vs ps → AreCellPrints (vs ++ ws) ps
 words_more vs ws ps h = record { each = λ r n e apart. front_some vs ws r n (h.each r n e apart) }
 
 -- fingerprints of texts stay right when bytes are added
@@ -94,7 +94,7 @@ pub turned_is : (n : ℕ) → folded (n * 21030606852940287316573636988401233310
 unfolding turned
 turned_is n = refl
 
-pub mixed_is : (n m : ℕ) → (turned ((turned ((turned ((n + m) % 2 ^ 128) + m) % 2 ^ 128) + n) % 2 ^ 128) + n) % 2 ^ 128 ≡ mixed n m
+pub mixed_is : (n m : ℕ) → (turned ((turned ((turned ((n + m) % 2 ^ 128) + n) % 2 ^ 128) + m) % 2 ^ 128) + n) % 2 ^ 128 ≡ mixed n m
 unfolding mixed
 mixed_is n m = refl
 

@@ -70,7 +70,7 @@ pub use Rattle.value_table.specs.Chunks.{AreChunks, AreFull, joined}
 pub use Rattle.value_table.specs.Entries.{HoldsKeys, put_values, with_one}
 pub use Rattle.value_table.specs.Equality.{AreContents, AreMeanings, AreOneClass, ClassesStay, Compares, Finds}
 pub use Rattle.value_table.specs.Equality.{IsRoot, LeadDown, Shortens, way_down}
-pub use Rattle.value_table.specs.Fingerprints.{AreFingerprints, AreWords, IsTextPrint, bytes_mixed, entries_mixed, fingerprint, head_number}
+pub use Rattle.value_table.specs.Fingerprints.{AreFingerprints, AreCellPrints, IsTextPrint, bytes_mixed, entries_mixed, fingerprint, head_number}
 pub use Rattle.value_table.specs.Fingerprints.{items_mixed, keys_mixed, text_number}
 pub use Rattle.value_table.specs.Growing.{Enters, HasGrown, IsValueAt}
 pub use Rattle.value_table.specs.Heads.{Head, built, entries, entries_of, head, items, parts, simple, texts_of}

@@ -16,7 +16,7 @@ turned n = folded (n * 210306068529402873165736369884012333109 % 2 ^ 128)
 
 -- a number for a sequence, from that of its numbers before the last, and the last
 unfoldable pub mixed : ℕ → ℕ → ℕ
-mixed n m = (turned ((turned ((turned ((n + m) % 2 ^ 128) + m) % 2 ^ 128) + n) % 2 ^ 128) + n) % 2 ^ 128
+mixed n m = (turned ((turned ((turned ((n + m) % 2 ^ 128) + n) % 2 ^ 128) + m) % 2 ^ 128) + n) % 2 ^ 128
 
 abbrev pub bytes_mixed : ℕ → List ℕ → ℕ
 bytes_mixed n [] = n
@@ -60,10 +60,10 @@ pub record IsTextPrint (bytes : List ℕ) (p : TextPrint) : Type 0 where
   pub number : p.number ≡ text_number (slice_range bytes p.from p.to)
 
 -- each word that is not zero is the fingerprint of the value at its place
-pub record AreWords (vs : List Value) (words : List ℕ) : Type 0 where
+pub record AreCellPrints (vs : List Value) (words : List ℕ) : Type 0 where
   pub each : (r n : ℕ) → slice_get words r ≡ Some n → n ≢ 0 → option_map fingerprint (slice_get vs r) ≡ Some n
 
 -- what is kept for cells and for texts is right
 pub record AreFingerprints (bytes : List ℕ) (vs : List Value) (f : Fingerprints) : Type 0 where
-  pub words : AreWords vs f.words.items
+  pub words : AreCellPrints vs f.words.items
   pub texts : All (IsTextPrint bytes) f.texts.items

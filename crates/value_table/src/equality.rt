@@ -28,7 +28,14 @@ use crate::heap::Heap;
 use crate::text::text;
 
 /// From this number of items on, a list that is searched often gets an index.
-const FEW: u64 = 16;
+const FEW: u64 = 4;
+
+/// The fewest searches that a list has had when its index is filled. To fill it takes as long as some searches without it,
+/// and much memory.
+const SEARCHES: u64 = 8;
+
+/// The number of items that these searches may look at.
+const LOOKS: u64 = 256;
 
 // No comparison fails for memory: capacity for the words of all cells is reserved, and hints and fingerprints
 // are optional.
@@ -101,8 +108,8 @@ impl Heap {
         )
     }
 
-    // How many of the first items of a backing a search for the value at `x` may leave out. From the
-    // eighth search of many items on there is an index, unless its allocation fails.
+    // How many of the first items of a backing a search for the value at `x` may leave out. From some search on there
+    // is an index, unless there is no memory for it or for the fingerprints.
     #[tactic(auto, using(crate::proofs::Comparisons::contents_of, crate::proofs::Growth::count_values, crate::proofs::Indexed::known_of))]
     fn start(&mut self, x: u64, backing: u64, count: u64) -> u64
         requires heap { IsHeap self.old }
@@ -121,11 +128,12 @@ impl Heap {
         if count < FEW {
             return 0;
         }
-        let Some(slot) = self.indexes.slot(self.cells.alloc(), backing) else {
+        let alloc = self.cells.alloc();
+        let enough = (LOOKS / count).max(SEARCHES);
+        let Some(slot) = self.indexes.slot(alloc, backing, enough) else {
             return 0;
         };
-        add_words(&mut self.fingerprints.words, self.cells.len());
-        if self.fingerprints.words.len() < self.cells.len() {
+        if !add_words(&mut self.fingerprints.words, self.cells.len()) {
             return 0;
         }
         match start_at(

@@ -6,7 +6,7 @@ ghost use Rattle.value_table.specs.Meaning.{value_in};
 ghost use Rattle.value_table.specs.Heaps.{AreTexts};
 ghost use Rattle.value_table.specs.Heads.{head, texts_of, IsReadable};
 ghost use Rattle.value_table.specs.Equality.{AreContents, AreMeanings};
-ghost use Rattle.value_table.specs.Fingerprints.{turned, mixed, bytes_mixed, keys_mixed, head_number, fingerprint, IsTextPrint, AreFingerprints, AreWords};
+ghost use Rattle.value_table.specs.Fingerprints.{turned, mixed, bytes_mixed, keys_mixed, head_number, fingerprint, IsTextPrint, AreFingerprints, AreCellPrints};
 
 use crate::backings::Backings;
 use crate::cell::Cell;
@@ -70,7 +70,7 @@ pub(crate) fn fingerprint(
 
 // The fingerprint in the word of a cell, if it is there.
 fn kept(words: &[u128], place: u64) -> Option<u128>
-    ensures { (vs : List Value) → AreWords vs words.now → IfSome result (λ n. n ≡ fingerprint (value_in vs place)) }
+    ensures { (vs : List Value) → AreCellPrints vs words.now → IfSome result (λ n. n ≡ fingerprint (value_in vs place)) }
 {
     match words.get(place as usize) {
         Some(number) if *number != 0 => Some(*number),
@@ -80,25 +80,27 @@ fn kept(words: &[u128], place: u64) -> Option<u128>
 
 // Keeps the fingerprint of the value of a cell, if the cell has a word.
 fn keep(words: &mut [u128], place: u64, number: u128)
-    ensures { (vs : List Value) → AreWords vs words.old → option_map fingerprint (slice_get vs place) ≡ Some number → AreWords vs words.new }
+    ensures { (vs : List Value) → AreCellPrints vs words.old → option_map fingerprint (slice_get vs place) ≡ Some number → AreCellPrints vs words.new }
 {
     if (place as usize) < words.len() {
         words[place as usize] = number;
     }
 }
 
-/// Adds a word for each cell that has none, as far as there is memory.
-pub(crate) fn add_words(words: &mut Vec<u128>, count: usize)
-    ensures { (vs : List Value) → AreWords vs words.old.items → AreWords vs words.new.items }
+/// Adds a word for each cell that has none, as far as there is memory. Returns whether each has one. Without words a
+/// fingerprint takes a time that doubles with each level of shared parts.
+pub(crate) fn add_words(words: &mut Vec<u128>, count: usize) -> bool
+    ensures { (vs : List Value) → AreCellPrints vs words.old.items → AreCellPrints vs words.new.items }
 {
     if words.is_empty() {
         let _ = words.reserve_exact(count);
     }
     for _ in words.len()..count {
         let Ok(()) = words.push(0) else {
-            return;
+            return false;
         };
     }
+    true
 }
 
 // The number with which a value's fingerprint begins. The fingerprints of its parts are mixed into it.
@@ -146,15 +148,15 @@ pub(crate) fn bytes_mixed(start: u128, bytes: &[u8]) -> u128
     number
 }
 
-// Mixes the next number of a sequence into that of the earlier ones. Both count twice, so that the step cannot be
-// undone.
+// Mixes the next number of a sequence into that of the earlier ones. Both count more than once, so that the step cannot
+// be undone.
 #[inline(always)]
 fn mixed(number: u128, next: u128) -> u128
     ensures { result ≡ mixed number next }
 {
     let first = turned(number.wrapping_add(next));
-    let second = turned(first.wrapping_add(next));
-    turned(second.wrapping_add(number)).wrapping_add(number)
+    let second = turned(first.wrapping_add(number));
+    turned(second.wrapping_add(next)).wrapping_add(number)
 }
 
 // Spreads the bits of a number: the product takes each into the higher ones, the exclusive or the upper half into the

@@ -8,17 +8,13 @@ use crate::index::Index;
 use std::alloc::{AllocError, Global};
 use std::collections::BTreeMap;
 
-/// From this search of a backing on, its index is used. To build one takes as long as some searches without it, so lists
-/// that are made in each turn of a loop and searched a few times get none.
-const ENOUGH: u32 = 8;
-
 /// The indexes of the backings that were searched.
 #[derive(Drop)]
 pub(crate) struct Indexes {
     /// The slot of each backing's index.
     slots: BTreeMap<u64, u64>,
     /// For each slot, how often its backing was searched, up to enough.
-    searches: Vec<u32>,
+    searches: Vec<u64>,
     pub(crate) all: Vec<Index>,
 }
 
@@ -35,15 +31,15 @@ impl Indexes {
         }
     }
 
-    /// The slot of a backing's index, if it was searched often. At the first search it gets an empty index, unless the
-    /// allocation fails.
-    pub(crate) fn slot(&mut self, alloc: Global, backing: u64) -> Option<usize>
+    /// The slot of a backing's index, if it was searched often: searches are counted up to `enough`. At the first search it
+    /// gets an empty index, unless the allocation fails.
+    pub(crate) fn slot(&mut self, alloc: Global, backing: u64, enough: u64) -> Option<usize>
         ensures found { IfSome result (λ s. option_map (λ x. x.backing) (slice_get self.new.all.items s) ≡ Some backing) }
         ensures kept { (bs : Backings) (vs : List Value) → backing < length bs.lists → AreIndexes bs vs self.old.all.items → AreIndexes bs vs self.new.all.items }
     {
         match self.slots.get(&backing).copied() {
             Some(slot) => {
-                if !self.is_searched_often(slot as usize) {
+                if !self.is_searched_often(slot as usize, enough) {
                     return None;
                 }
                 self.checked(slot as usize, backing)
@@ -56,16 +52,16 @@ impl Indexes {
     }
 
     // Counts a search of the backing of a slot after the first.
-    fn is_searched_often(&mut self, slot: usize) -> bool
+    fn is_searched_often(&mut self, slot: usize, enough: u64) -> bool
         ensures { self.new.all ≡ self.old.all }
     {
         let Some(searches) = self.searches.get_mut(slot) else {
             return false;
         };
-        if *searches < ENOUGH {
+        if *searches < enough {
             *searches += 1;
         }
-        *searches >= ENOUGH
+        *searches >= enough
     }
 
     fn checked(&self, slot: usize, backing: u64) -> Option<usize>

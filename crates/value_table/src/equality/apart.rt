@@ -17,8 +17,8 @@ use crate::equality::walk::parts_of;
 use crate::fingerprints::{Fingerprints, add_words, fingerprint};
 use crate::sequence::Sequence;
 
-/// Whether two values are seen to differ: in the lengths of their JSON texts, as ints, or in their fingerprints if they
-/// have parts. False says nothing.
+/// Whether two values are seen to differ: in the lengths of their JSON texts, in their kinds, as ints, or in their
+/// fingerprints if they have parts. False says nothing.
 pub(crate) fn are_told_apart(
     cells: &Sequence<Cell>,
     backings: &Backings,
@@ -37,15 +37,13 @@ pub(crate) fn are_told_apart(
     if left.json != right.json {
         return true;
     }
-    if are_unlike_ints(left.content, right.content) {
+    if are_unlike(left.content, right.content) {
         return true;
     }
     if parts_of(backings, left.content).is_empty() {
         return false;
     }
-    add_words(&mut prints.words, cells.len());
-    // Without words a fingerprint takes a time that doubles with each level of shared parts.
-    if prints.words.len() < cells.len() {
+    if !add_words(&mut prints.words, cells.len()) {
         return false;
     }
     fingerprints_differ(cells, backings, prints, a, b)
@@ -68,12 +66,16 @@ fn fingerprints_differ(
     number != fingerprint(cells, backings, prints, b)
 }
 
-// Whether two contents are different ints.
-fn are_unlike_ints(left: Content, right: Content) -> bool
+// Whether two contents are of two kinds, or different ints.
+fn are_unlike(left: Content, right: Content) -> bool
     ensures { result ≡ true → (bs : Backings) → head bs left ≢ head bs right }
 {
     match (left, right) {
         (Content::Int(a), Content::Int(b)) => a != b,
-        _ => false,
+        (Content::Null, Content::Null) | (Content::Bool(_), Content::Bool(_)) => false,
+        (Content::Text(_), Content::Text(_)) => false,
+        (Content::List(_, _), Content::List(_, _)) => false,
+        (Content::Map(_, _, _), Content::Map(_, _, _)) => false,
+        _ => true,
     }
 }

@@ -1,7 +1,7 @@
 -- Loop invariant of `fingerprints::add_words`.
 
-use Rattle.value_table.proofs.Prelude.{List, Value, AreWords}
+use Rattle.value_table.proofs.Prelude.{List, Value, AreCellPrints}
 use Rattle.value_table.proofs.fingerprints.add_words.Given as goal
 
 abbrev pub invariant-loop : goal.invariant-loop
-invariant-loop l = (vs : List Value) → AreWords vs l.fn.words.items → AreWords vs l.words.items
+invariant-loop l = (vs : List Value) → AreCellPrints vs l.fn.words.items → AreCellPrints vs l.words.items

@@ -9,5 +9,5 @@ returns c =
     let n = c.args.number in
     let m = c.args.next in
     ap (λ (x : ℕ). (x + n) % 2 ^ 128)
-    (c.turned.ensures ∙ ap (λ (x : ℕ). turned ((x + n) % 2 ^ 128)) (c.turned-second.ensures ∙ ap (λ (x : ℕ). turned ((x + m) % 2 ^ 128)) c.turned-first.ensures))
+    (c.turned.ensures ∙ ap (λ (x : ℕ). turned ((x + m) % 2 ^ 128)) (c.turned-second.ensures ∙ ap (λ (x : ℕ). turned ((x + n) % 2 ^ 128)) c.turned-first.ensures))
     ∙ mixed_is n m

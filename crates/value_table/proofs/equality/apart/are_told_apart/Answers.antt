@@ -11,10 +11,10 @@ returns-then-left-right-clause-apart c = λ vs k w t.
     let right = k.lengths c.args.b c.at-right.result c.at-right.ensures.value in
     apart_by json_length (value_in vs c.args.a) (value_in vs c.args.b) (λ e. omega (arith, left, right, e))
 
-pub returns-then-are_unlike_ints-clause-apart : goal.returns-then-are_unlike_ints-clause-apart
-returns-then-are_unlike_ints-clause-apart c = λ vs k w t.
+pub returns-then-are_unlike-clause-apart : goal.returns-then-are_unlike-clause-apart
+returns-then-are_unlike-clause-apart c = λ vs k w t.
     apart_if (value_in vs c.args.a) (value_in vs c.args.b)
-    (λ e. c.are_unlike_ints.ensures c.if-are_unlike_ints.true c.args.backings.now
+    (λ e. c.are_unlike.ensures c.if-are_unlike.true c.args.backings.now
     (same_heads c.args.backings.now vs c.args.cells.now c.args.a c.args.b _ _ c.requires.contents k.meanings c.at-left.ensures.value c.at-right.ensures.value
     (same_place _ vs c.args.cells.now c.args.a c.args.b k.meanings c.requires.left c.requires.right e)))
 
