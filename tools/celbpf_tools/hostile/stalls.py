@@ -40,6 +40,12 @@ def additions(new: list, old: list) -> dict:
     return review({"spec": {"externalIPs": new}}, {"spec": {"externalIPs": old}})
 
 
+def in_lists(hosts: list, lists: list) -> tuple:
+    """Hosts that are sought in lists, by `ingress-tls`."""
+    rules = {"rules": [{"host": host} for host in hosts], "tls": [*({"hosts": some} for some in lists), {"hosts": 0}]}
+    return example("ingress-tls"), review({"spec": rules})
+
+
 def stalls() -> Iterator[tuple]:
     """Each row: its name, the policy and the review."""
     added = example("external-ips")
@@ -53,21 +59,19 @@ def stalls() -> Iterator[tuple]:
     yield "maps by a last value in a list", added, additions(*maps)
     ends = [counted(place, 400) for place in range(1_700)]
     hosts = [[marked(place + at, 400) for at in range(15)] for place in range(121)]
-    rules = {"rules": [{"host": end} for end in ends], "tls": [*({"hosts": few} for few in hosts), {"hosts": 0}]}
-    yield "long hosts in short lists", example("ingress-tls"), review({"spec": rules})
+    yield "long hosts in short lists", *in_lists(ends, hosts)
     yield "15 ints in a long list", added, additions([*range(1, 10), *range(1, 7)], [0] * 1_560_000)
     numbers = random.Random(5)
     images = [{"image": "".join(numbers.choices(LETTERS, k=33))} for _ in range(66_000)]
     yield "images of 33 bytes", example("image-tags"), review({"spec": {"containers": images}})
     yield from towers()
     yield from indexed()
+    yield from few_searches()
 
 
 def in_short_lists(hosts: list, others: list) -> tuple:
-    """Hosts that are sought in lists of 15, by `ingress-tls`."""
-    lists = [{"hosts": others[at : at + 15]} for at in range(0, len(others), 15)]
-    rules = {"rules": [{"host": host} for host in hosts], "tls": [*lists, {"hosts": 0}]}
-    return example("ingress-tls"), review({"spec": rules})
+    """Hosts that are sought in lists of 15."""
+    return in_lists(hosts, [others[at : at + 15] for at in range(0, len(others), 15)])
 
 
 def towers() -> Iterator[tuple]:
@@ -89,12 +93,21 @@ def indexed() -> Iterator[tuple]:
     """Values that are sought in lists with an index."""
     added = example("external-ips")
     hosts = [[[]] * 167 + digits(place) for place in range(300)]
-    lists = [{"hosts": [*range(place, place + 16)]} for place in range(1_300)]
-    rules = {"rules": [{"host": host} for host in hosts], "tls": [*lists, {"hosts": 0}]}
-    yield "lists of 510 bytes in short lists", example("ingress-tls"), review({"spec": rules})
+    lists = [[*range(place, place + 16)] for place in range(1_300)]
+    yield "lists of 510 bytes in short lists", *in_lists(hosts, lists)
     sides = [[[first] * 252 + digits(place) for place in range(2_950)] for first in (0, 1)]
     yield "lists of 513 bytes in a list", added, additions(*sides)
     ints = [*range(100_000, 210_000)]
     yield "ints beside their texts", added, additions(ints, [*map(str, ints), *[0] * 600_000])
     shuffled = random.Random(5).sample(range(200_000, 630_000), 430_000)
     yield "ints in no order in a list", added, additions(shuffled[:215_000], shuffled[215_000:])
+
+
+def few_searches() -> Iterator[tuple]:
+    """Short lists, each searched some times."""
+    hosts, others = ([f"{'q' * 512}{kind}{place:07}" for place in range(count)] for kind, count in (("x", 1_500), ("y", 4_095)))
+    yield "texts of 520 bytes in short lists", *in_short_lists(hosts, others)
+    volumes = [[*range(10), "", [], {}, -1, -2, -3]] * 72_000
+    yield "eight searches of each list", example("volume-types"), review({"spec": {"volumes": volumes}})
+    lists = [[[30 + (7 * place + at) % 70] for at in range(32)] for place in range(17_000)]
+    yield "16 searches of each list", *in_lists([[10 + place] for place in range(16)], lists)
