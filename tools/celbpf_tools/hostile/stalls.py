@@ -111,3 +111,4 @@ def few_searches() -> Iterator[tuple]:
     yield "eight searches of each list", example("volume-types"), review({"spec": {"volumes": volumes}})
     lists = [[[30 + (7 * place + at) % 70] for at in range(32)] for place in range(17_000)]
     yield "16 searches of each list", *in_lists([[10 + place] for place in range(16)], lists)
+    yield "texts in lists of 64 ints", *in_lists([""] * 16, [[at % 10 for at in range(64)]] * 20_900)
