@@ -32,10 +32,10 @@ const FEW: u64 = 4;
 
 /// The fewest searches that a list has had when its index is filled. To fill it takes as long as some searches without it,
 /// and much memory.
-const SEARCHES: u64 = 8;
+const SEARCHES: u64 = 4;
 
 /// The number of items that these searches may look at.
-const LOOKS: u64 = 256;
+const LOOKS: u64 = 128;
 
 // No comparison fails for memory: capacity for the words of all cells is reserved, and hints and fingerprints
 // are optional.

@@ -1,6 +1,6 @@
 //! Fingerprints: a number for each value. Equal values have the same one.
 
-ghost use Rattle.std.specs.Prelude.{◌≡◌, ◌<◌, List, [], length, All, Some, IfSome, option_map, slice_get};
+ghost use Rattle.std.specs.Prelude.{◌≡◌, ◌<◌, ◌≤◌, true, List, [], length, All, Some, IfSome, option_map, slice_get};
 ghost use Rattle.value_store.specs.Value.{Value};
 ghost use Rattle.value_table.specs.Meaning.{value_in};
 ghost use Rattle.value_table.specs.Heaps.{AreTexts};
@@ -90,12 +90,13 @@ fn keep(words: &mut [u128], place: u64, number: u128)
 /// Adds a word for each cell that has none, as far as there is memory. Returns whether each has one. Without words a
 /// fingerprint takes a time that doubles with each level of shared parts.
 pub(crate) fn add_words(words: &mut Vec<u128>, count: usize) -> bool
-    ensures { (vs : List Value) → AreCellPrints vs words.old.items → AreCellPrints vs words.new.items }
+    ensures each { result ≡ true → count ≤ length words.new.items }
+    ensures right { (vs : List Value) → AreCellPrints vs words.old.items → AreCellPrints vs words.new.items }
 {
     if words.is_empty() {
         let _ = words.reserve_exact(count);
     }
-    for _ in words.len()..count {
+    while words.len() < count {
         let Ok(()) = words.push(0) else {
             return false;
         };

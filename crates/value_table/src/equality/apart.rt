@@ -1,6 +1,6 @@
 //! Whether two values are told apart before their parts are compared.
 
-ghost use Rattle.std.specs.Prelude.{◌≡◌, ◌≢◌, ◌<◌, List, length, true, false};
+ghost use Rattle.std.specs.Prelude.{◌≡◌, ◌≢◌, ◌<◌, ℕ, List, length, slice_get, Some, true, false};
 ghost use Rattle.value_store.specs.Value.{Value};
 ghost use Rattle.value_store.specs.Equality.{equal};
 ghost use Rattle.value_table.specs.Meaning.{value_in};
@@ -17,8 +17,7 @@ use crate::equality::walk::parts_of;
 use crate::fingerprints::{Fingerprints, add_words, fingerprint};
 use crate::sequence::Sequence;
 
-/// Whether two values are seen to differ: in the lengths of their JSON texts, in their kinds, as ints, or in their
-/// fingerprints if they have parts. False says nothing.
+/// Whether two values are seen to differ, by their cells or by the fingerprints of their parts. False says nothing.
 pub(crate) fn are_told_apart(
     cells: &Sequence<Cell>,
     backings: &Backings,
@@ -32,14 +31,40 @@ pub(crate) fn are_told_apart(
     ensures prints { (vs : List Value) → AreMeanings backings.now vs cells.now → AreFingerprints backings.now.bytes vs prints.old → AreFingerprints backings.now.bytes vs prints.new }
     ensures apart { (vs : List Value) → AreKnown backings.now vs cells.now → AreFingerprints backings.now.bytes vs prints.old → result ≡ true → equal (value_in vs a) (value_in vs b) ≡ false }
 {
-    let left = cells.at(a as usize);
-    let right = cells.at(b as usize);
+    if cells_differ(cells.at(a as usize), cells.at(b as usize)) {
+        return true;
+    }
+    parts_differ(cells, backings, prints, a, b)
+}
+
+/// Whether the values of two cells are seen to differ: in the lengths of their JSON texts, in their kinds, or as ints.
+/// False says nothing.
+#[inline(always)]
+pub(crate) fn cells_differ(left: Cell, right: Cell) -> bool
+    ensures { (bs : Backings) (vs : List Value) (cs : List Cell) (a b : ℕ) → AreContents bs cs → AreKnown bs vs cs
+        → slice_get cs a ≡ Some left → slice_get cs b ≡ Some right → result ≡ true → equal (value_in vs a) (value_in vs b) ≡ false }
+{
     if left.json != right.json {
         return true;
     }
-    if are_unlike(left.content, right.content) {
-        return true;
-    }
+    are_unlike(left.content, right.content)
+}
+
+/// Whether two values with parts are seen to differ: in their fingerprints. False says nothing.
+pub(crate) fn parts_differ(
+    cells: &Sequence<Cell>,
+    backings: &Backings,
+    prints: &mut Fingerprints,
+    a: u64,
+    b: u64,
+) -> bool
+    requires contents { AreContents backings.now cells.now }
+    requires left { a < length cells.now }
+    requires right { b < length cells.now }
+    ensures prints { (vs : List Value) → AreMeanings backings.now vs cells.now → AreFingerprints backings.now.bytes vs prints.old → AreFingerprints backings.now.bytes vs prints.new }
+    ensures apart { (vs : List Value) → AreKnown backings.now vs cells.now → AreFingerprints backings.now.bytes vs prints.old → result ≡ true → equal (value_in vs a) (value_in vs b) ≡ false }
+{
+    let left = cells.at(a as usize);
     if parts_of(backings, left.content).is_empty() {
         return false;
     }
@@ -67,6 +92,7 @@ fn fingerprints_differ(
 }
 
 // Whether two contents are of two kinds, or different ints.
+#[inline(always)]
 fn are_unlike(left: Content, right: Content) -> bool
     ensures { result ≡ true → (bs : Backings) → head bs left ≢ head bs right }
 {

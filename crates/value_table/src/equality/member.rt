@@ -12,7 +12,7 @@ ghost use Rattle.value_table.specs.Index.{AreKnown};
 
 use crate::backings::Backings;
 use crate::cell::Cell;
-use crate::equality::apart::are_told_apart;
+use crate::equality::apart::{cells_differ, parts_differ};
 use crate::equality::walk;
 use crate::fingerprints::Fingerprints;
 use crate::hints::Hints;
@@ -35,15 +35,20 @@ pub(crate) fn is_among(
     ensures prints { (vs : List Value) → AreMeanings backings.now vs cells.now → AreFingerprints backings.now.bytes vs prints.old → AreFingerprints backings.now.bytes vs prints.new }
     ensures answer { (vs : List Value) → AreKnown backings.now vs cells.now → AreSame vs same.old → AreFingerprints backings.now.bytes vs prints.old → AreSame vs same.new × (result ≡ has_item (value_in vs x) (items_at vs places.now)) }
 {
+    let sought = cells.at(x as usize);
     for i in 0..places.len() {
-        if are_equal(cells, backings, same, hints, prints, x, places[i] as u64) {
+        let place = places[i] as u64;
+        if cells_differ(sought, cells.at(place as usize)) {
+            continue;
+        }
+        if are_equal(cells, backings, same, hints, prints, x, place) {
             return true;
         }
     }
     false
 }
 
-// Whether the values of two cells are equal. They are compared if nothing tells them apart.
+// Whether the values of two cells are equal. They are compared if their fingerprints are the same.
 fn are_equal(
     cells: &Sequence<Cell>,
     backings: &Backings,
@@ -59,7 +64,7 @@ fn are_equal(
     ensures prints { (vs : List Value) → AreMeanings backings.now vs cells.now → AreFingerprints backings.now.bytes vs prints.old → AreFingerprints backings.now.bytes vs prints.new }
     ensures answer { (vs : List Value) → AreKnown backings.now vs cells.now → AreSame vs same.old → AreFingerprints backings.now.bytes vs prints.old → AreSame vs same.new × (result ≡ equal (value_in vs a) (value_in vs b)) }
 {
-    if are_told_apart(cells, backings, prints, a, b) {
+    if parts_differ(cells, backings, prints, a, b) {
         return false;
     }
     walk::equal(cells, backings, same, hints, a, b)

@@ -4,8 +4,8 @@ use Rattle.value_table.proofs.Prelude.{sym}
 use Rattle.value_table.proofs.Comparisons.{answer_is}
 use Rattle.value_table.proofs.equality.member.are_equal.Goals as goal
 
-pub returns-then-are_told_apart-clause-answer : goal.returns-then-are_told_apart-clause-answer
-returns-then-are_told_apart-clause-answer c = λ vs k s w. (s, sym (c.are_told_apart.ensures.apart vs k w c.if-are_told_apart.true))
+pub returns-then-parts_differ-clause-answer : goal.returns-then-parts_differ-clause-answer
+returns-then-parts_differ-clause-answer c = λ vs k s w. (s, sym (c.parts_differ.ensures.apart vs k w c.if-parts_differ.true))
 
 pub returns-clause-answer : goal.returns-clause-answer
 returns-clause-answer c = λ vs k s w.

@@ -18,3 +18,13 @@ loop-i-preserved c = record {
       let here = c.are_equal.ensures.answer vs k inv.0 (c.loop-i.invariant.prints vs k.meanings w) in
       (here.0, inv.1 ∙ item_step vs (value_in vs c.args.x) c.args.places.now c.loop-i.i _ (omega arith) (sym c.if-are_equal.false ∙ here.1));
 }
+
+-- an item whose cell differs is not the value that is sought
+pub loop-i-preserved-then-cells_differ : goal.loop-i-preserved-then-cells_differ
+loop-i-preserved-then-cells_differ c = record {
+  prints = c.loop-i.invariant.prints;
+  answer = λ vs k s w.
+      let inv = c.loop-i.invariant.answer vs k s w in
+      let apart = c.cells_differ.ensures c.args.backings.now vs c.args.cells.now c.args.x _ c.requires.contents k c.at-sought.ensures.value c.at.ensures.value c.if-cells_differ.true in
+      (inv.0, inv.1 ∙ item_step vs (value_in vs c.args.x) c.args.places.now c.loop-i.i _ (omega arith) (sym apart));
+}

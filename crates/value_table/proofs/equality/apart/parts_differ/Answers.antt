@@ -1,0 +1,7 @@
+-- Proofs of `equality::apart::parts_differ`: more words change no fingerprint.
+
+use Rattle.value_table.proofs.equality.apart.parts_differ.Goals as goal
+
+pub returns-clause-apart : goal.returns-clause-apart
+returns-clause-apart c = λ vs k w t.
+    c.fingerprints_differ.ensures.apart vs k.meanings (record { words = c.add_words.ensures.right vs w.words; texts = w.texts }) t
