@@ -17,7 +17,7 @@ use crate::equality::walk::parts_of;
 use crate::fingerprints::{Fingerprints, add_words, fingerprint};
 use crate::sequence::Sequence;
 
-/// Whether two values are seen to differ, by their cells or by the fingerprints of their parts. False says nothing.
+/// Whether two values are seen to differ: by their cells, or by their fingerprints if they have parts. False says nothing.
 pub(crate) fn are_told_apart(
     cells: &Sequence<Cell>,
     backings: &Backings,
@@ -50,7 +50,7 @@ pub(crate) fn cells_differ(left: Cell, right: Cell) -> bool
     are_unlike(left.content, right.content)
 }
 
-/// Whether two values with parts are seen to differ: in their fingerprints. False says nothing.
+/// Whether two values have parts and different fingerprints. Without memory for fingerprints it is false.
 pub(crate) fn parts_differ(
     cells: &Sequence<Cell>,
     backings: &Backings,
