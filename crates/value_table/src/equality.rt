@@ -35,7 +35,7 @@ const FEW: u64 = 4;
 const SEARCHES: u64 = 4;
 
 /// The number of items that these searches may look at.
-const LOOKS: u64 = 128;
+const LOOKS: u64 = 256;
 
 // No comparison fails for memory: capacity for the words of all cells is reserved, and hints and fingerprints
 // are optional.

@@ -68,8 +68,9 @@ pub(crate) fn fingerprint(
     number
 }
 
-// The fingerprint in the word of a cell, if it is there.
-fn kept(words: &[u128], place: u64) -> Option<u128>
+/// The fingerprint in the word of a cell, if it is there.
+#[inline(always)]
+pub(crate) fn kept(words: &[u128], place: u64) -> Option<u128>
     ensures { (vs : List Value) → AreCellPrints vs words.now → IfSome result (λ n. n ≡ fingerprint (value_in vs place)) }
 {
     match words.get(place as usize) {

@@ -6,13 +6,12 @@ ghost use Rattle.value_table.specs.declared.backings.Backings.{Backings};
 
 use crate::index::Index;
 use std::alloc::{AllocError, Global};
-use std::collections::BTreeMap;
 
 /// The indexes of the backings that were searched.
 #[derive(Drop)]
 pub(crate) struct Indexes {
-    /// The slot of each backing's index.
-    slots: BTreeMap<u64, u64>,
+    /// For each backing, one more than the slot of its index, or 0 if it was not searched yet.
+    slots: Vec<u64>,
     /// For each slot, how often its backing was searched, up to enough.
     searches: Vec<u64>,
     pub(crate) all: Vec<Index>,
@@ -25,7 +24,7 @@ impl Indexes {
         ensures { result.all.items ≡ [] }
     {
         Indexes {
-            slots: BTreeMap::new(alloc),
+            slots: Vec::new(alloc),
             searches: Vec::new(alloc),
             all: Vec::new(alloc),
         }
@@ -37,14 +36,15 @@ impl Indexes {
         ensures found { IfSome result (λ s. option_map (λ x. x.backing) (slice_get self.new.all.items s) ≡ Some backing) }
         ensures kept { (bs : Backings) (vs : List Value) → backing < length bs.lists → AreIndexes bs vs self.old.all.items → AreIndexes bs vs self.new.all.items }
     {
-        match self.slots.get(&backing).copied() {
-            Some(slot) => {
-                if !self.is_searched_often(slot as usize, enough) {
+        match self.slots.get(backing as usize).copied() {
+            Some(next) if next > 0 => {
+                let slot = (next - 1) as usize;
+                if !self.is_searched_often(slot, enough) {
                     return None;
                 }
-                self.checked(slot as usize, backing)
+                self.checked(slot, backing)
             }
-            None => {
+            _ => {
                 let _ = self.make(alloc, backing);
                 None
             }
@@ -78,8 +78,21 @@ impl Indexes {
     {
         self.all.reserve(1)?;
         self.searches.resize(self.all.len().saturating_add(1), 1)?;
-        self.slots.insert(backing, self.all.len() as u64)?;
+        self.note(backing as usize)?;
         self.all.push_reserved(Index::new(alloc, backing));
+        Ok(())
+    }
+
+    // Notes that a backing's index is in the next slot.
+    fn note(&mut self, backing: usize) -> Result<(), AllocError>
+        ensures { self.new.all ≡ self.old.all }
+    {
+        if self.slots.len() <= backing {
+            self.slots.resize(backing.saturating_add(1), 0)?;
+        }
+        if let Some(next) = self.slots.get_mut(backing) {
+            *next = self.all.len().saturating_add(1) as u64;
+        }
         Ok(())
     }
 }

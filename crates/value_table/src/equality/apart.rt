@@ -6,7 +6,7 @@ ghost use Rattle.value_store.specs.Equality.{equal};
 ghost use Rattle.value_table.specs.Meaning.{value_in};
 ghost use Rattle.value_table.specs.Equality.{AreContents, AreMeanings};
 ghost use Rattle.value_table.specs.Index.{AreKnown};
-ghost use Rattle.value_table.specs.Fingerprints.{AreFingerprints};
+ghost use Rattle.value_table.specs.Fingerprints.{AreCellPrints, AreFingerprints};
 ghost use Rattle.value_table.specs.Heads.{head};
 ghost use Rattle.value_table.specs.declared.backings.Backings.{Backings};
 
@@ -14,7 +14,7 @@ use crate::backings::Backings;
 use crate::cell::Cell;
 use crate::content::Content;
 use crate::equality::walk::parts_of;
-use crate::fingerprints::{Fingerprints, add_words, fingerprint};
+use crate::fingerprints::{Fingerprints, add_words, fingerprint, kept};
 use crate::sequence::Sequence;
 
 /// Whether two values are seen to differ: by their cells, or by their fingerprints if they have parts. False says nothing.
@@ -50,7 +50,8 @@ pub(crate) fn cells_differ(left: Cell, right: Cell) -> bool
     are_unlike(left.content, right.content)
 }
 
-/// Whether two values have parts and different fingerprints. Without memory for fingerprints it is false.
+/// Whether two values are seen to differ in their fingerprints: in those that are kept, or in any if the values have
+/// parts. False says nothing.
 pub(crate) fn parts_differ(
     cells: &Sequence<Cell>,
     backings: &Backings,
@@ -64,6 +65,9 @@ pub(crate) fn parts_differ(
     ensures prints { (vs : List Value) → AreMeanings backings.now vs cells.now → AreFingerprints backings.now.bytes vs prints.old → AreFingerprints backings.now.bytes vs prints.new }
     ensures apart { (vs : List Value) → AreKnown backings.now vs cells.now → AreFingerprints backings.now.bytes vs prints.old → result ≡ true → equal (value_in vs a) (value_in vs b) ≡ false }
 {
+    if kept_differ(&prints.words, a, b) {
+        return true;
+    }
     let left = cells.at(a as usize);
     if parts_of(backings, left.content).is_empty() {
         return false;
@@ -72,6 +76,17 @@ pub(crate) fn parts_differ(
         return false;
     }
     fingerprints_differ(cells, backings, prints, a, b)
+}
+
+// Whether the fingerprints of both values are kept and differ.
+#[inline(always)]
+fn kept_differ(words: &[u128], a: u64, b: u64) -> bool
+    ensures { (vs : List Value) → AreCellPrints vs words.now → result ≡ true → equal (value_in vs a) (value_in vs b) ≡ false }
+{
+    match (kept(words, a), kept(words, b)) {
+        (Some(left), Some(right)) => left != right,
+        _ => false,
+    }
 }
 
 fn fingerprints_differ(
