@@ -3,6 +3,7 @@ use Rattle.admission.proofs.Prelude.{◌≡◌, ℕ, ◌+◌, ◌*◌, ◌≤◌
 use Rattle.bpf_machine.specs.declared.status.Status.TheVariants.{Fault}
 use Rattle.policy_glue.specs.Checking as checking
 use Rattle.policy_glue.specs.Findings.{PolicyFinding, findings_of}
+use Rattle.policy_glue.specs.Rejections.{Rejection}
 use Rattle.policy_glue.specs.Response.{response_of}
 use Rattle.policy_glue.specs.declared.outcome.Outcome.{Outcome}
 use Rattle.admission.specs.Deciding.{answer_of, is_allowed}
@@ -179,6 +180,10 @@ made_so make p d exit x is of =
 -- the reply to the verdict that the program left
 pub answered : (p : Policy) (d : Documents) (exit : Exit) (answer : Reply) → IsExit p d exit → OfVerdict p exit.state (λ v. answer ≡ answer_of p v exit.uid) → IsAnswered d answer
 answered p d exit answer is of = record { case = is.case; answer_is = made_so answer_of p d exit answer is of }
+
+-- the decision with this rejection on the request with this uid
+abbrev pub said_by : Option Rejection → List ℕ → Decision
+said_by rejection uid = record { rejection = rejection; uid = uid }
 
 -- the decision for the verdict that the program left
 pub said_so : (p : Policy) (d : Documents) (exit : Exit) (said : Decision) → IsExit p d exit → OfVerdict p exit.state (λ v. said ≡ decision_from_verdict p v exit.uid) → IsDecisionOf d said

@@ -3,6 +3,7 @@ use Rattle.std.specs.Prelude.{◌≡◌, ℕ, List, option_map, Option, Result, 
 use Rattle.policy_glue.specs.Rejections.{Rejection, rejection_of, rejection_view}
 use Rattle.policy_glue.specs.Policy.{Policy}
 use Rattle.policy_glue.specs.Verdict.{Verdict}
+use Rattle.policy_glue.specs.declared.rejection.Rejection.{Rejection as CodeRejection}
 use Rattle.admission.specs.Deciding.{Case, Documents, HasNoResponse, decision}
 use Rattle.admission.specs.Reviews.{uid_in}
 use Rattle.admission.specs.declared.run_error.RunError.{RunError}
@@ -21,6 +22,11 @@ decision_value x = record { rejection = option_map rejection_view x.rejection; u
 abbrev pub decision_view : Result CodeDecision RunError → Result Decision RunError
 decision_view (Ok x) = Ok (decision_value x)
 decision_view (Err e) = Err e
+
+-- a result of the code without the uid, which is this
+abbrev pub said_view : List ℕ → Result (Option CodeRejection) RunError → Result Decision RunError
+said_view uid (Ok said) = Ok (record { rejection = option_map rejection_view said; uid = uid })
+said_view uid (Err e) = Err e
 
 -- the decision for a verdict on the request with this uid
 abbrev pub decision_from_verdict : Policy → Verdict → List ℕ → Decision

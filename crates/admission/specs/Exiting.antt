@@ -21,6 +21,11 @@ abbrev pub exit_view : List ℕ → Result State RunError → Result Exit RunErr
 exit_view uid (Ok state) = Ok (record { state = state; uid = uid })
 exit_view uid (Err e) = Err e
 
+-- the state after a run that exited, or why it did not
+abbrev pub exit_state : State → Result (Unit {0}) RunError → Result State RunError
+exit_state s (Ok u) = Ok s
+exit_state s (Err e) = Err e
+
 -- the program has exited, and its verdict region holds the verdict of this policy
 pub record IsExit (p : Policy) (d : Documents) (exit : Exit) : Type 0 where
   pub case : Case d

@@ -1,20 +1,21 @@
 //! Policies that are compiled once to decide many reviews.
-ghost use Rattle.std.specs.Prelude.{◌≡◌, ℕ, List, map, IfOk, Ok};
+ghost use Rattle.std.specs.Prelude.{◌≡◌, ℕ, List, map, option_map, IfOk, Ok};
 ghost use Rattle.bpf_machine.specs.State.{start_state};
 ghost use Rattle.bpf_machine.specs.Starts.{StartsAreTables};
 ghost use Rattle.bpf_machine.specs.States.{StatesAreKept};
-ghost use Rattle.bpf_machine.specs.Trace.{state_after};
 ghost use Rattle.value_store.specs.Laws.{StartIsCanonical};
+ghost use Rattle.value_store.specs.Placing.{Contents};
 ghost use Rattle.value_table.specs.Held.{held_contents};
 ghost use Rattle.policy_glue.specs.Findings.{finding_view, findings_of};
 ghost use Rattle.policy_glue.specs.Limits.{Compiles};
 ghost use Rattle.policy_glue.specs.Naming.{conditions_name_namespace};
 ghost use Rattle.policy_glue.specs.OneImage.{OneImage};
+ghost use Rattle.policy_glue.specs.Rejections.{rejection_of, rejection_view};
 ghost use Rattle.policy_glue.specs.Trees.{PolicyTree};
 ghost use Rattle.admission.specs.Deciding.{answer_of, answer_view, is_allowed, AreGiven, CompilesDocument, Documents, IsPolicyOf, Reviews, values_given};
-ghost use Rattle.admission.specs.Exiting.{exit_view, Exits, HasExited, OfVerdict};
+ghost use Rattle.admission.specs.Exiting.{exit_state, exit_view, Exits, HasExited, OfVerdict};
 ghost use Rattle.admission.specs.Lent.{documents_lent};
-ghost use Rattle.admission.specs.Decisions.{decision_from_verdict, decision_value, decision_view, DecidesReview};
+ghost use Rattle.admission.specs.Decisions.{decision_value, decision_view, said_view, DecidesReview};
 ghost use Rattle.admission.specs.Findings.{findings_view, FindsReview};
 ghost use Rattle.admission.specs.Standing.{exactly, RunAgrees};
 
@@ -27,8 +28,8 @@ use bpf_machine::laws::{starts_are_tables, states_are_kept};
 use bpf_machine::{Machine, Program, Status};
 use guest_memory::Guest;
 use policy_glue::{
-    Finding, Outcome, Policy, Verdict, conditions_name_namespace, findings_left, rejection_left,
-    respond,
+    Finding, Outcome, Policy, Rejection, Verdict, conditions_name_namespace, findings_left,
+    rejection_left, respond,
 };
 use std::alloc::{AllocError, Global};
 use std::marker::Model;
@@ -110,7 +111,8 @@ impl Gate {
         ensures reviews { (d : Documents) → IsPolicyOf d.policy self.now → AreGiven d (held_contents table) uid.now → Reviews d n (answer_view result) }
         ensures runs { (d : Documents) → IsPolicyOf d.policy self.now → AreGiven d (held_contents table) uid.now → RunAgrees (exactly self.now.image) d n (answer_view result) }
     {
-        let machine = self.run(table, n)?;
+        let mut machine = self.machine(table)?;
+        self.run(&mut machine, n)?;
         Ok(reply(self.alloc, &self.policy, &machine, uid)?)
     }
 
@@ -123,8 +125,22 @@ impl Gate {
         ensures says { (d : Documents) → IsPolicyOf d.policy self.now → AreGiven d (held_contents table) uid.now → DecidesReview d n (decision_view result) }
         ensures runs { (d : Documents) → IsPolicyOf d.policy self.now → AreGiven d (held_contents table) uid.now → RunAgrees (exactly self.now.image) d n (decision_view result) }
     {
-        let machine = self.run(table, n)?;
-        Ok(decision_of_verdict(self.alloc, &self.policy, &machine, uid)?)
+        let rejection = self.rejection_on(table, n)?;
+        Ok(with_uid(self.alloc, rejection, uid)?)
+    }
+
+    /// Why the policy rejects such a review, if it does: `decision_on` without the uid, whichever it is.
+    ///
+    /// # Errors
+    ///
+    /// The first refusal, as in `decide_on`.
+    pub fn rejection_on(&self, table: Table, n: u64) -> Result<Option<Rejection>, RunError>
+        ensures says { (d : Documents) (uid : List ℕ) → IsPolicyOf d.policy self.now → AreGiven d (held_contents table) uid → DecidesReview d n (said_view uid result) }
+        ensures runs { (d : Documents) (uid : List ℕ) → IsPolicyOf d.policy self.now → AreGiven d (held_contents table) uid → RunAgrees (exactly self.now.image) d n (said_view uid result) }
+    {
+        let mut machine = self.machine(table)?;
+        self.run(&mut machine, n)?;
+        Ok(rejection_of_verdict(self.alloc, &self.policy, &machine)?)
     }
 
     /// What the policy finds against a review whose roots are in the table.
@@ -136,7 +152,8 @@ impl Gate {
         ensures finds { (d : Documents) → IsPolicyOf d.policy self.now → values_given d ≡ Ok (held_contents table) → FindsReview d n (findings_view result) }
         ensures runs { (d : Documents) → IsPolicyOf d.policy self.now → values_given d ≡ Ok (held_contents table) → RunAgrees (exactly self.now.image) d n (findings_view result) }
     {
-        let machine = self.run(table, n)?;
+        let mut machine = self.machine(table)?;
+        self.run(&mut machine, n)?;
         Ok(findings_of_verdict(self.alloc, &self.policy, &machine)?)
     }
 
@@ -148,15 +165,25 @@ impl Gate {
         conditions_name_namespace(self.alloc, &self.policy)
     }
 
-    /// Runs the policy's program on the roots in the table; returns the machine after the exit.
-    fn run(&self, table: Table, n: u64) -> Result<Machine<Table, Guest>, RunError>
-        ensures exits { (d : Documents) (uid : List ℕ) → IsPolicyOf d.policy self.now → AreGiven d (held_contents table) uid → Exits self.now.policy d n (exit_view uid result) }
-        ensures runs { (d : Documents) (uid : List ℕ) → IsPolicyOf d.policy self.now → AreGiven d (held_contents table) uid → RunAgrees (exactly self.now.image) d n (exit_view uid result) }
+    /// A machine that runs the policy's program on the roots in the table.
+    fn machine(&self, table: Table) -> Result<Machine<Table, Guest>, AllocError>
+        ensures { IfOk result (λ m. m ≡ start_state self.now.image (held_contents table)) }
+    {
+        Machine::of_program(self.alloc, self.program.copy()?, table)
+    }
+
+    /// Runs such a machine up to the exit of the policy's program, for at most `n` steps. The machine stays in its place,
+    /// since it is large.
+    fn run(&self, machine: &mut Machine<Table, Guest>, n: u64) -> Result<(), RunError>
+        ensures exits { (d : Documents) (uid : List ℕ) (roots : Contents) → IsPolicyOf d.policy self.now → AreGiven d roots uid
+            → machine.old ≡ start_state self.now.image roots → Exits self.now.policy d n (exit_view uid (exit_state machine.new result)) }
+        ensures runs { (d : Documents) (uid : List ℕ) (roots : Contents) → IsPolicyOf d.policy self.now → AreGiven d roots uid
+            → machine.old ≡ start_state self.now.image roots → RunAgrees (exactly self.now.image) d n (exit_view uid (exit_state machine.new result)) }
     {
         starts_stand();
-        let machine = ran(self.alloc, &self.program, table, n)?;
-        has_exited(&machine)?;
-        Ok(machine)
+        machine.run(n)?;
+        has_exited(machine)?;
+        Ok(())
     }
 }
 
@@ -169,20 +196,6 @@ fn starts_stand()
     starts_are_tables();
     values_are_as_said();
     states_are_kept();
-}
-
-/// The machine after a run of at most `n` steps.
-fn ran(
-    alloc: Global,
-    program: &Program,
-    table: Table,
-    n: u64,
-) -> Result<Machine<Table, Guest>, AllocError>
-    ensures { IfOk result (λ m. m ≡ state_after n (start_state program.now (held_contents table))) }
-{
-    let mut machine = Machine::<Table, Guest>::of_program(alloc, program.copy()?, table)?;
-    machine.run(n)?;
-    Ok(machine)
 }
 
 /// Checks that the policy's program has exited; else the error says why there is no verdict.
@@ -223,16 +236,21 @@ fn allows(outcome: Outcome) -> bool
     }
 }
 
-/// The decision on the request with this uid, from the verdict that the program left.
-fn decision_of_verdict(
+/// Why the verdict that the program left rejects the request, if it does.
+fn rejection_of_verdict(
     alloc: Global,
     policy: &Policy,
     machine: &Machine<Table, Guest>,
-    uid: &str,
-) -> Result<Decision, AllocError>
-    ensures { IfOk result (λ x. OfVerdict policy.now machine.now (λ v. decision_value x ≡ decision_from_verdict policy.now v uid.now)) }
+) -> Result<Option<Rejection>, AllocError>
+    ensures { IfOk result (λ said. OfVerdict policy.now machine.now (λ v. option_map rejection_view said ≡ rejection_of policy.now v)) }
 {
-    let rejection = rejection_left(alloc, policy, machine.memory(), machine.values())?;
+    rejection_left(alloc, policy, machine.memory(), machine.values())
+}
+
+/// The decision on the request with this uid.
+fn with_uid(alloc: Global, rejection: Option<Rejection>, uid: &str) -> Result<Decision, AllocError>
+    ensures { IfOk result (λ x. decision_value x ≡ record { rejection = option_map rejection_view rejection; uid = uid.now }) }
+{
     let uid = String::from_str(alloc, uid)?;
     Ok(Decision { rejection, uid })
 }

@@ -2,7 +2,7 @@
 ghost use Rattle.std.specs.Prelude.{◌≡◌, ◌≢◌, ◌++◌, ◌∷◌, [], ℕ, List, None, Err, IfOk, string_bytes};
 ghost use Rattle.value_table.specs.Held.{held_contents};
 ghost use Rattle.policy_glue.specs.OneImage.{OneImage};
-ghost use Rattle.admission.specs.Decisions.{decision_view};
+ghost use Rattle.admission.specs.Decisions.{said_view};
 ghost use Rattle.admission.specs.declared.run_error.RunError.TheVariants.{Memory};
 ghost use Rattle.gatekeeper_runner.specs.Tally.{AreTallied};
 ghost use Rattle.gatekeeper_runner.specs.Together.{gatekeeper_of, together_view, AreGates, AreValuesOf, DecidesAlone, DecideTogether, IsGateOf, PolicyFile};
@@ -12,6 +12,7 @@ use crate::named_gate::NamedGate;
 use crate::refused::Refused;
 use crate::tally::Tally;
 use admission::{Decision, RunError};
+use policy_glue::Rejection;
 use std::alloc::{AllocError, Global};
 use value_store::ValueStore;
 use value_table::{SharedDocuments, Table};
@@ -75,34 +76,34 @@ impl Gatekeeper {
             → AreValuesOf (gatekeeper_of policies self.now) review (held_contents table) (string_bytes uid)
             → DecideTogether OneImage (gatekeeper_of policies self.now) review (together_view r)) }
     {
-        let first = self.tally_of(others, &table, uid.as_str())?;
-        let decision = self.decision_by(last, table, uid.as_str());
-        let all = first.with(self.alloc, &last.label, decision)?;
+        let first = self.tally_of(others, &table)?;
+        let said = self.rejection_by(last, table);
+        let all = first.with(self.alloc, &last.label, said)?;
         Ok(all.ending(uid))
     }
 
     /// The results of these policies. Each program runs on a copy of the table, which shares the
     /// table's values.
-    fn tally_of(&self, gates: &[NamedGate], table: &Table, uid: &str) -> Result<Tally, AllocError>
-        ensures { IfOk result (λ tally. (policies asked : List PolicyFile) (review : List ℕ) → AreGates asked gates.now
-            → AreValuesOf (gatekeeper_of policies self.now) review (held_contents table.now) uid.now
+    fn tally_of(&self, gates: &[NamedGate], table: &Table) -> Result<Tally, AllocError>
+        ensures { IfOk result (λ tally. (policies asked : List PolicyFile) (review uid : List ℕ) → AreGates asked gates.now
+            → AreValuesOf (gatekeeper_of policies self.now) review (held_contents table.now) uid
             → AreTallied OneImage (gatekeeper_of policies self.now) review asked tally) }
     {
         let mut tally = Tally::new();
         for gate in gates {
-            let decision = self.decision_by(gate, table.copy()?, uid);
-            tally = tally.with(self.alloc, &gate.label, decision)?;
+            let said = self.rejection_by(gate, table.copy()?);
+            tally = tally.with(self.alloc, &gate.label, said)?;
         }
         Ok(tally)
     }
 
-    /// The decision of one policy on this review.
-    fn decision_by(&self, gate: &NamedGate, table: Table, uid: &str) -> Result<Decision, RunError>
-        ensures { (policies : List PolicyFile) (policy : PolicyFile) (review : List ℕ) → IsGateOf policy gate.now
-            → AreValuesOf (gatekeeper_of policies self.now) review (held_contents table) uid.now
-            → DecidesAlone OneImage (gatekeeper_of policies self.now) policy.document review (decision_view result) }
+    /// Why one policy rejects this review, if it does.
+    fn rejection_by(&self, gate: &NamedGate, table: Table) -> Result<Option<Rejection>, RunError>
+        ensures { (policies : List PolicyFile) (policy : PolicyFile) (review uid : List ℕ) → IsGateOf policy gate.now
+            → AreValuesOf (gatekeeper_of policies self.now) review (held_contents table) uid
+            → DecidesAlone OneImage (gatekeeper_of policies self.now) policy.document review (said_view uid result) }
     {
-        gate.gate.decision_on(table, uid, self.steps)
+        gate.gate.rejection_on(table, self.steps)
     }
 }
 

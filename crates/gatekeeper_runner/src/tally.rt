@@ -1,7 +1,7 @@
 //! Collects the results of the policies for one review.
-ghost use Rattle.std.specs.Prelude.{◌≡◌, option_map, IfOk, Err, Ok, Some, []};
+ghost use Rattle.std.specs.Prelude.{◌≡◌, ℕ, List, option_map, IfOk, Err, Ok, Some, []};
 ghost use Rattle.std.specs.Option.{option_or};
-ghost use Rattle.admission.specs.Decisions.{decision_value, decision_view};
+ghost use Rattle.admission.specs.Decisions.{said_view};
 ghost use Rattle.gatekeeper_runner.specs.Tally.{AddsResult, IsTallyOf, ending_of};
 ghost use Rattle.gatekeeper_runner.specs.Together.{label_view, refused_view, together_view};
 
@@ -33,7 +33,7 @@ impl Tally {
         }
     }
 
-    /// Adds the result of the policy with this label.
+    /// Adds the result of the policy with this label, whichever the uid of the request.
     ///
     /// # Errors
     ///
@@ -42,21 +42,25 @@ impl Tally {
         self,
         alloc: Global,
         label: &PolicyLabel,
-        decision: Result<Decision, RunError>,
+        said: Result<Option<Rejection>, RunError>,
     ) -> Result<Tally, AllocError>
-        ensures { IfOk result (AddsResult (label_view label.now) (decision_view decision) self) }
+        ensures { IfOk result (λ after. (uid : List ℕ) → AddsResult (label_view label.now) (said_view uid said) self after) }
     {
-        match decision {
-            Ok(decision) => self.with_decision(label, decision),
+        match said {
+            Ok(rejection) => self.with_decision(label, rejection),
             Err(error) => self.with_refusal(alloc, label, error),
         }
     }
 
-    fn with_decision(self, _label: &PolicyLabel, decision: Decision) -> Result<Tally, AllocError>
-        ensures { IfOk result (AddsResult (label_view _label.now) (Ok (decision_value decision)) self) }
+    fn with_decision(
+        self,
+        _label: &PolicyLabel,
+        rejection: Option<Rejection>,
+    ) -> Result<Tally, AllocError>
+        ensures { IfOk result (λ after. (uid : List ℕ) → AddsResult (label_view _label.now) (said_view uid (Ok rejection)) self after) }
     {
         Ok(Tally {
-            rejection: and_also(self.rejection, decision.rejection)?,
+            rejection: and_also(self.rejection, rejection)?,
             refused: self.refused,
         })
     }

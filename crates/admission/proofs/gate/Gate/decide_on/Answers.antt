@@ -5,12 +5,18 @@ use Rattle.admission.proofs.Decided.{answered, refused_so}
 use Rattle.admission.proofs.Results.{is_err}
 use Rattle.admission.proofs.gate.Gate.decide_on.Goals as goal
 
-pub returns-in_err-machine : goal.returns-in_err-machine
-returns-in_err-machine c =
-    rw (is_err c.from_residual.ensures.1)
+pub returns-in_err-machine-clause-reviews : goal.returns-in_err-machine-clause-reviews
+returns-in_err-machine-clause-reviews c = rw (is_err c.from_residual.ensures.1) (λ d of given. tt)
+
+pub returns-in_err-machine-clause-runs : goal.returns-in_err-machine-clause-runs
+returns-in_err-machine-clause-runs c = rw (is_err c.from_residual.ensures.1) (λ d of given. tt)
+
+pub returns-in_err-run : goal.returns-in_err-run
+returns-in_err-run c =
+    rw (is_err c.from_residual-in_err-run.ensures.1)
     (record {
-      reviews = λ d of given. c.in_err-machine.ensures.exits d c.args.uid.now of given;
-      runs = λ d of given. refused_so Exit Reply (exactly c.args.self.now.image) d c.args.n c.in_err-machine.field-0.0 (c.in_err-machine.ensures.runs d c.args.uid.now of given);
+      reviews = λ d of given. c.in_err-run.ensures.exits d c.args.uid.now _ of given c.in_ok-machine.ensures;
+      runs = λ d of given. refused_so Exit Reply (exactly c.args.self.now.image) d c.args.n c.in_err-run.field-0.0 (c.in_err-run.ensures.runs d c.args.uid.now _ of given c.in_ok-machine.ensures);
     })
 
 pub returns-in_err-reply-clause-reviews : goal.returns-in_err-reply-clause-reviews
@@ -21,10 +27,11 @@ returns-in_err-reply-clause-runs c = rw (is_err c.from_residual-in_err-reply.ens
 
 pub returns : goal.returns
 returns c =
-    let exits = rw (← c.self.view_is) at c.in_ok-machine.ensures.exits in
-    let runs = rw (← c.self.view_is) at c.in_ok-machine.ensures.runs in
+    let start = rw (← c.self.view_is) at c.in_ok-machine.ensures in
+    let exits = rw (← c.self.view_is) at c.in_ok-run.ensures.exits in
+    let runs = rw (← c.self.view_is) at c.in_ok-run.ensures.runs in
     rw (← c.self.view_is)
     (record {
-      reviews = λ d of given. answered _ _ _ _ (exits d c.args.uid.now of given) c.in_ok-reply.ensures;
-      runs = λ d of given. runs d c.args.uid.now of given;
+      reviews = λ d of given. answered _ _ _ _ (exits d c.args.uid.now _ of given start) c.in_ok-reply.ensures;
+      runs = λ d of given. runs d c.args.uid.now _ of given start;
     })

@@ -1,14 +1,15 @@
 -- Proofs of `gatekeeper::Gatekeeper::decision_with`: the result meets the contract.
 
-use Rattle.gatekeeper_runner.proofs.Prelude.{gatekeeper_of}
+use Rattle.gatekeeper_runner.proofs.Prelude.{gatekeeper_of, string_bytes}
 use Rattle.gatekeeper_runner.proofs.Gates.{all_decided, tallied_last}
 use Rattle.gatekeeper_runner.proofs.gatekeeper.Gatekeeper.decision_with.Goals as goal
 
 pub returns : goal.returns
 returns c policies review are given =
     let t = gatekeeper_of policies c.args.self.now in
+    let uid = string_bytes c.args.uid in
     all_decided t review _ c.args.uid _ _ given
     (tallied_last t review _ _ are _ _
-    (λ asked of. c.in_ok-first.ensures policies asked review of (rw (← c.as_str.ensures.value) at given)) _
-    (λ p of. c.decision_by-decision.ensures policies p review of (rw (← c.as_str-2.ensures.value) at given)) c.in_ok-all.ensures)
+    (λ asked of. c.in_ok-first.ensures policies asked review uid of given) _
+    (λ p of. c.rejection_by-said.ensures policies p review uid of given) (c.in_ok-all.ensures uid))
     c.ending.ensures

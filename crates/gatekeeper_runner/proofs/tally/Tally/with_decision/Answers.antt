@@ -5,7 +5,7 @@ use Rattle.gatekeeper_runner.proofs.Tallies.{adds_decision}
 use Rattle.gatekeeper_runner.proofs.tally.Tally.with_decision.Goals as goal
 
 pub returns : goal.returns
-returns c = record {
+returns c uid = record {
   no_memory = λ same. cc;
   adds = λ results policy of is. adds_decision results policy _ _ is _ c.in_ok-and_also.ensures refl;
 }
