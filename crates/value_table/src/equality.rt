@@ -37,8 +37,8 @@ const SEARCHES: u64 = 4;
 /// The number of items that these searches may look at.
 const LOOKS: u64 = 256;
 
-// No comparison fails for memory: capacity for the words of all cells is reserved, and hints and fingerprints
-// are optional.
+// No comparison fails for memory: capacity for the words of all cells is reserved, and fingerprints are
+// optional.
 impl Heap {
     /// Whether the values of two cells are deeply equal. Equal values are put into one class, so
     /// that they are not compared again.
@@ -54,14 +54,21 @@ impl Heap {
         ensures one { result ≡ true → AreOneClass self.new.same.items a b }
     {
         self.complete_words();
-        if are_told_apart(&self.cells, &self.backings, &mut self.fingerprints, a, b) {
+        if are_told_apart(
+            &self.cells,
+            &self.backings,
+            self.reads,
+            &mut self.fingerprints,
+            a,
+            b,
+        ) {
             return false;
         }
         walk::equal(
             &self.cells,
             &self.backings,
             &mut self.same,
-            &mut self.hints,
+            &mut self.reads,
             a,
             b,
         )
@@ -101,7 +108,7 @@ impl Heap {
             &self.cells,
             &self.backings,
             &mut self.same,
-            &mut self.hints,
+            &mut self.reads,
             &mut self.fingerprints,
             x,
             items,

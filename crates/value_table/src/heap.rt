@@ -12,10 +12,10 @@ use crate::cell::Cell;
 use crate::chunks::{Chunks, SPARE};
 use crate::content::Content;
 use crate::fingerprints::Fingerprints;
-use crate::hints::Hints;
 use crate::indexes::Indexes;
 use crate::lengths::int_length;
 use crate::sequence::Sequence;
+use crate::text_reads::TextReads;
 use std::alloc::{AllocError, Global};
 
 /// Values, each identified by the place of its cell. A value never changes.
@@ -28,8 +28,8 @@ pub(crate) struct Heap {
     pub(crate) same: Vec<u64>,
     /// Indexes of the items of lists. A copy starts without them.
     pub(crate) indexes: Indexes,
-    /// Places where compared texts differ. A copy starts without any.
-    pub(crate) hints: Hints,
+    /// What comparisons of texts have read. A copy starts anew.
+    pub(crate) reads: TextReads,
     /// Fingerprints of values. A copy starts without them.
     pub(crate) fingerprints: Fingerprints,
 }
@@ -46,7 +46,7 @@ impl Heap {
             backings: Backings::new(alloc)?,
             same: Vec::new(alloc),
             indexes: Indexes::new(alloc),
-            hints: Hints::new(alloc),
+            reads: TextReads::new(),
             fingerprints: Fingerprints::new(alloc),
         })
     }
@@ -70,7 +70,7 @@ impl Heap {
             backings: self.backings.copy()?,
             same: Vec::with_capacity(self.cells.alloc(), words)?,
             indexes: Indexes::new(self.cells.alloc()),
-            hints: Hints::new(self.cells.alloc()),
+            reads: TextReads::new(),
             fingerprints: Fingerprints::new(self.cells.alloc()),
         })
     }

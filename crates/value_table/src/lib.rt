@@ -17,7 +17,6 @@ mod fingerprints;
 mod found_members;
 mod gathering;
 mod heap;
-mod hints;
 mod index;
 mod indexes;
 mod items;
@@ -61,6 +60,7 @@ mod small;
 mod table;
 mod text;
 mod text_print;
+mod text_reads;
 mod texts;
 mod writing;
 

@@ -13,14 +13,17 @@ ghost use Rattle.value_table.specs.declared.backings.Backings.{Backings};
 use crate::backings::Backings;
 use crate::cell::Cell;
 use crate::content::Content;
+use crate::equality::alike::LONG;
 use crate::equality::walk::parts_of;
 use crate::fingerprints::{Fingerprints, add_words, fingerprint, kept};
 use crate::sequence::Sequence;
+use crate::text_reads::TextReads;
 
-/// Whether two values are seen to differ: by their cells, or by their fingerprints if they have parts. False says nothing.
+/// Whether two values are seen to differ: by their cells, or by their fingerprints. False says nothing.
 pub(crate) fn are_told_apart(
     cells: &Sequence<Cell>,
     backings: &Backings,
+    reads: TextReads,
     prints: &mut Fingerprints,
     a: u64,
     b: u64,
@@ -34,7 +37,7 @@ pub(crate) fn are_told_apart(
     if cells_differ(cells.at(a as usize), cells.at(b as usize)) {
         return true;
     }
-    parts_differ(cells, backings, prints, a, b)
+    differ_by_fingerprint(cells, backings, reads, prints, a, b)
 }
 
 /// Whether the values of two cells are seen to differ: in the lengths of their JSON texts, in their kinds, or as ints.
@@ -50,11 +53,12 @@ pub(crate) fn cells_differ(left: Cell, right: Cell) -> bool
     are_unlike(left.content, right.content)
 }
 
-/// Whether two values are seen to differ in their fingerprints: in those that are kept, or in any if the values have
-/// parts. False says nothing.
-pub(crate) fn parts_differ(
+/// Whether two values are seen to differ in their fingerprints: in those that are kept, or in any that are worth
+/// finding. False says nothing.
+pub(crate) fn differ_by_fingerprint(
     cells: &Sequence<Cell>,
     backings: &Backings,
+    reads: TextReads,
     prints: &mut Fingerprints,
     a: u64,
     b: u64,
@@ -68,14 +72,21 @@ pub(crate) fn parts_differ(
     if kept_differ(&prints.words, a, b) {
         return true;
     }
-    let left = cells.at(a as usize);
-    if parts_of(backings, left.content).is_empty() {
+    if !is_worth_finding(backings, reads, cells.at(a as usize).content) {
         return false;
     }
     if !add_words(&mut prints.words, cells.len()) {
         return false;
     }
     fingerprints_differ(cells, backings, prints, a, b)
+}
+
+// Whether the fingerprint of a value is worth finding: it has parts, or it is a long text and much was read of such.
+fn is_worth_finding(backings: &Backings, reads: TextReads, content: Content) -> bool {
+    match content {
+        Content::Text(part) => reads.are_many() && part.to.saturating_sub(part.from) >= LONG,
+        _ => !parts_of(backings, content).is_empty(),
+    }
 }
 
 // Whether the fingerprints of both values are kept and differ.

@@ -12,11 +12,11 @@ ghost use Rattle.value_table.specs.Index.{AreKnown};
 
 use crate::backings::Backings;
 use crate::cell::Cell;
-use crate::equality::apart::{cells_differ, parts_differ};
+use crate::equality::apart::{cells_differ, differ_by_fingerprint};
 use crate::equality::walk;
 use crate::fingerprints::Fingerprints;
-use crate::hints::Hints;
 use crate::sequence::Sequence;
+use crate::text_reads::TextReads;
 
 /// Whether one of the cells at `places` has a value equal to that of the cell at `x`.
 #[tactic(auto, using(crate::proofs::Walks::below_here))]
@@ -24,7 +24,7 @@ pub(crate) fn is_among(
     cells: &Sequence<Cell>,
     backings: &Backings,
     same: &mut [u64],
-    hints: &mut Hints,
+    reads: &mut TextReads,
     prints: &mut Fingerprints,
     x: u64,
     places: &[u32],
@@ -41,7 +41,7 @@ pub(crate) fn is_among(
         if cells_differ(sought, cells.at(place as usize)) {
             continue;
         }
-        if are_equal(cells, backings, same, hints, prints, x, place) {
+        if are_equal(cells, backings, same, reads, prints, x, place) {
             return true;
         }
     }
@@ -53,7 +53,7 @@ fn are_equal(
     cells: &Sequence<Cell>,
     backings: &Backings,
     same: &mut [u64],
-    hints: &mut Hints,
+    reads: &mut TextReads,
     prints: &mut Fingerprints,
     a: u64,
     b: u64,
@@ -64,8 +64,8 @@ fn are_equal(
     ensures prints { (vs : List Value) → AreMeanings backings.now vs cells.now → AreFingerprints backings.now.bytes vs prints.old → AreFingerprints backings.now.bytes vs prints.new }
     ensures answer { (vs : List Value) → AreKnown backings.now vs cells.now → AreSame vs same.old → AreFingerprints backings.now.bytes vs prints.old → AreSame vs same.new × (result ≡ equal (value_in vs a) (value_in vs b)) }
 {
-    if parts_differ(cells, backings, prints, a, b) {
+    if differ_by_fingerprint(cells, backings, *reads, prints, a, b) {
         return false;
     }
-    walk::equal(cells, backings, same, hints, a, b)
+    walk::equal(cells, backings, same, reads, a, b)
 }

@@ -4,8 +4,8 @@ use Rattle.value_table.proofs.Prelude.{sym}
 use Rattle.value_table.proofs.Comparisons.{answer_is}
 use Rattle.value_table.proofs.equality.member.are_equal.Goals as goal
 
-pub returns-then-parts_differ-clause-answer : goal.returns-then-parts_differ-clause-answer
-returns-then-parts_differ-clause-answer c = λ vs k s w. (s, sym (c.parts_differ.ensures.apart vs k w c.if-parts_differ.true))
+pub returns-then-differ_by_fingerprint-clause-answer : goal.returns-then-differ_by_fingerprint-clause-answer
+returns-then-differ_by_fingerprint-clause-answer c = λ vs k s w. (s, sym (c.differ_by_fingerprint.ensures.apart vs k w c.if-differ_by_fingerprint.true))
 
 pub returns-clause-answer : goal.returns-clause-answer
 returns-clause-answer c = λ vs k s w.

@@ -1,6 +1,6 @@
--- Proofs of `equality::apart::parts_differ`: more words change no fingerprint.
+-- Proofs of `equality::apart::differ_by_fingerprint`: more words change no fingerprint.
 
-use Rattle.value_table.proofs.equality.apart.parts_differ.Goals as goal
+use Rattle.value_table.proofs.equality.apart.differ_by_fingerprint.Goals as goal
 
 pub returns-clause-apart : goal.returns-clause-apart
 returns-clause-apart c = λ vs k w t.
