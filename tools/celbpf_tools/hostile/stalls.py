@@ -67,6 +67,20 @@ def stalls() -> Iterator[tuple]:
     yield from towers()
     yield from indexed()
     yield from few_searches()
+    yield "long texts at chosen places", *at_places((0, 1_346_269, 1_796_274, 2_246_279), 450_000)
+
+
+def at_places(places: tuple, length: int) -> tuple:
+    """Texts of one length that begin at these places among the bytes of all texts, each sought in many maps.
+
+    So the object is the first member of the request."""
+    texts = ["a" * (length - 4 + place) + "b" + "a" * (3 - place) for place in range(4)]
+    # the names of two members, and a last byte
+    gaps = [end - start - length - 5 for start, end in zip(places, places[1:])]
+    rules = [{"host": text, "x": "c" * gap} for text, gap in zip(texts, gaps)]
+    maps = [{"hosts": {"": 10_000 + place}} for place in range(21_320)]
+    new = {"spec": {"rules": [*rules, {"host": texts[3]}], "tls": [1, *maps]}}
+    return example("ingress-tls"), {**REVIEW, "request": {"object": new, "uid": "u"}}
 
 
 def in_short_lists(hosts: list, others: list) -> tuple:
