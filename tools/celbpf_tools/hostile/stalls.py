@@ -1,5 +1,6 @@
 """Documents that stalled a gatekeeper under policies of the examples."""
 
+import itertools
 import json
 import random
 from typing import Any, Iterator
@@ -68,6 +69,15 @@ def stalls() -> Iterator[tuple]:
     yield from indexed()
     yield from few_searches()
     yield "long texts at chosen places", *at_places((0, 1_346_269, 1_796_274, 2_246_279), 450_000)
+    yield "short keys in no order", *in_no_order(340_000)
+
+
+def in_no_order(count: int) -> tuple:
+    """A map whose keys, of three letters each, come in no order."""
+    signs = [chr(code) for code in range(33, 127) if chr(code) not in '"\\']
+    keys = ["".join(letters) for letters in itertools.product(signs, repeat=3)]
+    data = dict.fromkeys(random.Random(3).sample(keys, count), "")
+    return example("sizes"), review({"data": data})
 
 
 def at_places(places: tuple, length: int) -> tuple:
