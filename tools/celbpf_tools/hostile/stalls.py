@@ -69,15 +69,24 @@ def stalls() -> Iterator[tuple]:
     yield from indexed()
     yield from few_searches()
     yield "long texts at chosen places", *at_places((0, 1_346_269, 1_796_274, 2_246_279), 450_000)
-    yield "short keys in no order", *in_no_order(340_000)
+    yield "short keys in no order", example("sizes"), review({"data": in_no_order(380_000)})
+    yield "60 hosts beside keys in no order", *beside_keys(60, 5_000, 360_000)
 
 
-def in_no_order(count: int) -> tuple:
+def in_no_order(count: int) -> dict:
     """A map whose keys, of three letters each, come in no order."""
     signs = [chr(code) for code in range(33, 127) if chr(code) not in '"\\']
     keys = ["".join(letters) for letters in itertools.product(signs, repeat=3)]
-    data = dict.fromkeys(random.Random(3).sample(keys, count), "")
-    return example("sizes"), review({"data": data})
+    return dict.fromkeys(random.Random(3).sample(keys, count), 0)
+
+
+def beside_keys(hosts: int, maps: int, keys: int) -> tuple:
+    """Hosts of 512 letters that are each sought in small maps, beside keys in no order that no policy reads."""
+    rules = [{"host": "a" * 504 + f"{place:08x}"} for place in range(hosts)]
+    others = [{"hosts": {"": place}} for place in range(maps)]
+    policy, document = example("ingress-tls"), review({"spec": {"rules": rules, "tls": [0, *others]}})
+    document["request"]["x"] = in_no_order(keys)
+    return policy, document
 
 
 def at_places(places: tuple, length: int) -> tuple:
