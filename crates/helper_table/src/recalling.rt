@@ -25,8 +25,15 @@ use crate::searches::Searches;
 use guest_memory::{Fault, Regions};
 use value_store::{Shape, ValueStore};
 
-/// The least number of bytes of a long text that is sought among keys. It is compared with several.
+/// The number of keys above which a map is large.
+const MANY: u64 = 16;
+
+/// The least number of bytes of a long text that is sought among many keys. It is compared with several.
 const LONG: usize = 512;
+
+/// The least number of bytes of a long text that is sought among few keys. To compare a shorter one with them takes
+/// about as long as a look for its kept answer.
+const LONG_AMONG_FEW: usize = 2_048;
 
 /// The least number of bytes of a long text that is read once. To read a shorter one takes about as long as a look
 /// for its kept answer.
@@ -80,10 +87,11 @@ fn is_shorter<V: ValueStore>(table: &V, part: u64, text: u64) -> bool {
 
 /// Whether a long text is sought among keys, or a very long one among items.
 fn is_long_search<V: ValueStore>(table: &V, sought: u64, container: u64) -> bool {
-    match table.at(container) {
-        Some(Shape::Map(_)) => is_long(table, sought, LONG),
-        _ => is_long(table, sought, VERY_LONG),
-    }
+    let least = match table.at(container) {
+        Some(Shape::Map(count)) => { if count > MANY { LONG } else { LONG_AMONG_FEW } }
+        _ => VERY_LONG,
+    };
+    is_long(table, sought, least)
 }
 
 /// Whether a helper reads a long text of these operands. A comparison of two texts reads at most the length of the
@@ -101,7 +109,7 @@ fn reads_long<V: ValueStore>(
     match helper {
         Helper::Contains => is_shorter(table, b, a) && searches.is_long(table, a, b),
         Helper::Member => is_long_search(table, a, b),
-        Helper::Index => is_long(table, b, LONG),
+        Helper::Index => is_long_search(table, b, a),
         Helper::Size | Helper::Equal => is_long(table, a, VERY_LONG),
         _ => is_long(table, b, VERY_LONG),
     }
