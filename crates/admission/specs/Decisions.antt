@@ -23,7 +23,7 @@ abbrev pub decision_view : Result CodeDecision RunError → Result Decision RunE
 decision_view (Ok x) = Ok (decision_value x)
 decision_view (Err e) = Err e
 
--- a result of the code without the uid, which is this
+-- a result of the code that has no uid, as the decision on a request with this uid
 abbrev pub said_view : List ℕ → Result (Option CodeRejection) RunError → Result Decision RunError
 said_view uid (Ok said) = Ok (record { rejection = option_map rejection_view said; uid = uid })
 said_view uid (Err e) = Err e

@@ -129,7 +129,8 @@ impl Gate {
         Ok(with_uid(self.alloc, rejection, uid)?)
     }
 
-    /// Why the policy rejects such a review, if it does: `decision_on` without the uid, whichever it is.
+    /// Why the policy rejects such a review, if it does. The uid does not count, so this is the decision of
+    /// `decision_on` for each uid.
     ///
     /// # Errors
     ///
@@ -172,8 +173,8 @@ impl Gate {
         Machine::of_program(self.alloc, self.program.copy()?, table)
     }
 
-    /// Runs such a machine up to the exit of the policy's program, for at most `n` steps. The machine stays in its place,
-    /// since it is large.
+    /// Runs a machine that took no step yet up to the exit of the policy's program, for at most `n` steps. The machine
+    /// stays in its place, since it is large.
     fn run(&self, machine: &mut Machine<Table, Guest>, n: u64) -> Result<(), RunError>
         ensures exits { (d : Documents) (uid : List ℕ) (roots : Contents) → IsPolicyOf d.policy self.now → AreGiven d roots uid
             → machine.old ≡ start_state self.now.image roots → Exits self.now.policy d n (exit_view uid (exit_state machine.new result)) }

@@ -47,8 +47,7 @@ impl Gatekeeper {
         }
     }
 
-    /// The decision on the review with this uid whose roots are in the table. The last policy's
-    /// program runs on the table itself.
+    /// The decision on the review with this uid whose roots are in the table.
     fn decision_on(
         &self,
         table: Table,
@@ -64,7 +63,8 @@ impl Gatekeeper {
         }
     }
 
-    /// The decision of these policies and a last one on such a review.
+    /// The decision of these policies and a last one on such a review. The last policy's program runs on the table
+    /// itself.
     fn decision_with(
         &self,
         others: &[NamedGate],

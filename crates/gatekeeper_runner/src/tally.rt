@@ -33,7 +33,7 @@ impl Tally {
         }
     }
 
-    /// Adds the result of the policy with this label, whichever the uid of the request.
+    /// Adds the result of the policy with this label. The uid of the request does not count here.
     ///
     /// # Errors
     ///

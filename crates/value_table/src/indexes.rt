@@ -10,7 +10,8 @@ use std::alloc::{AllocError, Global};
 /// The indexes of the backings that were searched.
 #[derive(Drop)]
 pub(crate) struct Indexes {
-    /// For each backing, one more than the slot of its index, or 0 if it was not searched yet.
+    /// For each backing, one more than the slot of its index, or 0 if it was not searched yet. A slot is checked before
+    /// its index is used, so only time depends on these.
     slots: Vec<u64>,
     /// For each slot, how often its backing was searched, up to enough.
     searches: Vec<u64>,

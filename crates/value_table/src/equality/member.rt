@@ -48,7 +48,7 @@ pub(crate) fn is_among(
     false
 }
 
-// Whether the values of two cells are equal. They are compared if their fingerprints are the same.
+// Whether the values of two cells are equal. They are compared unless their fingerprints are seen to differ.
 fn are_equal(
     cells: &Sequence<Cell>,
     backings: &Backings,
