@@ -38,4 +38,6 @@ pub mod ReviewTables
 pub mod Pools
 pub mod MemberTexts
 mod Membered
+mod FirstBytes
+mod Inserted
 mod Mixed

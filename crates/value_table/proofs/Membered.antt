@@ -11,7 +11,7 @@ use Rattle.std.specs.List.{insert, remove}
 use Rattle.std.specs.List.Sorted.{IsStrictlySortedBy}
 use Rattle.std.specs.Map.{keys_of, lookup, remove_entry}
 use Rattle.value_table.specs.Reading.{PlacedEntry}
-use Rattle.value_table.specs.Members.{str_cmp, AboveFirst, AnswersAt, IsHere, BelongsHere, found_entries}
+use Rattle.value_table.specs.Members.{str_cmp, AboveFirst, AnswersAt, IsHere, BelongsHere}
 use Rattle.value_table.specs.declared.placed.Placed.{Placed}
 
 abbrev pub Key : Type 0
@@ -243,19 +243,6 @@ put_next (e ∷ es) zero d s l = refl
 put_next (e ∷ es) (suc i) d s l =
     let x = get_or es i d in
     put_step x.0 x.1 e (take i es) Greater (over x.0 e.0 (less_at e.0 es i d (omega arith) s.0)) ∙ ap (λ xs. e ∷ xs) (put_next es i d s.1 (omega arith))
-
--- an empty tree
-pub none_many : (few es : List PlacedEntry) → es ≡ [] → found_entries few es ≡ few
-none_many few [] h = refl
-none_many few (e ∷ es) h = absurd (omega (arith, ap length h))
-
--- one more of the few members is in the tree
-pub fill_turn : (es us xs ys : List PlacedEntry) (i : ℕ) (d : PlacedEntry) → us ≡ es → IsStrictlySortedBy str_cmp (keys_of us) → i < length us → xs ≡ take i es
-    → ys ≡ insert_entry str_cmp xs (get_or us i d).0 (get_or us i d).1 → ys ≡ take (i + 1) es
-fill_turn es us xs ys i d e s l f g =
-    let next : suc i ≡ i + 1 = omega arith in
-    let x = get_or us i d in
-    g ∙ ap (λ zs. insert_entry str_cmp zs x.0 x.1) (f ∙ ap (λ zs. take i zs) (sym e)) ∙ put_next us i d s l ∙ ap₂ (λ n zs. take n zs) next e
 
 -- ---- the members in turn
 

@@ -1,10 +1,11 @@
 -- The members that are read of an object, by their keys.
-use Rattle.std.specs.Prelude.{◌≡◌, ◌<◌, ◌≤◌, ℕ, zero, suc, List, [], ◌∷◌, length, Result, Ok, Err}
+use Rattle.std.specs.Prelude.{◌≡◌, ◌<◌, ◌≤◌, ◌+◌, ◌*◌, ℕ, zero, suc, List, [], ◌∷◌, length, slice_index, Result, Ok, Err}
 use Rattle.std.specs.declared.cmp.Ordering.{Ordering}
 use Rattle.std.specs.declared.cmp.Ordering.TheVariants.{Less, Equal, Greater}
 use Rattle.std.specs.Ordering.{nat_cmp}
 use Rattle.std.specs.Cmp.Lexicographic.{slice_cmp}
 use Rattle.std.specs.Borrow.{Bor}
+use Rattle.std.specs.BTreeMap.{insert_entry}
 use Rattle.value_table.specs.Reading.{PlacedEntry}
 
 -- what clauses see of the members that were read
@@ -18,6 +19,27 @@ str_cmp x y = slice_cmp nat_cmp x.now y.now
 -- the order of a key and another
 abbrev pub key_at : List ℕ → Bor (List ℕ) → Ordering
 key_at key k = slice_cmp nat_cmp key k.now
+
+-- ---- the first bytes of a key
+
+-- n followed by the first k bytes, as digits in base 256; a shorter text is filled up with zeros
+abbrev pub continued : ℕ → ℕ → List ℕ → ℕ
+continued n zero bs = n
+continued n (suc k) [] = continued (n * 256) k []
+continued n (suc k) (b ∷ bs) = continued (n * 256 + b) k bs
+
+-- the first eight bytes as a number, the first byte highest
+abbrev pub first_bytes : List ℕ → ℕ
+first_bytes bs = continued 0 8 bs
+
+-- each is a byte
+abbrev pub AreBytes : List ℕ → Type 0
+AreBytes bs = (i : ℕ) → slice_index bs i < 256
+
+-- what is known of a key that is kept with its first eight bytes as a number
+pub record IsMemberKey (first : ℕ) (bs : List ℕ) : Type 0 where
+  pub number : first ≡ first_bytes bs
+  pub bytes : AreBytes bs
 
 -- ---- the place of a key
 
@@ -50,9 +72,9 @@ abbrev pub PlaceIs : (Bor (List ℕ) → Ordering) → List PlacedEntry → Resu
 PlaceIs compare es (Ok i) = IsHere compare es i
 PlaceIs compare es (Err i) = BelongsHere compare es i
 
--- ---- few or many members
+-- ---- members one after another
 
--- the members of a tree, or the few members if the tree is empty
-abbrev pub found_entries : List PlacedEntry → List PlacedEntry → List PlacedEntry
-found_entries few [] = few
-found_entries few (e ∷ es) = e ∷ es
+-- the entries after these members are put in turn; a key that is there gets the new value
+abbrev pub inserted : List PlacedEntry → List PlacedEntry → List PlacedEntry
+inserted es [] = es
+inserted es (m ∷ ms) = inserted (insert_entry str_cmp es m.0 m.1) ms

@@ -2,31 +2,32 @@
 
 ghost use Rattle.std.specs.Prelude.{◌≡◌, [], OnOk, IfOk};
 ghost use Rattle.std.specs.BTreeMap.{insert_entry};
-ghost use Rattle.value_table.specs.Members.{found_entries, str_cmp};
+ghost use Rattle.value_table.specs.Members.{inserted, str_cmp};
 
+use crate::found_member::FoundMember;
 use crate::members::Members;
 use crate::placed::Placed;
 use std::alloc::{AllocError, Global};
-use std::collections::BTreeMap;
 use std::marker::Model;
 
-/// The number of members above which a tree holds them.
+/// The number of members above which they are sorted at the end.
 const FEW: usize = 32;
 
-/// The members so far, by their keys. Most objects have few members, and a vector holds them. A tree
-/// holds more, so that the time to read an object is not quadratic.
+/// The members so far, by their keys. Most objects have few members, which are kept in order. Of more members none is
+/// kept in order: they are sorted at the end, so that the time to read an object is not quadratic.
 #[derive(Drop)]
 pub(crate) struct FoundMembers<'a> {
     few: Members<'a>,
-    many: BTreeMap<&'a str, Option<Placed>>,
+    /// The members that were read after the few ones.
+    many: Vec<FoundMember<'a>>,
 }
 
 impl<'a> Model for FoundMembers<'a> {
-    ghost use Rattle.value_table.specs.Members.{ReadMembers, found_entries};
+    ghost use Rattle.value_table.specs.Members.{ReadMembers, inserted};
 
     ghost Value = { ReadMembers };
 
-    ghost view = { λ m. record { entries = found_entries m.few.entries m.many.entries } };
+    ghost view = { λ m. record { entries = inserted m.few.entries m.many.items } };
 }
 
 impl<'a> FoundMembers<'a> {
@@ -36,7 +37,7 @@ impl<'a> FoundMembers<'a> {
     {
         FoundMembers {
             few: Members::new(alloc),
-            many: BTreeMap::new(alloc),
+            many: Vec::new(alloc),
         }
     }
 
@@ -47,34 +48,35 @@ impl<'a> FoundMembers<'a> {
         if self.many.is_empty() && self.few.entries().len() < FEW {
             return self.few.insert(key, value);
         }
-        fill(&self.few, &mut self.many)?;
-        drop(self.many.insert(key, value)?);
+        move_few(&mut self.few, &mut self.many)?;
+        self.many.push(FoundMember::new(key, value))?;
         Ok(())
     }
 
     /// The members in the order of their keys.
-    pub(crate) fn finish(self, alloc: Global) -> Result<Members<'a>, AllocError>
+    pub(crate) fn finish(self) -> Result<Members<'a>, AllocError>
         ensures { IfOk result (λ m. m.entries ≡ self.entry.entries) }
     {
-        if self.many.is_empty() {
-            return Ok(self.few);
+        let FoundMembers { mut few, mut many } = self;
+        if many.is_empty() {
+            return Ok(few);
         }
-        Members::of_map(alloc, &self.many)
+        many.sort()?;
+        few.insert_all(&many[..])?;
+        Ok(few)
     }
 }
 
-// Fills the tree with the few members, if it is empty.
-fn fill<'a>(
-    few: &Members<'a>,
-    many: &mut BTreeMap<&'a str, Option<Placed>>,
-) -> Result<(), AllocError>
-    ensures { OnOk result (many.new.entries ≡ found_entries few.now.entries many.old.entries) }
+// Moves the few members to the others, if there are none of these yet.
+fn move_few<'a>(few: &mut Members<'a>, many: &mut Vec<FoundMember<'a>>) -> Result<(), AllocError>
+    ensures { OnOk result (inserted few.new.entries many.new.items ≡ inserted few.old.entries many.old.items) }
 {
     if !many.is_empty() {
         return Ok(());
     }
     for (key, value) in few.entries() {
-        drop(many.insert(*key, *value)?);
+        many.push(FoundMember::new(*key, *value))?;
     }
+    few.clear();
     Ok(())
 }

@@ -14,6 +14,7 @@ mod documents;
 mod entries;
 mod equality;
 mod fingerprints;
+mod found_member;
 mod found_members;
 mod gathering;
 mod heap;

@@ -7,12 +7,12 @@ ghost use Rattle.std.specs.List.{insert};
 ghost use Rattle.std.specs.List.Sorted.{IsStrictlySortedBy};
 ghost use Rattle.std.specs.Map.{keys_of, lookup, remove_entry};
 ghost use Rattle.std.specs.Ordering.{nat_cmp};
-ghost use Rattle.value_table.specs.Members.{key_at, str_cmp, PlaceIs};
+ghost use Rattle.value_table.specs.Members.{inserted, key_at, str_cmp, PlaceIs};
 
+use crate::found_member::FoundMember;
 use crate::placed::Placed;
 use std::alloc::{AllocError, Global};
 use std::cmp::Ordering;
-use std::collections::BTreeMap;
 use std::marker::Model;
 
 /// The number of members for which a first member reserves capacity.
@@ -46,20 +46,6 @@ impl<'a> Members<'a> {
         }
     }
 
-    /// The members of a map.
-    pub(crate) fn of_map(
-        alloc: Global,
-        map: &BTreeMap<&'a str, Option<Placed>>,
-    ) -> Result<Members<'a>, AllocError>
-        ensures { IfOk result (λ m. m.entries ≡ map.now.entries) }
-    {
-        let mut entries = Vec::with_capacity(alloc, map.len())?;
-        for (key, value) in map {
-            entries.push((*key, *value))?;
-        }
-        Ok(Members { entries })
-    }
-
     /// The members in the order of their keys.
     pub(crate) fn entries(&self) -> &[(&'a str, Option<Placed>)]
         ensures value { result.now ≡ self.now.entries }
@@ -79,6 +65,26 @@ impl<'a> Members<'a> {
             }
             Err(at) => put(&mut self.entries, at, (key, value)),
         }
+    }
+
+    /// Adds these members one after another. If they stand in the order of their keys behind those that are there, each
+    /// is appended.
+    pub(crate) fn insert_all(&mut self, found: &[FoundMember<'a>]) -> Result<(), AllocError>
+        ensures { OnOk result (self.new.entries ≡ inserted self.old.entries found.now) }
+    {
+        self.entries.reserve_exact(found.len())?;
+        for member in found {
+            let (key, value) = member.entry();
+            self.insert(key, value)?;
+        }
+        Ok(())
+    }
+
+    /// Removes all members.
+    pub(crate) fn clear(&mut self)
+        ensures { self.new.entries ≡ [] }
+    {
+        self.entries.clear();
     }
 
     /// The value of a key.

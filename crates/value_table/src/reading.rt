@@ -144,7 +144,7 @@ pub(crate) fn gather_members<'a>(
         let member = read_value(heap, reader, kept, depth)?;
         found.insert(key, member)?;
     }
-    Ok(found.finish(heap.cells.alloc())?)
+    Ok(found.finish()?)
 }
 
 /// Adds a null.
