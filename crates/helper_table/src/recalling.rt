@@ -25,11 +25,11 @@ use crate::searches::Searches;
 use guest_memory::{Fault, Regions};
 use value_store::{Shape, ValueStore};
 
-/// The number of keys above which a map is large.
+/// The number of keys above which a map has many.
 const MANY: u64 = 16;
 
 /// The least number of bytes of a long text that is sought among many keys. It is compared with several.
-const LONG: usize = 512;
+const LONG_AMONG_MANY: usize = 512;
 
 /// The least number of bytes of a long text that is sought among few keys. To compare a shorter one with them takes
 /// about as long as a look for its kept answer.
@@ -85,10 +85,11 @@ fn is_shorter<V: ValueStore>(table: &V, part: u64, text: u64) -> bool {
     }
 }
 
-/// Whether a long text is sought among keys, or a very long one among items.
+/// Whether a text that is sought is long for its container: many keys, few keys, or items.
 fn is_long_search<V: ValueStore>(table: &V, sought: u64, container: u64) -> bool {
     let least = match table.at(container) {
-        Some(Shape::Map(count)) => { if count > MANY { LONG } else { LONG_AMONG_FEW } }
+        Some(Shape::Map(count)) if count > MANY => LONG_AMONG_MANY,
+        Some(Shape::Map(_)) => LONG_AMONG_FEW,
         _ => VERY_LONG,
     };
     is_long(table, sought, least)

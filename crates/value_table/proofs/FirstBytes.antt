@@ -5,15 +5,15 @@ use Rattle.std.specs.Ordering.{MatchOrdering, ordering_then}
 use Rattle.std.specs.Cmp.{ranked}
 use Rattle.value_table.specs.Members.{continued, first_bytes, AreBytes}
 
--- a lesser number is lesser still when each is continued by bytes
-below_still : (m n k : ℕ) (xs ys : List ℕ) → AreBytes xs → m < n → continued m k xs < continued n k ys
-below_still m n zero xs ys f l = l
-below_still m n (suc k) [] [] f l = below_still (m * 256) (n * 256) k [] [] f (omega (arith, l))
-below_still m n (suc k) [] (y ∷ ys) f l = below_still (m * 256) (n * 256 + y) k [] ys f (omega (arith, l))
-below_still m n (suc k) (x ∷ xs) [] f l = below_still (m * 256 + x) (n * 256) k xs [] (λ i. f (suc i)) (omega (arith, l, f 0))
-below_still m n (suc k) (x ∷ xs) (y ∷ ys) f l = below_still (m * 256 + x) (n * 256 + y) k xs ys (λ i. f (suc i)) (omega (arith, l, f 0))
+-- a lesser number stays less when both are continued
+stays_below : (m n k : ℕ) (xs ys : List ℕ) → AreBytes xs → m < n → continued m k xs < continued n k ys
+stays_below m n zero xs ys f l = l
+stays_below m n (suc k) [] [] f l = stays_below (m * 256) (n * 256) k [] [] f (omega (arith, l))
+stays_below m n (suc k) [] (y ∷ ys) f l = stays_below (m * 256) (n * 256 + y) k [] ys f (omega (arith, l))
+stays_below m n (suc k) (x ∷ xs) [] f l = stays_below (m * 256 + x) (n * 256) k xs [] (λ i. f (suc i)) (omega (arith, l, f 0))
+stays_below m n (suc k) (x ∷ xs) (y ∷ ys) f l = stays_below (m * 256 + x) (n * 256 + y) k xs ys (λ i. f (suc i)) (omega (arith, l, f 0))
 
--- zeros continue a number to the least one
+-- a number is least when zeros continue it
 zeros_least : (m n k : ℕ) (ys : List ℕ) → m ≤ n → continued m k [] ≤ continued n k ys
 zeros_least m n zero ys l = l
 zeros_least m n (suc k) [] l = zeros_least (m * 256) (n * 256) k [] (omega (arith, l))
@@ -40,9 +40,9 @@ by_first : (n k x y : ℕ) (xs ys : List ℕ) (o : Ordering) → MatchOrdering o
     → (continued (n * 256 + x) k xs ≡ continued (n * 256 + y) k ys → ⊥)
     → (x ≡ y → nat_cmp (continued (n * 256 + x) k xs) (continued (n * 256 + y) k ys) ≡ slice_cmp nat_cmp xs ys)
     → nat_cmp (continued (n * 256 + x) k xs) (continued (n * 256 + y) k ys) ≡ ordering_then o (slice_cmp nat_cmp xs ys)
-by_first n k x y xs ys Less m f g d h = let l = below_still (n * 256 + x) (n * 256 + y) k xs ys (λ i. f (suc i)) (omega (arith, m)) in less _ _ (omega (arith, l)) d
+by_first n k x y xs ys Less m f g d h = let l = stays_below (n * 256 + x) (n * 256 + y) k xs ys (λ i. f (suc i)) (omega (arith, m)) in less _ _ (omega (arith, l)) d
 by_first n k x y xs ys Equal m f g d h = h m
-by_first n k x y xs ys Greater m f g d h = let l = below_still (n * 256 + y) (n * 256 + x) k ys xs (λ i. g (suc i)) (omega (arith, m)) in greater _ _ (omega (arith, l)) d
+by_first n k x y xs ys Greater m f g d h = let l = stays_below (n * 256 + y) (n * 256 + x) k ys xs (λ i. g (suc i)) (omega (arith, m)) in greater _ _ (omega (arith, l)) d
 
 ordered : (n k : ℕ) (xs ys : List ℕ) → AreBytes xs → AreBytes ys → (continued n k xs ≡ continued n k ys → ⊥) → nat_cmp (continued n k xs) (continued n k ys) ≡ slice_cmp nat_cmp xs ys
 ordered n zero xs ys f g d = absurd (d refl)

@@ -23,7 +23,7 @@ inserted_more es (m ∷ ms) ns = inserted_more (put es m) ms ns
 
 -- ---- two members with different keys may be exchanged
 
--- how a member is put into entries of which the first compares so
+-- how a member is put in, by how its key compares with the first
 put_at : (e : PlacedEntry) (es : List PlacedEntry) (m : PlacedEntry) (o : Ordering) → str_cmp m.0 e.0 ≡ o → put (e ∷ es) m ≡ match_ordering o (m ∷ e ∷ es) ((e.0, m.1) ∷ es) (e ∷ put es m)
 put_at e es m o h = ap (λ r. match_ordering r (m ∷ e ∷ es) ((e.0, m.1) ∷ es) (e ∷ put es m)) h
 
@@ -187,9 +187,9 @@ same_inserted es (m ∷ ms) ns g =
     let rest : SameGroups ms (r.front ++ r.back) = without_first m ms r.front r.back (λ z. g z ∙ ap (filter (tie z)) r.is) r.lack in
     same_inserted (put es m) ms (r.front ++ r.back) rest ∙ sym (ap (inserted es) r.is ∙ put_first es r.front r.back m r.lack)
 
--- members that were sorted stably are inserted to the same entries
-pub sorted_inserted : (es ms ns : List PlacedEntry) → IsStable (λ x y. str_cmp x.0 y.0) ms ns → inserted es ns ≡ inserted es ms
-sorted_inserted es ms ns g = same_inserted es ns ms g
+-- a stable order gives the same entries
+pub stable_inserted : (es ms ns : List PlacedEntry) → IsStable (λ x y. str_cmp x.0 y.0) ms ns → inserted es ns ≡ inserted es ms
+stable_inserted es ms ns g = same_inserted es ns ms g
 
 -- ---- members in the order of their keys
 
@@ -209,9 +209,9 @@ all_inserted (m ∷ ms) s =
     let all : take (length (m ∷ ms)) (m ∷ ms) ≡ m ∷ ms = take_all (length (m ∷ ms)) (m ∷ ms) (omega arith) in
     sym (ap (inserted []) all) ∙ firsts_inserted (m ∷ ms) (length (m ∷ ms)) m s (omega arith) ∙ all
 
--- the members were moved to where none was
-pub moved : (es us ms ns cs : List PlacedEntry) (i : ℕ) → cs ≡ [] → us ≡ es → IsStrictlySortedBy str_cmp (keys_of us) → ns ≡ [] → ms ≡ take i us → length us ≤ i → inserted cs ms ≡ inserted es ns
-moved es us ms ns cs i c e s n f l = ap (λ xs. inserted xs ms) c ∙ ap (inserted []) (f ∙ take_all i us l) ∙ all_inserted us s ∙ e ∙ ap (inserted es) (sym n)
+-- members that were moved to no others give the same entries
+pub moved : (es us ms ns all : List PlacedEntry) → us ≡ es → IsStrictlySortedBy str_cmp (keys_of us) → ns ≡ [] → ms ≡ [] → all ≡ es → inserted ms all ≡ inserted es ns
+moved es us ms ns all e s n m f = ap (λ xs. inserted xs all) m ∙ ap (inserted []) (f ∙ sym e) ∙ all_inserted us s ∙ e ∙ ap (inserted es) (sym n)
 
 -- one more member after those that were inserted
 pub one_more : (es fs ms ns all : List PlacedEntry) (m : PlacedEntry) → inserted es ms ≡ inserted fs ns → all ≡ ms ++ m ∷ [] → inserted es all ≡ insert_entry str_cmp (inserted fs ns) m.0 m.1

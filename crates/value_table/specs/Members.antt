@@ -36,8 +36,8 @@ first_bytes bs = continued 0 8 bs
 abbrev pub AreBytes : List ℕ → Type 0
 AreBytes bs = (i : ℕ) → slice_index bs i < 256
 
--- what is known of a key that is kept with its first eight bytes as a number
-pub record IsMemberKey (first : ℕ) (bs : List ℕ) : Type 0 where
+-- first is the number of the first eight bytes of bs, which are bytes
+pub record HasFirstBytes (first : ℕ) (bs : List ℕ) : Type 0 where
   pub number : first ≡ first_bytes bs
   pub bytes : AreBytes bs
 
@@ -74,7 +74,7 @@ PlaceIs compare es (Err i) = BelongsHere compare es i
 
 -- ---- members one after another
 
--- the entries after these members are put in turn; a key that is there gets the new value
+-- these entries, with the members put in one after another; a key that is there stays, and takes the new value
 abbrev pub inserted : List PlacedEntry → List PlacedEntry → List PlacedEntry
 inserted es [] = es
 inserted es (m ∷ ms) = inserted (insert_entry str_cmp es m.0 m.1) ms

@@ -1,4 +1,4 @@
-//! A member that was read of an object.
+//! A member of an object, as it was read.
 
 ghost use Rattle.std.specs.Prelude.{◌≡◌, slice_index, nat_eq, Some, refl};
 ghost use Rattle.std.specs.Cmp.{on_equiv, on_total, on_po, on_per, partial_equiv_from_equiv};
@@ -10,8 +10,9 @@ use crate::placed::Placed;
 use std::cmp::Ordering;
 use std::marker::Model;
 
-/// A member, with the first eight bytes of its key as a number. Members are ordered by their keys. Most keys differ in
-/// these bytes, so that their texts, which are elsewhere in the document, are not read to order them.
+/// A member, with the first eight bytes of its key as a number. Members are ordered by their keys, and two are equal if
+/// their keys are, whatever their values. Most keys differ in these bytes; then their texts, which are elsewhere in the
+/// document, are not read.
 #[derive(Drop)]
 pub(crate) struct FoundMember<'a> {
     first: u64,
@@ -21,13 +22,13 @@ pub(crate) struct FoundMember<'a> {
 
 impl<'a> Model for FoundMember<'a> {
     ghost use Rattle.value_table.specs.Reading.{PlacedEntry};
-    ghost use Rattle.value_table.specs.Members.{IsMemberKey};
+    ghost use Rattle.value_table.specs.Members.{HasFirstBytes};
 
     ghost Value = { PlacedEntry };
 
     ghost view = { λ m. (m.key, m.value) };
 
-    ghost invariant = { λ m. IsMemberKey m.first m.key.now };
+    ghost invariant = { λ m. HasFirstBytes m.first m.key.now };
 }
 
 impl<'a> FoundMember<'a> {
@@ -63,7 +64,7 @@ fn first_bytes(text: &[u8]) -> u64
     ])
 }
 
-// The byte at a place, or zero behind the text.
+// The byte at a place, or zero past the end of the text.
 fn byte(text: &[u8], place: usize) -> u8
     ensures { result ≡ slice_index text.now place }
 {

@@ -1,4 +1,4 @@
-//! The members that were read so far of an object.
+//! The members of an object that were read so far.
 
 ghost use Rattle.std.specs.Prelude.{◌≡◌, [], OnOk, IfOk};
 ghost use Rattle.std.specs.BTreeMap.{insert_entry};
@@ -10,15 +10,16 @@ use crate::placed::Placed;
 use std::alloc::{AllocError, Global};
 use std::marker::Model;
 
-/// The number of members above which they are sorted at the end.
+/// The most members that are kept in order.
 const FEW: usize = 32;
 
-/// The members so far, by their keys. Most objects have few members, which are kept in order. Of more members none is
-/// kept in order: they are sorted at the end, so that the time to read an object is not quadratic.
+/// The members so far, by their keys. Most objects have few members, which are kept in order. More are appended, and
+/// sorted at the end, so that the time to read an object is not quadratic. Only time depends on `FEW`, and on whether
+/// they are sorted.
 #[derive(Drop)]
 pub(crate) struct FoundMembers<'a> {
     few: Members<'a>,
-    /// The members that were read after the few ones.
+    /// Empty as long as there are few members, else all of them: first the few ones, then the others as they were read.
     many: Vec<FoundMember<'a>>,
 }
 
@@ -45,10 +46,12 @@ impl<'a> FoundMembers<'a> {
     pub(crate) fn insert(&mut self, key: &'a str, value: Option<Placed>) -> Result<(), AllocError>
         ensures { OnOk result (self.new.entries ≡ insert_entry str_cmp self.old.entries key.entry value) }
     {
-        if self.many.is_empty() && self.few.entries().len() < FEW {
-            return self.few.insert(key, value);
+        if self.many.is_empty() {
+            if self.few.entries().len() < FEW {
+                return self.few.insert(key, value);
+            }
+            move_few(&mut self.few, &mut self.many)?;
         }
-        move_few(&mut self.few, &mut self.many)?;
         self.many.push(FoundMember::new(key, value))?;
         Ok(())
     }
@@ -67,13 +70,12 @@ impl<'a> FoundMembers<'a> {
     }
 }
 
-// Moves the few members to the others, if there are none of these yet.
+// Moves the few members to the many, of which there are none yet.
 fn move_few<'a>(few: &mut Members<'a>, many: &mut Vec<FoundMember<'a>>) -> Result<(), AllocError>
-    ensures { OnOk result (inserted few.new.entries many.new.items ≡ inserted few.old.entries many.old.items) }
+    requires { many.old.items ≡ [] }
+    ensures few { OnOk result (few.new.entries ≡ []) }
+    ensures many { OnOk result (many.new.items ≡ few.old.entries) }
 {
-    if !many.is_empty() {
-        return Ok(());
-    }
     for (key, value) in few.entries() {
         many.push(FoundMember::new(*key, *value))?;
     }
