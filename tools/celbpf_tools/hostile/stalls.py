@@ -70,13 +70,14 @@ def stalls() -> Iterator[tuple]:
     yield from few_searches()
     yield "long texts at chosen places", *at_places((0, 1_346_269, 1_796_274, 2_246_279), 450_000)
     yield "short keys in no order", example("sizes"), review({"data": in_no_order(380_000)})
+    yield "keys that begin alike, in no order", example("sizes"), review({"data": in_no_order(150_000, "commonprefix")})
     yield "60 hosts beside keys in no order", *beside_keys(60, 5_000, 360_000)
 
 
-def in_no_order(count: int) -> dict:
-    """A map whose keys, of three letters each, come in no order."""
+def in_no_order(count: int, start: str = "") -> dict:
+    """A map whose keys, of this start and three letters each, come in no order."""
     signs = [chr(code) for code in range(33, 127) if chr(code) not in '"\\']
-    keys = ["".join(letters) for letters in itertools.product(signs, repeat=3)]
+    keys = [start + "".join(letters) for letters in itertools.product(signs, repeat=3)]
     return dict.fromkeys(random.Random(3).sample(keys, count), 0)
 
 

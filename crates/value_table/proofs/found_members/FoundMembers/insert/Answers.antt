@@ -14,10 +14,10 @@ same_entries c =
     let few = c.self.inside.few.entries in
     let many = c.self.inside.many in
     elim c.if-is_empty.branch [
-        then-is_empty+else-entries-lt-FEW+in_ok-move_few w ↦
-            let none = nil_from_length many.items (sym many.ok.0 ∙ eqb-true many.len 0 (sym w.if-is_empty.ensures)) in
-            ap (λ s. inserted s.few.entries s.many.items) w.self-inside-is
-            ∙ moved few w.entries.result.now w.move_few.new.few.entries many.items w.move_few.new.many.items w.entries.ensures.value w.entries.ensures.ordered none w.in_ok-move_few.ensures.few w.in_ok-move_few.ensures.many
+      | then-is_empty+else-entries-lt-FEW+in_ok-move_few w ↦
+          let none = nil_from_length many.items (sym many.ok.0 ∙ eqb-true many.len 0 (sym w.if-is_empty.ensures)) in
+          ap (λ s. inserted s.few.entries s.many.items) w.self-inside-is
+          ∙ moved few w.entries.result.now w.move_few.new.few.entries many.items w.move_few.new.many.items w.entries.ensures.value w.entries.ensures.ordered none w.in_ok-move_few.ensures.few w.in_ok-move_few.ensures.many
       | else-is_empty w ↦ ap (λ s. inserted s.few.entries s.many.items) w.self-inside-is
     ]
 
