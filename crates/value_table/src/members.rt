@@ -55,6 +55,7 @@ impl<'a> Members<'a> {
     }
 
     /// Adds a member. If the key is there, its value is replaced.
+    #[inline(always)]
     pub(crate) fn insert(&mut self, key: &'a str, value: Option<Placed>) -> Result<(), AllocError>
         ensures { OnOk result (self.new.entries ≡ insert_entry str_cmp self.old.entries key.entry value) }
     {
