@@ -32,14 +32,14 @@ continued n (suc k) (b ∷ bs) = continued (n * 256 + b) k bs
 abbrev pub first_bytes : List ℕ → ℕ
 first_bytes bs = continued 0 8 bs
 
--- each is a byte
-abbrev pub AreBytes : List ℕ → Type 0
-AreBytes bs = (i : ℕ) → slice_index bs i < 256
+-- the bytes of a key are below 256
+abbrev pub AreKeyBytes : List ℕ → Type 0
+AreKeyBytes bs = (i : ℕ) → slice_index bs i < 256
 
 -- first is the number of the first eight bytes of bs, which are bytes
 pub record HasFirstBytes (first : ℕ) (bs : List ℕ) : Type 0 where
   pub number : first ≡ first_bytes bs
-  pub bytes : AreBytes bs
+  pub bytes : AreKeyBytes bs
 
 -- ---- the place of a key
 
