@@ -26,7 +26,8 @@ abbrev pub exit_state : State → Result (Unit {0}) RunError → Result State Ru
 exit_state s (Ok u) = Ok s
 exit_state s (Err e) = Err e
 
--- the program has exited, and its verdict region holds the verdict of this policy
+-- the verdict region holds the verdict of this policy, and the uid is that of the request; that the program has exited is
+-- said by `RunAgrees`
 pub record IsExit (p : Policy) (d : Documents) (exit : Exit) : Type 0 where
   pub case : Case d
   pub of_policy : case.policy.parsed ≡ p
@@ -35,7 +36,7 @@ pub record IsExit (p : Policy) (d : Documents) (exit : Exit) : Type 0 where
   pub layout : IsLayout p.failure_policy (decision case) exit.state.values.values exit.state.memory.verdict
   pub uid_is : exit.uid ≡ uid_in d.review
 
--- the program has exited, or why the review has no response
+-- the state holds the verdict, or why the review has no response
 abbrev pub Exits : Policy → Documents → ℕ → Result Exit RunError → Type 0
 Exits p d n (Ok exit) = IsExit p d exit
 Exits p d n (Err e) = HasNoResponse d n e
@@ -47,7 +48,7 @@ abbrev pub OfVerdict : Policy → State → (Verdict → Type 0) → Type 0
 OfVerdict p s holds = (v : Verdict) → IsMemory s.memory → length v.findings ≤ length p.validations
     → IsLayout p.failure_policy v s.values.values s.memory.verdict → holds v
 
--- the program has exited, or its status says why there is no verdict; nothing is allocated
+-- the program has exited, or its status says why there is no verdict; the error is never that memory is out
 abbrev pub HasExited : Status → Result (Unit {0}) RunError → Type 0
 HasExited s (Ok u) = (w : ℕ) × (s ≡ Exited w)
 HasExited s (Err OutOfSteps) = s ≡ Running

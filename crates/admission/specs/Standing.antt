@@ -41,9 +41,9 @@ pub record RunHasStatus (chosen : Images) (d : Documents) (n : ℕ) (due : Verdi
   pub is_chosen : chosen run.case.policy.parsed run.image
   pub status : (stands run n).status ≡ due (decision run.case)
 
--- The run of the program matches the result. If there is a reply or a decision, the program has exited with the
--- outcome's word. `OutOfSteps`: it still runs after n steps. `OverLimit`: F8 stopped it. Otherwise it was not run, or
--- an allocation failed.
+-- The run of the program matches the result. If there is a reply, a decision or findings, the program has exited
+-- with the outcome's word. `OutOfSteps`: it still runs after n steps. `OverLimit`: F8 stopped it within n steps.
+-- Otherwise it was not run, or an allocation failed.
 abbrev pub RunAgrees : {A : Type 0} → Images → Documents → ℕ → Result A RunError → Type 0
 RunAgrees chosen d n (Ok a) = RunHasStatus chosen d n (λ v. Exited (outcome_word v.outcome))
 RunAgrees chosen d n (Err (PolicyRefused e)) = Unit {0}

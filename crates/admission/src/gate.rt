@@ -83,7 +83,7 @@ impl Gate {
     ///
     /// The first refusal. `ReviewRefused` and `NamespaceOrParamsRefused` refuse the documents, as
     /// in `roots`. `OutOfSteps` exactly if the program still runs after `n` steps, `OverLimit`
-    /// exactly if it was stopped earlier. `Memory` if an allocation fails, which says nothing about
+    /// exactly if it was stopped by then. `Memory` if an allocation fails, which says nothing about
     /// the rest.
     pub fn decide(
         &self,
@@ -129,8 +129,7 @@ impl Gate {
         Ok(with_uid(self.alloc, rejection, uid)?)
     }
 
-    /// Why the policy rejects such a review, if it does. The uid does not count, so this is the decision of
-    /// `decision_on` for each uid.
+    /// Why the policy rejects such a review, if it does: the rejection in the decision of `decision_on`.
     ///
     /// # Errors
     ///
@@ -144,11 +143,11 @@ impl Gate {
         Ok(rejection_of_verdict(self.alloc, &self.policy, &machine)?)
     }
 
-    /// What the policy finds against a review whose roots are in the table.
+    /// What the policy finds against such a review.
     ///
     /// # Errors
     ///
-    /// The first refusal, as `decide_on` has them.
+    /// The first refusal, as in `decide_on`.
     pub fn findings_on(&self, table: Table, n: u64) -> Result<Vec<Finding>, RunError>
         ensures finds { (d : Documents) → IsPolicyOf d.policy self.now → values_given d ≡ Ok (held_contents table) → FindsReview d n (findings_view result) }
         ensures runs { (d : Documents) → IsPolicyOf d.policy self.now → values_given d ≡ Ok (held_contents table) → RunAgrees (exactly self.now.image) d n (findings_view result) }
@@ -166,15 +165,15 @@ impl Gate {
         conditions_name_namespace(self.alloc, &self.policy)
     }
 
-    /// A machine that runs the policy's program on the roots in the table.
+    /// A machine before its first step, with the policy's program and the roots in the table.
     fn machine(&self, table: Table) -> Result<Machine<Table, Guest>, AllocError>
         ensures { IfOk result (λ m. m ≡ start_state self.now.image (held_contents table)) }
     {
         Machine::of_program(self.alloc, self.program.copy()?, table)
     }
 
-    /// Runs a machine that took no step yet up to the exit of the policy's program, for at most `n` steps. The machine
-    /// stays in its place, since it is large.
+    /// Runs a machine before its first step until the policy's program exits, for at most `n` steps.
+    /// The machine is borrowed, since it is large.
     fn run(&self, machine: &mut Machine<Table, Guest>, n: u64) -> Result<(), RunError>
         ensures exits { (d : Documents) (uid : List ℕ) (roots : Contents) → IsPolicyOf d.policy self.now → AreGiven d roots uid
             → machine.old ≡ start_state self.now.image roots → Exits self.now.policy d n (exit_view uid (exit_state machine.new result)) }
@@ -200,7 +199,7 @@ fn starts_stand()
 }
 
 /// Checks that the policy's program has exited; else the error says why there is no verdict.
-/// Nothing is allocated.
+/// The error is never `Memory`.
 fn has_exited(machine: &Machine<Table, Guest>) -> Result<(), RunError>
     ensures { HasExited machine.now.status result }
 {
@@ -248,7 +247,7 @@ fn rejection_of_verdict(
     rejection_left(alloc, policy, machine.memory(), machine.values())
 }
 
-/// The decision on the request with this uid.
+/// The decision with this rejection on the request with this uid.
 fn with_uid(alloc: Global, rejection: Option<Rejection>, uid: &str) -> Result<Decision, AllocError>
     ensures { IfOk result (λ x. decision_value x ≡ record { rejection = option_map rejection_view rejection; uid = uid.now }) }
 {
@@ -256,7 +255,7 @@ fn with_uid(alloc: Global, rejection: Option<Rejection>, uid: &str) -> Result<De
     Ok(Decision { rejection, uid })
 }
 
-/// What is found by the verdict that the policy's program has left.
+/// What the verdict that the program left finds against the request.
 fn findings_of_verdict(
     alloc: Global,
     policy: &Policy,

@@ -17,7 +17,7 @@ use std::alloc::Global;
 ///
 /// The first refusal. `PolicyRefused` refuses the policy; `ReviewRefused` and
 /// `NamespaceOrParamsRefused` refuse the documents, as in `roots`. `OutOfSteps` exactly if the
-/// program still runs after `n` steps, `OverLimit` exactly if it was stopped earlier. `Memory` if
+/// program still runs after `n` steps, `OverLimit` exactly if it was stopped by then. `Memory` if
 /// an allocation fails, which says nothing about the rest.
 pub fn review(
     alloc: Global,
