@@ -50,7 +50,7 @@ home_of : (f : ℕ → ℕ) (h r : ℕ) (d : Entry) (es : List Entry) → last_a
 home_of f h r d [] u = absurd (omega (arith, u))
 home_of f h r d (e ∷ es) u = has_home f h r e d es (last_at f h es) (nat_eq (f e.0) h) refl u (λ j g. home_of f h j d es g)
 
--- behind it no entry has a number with this home
+-- after it no entry has a number with this home
 no_number : (f : ℕ → ℕ) (m n : ℕ) (b : Bool) → nat_eq (f m) (f n) ≡ false → nat_eq m n ≡ b → b ≡ false
 no_number f m n true g h = absurd (true≢false (sym (eq-eqb _ _ (ap f (eqb-true m n h))) ∙ g))
 no_number f m n false g h = refl

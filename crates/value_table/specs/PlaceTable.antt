@@ -3,7 +3,7 @@ use Rattle.std.specs.Prelude.{◌≡◌, ◌<◌, ◌/◌, ◌%◌, ◌^◌, ℕ
 use Rattle.std.specs.Option.{option_or}
 use Rattle.value_table.specs.Fingerprints.{mixed}
 
--- where a number belongs among so many homes
+-- the home of a number, where there are `size` homes
 abbrev pub home : ℕ → ℕ → ℕ → ℕ
 home salt size n = mixed salt n / 2 ^ 64 % size
 
@@ -27,4 +27,5 @@ pub record IsPlaceTable (salt : ℕ) (heads befores : List ℕ) (es : List (ℕ 
   pub room : 0 < length es → 0 < length heads
   pub pairs : length befores ≡ length es
   pub last : (h : ℕ) → h < length heads → slice_index heads h ≡ last_at (home salt (length heads)) h es
-  pub before : (i : ℕ) → i < length es → slice_index befores i ≡ last_at (home salt (length heads)) (home salt (length heads) (get_or es i (0, 0)).0) (take i es)
+  pub before : (i : ℕ) → i < length es
+      → slice_index befores i ≡ last_at (home salt (length heads)) (home salt (length heads) (get_or es i (0, 0)).0) (take i es)

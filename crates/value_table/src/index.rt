@@ -29,7 +29,7 @@ impl Index {
         }
     }
 
-    /// Makes so many homes for fingerprints, with this salt, if there is none yet.
+    /// Makes this number of homes for fingerprints, with this salt, if there is no fingerprint yet.
     pub(crate) fn prepare(&mut self, homes: usize, salt: u128) -> Result<(), AllocError>
         ensures backing { self.new.backing ≡ self.old.backing }
         ensures index { (ns : List ℕ) → IsIndex self.old ns → IsIndex self.new ns }

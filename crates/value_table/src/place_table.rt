@@ -49,8 +49,8 @@ impl PlaceTable {
         }
     }
 
-    /// Makes so many homes, if there is no number yet, and mixes this salt into all numbers. There is room for about as
-    /// many numbers.
+    /// Makes this number of homes, if there is no number yet, and mixes this salt into all numbers. Room for about as many
+    /// numbers is made too.
     pub(crate) fn prepare(&mut self, homes: usize, salt: u128) -> Result<(), AllocError>
         ensures { self.new ≡ self.old }
     {
@@ -102,7 +102,7 @@ impl PlaceTable {
     }
 }
 
-// Where a number belongs among so many homes.
+// The home of a number, where there are `size` homes.
 fn home(salt: u128, size: usize, number: u128) -> usize
     requires { 0 < size }
     ensures value { result ≡ home salt size number }
