@@ -40,5 +40,4 @@ pub mod MemberTexts
 mod Membered
 mod FirstBytes
 mod Inserted
-mod Tabled
 mod Mixed

@@ -1,6 +1,7 @@
 -- The index of a backing.
 use Rattle.std.specs.Prelude.{◌≡◌, ℕ, ◌≤◌, ◌<◌, suc, List, [], ◌∷◌, map, length, take, Option, Some, None, option_map, slice_get, slice_index_or, if◌then◌else◌, nat_eq}
-use Rattle.value_table.specs.PlaceTable.{placed}
+use Rattle.std.specs.BTreeMap.{get}
+use Rattle.std.specs.Ordering.{nat_cmp}
 use Rattle.value_store.specs.Value.{Value}
 use Rattle.value_table.specs.Meaning.{value_in}
 use Rattle.value_table.specs.Lengths.{json_length}
@@ -22,7 +23,7 @@ fingerprints_at vs rs = map (λ r. fingerprint (value_in vs r)) rs
 -- the index gives the first place of each of these numbers, and of no other
 pub record IsIndex (x : Index) (ns : List ℕ) : Type 0 where
   pub count : x.count ≡ length ns
-  pub least : (n : ℕ) → placed n x.places ≡ first_place n ns
+  pub least : (n : ℕ) → get nat_cmp x.places n ≡ first_place n ns
 
 -- the index covers the first of these items
 pub record Covers (vs : List Value) (rs : List ℕ) (x : Index) : Type 0 where

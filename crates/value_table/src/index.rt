@@ -2,8 +2,8 @@
 
 ghost use Rattle.std.specs.Prelude.{◌≡◌, ◌<◌, ◌+◌, ◌^◌, [], ◌∷◌, ◌++◌, ℕ, List, OnOk, OnErr};
 
-use crate::place_table::PlaceTable;
 use std::alloc::{AllocError, Global};
+use std::collections::BTreeMap;
 
 /// For each fingerprint among those of the first items of a backing, the first place with it.
 #[derive(Drop)]
@@ -11,7 +11,7 @@ pub(crate) struct Index {
     pub(crate) backing: u64,
     /// The number of items that the index covers.
     pub(crate) count: u64,
-    pub(crate) places: PlaceTable,
+    pub(crate) places: BTreeMap<u128, u64>,
 }
 
 impl Index {
@@ -25,16 +25,8 @@ impl Index {
         Index {
             backing,
             count: 0,
-            places: PlaceTable::new(alloc),
+            places: BTreeMap::new(alloc),
         }
-    }
-
-    /// Makes this number of homes for fingerprints, with this salt, if there is no fingerprint yet.
-    pub(crate) fn prepare(&mut self, homes: usize, salt: u128) -> Result<(), AllocError>
-        ensures backing { self.new.backing ≡ self.old.backing }
-        ensures index { (ns : List ℕ) → IsIndex self.old ns → IsIndex self.new ns }
-    {
-        self.places.prepare(homes, salt)
     }
 
     /// Adds the fingerprint of the next item.
@@ -45,7 +37,7 @@ impl Index {
         ensures ok { (ns : List ℕ) → IsIndex self.old ns → OnOk result (IsIndex self.new (ns ++ number ∷ [])) }
         ensures err { (ns : List ℕ) → IsIndex self.old ns → OnErr result (IsIndex self.new ns) }
     {
-        if self.places.get(number).is_some() {
+        if self.places.contains_key(&number) {
             self.count += 1;
             return Ok(());
         }
@@ -58,6 +50,6 @@ impl Index {
     pub(crate) fn place(&self, number: u128) -> Option<u64>
         ensures { (ns : List ℕ) → IsIndex self.now ns → result ≡ first_place number ns }
     {
-        self.places.get(number)
+        self.places.get(&number).copied()
     }
 }

@@ -35,7 +35,6 @@ mod other_roots;
 mod part;
 mod pending_list;
 mod pending_map;
-mod place_table;
 mod placed;
 mod placed_request;
 mod places;
