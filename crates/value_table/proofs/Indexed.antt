@@ -1,12 +1,15 @@
 -- What an index contains, and which items a search may skip.
-use Rattle.std.specs.BTreeMap.{get}
+use Rattle.value_table.specs.Index.{known_place}
+use Rattle.value_table.specs.PlaceTable.{last_place}
+use Rattle.std.specs.Option.{option_or}
 use Rattle.std.specs.Prelude.{nat_eq}
-use Rattle.value_table.proofs.Prelude.{◌≡◌, ℕ, zero, suc, ◌+◌, ◌<◌, ◌≤◌, min, List, [], ◌∷◌, ◌++◌, length, get_or, take, drop, set, Bool, true, false, cond, Option, Some, None, slice_get, refl, sym, ap, ◌∙◌, subst, arith, true≢false, length-append, if◌then◌else◌, option_map, is_some, is_eq, nat_cmp, ◌||◌, slice_index_or, drop-nil, false_from_ne_true, nat_tests, take_more, take-append-le, map-append, get_or-take, length-take-le, slice_get-get_or, Value, equal, has_item, equal_decides, value_in, refs_at, items_at, grown, json_length, fingerprint, AreBelow, IsRange, AreCells, ExtendsBackings, first_place, fingerprints_at, IsIndex, Covers, IsIndexed, AreIndexes, AreKnown, Cell, Index, Backings}
+use Rattle.value_table.proofs.Prelude.{◌≡◌, ℕ, zero, suc, ◌+◌, ◌<◌, ◌≤◌, min, List, [], ◌∷◌, ◌++◌, length, get_or, take, drop, set, Bool, true, false, cond, Option, Some, None, slice_get, refl, sym, ap, ◌∙◌, subst, arith, true≢false, length-append, if◌then◌else◌, option_map, is_some, ◌||◌, slice_index_or, drop-nil, false_from_ne_true, nat_tests, take_more, take-append-le, map-append, get_or-take, length-take-le, slice_get-get_or, Value, equal, has_item, equal_decides, value_in, refs_at, items_at, grown, json_length, fingerprint, AreBelow, IsRange, AreCells, ExtendsBackings, first_place, fingerprints_at, IsIndex, Covers, IsIndexed, AreIndexes, AreKnown, Cell, Index, Backings}
 use Rattle.value_table.proofs.Growth.{mapped_stable, found, count_values}
 use Rattle.value_table.proofs.Walks.{below_here}
 use Rattle.value_table.proofs.Listed.{below_le, below_append}
 use Rattle.value_table.proofs.Comparisons.{meanings_of}
 use Rattle.value_table.proofs.Mixed.{same_numbers}
+use Rattle.value_table.proofs.Tabled.{or_step, last_place_more}
 
 -- ---- the first place of a number
 
@@ -36,38 +39,40 @@ one_more o b n h = grind arith
 eq_same : (k n : ℕ) → nat_eq k n ≡ true → k ≡ n
 eq_same k n e = grind (arith, nat_tests)
 
-cmp_eq : (k n : ℕ) → is_eq (nat_cmp k n) ≡ nat_eq k n
-cmp_eq k n = grind (arith, nat_tests)
-
 same_number : (k n : ℕ) (ns : List ℕ) (b : Bool) → is_some (first_place k ns) ≡ b → nat_eq k n ≡ true → is_some (first_place n ns) ≡ b
 same_number k n ns b e same = ap (λ u. is_some (first_place u ns)) (sym (eq_same k n same)) ∙ e
 
 counted : (ns : List ℕ) (k : ℕ) (m n : ℕ) → m ≡ length ns → n ≡ m + 1 → n ≡ length (ns ++ k ∷ [])
 counted ns k m n e f = let l = length-append ns (k ∷ []) in omega (arith, e, f, l)
 
-pub index_kept : (old new : Index) (ns : List ℕ) (k : ℕ) → IsIndex old ns → new.count ≡ old.count + 1 → new.places ≡ old.places
-    → is_some (get nat_cmp old.places k) ≡ true → IsIndex new (ns ++ k ∷ [])
+pub index_kept : (old new : Index) (ns : List ℕ) (k : ℕ) → IsIndex old ns → new.count ≡ old.count + 1 → ((n : ℕ) → known_place new n ≡ known_place old n)
+    → is_some (known_place old k) ≡ true → IsIndex new (ns ++ k ∷ [])
 index_kept old new ns k h n same there = record {
   count = counted ns k old.count new.count h.count n;
   least = λ m.
-      ap (λ ps. get nat_cmp ps m) same ∙ h.least m
+      same m ∙ h.least m
       ∙ sym (none_more (first_place m ns) (nat_eq k m) (length ns) (same_number k m ns true (ap is_some (sym (h.least k)) ∙ there)))
       ∙ sym (place_push m k ns);
 }
 
 pub index_more : (old new : Index) (ns : List ℕ) (k : ℕ) → IsIndex old ns → new.count ≡ old.count + 1
-    → ((m : ℕ) → get nat_cmp new.places m ≡ cond (is_eq (nat_cmp k m)) (Some old.count) (get nat_cmp old.places m))
-    → is_some (get nat_cmp old.places k) ≡ false
+    → ((n : ℕ) → known_place new n ≡ (if nat_eq k n then Some old.count else known_place old n))
+    → is_some (known_place old k) ≡ false
     → IsIndex new (ns ++ k ∷ [])
 index_more old new ns k h n put none = record {
   count = counted ns k old.count new.count h.count n;
   least = λ m.
-      put m ∙ ap (λ b. cond b (Some old.count) (get nat_cmp old.places m)) (cmp_eq k m)
+      put m
       ∙ ap (λ o. cond (nat_eq k m) (Some old.count) o) (h.least m)
       ∙ one_more (first_place m ns) (nat_eq k m) old.count (same_number k m ns false (ap is_some (sym (h.least k)) ∙ none))
       ∙ ap (λ c. or_else (first_place m ns) (place_if (nat_eq k m) c)) h.count
       ∙ sym (place_push m k ns);
 }
+
+-- one more number in the table
+pub in_table : (k p n : ℕ) (es fs : List (ℕ × ℕ)) (o : Option ℕ) → fs ≡ es ++ (k, p) ∷ []
+    → option_or (last_place n fs) o ≡ (if nat_eq k n then Some p else option_or (last_place n es) o)
+in_table k p n es fs o e = ap (λ xs. option_or (last_place n xs) o) e ∙ ap (λ l. option_or l o) (last_place_more n es (k, p)) ∙ or_step (nat_eq k n) p (last_place n es) o
 
 -- ---- the items before the first one with the same fingerprint
 

@@ -50,14 +50,14 @@ before_at e a b es f g =
     ap (λ l. put l b) (put_at e es a Less f) ∙ put_at a (e ∷ es) b Greater above ∙ ap (λ l. a ∷ l) (put_at e es b Equal g)
     ∙ sym (ap (λ l. put l a) (put_at e es b Equal g) ∙ put_at (e.0, b.1) es a Less f)
 
--- the first before the first entry, the second behind it
+-- the first before the first entry, the second after it
 before_behind : (e a b : PlacedEntry) (es : List PlacedEntry) → str_cmp a.0 e.0 ≡ Less → str_cmp b.0 e.0 ≡ Greater → put (put (e ∷ es) a) b ≡ put (put (e ∷ es) b) a
 before_behind e a b es f g =
     let above : str_cmp b.0 a.0 ≡ Greater = turned_over a.0 b.0 Less (str_cmp_total.trans a.0 e.0 b.0 f (turned_over b.0 e.0 Greater g)) in
     ap (λ l. put l b) (put_at e es a Less f) ∙ put_at a (e ∷ es) b Greater above ∙ ap (λ l. a ∷ l) (put_at e es b Greater g)
     ∙ sym (ap (λ l. put l a) (put_at e es b Greater g) ∙ put_at e (put es b) a Less f)
 
--- the first at the first entry, the second behind it
+-- the first at the first entry, the second after it
 at_behind : (e a b : PlacedEntry) (es : List PlacedEntry) → str_cmp a.0 e.0 ≡ Equal → str_cmp b.0 e.0 ≡ Greater → put (put (e ∷ es) a) b ≡ put (put (e ∷ es) b) a
 at_behind e a b es f g =
     ap (λ l. put l b) (put_at e es a Equal f) ∙ put_at (e.0, a.1) es b Greater g

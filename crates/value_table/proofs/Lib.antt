@@ -40,4 +40,5 @@ pub mod MemberTexts
 mod Membered
 mod FirstBytes
 mod Inserted
+mod Tabled
 mod Mixed

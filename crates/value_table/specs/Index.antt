@@ -1,7 +1,9 @@
 -- The index of a backing.
 use Rattle.std.specs.Prelude.{◌≡◌, ℕ, ◌≤◌, ◌<◌, suc, List, [], ◌∷◌, map, length, take, Option, Some, None, option_map, slice_get, slice_index_or, if◌then◌else◌, nat_eq}
 use Rattle.std.specs.BTreeMap.{get}
+use Rattle.std.specs.Option.{option_or}
 use Rattle.std.specs.Ordering.{nat_cmp}
+use Rattle.value_table.specs.PlaceTable.{last_place}
 use Rattle.value_store.specs.Value.{Value}
 use Rattle.value_table.specs.Meaning.{value_in}
 use Rattle.value_table.specs.Lengths.{json_length}
@@ -20,10 +22,14 @@ first_place n (m ∷ ms) = if nat_eq m n then Some 0 else option_map suc (first_
 abbrev pub fingerprints_at : List Value → List ℕ → List ℕ
 fingerprints_at vs rs = map (λ r. fingerprint (value_in vs r)) rs
 
--- the index gives the first place of each of these numbers, and of no other
+-- the place that an index has for a number, in its table or among the later ones
+abbrev pub known_place : Index → ℕ → Option ℕ
+known_place x n = option_or (last_place n x.places) (get nat_cmp x.later n)
+
+-- the index counts these numbers, and gives the first place of each, and of no other
 pub record IsIndex (x : Index) (ns : List ℕ) : Type 0 where
   pub count : x.count ≡ length ns
-  pub least : (n : ℕ) → get nat_cmp x.places n ≡ first_place n ns
+  pub least : (n : ℕ) → known_place x n ≡ first_place n ns
 
 -- the index covers the first of these items
 pub record Covers (vs : List Value) (rs : List ℕ) (x : Index) : Type 0 where

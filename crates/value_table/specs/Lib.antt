@@ -11,6 +11,7 @@ pub mod Heads
 pub mod Equality
 pub mod Fingerprints
 pub mod Search
+pub mod PlaceTable
 pub mod Index
 pub mod Entries
 pub mod Growing

@@ -153,7 +153,7 @@ pub(crate) fn bytes_mixed(start: u128, bytes: &[u8]) -> u128
 // Mixes the next number of a sequence into that of the earlier ones. Both count more than once, so that the step cannot
 // be undone.
 #[inline(always)]
-fn mixed(number: u128, next: u128) -> u128
+pub(crate) fn mixed(number: u128, next: u128) -> u128
     ensures { result ≡ mixed number next }
 {
     let first = turned(number.wrapping_add(next));

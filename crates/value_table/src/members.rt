@@ -68,7 +68,7 @@ impl<'a> Members<'a> {
         }
     }
 
-    /// Adds these members one after another. If they stand in the order of their keys, behind those that are there, none
+    /// Adds these members one after another. If they are in the order of their keys, after those that are there, none
     /// of these is moved.
     pub(crate) fn insert_all(&mut self, found: &[FoundMember<'a>]) -> Result<(), AllocError>
         ensures { OnOk result (self.new.entries ≡ inserted self.old.entries found.now) }

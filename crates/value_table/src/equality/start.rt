@@ -4,7 +4,7 @@ ghost use Rattle.std.specs.Prelude.{◌≡◌, ◌≤◌, ◌<◌, ◌+◌, ◌^
 ghost use Rattle.value_store.specs.Value.{Value};
 ghost use Rattle.value_store.specs.Lookup.{has_item};
 ghost use Rattle.value_table.specs.Meaning.{value_in, items_at, refs_at};
-ghost use Rattle.value_table.specs.Heaps.{IsRange};
+ghost use Rattle.value_table.specs.Heaps.{AreBelow, IsRange};
 ghost use Rattle.value_table.specs.Equality.{AreContents, AreMeanings};
 ghost use Rattle.value_table.specs.Fingerprints.{fingerprint, AreFingerprints};
 ghost use Rattle.value_table.specs.Index.{AreKnown, IsIndex, IsIndexed, AreIndexes};
@@ -12,7 +12,7 @@ ghost use Rattle.value_table.specs.Index.{AreKnown, IsIndex, IsIndexed, AreIndex
 use crate::backings::Backings;
 use crate::cell::Cell;
 use crate::equality::walk::first;
-use crate::fingerprints::{Fingerprints, fingerprint};
+use crate::fingerprints::{Fingerprints, fingerprint, mixed};
 use crate::index::Index;
 use crate::sequence::Sequence;
 use std::alloc::AllocError;
@@ -36,6 +36,48 @@ fn enter_item(
 {
     let number = fingerprint(cells, backings, prints, item as u64);
     index.add(number)
+}
+
+// The fingerprints of all items, mixed into one number.
+fn salt_of(
+    cells: &Sequence<Cell>,
+    backings: &Backings,
+    prints: &mut Fingerprints,
+    items: &[u32],
+) -> u128
+    requires contents { AreContents backings.now cells.now }
+    requires below { AreBelow (length cells.now) items.now }
+    ensures { (vs : List Value) → AreMeanings backings.now vs cells.now → AreFingerprints backings.now.bytes vs prints.old → AreFingerprints backings.now.bytes vs prints.new }
+{
+    let mut salt = 0;
+    for item in items {
+        salt = mixed(salt, fingerprint(cells, backings, prints, *item as u64));
+    }
+    salt
+}
+
+// Empties an index, and builds its table for the first items of a backing, if the index covers none yet, or if more of
+// them came after the table was built than before. `enter` adds them then.
+fn build_table(
+    index: &mut Index,
+    cells: &Sequence<Cell>,
+    backings: &Backings,
+    prints: &mut Fingerprints,
+    range: (u64, u64),
+) -> Result<(), AllocError>
+    requires contents { AreContents backings.now cells.now }
+    requires range { IsRange backings.now.lists (length cells.now) range.0 range.1 }
+    ensures prints { (vs : List Value) → AreMeanings backings.now vs cells.now → AreFingerprints backings.now.bytes vs prints.old → AreFingerprints backings.now.bytes vs prints.new }
+    ensures backing { index.new.backing ≡ index.old.backing }
+    ensures built { OnOk result (range.1 ≤ index.new.built + index.new.built) }
+    ensures indexed { (vs : List Value) → IsIndexed backings.now vs index.old → IsIndexed backings.now vs index.new }
+{
+    if index.count > 0 && range.1.saturating_sub(index.built) <= index.built {
+        return Ok(());
+    }
+    let items = first(backings, range.0, range.1);
+    let salt = salt_of(cells, backings, prints, items);
+    index.rebuild(items.len(), salt)
 }
 
 // Adds the first items of a backing to its index.
@@ -82,6 +124,7 @@ fn start_in(
         → IfOk result (λ s. has_item (value_in vs x) (items_at vs (refs_at backings.now.lists range.0 range.1))
         ≡ has_item (value_in vs x) (items_at vs (drop s (refs_at backings.now.lists range.0 range.1)))) }
 {
+    build_table(index, cells, backings, prints, range)?;
     enter(index, cells, backings, prints, range)?;
     let number = fingerprint(cells, backings, prints, x);
     match index.place(number) {
