@@ -135,6 +135,16 @@ def indexed() -> Iterator[tuple]:
     yield "ints beside their texts", added, additions(ints, [*map(str, ints), *[0] * 600_000])
     shuffled = random.Random(5).sample(range(200_000, 630_000), 430_000)
     yield "ints in no order in a list", added, additions(shuffled[:215_000], shuffled[215_000:])
+    yield "lists of ints, each sought in the other", example("reserved-labels"), labels_in_each_other(228_000)
+
+
+def labels_in_each_other(count: int) -> dict:
+    """The labels of both objects are lists of the same ints, in no order."""
+    numbers = random.Random(1)
+    ints = numbers.choices(range(1_000_000), k=count)
+    document = review(*({"metadata": {"labels": labels}} for labels in (ints, numbers.sample(ints, count))))
+    document["request"]["userInfo"]["groups"] = []
+    return document
 
 
 def few_searches() -> Iterator[tuple]:
@@ -143,6 +153,8 @@ def few_searches() -> Iterator[tuple]:
     yield "texts of 520 bytes in short lists", *in_short_lists(hosts, others)
     volumes = [[*range(10), "", [], {}, -1, -2, -3]] * 72_000
     yield "eight searches of each list", example("volume-types"), review({"spec": {"volumes": volumes}})
+    volumes = [[(place + at) % 3 for at in range(32)] for place in range(47_000)]
+    yield "eight searches of lists of three ints", example("volume-types"), review({"spec": {"volumes": volumes}})
     lists = [[[30 + (7 * place + at) % 70] for at in range(32)] for place in range(17_000)]
     yield "16 searches of each list", *in_lists([[10 + place] for place in range(16)], lists)
     yield "texts in lists of 64 ints", *in_lists([""] * 16, [[at % 10 for at in range(64)]] * 20_900)

@@ -1,5 +1,6 @@
 """Documents that stalled a gatekeeper under policies that were written for them."""
 
+import random
 from typing import Iterator
 
 from .rows import letters, policy, review
@@ -18,6 +19,9 @@ def written() -> Iterator[tuple]:
     many = [[0] * 9 + [1_000 + place] for place in range(1_000)]
     made = policy("object.l.all(i, [object.a + [i]].all(l, object.k.all(x, !(x in l))))")
     yield "15 searches of a list made in each turn", made, review({"l": [*range(1_600)], "a": many, "k": few})
+    grown = policy("object.k.all(x, !(x in object.l)) && [object.l + object.m].all(l, object.k.all(x, !(x in l)))")
+    ints = random.Random(2).sample(range(1_000_000), 440_000)
+    yield "a list that grows after its first searches", grown, review({"l": ints[:4], "m": ints[4:], "k": [*range(-2_000, 0)]})
     parts = policy("object.b.all(y, object.a.all(x, !x.contains(y)))")
     long_parts = ["r" * 36 + f"{place:04}" for place in range(20)]
     yield "parts of 40 bytes in 55,000 texts", parts, review({"a": numbered(55_000, 50), "b": long_parts[:4]})
