@@ -40,7 +40,7 @@ is_allowed _ = false
 abbrev pub answer_of : Policy → Verdict → List ℕ → Reply
 answer_of p v uid = record { response = response_of p v uid; allowed = is_allowed v.outcome }
 
--- a result of the code
+-- the code's result, in the terms of this file
 abbrev pub answer_view : Result CodeReply RunError → Result Reply RunError
 answer_view (Ok reply) = Ok (record { response = reply.response.items; allowed = reply.allowed })
 answer_view (Err e) = Err e
@@ -135,8 +135,8 @@ pub record IsStopped (d : Documents) : Type 0 where
   pub case : Case d
   pub beyond : IsBeyond case
 
--- why a review has no response: the first refusal of the policy, of the documents, or of the program's run, which may
--- take n steps; or an allocation failed
+-- an error that a review may have: the first refusal of the policy, of the documents, or of the program's run, which may
+-- take n steps; or that an allocation failed, at any time
 abbrev pub HasNoResponse : Documents → ℕ → RunError → Type 0
 HasNoResponse d n (PolicyRefused e) = IsPolicyRefused d.policy e
 HasNoResponse d n ReviewRefused = IsPolicy d.policy × (values_given d ≡ Err ReviewRefused)
@@ -145,7 +145,7 @@ HasNoResponse d n OutOfSteps = IsUnended d n
 HasNoResponse d n OverLimit = IsStopped d
 HasNoResponse d n Memory = Unit {0}
 
--- the reply to a review, or why it has none
+-- a reply or an error that a review may have; `RunAgrees` states when it is one of the run
 abbrev pub Reviews : Documents → ℕ → Result Reply RunError → Type 0
 Reviews d n (Ok answer) = IsAnswered d answer
 Reviews d n (Err e) = HasNoResponse d n e

@@ -14,16 +14,16 @@ pub record Decision : Type 0 where
   pub rejection : Option Rejection
   pub uid : List ℕ
 
--- a decision of the code
+-- the code's decision
 abbrev pub decision_value : CodeDecision → Decision
 decision_value x = record { rejection = option_map rejection_view x.rejection; uid = string_bytes x.uid }
 
--- a result of the code
+-- the code's result
 abbrev pub decision_view : Result CodeDecision RunError → Result Decision RunError
 decision_view (Ok x) = Ok (decision_value x)
 decision_view (Err e) = Err e
 
--- a result of the code that has no uid, as the decision on a request with this uid
+-- the code's result without a uid, as the decision on a request with this uid
 abbrev pub said_view : List ℕ → Result (Option CodeRejection) RunError → Result Decision RunError
 said_view uid (Ok said) = Ok (record { rejection = option_map rejection_view said; uid = uid })
 said_view uid (Err e) = Err e
@@ -37,7 +37,7 @@ pub record IsDecisionOf (d : Documents) (said : Decision) : Type 0 where
   pub case : Case d
   pub decision_is : said ≡ decision_from_verdict case.policy.parsed (decision case) (uid_in d.review)
 
--- the policy's decision on a review, or why the review has no response
+-- the policy's decision on a review, or an error that the review may have
 abbrev pub DecidesReview : Documents → ℕ → Result Decision RunError → Type 0
 DecidesReview d n (Ok said) = IsDecisionOf d said
 DecidesReview d n (Err e) = HasNoResponse d n e

@@ -16,7 +16,7 @@ pub record Exit : Type 0 where
   pub state : State
   pub uid : List ℕ
 
--- a result of the code, with the uid
+-- the code's result, with the uid
 abbrev pub exit_view : List ℕ → Result State RunError → Result Exit RunError
 exit_view uid (Ok state) = Ok (record { state = state; uid = uid })
 exit_view uid (Err e) = Err e
@@ -36,14 +36,14 @@ pub record IsExit (p : Policy) (d : Documents) (exit : Exit) : Type 0 where
   pub layout : IsLayout p.failure_policy (decision case) exit.state.values.values exit.state.memory.verdict
   pub uid_is : exit.uid ≡ uid_in d.review
 
--- the state holds the verdict, or why the review has no response
+-- the state holds the verdict, or an error that the review may have
 abbrev pub Exits : Policy → Documents → ℕ → Result Exit RunError → Type 0
 Exits p d n (Ok exit) = IsExit p d exit
 Exits p d n (Err e) = HasNoResponse d n e
 
 -- ---- parts
 
--- `holds` is true of the verdict in the verdict region
+-- `holds` is true of each verdict that the verdict region encodes
 abbrev pub OfVerdict : Policy → State → (Verdict → Type 0) → Type 0
 OfVerdict p s holds = (v : Verdict) → IsMemory s.memory → length v.findings ≤ length p.validations
     → IsLayout p.failure_policy v s.values.values s.memory.verdict → holds v

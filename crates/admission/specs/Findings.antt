@@ -6,7 +6,7 @@ use Rattle.policy_glue.specs.declared.finding.Finding.{Finding as CodeFinding}
 use Rattle.admission.specs.Deciding.{Case, Documents, HasNoResponse, decision}
 use Rattle.admission.specs.declared.run_error.RunError.{RunError}
 
--- the findings that the code answers
+-- the findings that the code returns
 abbrev pub findings_view : Result (Vec CodeFinding Global) RunError → Result (List PolicyFinding) RunError
 findings_view (Ok found) = Ok (map finding_view found.items)
 findings_view (Err e) = Err e
@@ -16,7 +16,7 @@ pub record AreFindingsOf (d : Documents) (found : List PolicyFinding) : Type 0 w
   pub case : Case d
   pub findings_are : found ≡ findings_of case.policy.parsed (decision case)
 
--- what the policy finds against a review, or why the review has no response
+-- what the policy finds against a review, or an error that the review may have
 abbrev pub FindsReview : Documents → ℕ → Result (List PolicyFinding) RunError → Type 0
 FindsReview d n (Ok found) = AreFindingsOf d found
 FindsReview d n (Err e) = HasNoResponse d n e

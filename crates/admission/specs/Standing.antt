@@ -35,7 +35,7 @@ pub record PolicyRun (d : Documents) : Type 0 where
 abbrev pub stands : {d : Documents} → PolicyRun d → ℕ → State
 stands run n = state_after n (start_state run.image (started run.case.roots))
 
--- after n steps a chosen image has the status that is due for the policy's decision
+-- after n steps the program of a chosen image has the status that is due for the policy's decision
 pub record RunHasStatus (chosen : Images) (d : Documents) (n : ℕ) (due : Verdict → Status) : Type 0 where
   pub run : PolicyRun d
   pub is_chosen : chosen run.case.policy.parsed run.image
@@ -43,7 +43,7 @@ pub record RunHasStatus (chosen : Images) (d : Documents) (n : ℕ) (due : Verdi
 
 -- The run of the program matches the result. If there is a reply, a decision or findings, the program has exited
 -- with the outcome's word. `OutOfSteps`: it still runs after n steps. `OverLimit`: F8 stopped it within n steps.
--- Otherwise it was not run, or an allocation failed.
+-- Of the other errors nothing is stated here.
 abbrev pub RunAgrees : {A : Type 0} → Images → Documents → ℕ → Result A RunError → Type 0
 RunAgrees chosen d n (Ok a) = RunHasStatus chosen d n (λ v. Exited (outcome_word v.outcome))
 RunAgrees chosen d n (Err (PolicyRefused e)) = Unit {0}

@@ -60,8 +60,8 @@ impl Gate {
     ///
     /// # Errors
     ///
-    /// Why the document gives no image. `Memory` if an allocation fails, which says nothing about
-    /// the policy.
+    /// `Unread` if the document is not a policy, `Uncompiled` if the policy is not compiled. `Memory`
+    /// if an allocation fails; the contract always allows it, and then states nothing of the policy.
     pub fn new(alloc: Global, policy: &[u8]) -> Result<Gate, PolicyRefusal>
         ensures compiles { CompilesDocument policy.now result }
         // Pins the image: there is only one that meets this clause.
@@ -76,15 +76,16 @@ impl Gate {
         })
     }
 
-    /// The response to a review (AdmissionReview, `admission.k8s.io/v1`) under the policy. Its
-    /// program may take at most `n` steps. Roots without a document are null.
+    /// The response to a review (AdmissionReview, `admission.k8s.io/v1`) under the policy, whose
+    /// program takes at most `n` steps. The root `namespaceObject` is null without a namespace,
+    /// `params` without params.
     ///
     /// # Errors
     ///
     /// The first refusal. `ReviewRefused` and `NamespaceOrParamsRefused` refuse the documents, as
-    /// in `roots`. `OutOfSteps` exactly if the program still runs after `n` steps, `OverLimit`
-    /// exactly if it was stopped by then. `Memory` if an allocation fails, which says nothing about
-    /// the rest.
+    /// in `roots`. `OutOfSteps`: the program still runs after `n` steps. `OverLimit`: it was stopped
+    /// within `n` steps. `Memory` if an allocation fails; the contract always allows it, and then
+    /// states nothing of the review.
     pub fn decide(
         &self,
         review: &[u8],
@@ -92,17 +93,17 @@ impl Gate {
         params: Option<&[u8]>,
         n: u64,
     ) -> Result<Reply, RunError>
-        // The same result as `review`, for each policy document that gives this gate.
+        // A result that the review may have, for each policy document that gives this gate.
         ensures reviews { (policy : List ℕ) → IsPolicyOf policy self.now → Reviews (documents_lent policy review.now namespace.entry params.entry) n (answer_view result) }
-        // The run of its image matches the result.
+        // The program's run agrees. Only one result meets both clauses, apart from `Memory`.
         ensures runs { (policy : List ℕ) → IsPolicyOf policy self.now → RunAgrees (exactly self.now.image) (documents_lent policy review.now namespace.entry params.entry) n (answer_view result) }
     {
         let (table, uid) = Table::of_review(self.alloc, review, namespace, params)?;
         self.decide_on(table, uid.as_str(), n)
     }
 
-    /// The response to the review whose roots are in the table. `uid` is the uid of its request.
-    /// See `decide`.
+    /// The response to the review whose roots are in the table. `uid` is the uid of its request. For
+    /// another table or uid the contract states nothing. See `decide`.
     ///
     /// # Errors
     ///
@@ -116,11 +117,11 @@ impl Gate {
         Ok(reply(self.alloc, &self.policy, &machine, uid)?)
     }
 
-    /// The policy's decision on such a review. See `decide_on`.
+    /// The policy's decision on the request of such a review. See `decide_on`.
     ///
     /// # Errors
     ///
-    /// The first refusal, as in `decide_on`.
+    /// `OutOfSteps`, `OverLimit` and `Memory`, as in `decide`.
     pub fn decision_on(&self, table: Table, uid: &str, n: u64) -> Result<Decision, RunError>
         ensures says { (d : Documents) → IsPolicyOf d.policy self.now → AreGiven d (held_contents table) uid.now → DecidesReview d n (decision_view result) }
         ensures runs { (d : Documents) → IsPolicyOf d.policy self.now → AreGiven d (held_contents table) uid.now → RunAgrees (exactly self.now.image) d n (decision_view result) }
@@ -129,11 +130,12 @@ impl Gate {
         Ok(with_uid(self.alloc, rejection, uid)?)
     }
 
-    /// Why the policy rejects such a review, if it does: the rejection in the decision of `decision_on`.
+    /// Why the policy rejects the request of such a review, if it does: the rejection in the decision
+    /// of `decision_on`.
     ///
     /// # Errors
     ///
-    /// The first refusal, as in `decide_on`.
+    /// `OutOfSteps`, `OverLimit` and `Memory`, as in `decide`.
     pub fn rejection_on(&self, table: Table, n: u64) -> Result<Option<Rejection>, RunError>
         ensures says { (d : Documents) (uid : List ℕ) → IsPolicyOf d.policy self.now → AreGiven d (held_contents table) uid → DecidesReview d n (said_view uid result) }
         ensures runs { (d : Documents) (uid : List ℕ) → IsPolicyOf d.policy self.now → AreGiven d (held_contents table) uid → RunAgrees (exactly self.now.image) d n (said_view uid result) }
@@ -143,11 +145,11 @@ impl Gate {
         Ok(rejection_of_verdict(self.alloc, &self.policy, &machine)?)
     }
 
-    /// What the policy finds against such a review.
+    /// What the policy finds against the request of such a review.
     ///
     /// # Errors
     ///
-    /// The first refusal, as in `decide_on`.
+    /// `OutOfSteps`, `OverLimit` and `Memory`, as in `decide`.
     pub fn findings_on(&self, table: Table, n: u64) -> Result<Vec<Finding>, RunError>
         ensures finds { (d : Documents) → IsPolicyOf d.policy self.now → values_given d ≡ Ok (held_contents table) → FindsReview d n (findings_view result) }
         ensures runs { (d : Documents) → IsPolicyOf d.policy self.now → values_given d ≡ Ok (held_contents table) → RunAgrees (exactly self.now.image) d n (findings_view result) }
@@ -187,7 +189,7 @@ impl Gate {
     }
 }
 
-/// What is proved of every start on roots, and of every later state.
+/// Does nothing. Its clauses are laws of every start on roots, and of every later state.
 fn starts_stand()
     ensures tables { StartsAreTables }
     ensures canonical { StartIsCanonical }
