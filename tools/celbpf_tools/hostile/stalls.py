@@ -135,14 +135,17 @@ def indexed() -> Iterator[tuple]:
     yield "ints beside their texts", added, additions(ints, [*map(str, ints), *[0] * 600_000])
     shuffled = random.Random(5).sample(range(200_000, 630_000), 430_000)
     yield "ints in no order in a list", added, additions(shuffled[:215_000], shuffled[215_000:])
-    yield "lists of ints, each sought in the other", example("reserved-labels"), labels_in_each_other(228_000)
-
-
-def labels_in_each_other(count: int) -> dict:
-    """The labels of both objects are lists of the same ints, in no order."""
     numbers = random.Random(1)
-    ints = numbers.choices(range(1_000_000), k=count)
-    document = review(*({"metadata": {"labels": labels}} for labels in (ints, numbers.sample(ints, count))))
+    ints = numbers.choices(range(1_000_000), k=228_000)
+    yield "ints, each sought in the other list", example("reserved-labels"), in_each_other(ints)
+    nested = [tower(place, 3) for place in range(62_000)]
+    yield "nested lists, each sought in the other list", example("reserved-labels"), in_each_other(numbers.choices(nested, k=124_000))
+
+
+def in_each_other(items: list) -> dict:
+    """The labels of both objects are lists of these items, in two orders."""
+    shuffled = random.Random(2).sample(items, len(items))
+    document = review(*({"metadata": {"labels": labels}} for labels in (items, shuffled)))
     document["request"]["userInfo"]["groups"] = []
     return document
 
