@@ -6,7 +6,7 @@ from pathlib import Path
 
 from ..definitions import Module
 from ..mutating import known
-from ..mutating.above import below, check, dependencies
+from ..mutating.above import below, check, dependencies, kit
 from ..mutating.change import Change
 from ..mutating.changes import groups, of_definition
 from ..mutating.drawing import Drawn, drawn
@@ -207,7 +207,7 @@ class Trying(unittest.TestCase):
             self.assertEqual(lines_of(Path(folder), ["a", "b"]), ["a:\n", "b: a kit\n"])
             words = check(of, "c", Path("/x"), Path("/kept"), ["rows::rows_stand"])
         self.assertIn("b:core,std,a,kit=/x/b/src/lib.rt", words)
-        self.assertEqual([word for word in words if word.startswith("kit=")], ["kit=/opt/rattle/rlibs/kit.rlib"])
+        self.assertEqual([word for word in words if word.startswith("kit=")], [f"kit={kit()}/rlibs/kit.rlib"])
         self.assertEqual(words[-2:], ["--only", "rows::rows_stand"])
 
     def test_what_a_check_comes_to(self) -> None:
