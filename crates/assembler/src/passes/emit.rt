@@ -2,6 +2,7 @@
 
 ghost use Rattle.std.specs.Prelude.{◌≡◌, ◌≢◌, ◌≤◌, [], ◌++◌, ℕ, List, IfSome, OnErr, OnOk, map};
 ghost use Rattle.std.specs.BTreeMap.{get_by_text};
+ghost use Rattle.std.specs.Int.{to_be_bytes, to_le_bytes, w64};
 ghost use Rattle.assembler.specs.Answers.{SecondPass};
 ghost use Rattle.assembler.specs.Items.{item_of, slots_of};
 ghost use Rattle.assembler.specs.SecondPass.{bytes_of, code_bytes, line_statement};
@@ -12,6 +13,7 @@ use crate::lines::line::Line;
 use crate::passes::labels::{Labels, slot_of};
 use crate::passes::offset::jump_to;
 use crate::passes::scan::slots;
+use byteorder::{BigEndian, ByteOrder, LittleEndian};
 use insn_codec::{Statement, encode};
 use std::alloc::{AllocError, Global};
 
@@ -37,19 +39,37 @@ fn resolve(
     }
 }
 
+/// The bytes of a word, the lowest first.
+fn low_first(word: u64) -> [u8; 8]
+    ensures { result ≡ to_le_bytes w64 word }
+{
+    let mut bytes = [0; 8];
+    LittleEndian::write_u64(&mut bytes, word);
+    bytes
+}
+
+/// The bytes of a word, the highest first.
+fn high_first(word: u64) -> [u8; 8]
+    ensures { result ≡ to_be_bytes w64 word }
+{
+    let mut bytes = [0; 8];
+    BigEndian::write_u64(&mut bytes, word);
+    bytes
+}
+
 /// Appends the bytes of the statement.
 fn push_statement(out: &mut Vec<u8>, statement: Option<Statement>) -> Result<(), AllocError>
     ensures { OnOk result (out.new.items ≡ out.old.items ++ bytes_of statement) }
 {
     match statement {
         None => Ok(()),
-        Some(Statement::Slot(word)) => out.extend_from_slice(&word.to_be_bytes()),
+        Some(Statement::Slot(word)) => out.extend_from_slice(&high_first(word)),
         Some(Statement::Insn(insn)) => {
             let (first, second) = encode(&insn);
-            out.extend_from_slice(&first.to_le_bytes())?;
+            out.extend_from_slice(&low_first(first))?;
             match second {
                 None => Ok(()),
-                Some(second) => out.extend_from_slice(&second.to_le_bytes()),
+                Some(second) => out.extend_from_slice(&low_first(second)),
             }
         }
     }
