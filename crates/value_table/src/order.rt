@@ -8,6 +8,7 @@ ghost use Rattle.value_table.specs.Heap.{heap_values, IsHeap};
 use crate::content::Content;
 use crate::heap::Heap;
 use crate::text::text;
+use text_kernels::first_difference;
 
 impl Heap {
     /// Whether the first of two ints, texts or bools is less than the second.
@@ -28,8 +29,15 @@ impl Heap {
     }
 }
 
+// The first differing byte decides; a text that is a proper prefix of the other is less.
+#[tactic(auto, using(value_store::proofs::Orders::differs))]
 fn is_below(left: &[u8], right: &[u8]) -> bool
     ensures { result ≡ text_less left.now right.now }
 {
-    left.cmp(right).is_lt()
+    let place = first_difference(left, right);
+    match (left.get(place), right.get(place)) {
+        (Some(a), Some(b)) => a < b,
+        (None, Some(_)) => true,
+        (_, None) => false,
+    }
 }
