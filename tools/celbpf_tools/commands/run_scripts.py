@@ -5,9 +5,10 @@ usage: tools/run-scripts [PROGRAM [TABLE..]]
 The tables are the files of tools/data/run-scripts, worked by hand. A line `policy SPEC` makes policy.json of a
 specification, `review REQUEST` review.json of a request beside a uid, and `file NAME TEXT` any other; in TEXT the
 two characters \\n are a line feed. A line `$ WORDS` runs a script with `--program PROGRAM`, and `% TEXT` has bash run
-a text in which $TOOLS is the folder of the scripts and $PROGRAM the program. Below stands what it prints on both outputs,
-up to a line `[STATUS]`. A line `adapts EXPRESSION` is a pair of tools/adapt: below it stand the variables that it adds, a
-line `= EXPRESSION`, and lines `? OBJECT VALUE` with what that is over an object. A line `needs MODULE` ends a table where Python has no such module.
+a text in which $TOOLS is the folder of the scripts and $PROGRAM the program, which scripts run there by themselves too.
+Below stands what it prints on both outputs, up to a line `[STATUS]`. A line `adapts EXPRESSION` is a pair of
+tools/adapt: below it stand the variables that it adds, a line `= EXPRESSION`, and lines `? OBJECT VALUE` with what that
+is over an object. A line `needs MODULE` ends a table where Python has no such module.
 """
 
 import importlib.util
@@ -22,7 +23,7 @@ from typing import Any, Iterator, Optional
 from ..adapting.report import Variables
 from ..adapting.rewriter import Rewriter
 from ..asking.policies import asking, whole
-from ..asking.program import Program, located
+from ..asking.program import GIVEN, Program, located
 from ..home import DATA, TOOLS
 
 TABLES = DATA / "run-scripts"
@@ -47,7 +48,7 @@ def ran(line: str, program: Path, folder: str) -> str:
     kind, text = line[0], line[2:]
     words = text.split()
     command = [TOOLS / words[0], *words[1:], "--program", program] if kind == "$" else ["bash", "-c", text]
-    path = {**os.environ, "TOOLS": str(TOOLS), "PROGRAM": str(program)}
+    path = {**os.environ, "TOOLS": str(TOOLS), "PROGRAM": str(program), GIVEN: str(program)}
     outputs = {"stdout": subprocess.PIPE, "stderr": subprocess.STDOUT, "stdin": subprocess.DEVNULL}
     ended = subprocess.run(command, cwd=folder, env=path, text=True, **outputs)
     return f"{ended.stdout}[{ended.returncode}]\n"
