@@ -35,6 +35,8 @@ class Note:
         else:
             yield f"{self.part}: {one_line(self.what.before)}"
             yield f"    now {one_line(self.what.after)} {row}".rstrip()
+        if self.what.row in rows.NOT_THERE:
+            yield "    API servers up to 1.36 refuse the form as it was"
 
 
 def one_line(text: str) -> str:
@@ -92,8 +94,7 @@ class Adapting:
         return {key: value for key, value in document.items() if value is not None}
 
     def spec(self, spec: dict) -> dict:
-        annotations = items(spec, "auditAnnotations")
-        spec = {key: value for key, value in spec.items() if key != "auditAnnotations"}
+        spec = dict(spec)
         names = {one["name"] for one in items(spec, "variables") if isinstance(one.get("name"), str)}
         variables = Variables(names)
         made = []
@@ -106,24 +107,15 @@ class Adapting:
         for place, one in enumerate(items(spec, "validations")):
             keys = ("expression", "messageExpression")
             spec["validations"][place] = self.item(f"validation {place}", one, keys, variables)
-        self.annotations(spec, annotations, variables)
+        for place, one in enumerate(items(spec, "auditAnnotations")):
+            part = f"audit annotation {place} {one.get('key', '')}".rstrip()
+            self.notes.append(Note(part, Left(rows.AUDIT, str(one.get("valueExpression", "")))))
         if made := [*made, *taken(variables)]:
             spec["variables"] = made
-        for key in ("variables", "matchConditions"):
+        for key in ("variables", "matchConditions", "auditAnnotations"):
             if spec.get(key) == []:
                 del spec[key]
         return spec
-
-    def annotations(self, spec: dict, given: list, variables: Variables) -> None:
-        """A validation for each audit annotation: it is an error if the annotation is, which denies under `Fail`."""
-        for place, one in enumerate(given):
-            part = f"audit annotation {place} {one.get('key', '')}".rstrip()
-            if not isinstance(one.get("valueExpression"), str):
-                continue
-            text = self.expression(part, one["valueExpression"], variables)
-            validation = {"expression": f"dyn({text}) == dyn({text})", "message": part}
-            self.change(part, rows.AUDIT, one["valueExpression"], f"the validation {validation['expression']}")
-            spec["validations"] = [*spec.get("validations", []), validation]
 
     def item(self, part: str, given: dict, keys: tuple, variables: Optional[Variables]) -> dict:
         """A condition, a variable or a validation."""

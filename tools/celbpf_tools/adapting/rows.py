@@ -31,6 +31,9 @@ NULL = "a key that is `null`"
 LINES = "a message of several lines"
 VERSION = "`v1beta1`"
 
+# forms that API servers refuse too
+NOT_THERE = (GREATEST, ABS, BIND, EXISTS_ONE)
+
 # the row of a function or method that is not there, by its name
 FUNCTIONS = {
     **dict.fromkeys(["int", "double", "bool", "string", "type", "bytes", "uint"], "`int('1')`"),

@@ -11,7 +11,7 @@ OPTIONS = {
     "celbpf-place": "--program",
     "celbpf-reviews": "--namespace --params --program",
     "celbpf-test": "--junit --coverage --tap --program --gatekeeper",
-    "celbpf-adapt": "",
+    "celbpf-adapt": "--program",
     "celbpf-as-reviews": "--cluster --old --namespace --user --skip-unknown",
     "celbpf-dap": "--program",
 }
