@@ -3,6 +3,7 @@
     syntax       expressions as clusters take them, as trees over their text
     texts        text literals, and patterns of literal characters
     forms        what forms are by their trees
+    kinds        which values are lists or maps, and which may be null
     types        the types of forms that a cluster's checker gives them
     report       changes, what is left, and variables that are added
     base         a rewriting: its tree, its text, and what is told

@@ -41,6 +41,10 @@ class Rewriting:
     def leave(self, node: Node, row: str) -> None:
         self.report.left.append(Left(row, self.said(node)))
 
+    def suppose(self, text: str, row: str) -> None:
+        """Reports what a rewriting supposes: if it is otherwise, the rewriting is an error and the form was none."""
+        self.report.left.append(Left(row, text, "to check"))
+
     def text(self, node: Node, least: int, scope: frozenset) -> str:
         """A part, rewritten, in brackets if it does not bind as tightly as this."""
         self.rewrite(node, scope)

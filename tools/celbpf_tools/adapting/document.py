@@ -31,7 +31,7 @@ class Note:
         """What is told of it."""
         row = f"(docs/CLUSTERS.md, {self.what.row})" if self.what.row else ""
         if isinstance(self.what, Left):
-            yield f"{self.part}: left as it is: {one_line(self.what.text)} {row}".rstrip()
+            yield f"{self.part}: {self.what.words}: {one_line(self.what.text)} {row}".rstrip()
         else:
             yield f"{self.part}: {one_line(self.what.before)}"
             yield f"    now {one_line(self.what.after)} {row}".rstrip()

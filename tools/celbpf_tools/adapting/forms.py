@@ -1,22 +1,13 @@
 """What the forms of expressions are, by their trees: optional selections, lists, maps, uses of a name."""
 
 import re
-from typing import Any, Iterator, Optional
+from typing import Any, Iterator
 
 from .syntax import TEXTS, Node
 from .texts import parts_of, spelled, value_of
 
 IDENTIFIER = re.compile(r"[_a-zA-Z][_a-zA-Z0-9]*$")
 NOT_SELECTED = ("in", "true", "false", "null")
-# fields of Kubernetes' own objects that are maps, and lists
-MAP_FIELDS = set(
-    "labels annotations matchLabels nodeSelector data binaryData stringData limits requests capacity allocatable hard"
-    .split()
-)
-LIST_FIELDS = set(
-    "containers initContainers ephemeralContainers volumes volumeMounts env envFrom ports args command tolerations"
-    " imagePullSecrets finalizers ownerReferences subjects groups topologySpreadConstraints sysctls hostAliases".split()
-)
 
 
 def free(node: Node, name: str, declared: frozenset) -> Iterator[tuple]:
@@ -50,21 +41,11 @@ def key_of(step: Node) -> Any:
     return int(key.name) if key.kind == "literal" and key.word == "int" and key.name.isdigit() else None
 
 
-def presence(value: str, key: Any) -> list:
-    """The conditions under which a value has a key; null has none."""
-    not_null = [] if value == "request" else [f"{value} != null"]
-    if isinstance(key, int):
-        return [*not_null, f"size({value}) > {key}"]
-    if IDENTIFIER.match(key) and key not in NOT_SELECTED:
-        return [*not_null, f"has({value}.{key})"]
-    return [*not_null, f"{spelled(key)} in {value}"]
-
-
 def selected(value: str, key: Any, step: Node) -> str:
     """What a value has under a key."""
     if isinstance(key, int):
         return f"{value}[{key}]"
-    is_field = step.kind == "field" and step.word != "quoted"
+    is_field = step.kind == "field" and IDENTIFIER.match(key) and key not in NOT_SELECTED
     return f"{value}.{key}" if is_field else f"{value}[{spelled(key)}]"
 
 
@@ -81,17 +62,3 @@ def is_list(node: Node) -> bool:
 def is_size(node: Node) -> bool:
     """Whether a node is an int by its form."""
     return node.kind in ("call", "method") and node.name == "size"
-
-
-def kind_of(node: Node) -> Optional[str]:
-    """Whether a range is a map or a list, as its form or a schema of Kubernetes says."""
-    if node.kind == "brackets":
-        return kind_of(node.parts[0])
-    if node.kind in ("map", "list"):
-        return node.kind
-    if node.kind == "ternary":
-        return kind_of(node.parts[1]) or kind_of(node.parts[2])
-    if node.kind == "method" and node.name == "orValue" and len(node.parts) == 2:
-        return kind_of(node.parts[1])
-    key = key_of(node) if node.kind in ("field", "index") else None
-    return "map" if key in MAP_FIELDS else "list" if key in LIST_FIELDS else None

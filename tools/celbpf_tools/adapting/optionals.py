@@ -5,8 +5,9 @@ from typing import Optional
 
 from . import rows
 from .base import Rewriting
-from .forms import has_optional, key_of, presence, selected
-from .syntax import AND, MEMBER, OR, SUM, TERNARY, Node, names_in
+from .forms import has_optional, key_of, selected
+from .kinds import presence
+from .syntax import AND, MEMBER, OR, RELATION, SUM, TERNARY, Node, names_in
 
 
 @dataclass
@@ -15,6 +16,11 @@ class Found:
 
     conditions: list
     value: str
+
+
+def conjunction(conditions: list) -> tuple:
+    """A text under which all conditions hold, and how tightly it binds."""
+    return " && ".join(conditions), AND if len(conditions) > 1 else RELATION
 
 
 class Optionals(Rewriting):
@@ -71,7 +77,7 @@ class Optionals(Rewriting):
         if len(given) > 1:
             self.leave(node, rows.OPTIONAL)
         elif node.name == "hasValue":
-            return self.put(node, rows.OPTIONAL, " && ".join(given[0].conditions), AND)
+            return self.put(node, rows.OPTIONAL, *conjunction(given[0].conditions))
         else:
             return self.put(node, rows.OPTIONAL, given[0].value, OR)
         return True
@@ -82,8 +88,10 @@ class Optionals(Rewriting):
         given = self.found(others[0], scope) if len(others) == 1 else None
         if not given or len(given) > 1:
             return False
-        there = " && ".join(given[0].conditions)
-        return self.put(node, rows.OPTIONAL, there if node.word == "!=" else f"!({there})", AND if node.word == "!=" else MEMBER)
+        there, level = conjunction(given[0].conditions)
+        if node.word == "!=":
+            return self.put(node, rows.OPTIONAL, there, level)
+        return self.put(node, rows.OPTIONAL, f"!({there})", MEMBER)
 
     def of_list(self, node: Node, scope: frozenset) -> bool:
         """A list with items that are in it only if they are there."""

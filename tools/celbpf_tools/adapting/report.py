@@ -20,10 +20,11 @@ class Change:
 
 @dataclass
 class Left:
-    """A form that has no rewriting, or none that keeps its meaning, with its row."""
+    """What is left to do: a form that has no rewriting, or none that keeps its meaning in all cases, with its row."""
 
     row: str
     text: str
+    words: str = "left as it is"
 
 
 @dataclass

@@ -1,17 +1,18 @@
 """An expression rewritten into the forms that celbpf reads, with its meaning kept, or left as it is.
 
 What is kept is the meaning on a cluster, errors and absence too: if the form is an error there, so is what replaces it.
-Two things are assumed, which the schemas of a cluster's objects grant: `.?f` selects from an object or null, and a field
-of Kubernetes' own that is a map or a list by its schema is one.
+The schemas of a cluster's objects grant that `.?f` selects from an object or null, and `[?0]` from a list or null. If a
+macro needs a map, a field with the name of one is supposed to be one: that is reported, and a list is the error.
 """
 
 import re
 
 from . import rows
-from .forms import has_optional, is_constant_list, is_list, is_size, kind_of, presence
+from .forms import has_optional, is_constant_list, is_list, is_size, selected
+from .kinds import MAP, as_map, known, loose, presence, supposed
 from .optionals import Optionals
 from .report import Change
-from .syntax import AND, MEMBER, OR, RELATION, SUM, TERNARY, TEXTS, Node, level_of, names_in
+from .syntax import AND, MEMBER, OR, RELATION, SUM, TERNARY, TEXTS, Node, level_of, names_in, read
 from .texts import parts_of, spelled, test_of, value_of
 from .types import collections_differ, is_foreign
 
@@ -65,7 +66,8 @@ class Rewriter(Optionals):
         if node.optional[0]:
             self.leave(node, rows.OPTIONAL)
         elif node.word == "quoted":
-            return self.put(node, rows.QUOTED, f"{self.text(node.parts[0], MEMBER, scope)}[{spelled(node.name)}]", MEMBER)
+            text = selected(self.text(node.parts[0], MEMBER, scope), node.name, node)
+            return self.put(node, rows.QUOTED, text, MEMBER)
         return False
 
     def of_index(self, node: Node, _: frozenset) -> bool:
@@ -86,12 +88,12 @@ class Rewriter(Optionals):
             self.leave(node, rows.FUNCTIONS.get(node.name, rows.OTHER_FUNCTIONS))
         return False
 
-    def of_has(self, node: Node, selected: Node, scope: frozenset) -> bool:
-        if selected.kind == "field" and selected.word == "quoted" and not selected.optional[0]:
-            operand = self.text(selected.parts[0], MEMBER, scope)
-            text = " && ".join(presence(operand, selected.name))
+    def of_has(self, node: Node, asked: Node, scope: frozenset) -> bool:
+        if asked.kind == "field" and asked.word == "quoted" and not asked.optional[0]:
+            operand = self.text(asked.parts[0], MEMBER, scope)
+            text = " && ".join(presence(operand, asked.name))
             return self.put(node, rows.QUOTED, text, AND if "&&" in text else RELATION)
-        if selected.kind == "field" and selected.parts[0].kind == "name" and selected.parts[0].name == "oldObject":
+        if asked.kind == "field" and asked.parts[0].kind == "name" and asked.parts[0].name == "oldObject":
             if not re.search(r"oldObject\s*[!=]=\s*null|null\s*[!=]=\s*oldObject", self.source.text):
                 return self.put(node, rows.OLD, f"oldObject != null && {self.said(node)}", AND)
         return False
@@ -265,20 +267,40 @@ class Rewriter(Optionals):
             return self.one_name(node, rows.EXISTS_ONE, word, node.names[0], scope)
         row = rows.TRANSFORM if node.name.startswith("transform") else rows.TWO_NAMES
         key, value = node.names
-        kind = kind_of(node.parts[0])
+        over = self.text(node.parts[0], MEMBER, scope)
+        kind = known(read(over))
         uses_key = any(key.name in names_in(part) for part in node.parts[1:])
-        if word == "transformMap" or kind is None or kind == "list" and uses_key:
-            self.leave(node, row)
-            return False
-        if kind == "list":
+        if word != "transformMap" and kind != MAP and not uses_key:
+            if kind is None:
+                self.replace_range(node, self.values(node))
             return self.one_name(node, row, word, value, scope)
-        self.rewrite(node.parts[0], scope)
-        item = f"{self.source.at_least(node.parts[0], MEMBER)}[{key.text or key.name}]"
-        used = names_in(node.parts[0]) | {key.text or key.name}
-        if not all(self.substitute(part, value.name, item, used) for part in node.parts[1:]):
-            self.leave(node, row)
-            return True
-        return self.one_name(node, row, word, key, scope)
+        if word != "transformMap" and (kind or supposed(read(over))) == MAP and self.by_keys(node, over):
+            if kind is None:
+                self.suppose(f"{over} has to be a map, a list is the error", row)
+                self.replace_range(node, as_map(over))
+            return self.one_name(node, row, word, key, scope)
+        self.leave(node, row)
+        for part in node.parts[1:]:
+            self.rewrite(part, scope | {one.text or one.name for one in node.names})
+        return True
+
+    def replace_range(self, node: Node, text: str) -> None:
+        """Gives a macro another range."""
+        node.parts[0].text, node.parts[0].level = text, MEMBER
+
+    def values(self, node: Node) -> str:
+        """What a list or a map has: the items of a list are the list, and the keys of a map are not the map."""
+        name, over = self.item(node), loose(self.source.at_least(node.parts[0], TERNARY))
+        return f"({over}.map({name}, {name}) == {over} ? {over} : {over}.map({name}, {over}[{name}]))"
+
+    def by_keys(self, node: Node, over: str) -> bool:
+        """Selects from a map by the key of a macro, unless the key or a macro inside catches a name."""
+        key, value = node.names
+        chosen, used = key.text or key.name, names_in(node.parts[0])
+        if chosen in used:
+            return False
+        parts = node.parts[1:]
+        return all(self.substitute(part, value.name, f"{over}[{chosen}]", used | {chosen}) for part in parts)
 
     def one_name(self, node: Node, row: str, word: str, name: Node, scope: frozenset) -> bool:
         """The macro with one of its names."""

@@ -4,9 +4,10 @@ usage: tools/adapt POLICY [--program PROGRAM]
 
 POLICY is a ValidatingAdmissionPolicy in JSON or YAML, alone or among other documents, as `kubectl get -o yaml` prints
 it. What kubectl and API servers add is dropped, and forms that celbpf lacks are written by those that it has. The policy
-is printed as JSON; standard error has each change, and each form that has no rewriting or none that keeps the meaning,
-with the row of docs/CLUSTERS.md. Its last line says whether celbpf accepts the policy that is printed. Status 0 says that
-it does and that nothing is left to do, 1 that something is, 3 that the policy is not read, 2 that the words are wrong.
+is printed as JSON; standard error has each change, each form that has no rewriting or none that keeps the meaning, and
+what a rewriting supposes, with the row of docs/CLUSTERS.md. Its last line says whether celbpf accepts the policy that is
+printed. Status 0 says that it does and that nothing is left to do or to check, 1 that something is, 3 that the policy is
+not read, 2 that the words are wrong.
 """
 
 import argparse
