@@ -14,9 +14,10 @@ from .optionals import Optionals
 from .report import Change
 from .syntax import AND, MEMBER, OR, RELATION, SUM, TERNARY, TEXTS, Node, level_of, names_in, read
 from .texts import parts_of, spelled, test_of, value_of
-from .types import collections_differ, is_foreign
+from .types import BOOL, collections_differ, is_foreign, may_be_bool, type_of
 
-ROOTS = ("object", "oldObject", "params", "namespaceObject", "request")
+NAMESPACE = "namespaceObject"
+ROOTS = ("object", "oldObject", "params", NAMESPACE, "request")
 VARIABLES = "variables"
 RELATIONS = ("<", "<=", ">", ">=", "==", "!=")
 # what celbpf has; the rest is told as left
@@ -51,7 +52,9 @@ class Rewriter(Optionals):
         self.put(node, rows.LONG_TEXT, "'" + "".join(marks.get(one, one) for one in pieces) + "'", MEMBER)
 
     def of_name(self, node: Node, scope: frozenset) -> bool:
-        if node.word == ".":
+        if node.name == NAMESPACE and self.variables is None and (node.word == "." or node.name not in scope):
+            self.put(node, rows.NAMESPACE, "dyn(null)", MEMBER)
+        elif node.word == ".":
             if node.name in scope:
                 self.leave(node, rows.DOT)
             else:
@@ -82,6 +85,8 @@ class Rewriter(Optionals):
             return self.put(node, rows.DOT, self.source.written(node).removeprefix("."), node.level)
         if node.name == "has" and len(node.parts) == 1:
             return self.of_has(node, node.parts[0], scope)
+        if node.name == "string" and len(node.parts) == 1:
+            return self.of_string(node, node.parts[0], scope)
         if node.name == "matches" and len(node.parts) == 2:
             return self.of_matches(node, scope)
         if node.name not in CALLS:
@@ -93,10 +98,23 @@ class Rewriter(Optionals):
             operand = self.text(asked.parts[0], MEMBER, scope)
             text = " && ".join(presence(operand, asked.name))
             return self.put(node, rows.QUOTED, text, AND if "&&" in text else RELATION)
-        if asked.kind == "field" and asked.parts[0].kind == "name" and asked.parts[0].name == "oldObject":
+        of = asked.parts[0].name if asked.kind == "field" and asked.parts[0].kind == "name" else ""
+        if of == NAMESPACE and self.variables is None and of not in scope:
+            return self.put(node, rows.NAMESPACE, "false", MEMBER)
+        if of == "oldObject":
             if not re.search(r"oldObject\s*[!=]=\s*null|null\s*[!=]=\s*oldObject", self.source.text):
                 return self.put(node, rows.OLD, f"oldObject != null && {self.said(node)}", AND)
         return False
+
+    def of_string(self, node: Node, given: Node, scope: frozenset) -> bool:
+        """`string(e)` of what may be a bool, of which there is no text here."""
+        if not may_be_bool(given):
+            return False
+        if type_of(given) == BOOL:
+            return self.put(node, rows.STRING, f"{self.text(given, OR, scope)} ? 'true' : 'false'", TERNARY)
+        value = loose(self.text(given, TERNARY, scope))
+        text = f"{value} == true ? 'true' : {value} == false ? 'false' : string({value})"
+        return self.put(node, rows.STRING, text, TERNARY)
 
     def of_map(self, node: Node, scope: frozenset) -> bool:
         if any(node.optional):

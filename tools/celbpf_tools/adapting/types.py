@@ -9,6 +9,8 @@ from .texts import parts_of
 BOOL, TEXT = ("bool",), ("text",)
 WORDS = {"true": BOOL, "false": BOOL, "null": ("null",)}
 OF_BINARY = dict.fromkeys(("&&", "||", "<", "<=", ">", ">=", "==", "!=", "in"), BOOL)
+BOOL_METHODS = ("all", "exists", "exists_one", "existsOne", "startsWith", "endsWith", "contains", "matches", "hasValue")
+SUMS = ("+", "-", "*", "/", "%")
 COLLECTIONS = ("list", "map")
 
 
@@ -27,6 +29,8 @@ def type_of(node: Node) -> Optional[tuple]:
         return TEXT
     if is_size(node):
         return ("int",)
+    if node.kind == "method" and node.name in BOOL_METHODS or node.kind == "call" and node.name == "has":
+        return BOOL
     return BOOL if node.kind == "not" else OF_BINARY.get(node.word) if node.kind == "binary" else None
 
 
@@ -76,3 +80,10 @@ def is_foreign(item: Node, whole: Node) -> bool:
     """Whether a node has a type that the items of a list do not have."""
     one, other = type_of(item), type_of(whole)
     return one is not None and other is not None and other[0] == "list" and not agree(("list", one), other)
+
+
+def may_be_bool(node: Node) -> bool:
+    """Whether a node is a bool, or of a type that its form does not show."""
+    if node.kind == "brackets":
+        return may_be_bool(node.parts[0])
+    return type_of(node) in (None, BOOL) and node.kind != "minus" and not (node.kind == "binary" and node.word in SUMS)

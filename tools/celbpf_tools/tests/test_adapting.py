@@ -78,6 +78,7 @@ class Types(unittest.TestCase):
             ("[1, a.b, 'c']", False), ("[a.b, 1, 'c']", False), ("[1, 'c', a.b]", True), ("[null, {}]", True),
             ("[[], [1], [2]]", False), ("[[], [1], ['a']]", True), ("[[1, 'a'], [2]]", False), ("[[a.b], [1], ['a']]", False),
             ("[{'a': 1}, {'b': 'c'}]", True), ("[{'a': []}, {'b': [1]}]", False), ("[a == 1, !b]", False),
+            ("[has(a.b), 'c']", True), ("[a.startsWith('b'), true, c.all(d, d)]", False),
         ]:
             with self.subTest(text):
                 self.assertEqual(differ(values_in(read(text))), is_mixed)
