@@ -23,6 +23,11 @@ def built(name: str) -> Path:
     return ROOT / "crates" / name / "out" / name
 
 
+def unproved(name: str) -> Path:
+    """Where the program is that tools/quick compiles from the sources without a proof."""
+    return ROOT / "crates" / name / "out" / "quick" / name
+
+
 def installed(name: str) -> Optional[str]:
     """The program that is installed beside the package, or else in the path; `None` if there is none."""
     beside = PACKAGE.parents[2] / "bin" / name

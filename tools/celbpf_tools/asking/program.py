@@ -4,17 +4,16 @@ import json
 import os
 import subprocess
 import sys
-import tempfile
 from pathlib import Path
 from typing import Any, Optional
 
 from ..entry import Stop
-from ..home import EXAMPLES, ROOT, built, installed, is_checkout
+from ..home import ROOT, TOOLS, built, installed, is_checkout, unproved
 
 # names the program to use, where no word does
 GIVEN = "CELBPF_PROGRAM"
-# the image of `exit`
-EXIT = b"CELBPF01\1" + bytes(7) + b"\x95" + bytes(7)
+# what the launcher's line of --version has for a program whose proofs were not checked
+NOT_PROVED = ", not proved: "
 # the most steps of one line of a session, and how many such lines are as many as a review may take
 LINE_STEPS = 1_000_000
 LINES = 10
@@ -37,17 +36,13 @@ class NotAnswered(Exception):
 
 
 def located(given: Optional[str]) -> Path:
-    """The program that was given, or the repository's, which is built first if it is not up to date."""
+    """The program that was given, or the repository's as its launcher runs it."""
     given = given or os.environ.get(GIVEN)
     if given:
         return usable(given)
     if not is_checkout():
         return installed_one("celbpf")
-    with tempfile.NamedTemporaryFile() as image:
-        image.write(EXIT)
-        image.flush()
-        build("celbpf", ["list", image.name])
-    return built("celbpf")
+    return current("celbpf")
 
 
 def located_gatekeeper(given: Optional[str], celbpf: Optional[str]) -> Optional[Path]:
@@ -57,12 +52,12 @@ def located_gatekeeper(given: Optional[str], celbpf: Optional[str]) -> Optional[
     celbpf = celbpf or os.environ.get(GIVEN)
     if celbpf:
         program = Path(celbpf).resolve()
-        beside = built("gatekeeper") if program == built("celbpf").resolve() else program.parent / "gatekeeper"
+        own = {place("celbpf").resolve(): place("gatekeeper") for place in (built, unproved)}
+        beside = own.get(program, program.parent / "gatekeeper")
         return beside if os.access(beside, os.X_OK) else None
     if not is_checkout():
         return installed_one("gatekeeper")
-    build("gatekeeper", ["--policy", str(EXAMPLES / "replicas" / "policy.json")])
-    return built("gatekeeper")
+    return current("gatekeeper")
 
 
 def usable(given: str) -> Path:
@@ -81,11 +76,31 @@ def installed_one(name: str) -> Path:
     return Path(found)
 
 
-def build(name: str, words: list) -> None:
-    """Has the repository's launcher build a program if it is not up to date, and run it on these words."""
-    ended = subprocess.run([ROOT / name, *words], stdin=subprocess.DEVNULL, stdout=subprocess.DEVNULL).returncode
-    if ended:
-        sys.exit(ended)
+def told_by(words: list) -> str:
+    """What a command of the repository prints; it ends the script if it fails."""
+    ended = subprocess.run(words, stdin=subprocess.DEVNULL, stdout=subprocess.PIPE, text=True)
+    if ended.returncode:
+        sys.exit(ended.returncode)
+    return ended.stdout.strip()
+
+
+def current(name: str) -> Path:
+    """The program that the launcher runs: the proved one if it is up to date, or else one that it builds if need be."""
+    return unproved(name) if NOT_PROVED in told_by([ROOT / name, "--version"]) else built(name)
+
+
+def proved(name: str) -> Path:
+    """The proved program, which is proved and built first if it is not up to date."""
+    told_by([TOOLS / "build"])
+    return built(name)
+
+
+def tested(given: Optional[str], name: str = "celbpf") -> Path:
+    """The program that a test's word names: a path, `--quick` for the one without a proof, or the proved one if there is none."""
+    if given == "--quick":
+        return Path(told_by([TOOLS / "quick", name]))
+    given = given or os.environ.get(GIVEN)
+    return usable(given) if given else proved(name)
 
 
 class Program:

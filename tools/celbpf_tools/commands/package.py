@@ -5,7 +5,7 @@ usage: tools/package [--programs FOLDER] [--version V] [--to FOLDER] [--tar]
 They are `celbpf_VERSION_ARCH.deb` and `.tar.xz` in the folder `dist`. Installed are celbpf, gatekeeper, the scripts as
 celbpf-why, celbpf-place, celbpf-reviews, celbpf-test, celbpf-adapt, celbpf-as-reviews and celbpf-dap, a man page of each,
 bash completion, the pages, the examples and the licence. FOLDER of `--programs` has the programs to pack; without it
-the repository's are built first if they are not up to date. `--tar` makes the tar archive alone. Status 0 says that
+the repository's are proved and built first if they are not up to date. `--tar` makes the tar archive alone. Status 0 says that
 both are made, 3 that a file cannot be read or written, 10 that there is no dpkg-deb.
 """
 
@@ -13,9 +13,9 @@ import argparse
 import tempfile
 from pathlib import Path
 
-from ..asking.program import located, located_gatekeeper, usable
+from ..asking.program import proved, usable
 from ..entry import usage_of
-from ..home import ROOT, built
+from ..home import ROOT
 from ..packaging.archives import arch_of, deb, tar, version_of
 from ..packaging.tree import plant
 
@@ -34,7 +34,7 @@ def main() -> int:
     if given.programs:
         programs = {name: usable(str(given.programs / name)) for name in ("celbpf", "gatekeeper")}
     else:
-        programs = {"celbpf": located(None), "gatekeeper": located_gatekeeper(None, None) or built("gatekeeper")}
+        programs = {name: proved(name) for name in ("celbpf", "gatekeeper")}
     given.to.mkdir(parents=True, exist_ok=True)
     name = f"celbpf_{given.version}_{arch_of()}"
     with tempfile.TemporaryDirectory() as folder:

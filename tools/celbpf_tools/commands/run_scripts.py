@@ -1,6 +1,6 @@
 """Runs the scripts for policies on small documents, and compares what they print with tables.
 
-usage: tools/run-scripts [PROGRAM [TABLE..]]
+usage: tools/run-scripts [--quick|PROGRAM [TABLE..]]
 
 The tables are the files of tools/data/run-scripts, worked by hand. A line `policy SPEC` makes policy.json of a
 specification, `review REQUEST` review.json of a request beside a uid, and `file NAME TEXT` any other; in TEXT the
@@ -23,7 +23,7 @@ from typing import Any, Iterator, Optional
 from ..adapting.report import Variables
 from ..adapting.rewriter import Rewriter
 from ..asking.policies import asking, whole
-from ..asking.program import GIVEN, Program, located
+from ..asking.program import GIVEN, Program, tested
 from ..home import DATA, TOOLS
 
 TABLES = DATA / "run-scripts"
@@ -107,7 +107,7 @@ def compared(name: str, lines: list, program: Path, folder: str) -> tuple:
 
 
 def main() -> int:
-    program = located(sys.argv[1] if len(sys.argv) > 1 else "")
+    program = tested(sys.argv[1] if len(sys.argv) > 1 else None)
     counts = []
     for table in sorted(TABLES.iterdir()):
         if sys.argv[2:] and table.name not in sys.argv[2:]:

@@ -1,0 +1,1 @@
+"""Programs that are compiled from the sources without a proof."""
