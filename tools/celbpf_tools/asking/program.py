@@ -96,7 +96,7 @@ def proved(name: str) -> Path:
 
 
 def tested(given: Optional[str], name: str = "celbpf") -> Path:
-    """The program that a test's word names: a path, `--quick` for the one without a proof, or the proved one if there is none."""
+    """The program that a test is given: by its path, by `--quick` the one without a proof, or else the proved one."""
     if given == "--quick":
         return Path(told_by([TOOLS / "quick", name]))
     given = given or os.environ.get(GIVEN)

@@ -1,6 +1,6 @@
-"""Runs the unit tests of the Python package; they ask no program.
+"""Runs the unit tests of the Python package. They ask no program, so `--quick` changes nothing.
 
-usage: tools/run-units [-v]
+usage: tools/run-units [--quick] [-v]
 """
 
 import sys
