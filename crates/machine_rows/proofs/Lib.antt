@@ -1,2 +1,3 @@
 -- Proofs of machine_rows: the list of their modules.
 pub mod Lengths
+pub mod RoundTrip

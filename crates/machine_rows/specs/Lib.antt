@@ -1,4 +1,4 @@
--- Rows of machine_rows: the list of their modules.
+-- Rows and laws of machine_rows: the list of their modules.
 pub mod WordRows
 pub mod InstructionRows
 pub mod MemoryRows
@@ -9,3 +9,4 @@ pub mod ValueRows
 pub mod HelperRows
 pub mod RunRows
 pub mod SessionRows
+pub mod RoundTrip
