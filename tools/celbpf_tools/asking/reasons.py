@@ -1,7 +1,8 @@
 """Why an expression is false, as the program answers for its pieces: a tree of values, and what to change.
 
 Lines of the tree are `PIECE is VALUE`; the parts of a piece are indented below it. Of a macro the deciding item is
-shown. Pieces that do not affect the outcome have one line, without their parts.
+shown. Pieces that do not affect the outcome have one line, without their parts. Operands of `&&` and `||` after the one
+that decides are `not evaluated`: alone they may be the error, but the run did not ask for them.
 """
 
 import re
@@ -26,6 +27,8 @@ RELATIONS = {
 }
 SWAPPED = {"<": ">", "<=": ">=", ">": "<", ">=": "<=", "==": "==", "!=": "!="}
 TESTS = {"startsWith": "start with", "endsWith": "end with", "contains": "contain"}
+# the value of an operand with which a run leaves out the operands after it
+ENDING = {"&&": FALSE, "||": TRUE}
 # which items of a macro decide it: for its value the value of their predicate
 DECIDING = {("all", FALSE): FALSE, ("exists", TRUE): TRUE, ("exists", FALSE): FALSE, ("all", TRUE): TRUE}
 
@@ -92,13 +95,24 @@ class Reasons:
         if piece.kind == "macro":
             yield from self.of_macro(piece, value, frames)
             return
-        is_connective = piece.form in ("&&", "||")
-        parts = [(part, frames) for part in operands(piece)] if is_connective else self.asked.evaluated(piece, frames)
-        for part, inner in parts:
-            if is_literal(part):
+        if piece.form in ENDING:
+            yield from self.of_operands(piece, value, frames)
+            return
+        for part, inner in self.asked.evaluated(piece, frames):
+            if not is_literal(part):
+                yield from self.tree(part, inner)
+
+    def of_operands(self, piece: Piece, value: str, frames: list) -> Iterator[str]:
+        """The lines of the operands of a chain; one with another value than the chain has no say."""
+        is_decided = False
+        for part in operands(piece):
+            if is_decided:
+                yield from () if is_literal(part) else (f"{self.text(part)} is not evaluated",)
                 continue
-            is_silent = is_connective and self.value(part, inner) != value
-            yield from self.line(part, inner) if is_silent else self.tree(part, inner)
+            found = self.value(part, frames)
+            if not is_literal(part):
+                yield from self.tree(part, frames) if found == value else self.line(part, frames)
+            is_decided = found == ENDING[piece.form]
 
     def of_macro(self, piece: Piece, value: str, frames: list) -> Iterator[str]:
         if not is_literal(piece.parts[0]):
@@ -210,10 +224,11 @@ class Reasons:
         return other, self.changes(piece.parts[0], chosen == BRANCHES[FALSE], frames)
 
     def other(self, piece: Piece, frames: list) -> str:
-        """What something is compared with: its value, and where that comes from."""
+        """What something is compared with: its value, and where that comes from; one that is the error has no value."""
         if is_literal(piece):
             return self.text(piece)
-        return f"{self.shown(self.value(piece, frames))} ({self.place(piece, frames)})"
+        value, place = self.value(piece, frames), self.place(piece, frames)
+        return place if value == ERROR else f"{self.shown(value)} ({place})"
 
     def is_given(self, piece: Piece, frames: list) -> bool:
         """Whether a piece is an item of a list that the policy itself spells."""

@@ -96,14 +96,14 @@ def documents(given: argparse.Namespace) -> list:
     return ["--review", given.review, *(word for pair in beside if pair[1] for word in pair)]
 
 
-def tell_value(program: Program, part: policies.Part) -> Optional[str]:
-    """Prints the value of a part, with its expression; what to change in a false one, if that is known."""
+def tell_value(program: Program, part: policies.Part) -> tuple:
+    """Prints the value of a part, with its expression; the value, and what to change in a false one, if they are known."""
     try:
         value = program.value(policies.asking(part.scope, part.text))
     except NotAnswered as why:
         print(f"{part.title}: not shown, since the program answers {why.line} for it alone")
         print(indented(part.text))
-        return None
+        return None, None
     decides = part.kind in ("condition", "validation")
     no_bool = ", which is no bool and counts as the error" if decides and value not in BOOLS else ""
     print(f"{part.title}: {on_one_line(value)}{no_bool}")
@@ -113,7 +113,19 @@ def tell_value(program: Program, part: policies.Part) -> Optional[str]:
         print(INDENT + escaped(line))
     if value == ERROR:
         print(*(indented(on_one_line(line)) for line in first_error(program, part.scope, part.text)), sep="\n")
-    return next((line for line in lines if line.startswith(CHANGE)), None)
+    return value, next((line for line in lines if line.startswith(CHANGE)), None)
+
+
+def tell_conditions(program: Program, conditions: list, decision: Decision) -> None:
+    """Prints the conditions; a run ends at the first that is false, and does not evaluate those after it."""
+    is_ended = False
+    for part in conditions:
+        if is_ended:
+            print(f"{part.title}: not evaluated")
+            print(indented(part.text))
+        else:
+            value, decision.hints[part.kind, part.place] = tell_value(program, part)
+            is_ended = value == "false"
 
 
 def origin(program: Program, policy: dict, place: int) -> str:
@@ -146,10 +158,11 @@ def tell(program: Program, policy: dict, verdict: list) -> Decision:
     print(outcome)
     decision = Decision(policy, outcome)
     parts = list(policies.parts(policy))
-    for kind in ("condition", "variable", "validation"):
+    tell_conditions(program, [part for part in parts if part.kind == "condition"], decision)
+    for kind in ("variable", "validation") if outcome in RUNS else ():
         for part in parts:
-            if part.kind == kind and (outcome in RUNS or kind == "condition"):
-                decision.hints[kind, part.place] = tell_value(program, part)
+            if part.kind == kind:
+                _, decision.hints[kind, part.place] = tell_value(program, part)
     if outcome not in RUNS:
         print("variables and validations are not asked")
         return decision
