@@ -5,6 +5,8 @@ import re
 from pathlib import Path
 from typing import Any, Optional, Union
 
+from .entry import Stop
+
 try:
     import yaml
 except ImportError:
@@ -17,7 +19,7 @@ INT = re.compile(r"[-+]?(?:0|[1-9][0-9_]*|0x[0-9a-fA-F_]+|0o?[0-7_]+|0b[01_]+)$"
 FLOAT = re.compile(r"[-+]?(?:\.[0-9]+|[0-9]+(?:\.[0-9]*)?)(?:[eE][-+]?[0-9]+)?$|[-+]?\.(?:inf|Inf|INF)$|\.(?:nan|NaN|NAN)$")
 
 
-class Unreadable(Exception):
+class Unreadable(Stop):
     """A document that cannot be read: the message has the file, and the line and the column if they are known."""
 
 
@@ -26,14 +28,14 @@ def place_of(text: str, at: int) -> str:
     return f"line {text.count(chr(10), 0, at) + 1} column {at - text.rfind(chr(10), 0, at)}"
 
 
-def text_of(path: Union[str, Path]) -> str:
-    """The text of a file."""
+def text_of(path: Union[str, Path], shown: str = "") -> str:
+    """The text of a file, which errors call so."""
     try:
         return Path(path).read_text(encoding="utf-8-sig")
     except OSError as why:
-        raise Unreadable(f"{path}: {why.strerror}") from why
+        raise Unreadable(f"{shown or path}: {why.strerror}") from why
     except UnicodeDecodeError as why:
-        raise Unreadable(f"{path}: byte {why.start} is not UTF-8") from why
+        raise Unreadable(f"{shown or path}: byte {why.start} is not UTF-8") from why
 
 
 def json_fault(text: str) -> Optional[str]:

@@ -2,7 +2,8 @@
 
 A script's status is what its command returns (`None` counts as 0). Beside these:
 
-    3      a file cannot be read or written; one line on standard error says which
+    3      a file cannot be read or written; one line on standard error says which. Also what the script did not expect,
+           with a traceback: 1 always has a meaning of the command's own, such as a denial
     130    interrupted
     141    what reads the output has closed it, as with `| head -1`
 """
@@ -10,6 +11,7 @@ A script's status is what its command returns (`None` counts as 0). Beside these
 import os
 import re
 import sys
+import traceback
 from typing import Callable, NoReturn, Optional
 
 from .home import is_checkout
@@ -61,6 +63,9 @@ def ended(name: str, main: Callable[[], Optional[int]]) -> int:
         line, status = why.line, why.status
     except OSError as why:
         line, status = told(why), FILE
+    except Exception:  # pylint: disable=broad-except
+        traceback.print_exc()
+        return FILE
     print(f"{name}: {line}", file=sys.stderr)
     return status
 

@@ -1,5 +1,6 @@
 """Questions to the built program about a policy: its answers say all, nothing is decided here.
 
+    files        the files that words name, as files that can be opened more than once
     program      runs of the built program
     policies     the parts of a policy, and small policies of one expression
     splitter     an expression's text in pieces

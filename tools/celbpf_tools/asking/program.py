@@ -7,9 +7,11 @@ import sys
 from pathlib import Path
 from typing import Any, Optional
 
-from ..entry import Stop
-from ..home import ROOT, TOOLS, built, installed, is_checkout, unproved
+from ..entry import FILE, Stop
+from ..home import EXAMPLES, ROOT, TOOLS, built, installed, is_checkout, unproved
 
+# the statuses of refusals
+REFUSALS = range(2, 5)
 # names the program to use, where no word does
 GIVEN = "CELBPF_PROGRAM"
 # what the launcher's line of --version has for a program whose proofs were not checked
@@ -30,8 +32,9 @@ class NotAnswered(Exception):
     """The program refused what it was asked; `line` is what it said, without `celbpf: `."""
 
     def __init__(self, ran: subprocess.CompletedProcess):
-        self.line = ran.stderr.removeprefix("celbpf: ").rstrip("\n")
-        self.status = ran.returncode
+        self.line = ran.stderr.removeprefix("celbpf: ").rstrip("\n") or f"status {ran.returncode} and no word"
+        # 0 and 1 are decisions
+        self.status = ran.returncode if ran.returncode in REFUSALS else FILE
         super().__init__(self.line)
 
 
@@ -116,7 +119,7 @@ class Program:
         """A run whose status was one that the program has."""
         ran = subprocess.run([self.path, *words], capture_output=True, text=True)
         if ran.returncode not in range(5):
-            sys.exit(f"the program ended with status {ran.returncode} on {' '.join(map(str, words))}")
+            raise Stop(f"the program ended with status {ran.returncode} on {' '.join(map(str, words))}")
         return ran
 
     def file(self, policy: Any) -> str:

@@ -1,8 +1,4 @@
-"""How texts are shown, and the files that words name."""
-
-from typing import Optional
-
-from ..entry import Stop
+"""How texts are shown."""
 
 # the most characters of a value on a line
 MOST = 300
@@ -37,13 +33,3 @@ def pointed(text: str, begin: int, end: int) -> str:
     last = last if not right else first + 2 * WIDTH
     before, under = left + escaped(text[first:begin]), escaped(text[begin : min(end, last)])
     return f"    {left}{escaped(text[first:last])}{right}\n    {' ' * len(before)}{'^' * max(1, len(under))}"
-
-
-def readable(*files: Optional[str]) -> None:
-    """Stops the script at the first file that cannot be opened."""
-    for file in files:
-        if file:
-            try:
-                open(file, "rb").close()
-            except OSError as why:
-                raise Stop(f"{file}: {why.strerror}") from why

@@ -19,7 +19,7 @@ from ..adapting.document import Adapting, NoPolicy, policy_among
 from ..adapting.report import Left
 from ..asking.program import Program, located
 from ..asking.texts import escaped
-from ..documents import Unreadable, all_in
+from ..documents import all_in
 from ..entry import Stop, called, usage_of
 
 
@@ -34,8 +34,6 @@ def main() -> int:
     given = words()
     try:
         adapting = Adapting(policy_among(all_in(given.policy)))
-    except Unreadable as why:
-        raise Stop(str(why)) from why
     except NoPolicy as why:
         raise Stop(f"{given.policy}: {why}") from why
     policy = adapting.adapted()

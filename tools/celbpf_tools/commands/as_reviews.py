@@ -17,7 +17,6 @@ import json
 import sys
 from typing import Any, Iterator
 
-from ..documents import Unreadable
 from ..entry import Stop, usage_of
 from ..manifests.kinds import Resources, kind_shown
 from ..manifests.objects import NoObject, objects_in
@@ -91,8 +90,6 @@ def main() -> int:
         if unknown and not given.skip_unknown:
             return NOT_MADE
         lines = list(map(line_of, making.reviews()))
-    except Unreadable as why:
-        raise Stop(str(why)) from why
     except NoObject as why:
         raise Stop(str(why), NOT_MADE) from why
     except Converted as why:

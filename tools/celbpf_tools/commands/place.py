@@ -14,10 +14,11 @@ import tempfile
 from typing import Any
 
 from ..asking import policies
+from ..asking.files import Files
 from ..asking.keys import TRUE, Keys
 from ..asking.places import cause_of, of_function, smallest
 from ..asking.program import Program, located
-from ..asking.texts import on_one_line, pointed, readable
+from ..asking.texts import on_one_line, pointed
 from ..entry import called, usage_of
 from ..documents import json_fault, text_of
 
@@ -124,8 +125,8 @@ def shown(value: Any) -> str:
     return value if isinstance(value, str) else policies.json.dumps(value, ensure_ascii=False)
 
 
-def tell(program: Program, path: str, refusal: str) -> None:
-    """Prints where a policy is refused."""
+def tell(program: Program, path: str, shown_path: str, refusal: str) -> None:
+    """Prints where a policy is refused; errors call its file so."""
     number = cause_of(refusal)
     print(f"celbpf: {refusal}")
     if not refusal.startswith("K6 "):
@@ -134,7 +135,7 @@ def tell(program: Program, path: str, refusal: str) -> None:
     if refusal.startswith("K6 "):
         of_part(program, policies.read(path), refusal)
     elif number == "K1":
-        text = text_of(path)
+        text = text_of(path, shown_path)
         if fault := json_fault(text):
             print(fault)
             if not text.lstrip().startswith(("{", "[")):
@@ -148,13 +149,12 @@ def main() -> int:
     parser.add_argument("policy")
     parser.add_argument("--program")
     given = parser.parse_args()
-    readable(given.policy)
-    path = located(given.program)
     with tempfile.TemporaryDirectory() as folder:
-        program = Program(path, folder)
-        refusal = program.refusal(given.policy)
+        policy = Files(folder).named(given.policy)
+        program = Program(located(given.program), folder)
+        refusal = program.refusal(policy)
         if not refusal:
             print("accepted")
             return 0
-        tell(program, given.policy, refusal)
+        tell(program, policy, given.policy, refusal)
     return 3

@@ -14,8 +14,10 @@ from collections import Counter
 from pathlib import Path
 from typing import Iterator
 
+from ..asking.files import Files
 from ..asking.program import NotAnswered, Program, located
-from ..asking.texts import on_one_line, readable
+from ..asking.texts import on_one_line
+from ..documents import Unreadable
 from ..entry import usage_of
 
 ALLOWED, DENIED, NOT_DECIDED = "allowed", "denied", "not decided"
@@ -44,10 +46,13 @@ def files(places: list) -> Iterator[Path]:
         yield from found
 
 
-def answered(program: Program, policy: str) -> tuple:
+def answered(program: Program, policy: str, review: Path, beside: list, files: Files) -> tuple:
     """What a review comes to, and the message or the refusal."""
     try:
+        program.documents = ["--review", files.named(review), *beside]
         response = program.response(policy)
+    except Unreadable:
+        return NOT_DECIDED, "celbpf: file"
     except NotAnswered as why:
         return NOT_DECIDED, f"celbpf: {why.line}"
     return (ALLOWED, "") if response["allowed"] else (DENIED, response["status"]["message"])
@@ -55,14 +60,15 @@ def answered(program: Program, policy: str) -> tuple:
 
 def main() -> int:
     given = words()
-    readable(given.policy, given.namespace, given.params)
-    path = located(given.program)
-    pairs = [("--namespace", given.namespace), ("--params", given.params)]
-    beside = [word for pair in pairs if pair[1] for word in pair]
     counts: Counter = Counter()
     with tempfile.TemporaryDirectory() as folder:
+        kept = Files(folder)
+        policy = kept.named(given.policy)
+        pairs = [("--namespace", kept.maybe(given.namespace)), ("--params", kept.maybe(given.params))]
+        beside = [word for pair in pairs if pair[1] for word in pair]
+        program = Program(located(given.program), folder)
         for file in files(given.places):
-            outcome, message = answered(Program(path, folder, ["--review", file, *beside]), given.policy)
+            outcome, message = answered(program, policy, file, beside, kept)
             counts[outcome] += 1
             print(f"{file}: {outcome}{': ' if message else ''}{on_one_line(message)}", flush=True)
     told = ", ".join(f"{counts[outcome]} {outcome}" for outcome in (ALLOWED, DENIED, NOT_DECIDED))

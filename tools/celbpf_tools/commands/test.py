@@ -30,7 +30,6 @@ from ..testing.answers import Asked, Programs, failures
 from ..testing.cases import Broken, Case, files_of, read
 from ..testing.coverage import Coverage
 from ..testing.output import Result
-from ..testing.reviews import text_of_review
 
 
 def words() -> argparse.Namespace:
@@ -80,7 +79,7 @@ def covered(files: list, program: Path, asked: Asked) -> Iterator[str]:
     for case in (case for file in files for case in file.cases):
         try:
             words = asked.words(case)
-            review = asked.write("covered.json", text_of_review(case.review, case.name, case.file.parent))
+            review = asked.write("covered.json", asked.review(case))
         except Unreadable:
             continue
         named = dict(zip(words[::2], words[1::2]))

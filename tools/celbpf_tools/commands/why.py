@@ -25,15 +25,14 @@ from typing import Optional
 
 from ..asking import policies
 from ..asking.errors import ERROR, first_error
+from ..asking.files import Files
 from ..asking.program import NotAnswered, Program, located
 from ..asking.reasons import reasons
-from ..asking.texts import escaped, indented, on_one_line, readable
-from ..documents import Unreadable
+from ..asking.texts import escaped, indented, on_one_line
 from ..entry import Stop, called, usage_of
 from ..slots.mapping import NotMapped
 from ..testing import cases
 from ..testing.answers import Asked
-from ..testing.reviews import text_of_review
 from ..viewing.page import Decision, page
 
 OUTCOMES = {"1": "skipped", "2": "rejected", "3": "denied", "4": "admitted"}
@@ -80,20 +79,17 @@ def case_named(path: Path, name: str) -> cases.Case:
 
 def of_case(given: argparse.Namespace, folder: Path) -> argparse.Namespace:
     """The words with the documents of the case that they name, as files of this folder."""
-    try:
-        case = case_named(Path(given.policy), given.case)
-        at, asked = case.file.parent, Asked(folder)
-        review = asked.write("review.json", text_of_review(case.review, case.name, at))
-        found = {key: asked.file(case.beside[key], at) for key in ("policy", "namespace", "params") if key in case.beside}
-    except Unreadable as why:
-        raise Stop(str(why)) from why
+    case = case_named(Path(given.policy), given.case)
+    at, asked = case.file.parent, Asked(folder)
+    review = asked.write("review.json", asked.review(case))
+    found = {key: asked.file(case.beside[key], at) for key in ("policy", "namespace", "params") if key in case.beside}
     return argparse.Namespace(**{**vars(given), **found, "review": review, "tests": given.policy})
 
 
-def documents(given: argparse.Namespace) -> list:
+def documents(given: argparse.Namespace, kept: Files) -> list:
     """The words that name the documents."""
-    beside = [("--namespace", given.namespace), ("--params", given.params)]
-    return ["--review", given.review, *(word for pair in beside if pair[1] for word in pair)]
+    named = [("--review", given.review), ("--namespace", given.namespace), ("--params", given.params)]
+    return [word for option, file in named if file for word in (option, kept.named(file))]
 
 
 def tell_value(program: Program, part: policies.Part) -> tuple:
@@ -195,12 +191,12 @@ def main() -> int:
     with tempfile.TemporaryDirectory() as folder, tempfile.TemporaryDirectory() as documents_folder:
         if given.case is not None:
             given = of_case(given, Path(documents_folder))
-        readable(given.policy, given.review, given.namespace, given.params)
-        path = located(given.program)
-        program = Program(path, folder, documents(given))
+        kept = Files(documents_folder)
+        policy, beside = kept.named(given.policy), documents(given, kept)
+        program = Program(located(given.program), folder, beside)
         try:
-            response = program.response(given.policy)
-            decision = tell(program, policies.read(given.policy), program.verdict(given.policy))
+            response = program.response(policy)
+            decision = tell(program, policies.read(policy), program.verdict(policy))
             decision.message = response.get("status", {}).get("message", "")
             if given.html:
                 write_page(given, program, decision)

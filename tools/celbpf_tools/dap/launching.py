@@ -3,12 +3,14 @@
 import os
 import subprocess
 import tempfile
-from dataclasses import dataclass, field
+from dataclasses import dataclass, field, replace
 from pathlib import Path
 from typing import Any, Optional
 
 from ..asking import policies
+from ..asking.files import Files
 from ..asking.program import NotAnswered, Program, located
+from ..documents import Unreadable
 from ..entry import Stop, told
 from .arguments import Arguments, BadRequest
 from .child import Child, Ended
@@ -105,10 +107,16 @@ def image_of(order: Order, program: Program, folder: str) -> str:
     return image
 
 
+def with_files(order: Order, folder: str) -> Order:
+    """The order with files that can be opened more than once."""
+    files = Files(folder)
+    documents = [word if word.startswith("--") else files.named(word) for word in order.documents]
+    return replace(order, image=files.maybe(order.image), policy=files.maybe(order.policy), documents=documents)
+
+
 def started(order: Order, folder: tempfile.TemporaryDirectory) -> Launched:
     """The session of an order, in a folder for its files."""
-    for path in filter(None, [order.image, order.policy, *order.documents[1::2]]):
-        readable(path)
+    given, order = order, with_files(order, folder.name)
     program = Program(located(order.program), folder.name, order.documents)
     image = image_of(order, program, folder.name)
     listed = program.run("list", image)
@@ -118,7 +126,7 @@ def started(order: Order, folder: tempfile.TemporaryDirectory) -> Launched:
     if order.listing:
         write_listing(order.listing, code.text)
     child = Child([program.path, "debug", image, *order.documents])
-    made = Launched(order, code, child, program, folder)
+    made = Launched(given, code, child, program, folder)
     if order.policy:
         document = policies.read(order.policy)
         made.scope = document["spec"].get("variables", [])
@@ -145,7 +153,7 @@ def launched(order: Order) -> Launched:
         return made
     except NotAnswered as why:
         reason = f"celbpf: {why.line}"
-    except (BadRequest, Ended) as why:
+    except (BadRequest, Ended, Unreadable) as why:
         reason = str(why)
     except (Stop, OSError, subprocess.SubprocessError) as why:
         reason = f"the program cannot be run: {why}"

@@ -6,6 +6,7 @@ from dataclasses import dataclass
 from pathlib import Path
 from typing import Any, Optional
 
+from ..asking.files import Files
 from ..documents import Unreadable, json_fault, one_in
 from .cases import Case
 from .reviews import compact, text_of_review
@@ -63,14 +64,20 @@ class Asked:
 
     def __init__(self, folder: Path):
         self.folder = folder
+        self.files = Files(folder)
         self.made: dict = {}
+
+    def review(self, case: Case) -> str:
+        """The text of a case's review."""
+        review, at = case.review, case.file.parent
+        if isinstance(review, str):
+            review, at = self.files.named(at / review), Path()
+        return text_of_review(review, case.name, at)
 
     def file(self, value: Any, at: Path) -> str:
         """The file of a document: a name beside the test file, or an inline document."""
         if isinstance(value, str):
-            path = at / value
-            if not path.is_file():
-                raise Unreadable(f"{path}: No such file or directory")
+            path = Path(self.files.named(at / value))
             if path.suffix not in (".yaml", ".yml"):
                 return str(path)
             value = one_in(path)
@@ -108,7 +115,7 @@ class Programs:
         groups: dict = {}
         for place, case in enumerate(cases):
             try:
-                text = text_of_review(case.review, case.name, case.file.parent)
+                text = self.asked.review(case)
                 words = self.asked.words(case)
             except Unreadable as why:
                 found[place] = why

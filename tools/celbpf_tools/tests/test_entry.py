@@ -32,6 +32,10 @@ class Ends(unittest.TestCase):
         self.assertEqual(self.told(raising(missing)), (3, "script: p.json: No such file or directory\n"))
         self.assertEqual(self.told(raising(OSError(28, "No space left on device")))[0], 3)
 
+    def test_what_a_script_did_not_expect(self) -> None:
+        status, said = self.told(raising(KeyError("allowed")))
+        self.assertEqual((status, said.splitlines()[-1]), (3, "KeyError: 'allowed'"))
+
     def test_a_closed_pipe_and_an_interrupt(self) -> None:
         self.assertEqual(self.told(raising(BrokenPipeError())), (CLOSED, ""))
         self.assertEqual(self.told(raising(KeyboardInterrupt())), (INTERRUPTED, ""))
