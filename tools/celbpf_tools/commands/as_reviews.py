@@ -1,11 +1,16 @@
 """Makes an admission review of each object in manifests, a line each.
 
-usage: tools/as-reviews [--cluster STATE].. [--old FILE].. [--namespace NAME] [--user NAME] [--skip-unknown] FILE..
+usage: tools/as-reviews [--cluster STATE].. [--old FILE].. [--namespace NAME] [--user NAME [--group NAME]..]
+                        [--skip-unknown] FILE..
 
 A FILE is JSON, or YAML of one or more documents if Python has `yaml`; `-` is standard input. Lists are taken apart. The
 reviews are creations, as an API server sends them, or updates of the objects in the files of --old that have the same
 kind, namespace and name; their uids are 1, 2 and so on. An object of a namespaced kind that has no namespace gets that
-of --namespace, or `default`. --user gives the reviews a `userInfo`.
+of --namespace, or `default`. Values that an API server leaves out, such as `labels: {}`, are left out.
+
+--user gives the reviews a `userInfo`, as `kubectl --as` does, with the groups of --group and `system:authenticated`. A
+service account, `system:serviceaccount:NAMESPACE:NAME`, is in its own groups if none are given. Without --user there is
+no `userInfo`, and an expression that reads it is the error.
 
 Resources are known of the kinds that Kubernetes has built in, and of those that a CustomResourceDefinition in a file or
 in a cluster's state defines. Status 1, without a review, says that a kind is not known or a document is not an object of
@@ -33,8 +38,14 @@ def words() -> argparse.Namespace:
     parser.add_argument("--old", action="append", default=[])
     parser.add_argument("--namespace", default="default")
     parser.add_argument("--user")
+    parser.add_argument("--group", action="append", default=[], dest="groups")
     parser.add_argument("--skip-unknown", action="store_true")
-    return parser.parse_args()
+    given = parser.parse_args()
+    if given.groups and given.user is None:
+        parser.error("--group takes a --user")
+    if given.user == "" or "" in given.groups:
+        parser.error("a user or a group without a name")
+    return given
 
 
 class Making:
@@ -68,7 +79,7 @@ class Making:
             old_objects.add(thing, resource)
         for place, (thing, resource) in enumerate(self.known(self.new)):
             request = request_of(thing, resource, old_objects.of(thing, resource), str(place + 1))
-            yield review_of(request, self.given.user)
+            yield review_of(request, self.given.user, self.given.groups)
 
 
 def line_of(review: Any) -> str:

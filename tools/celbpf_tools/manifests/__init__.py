@@ -3,4 +3,6 @@
     kinds        the resource of a kind: those that are built in, and those of CustomResourceDefinitions
     objects      the objects of documents and lists
     reviews      the review of an object
+    users        the user of a request, with groups
+    sending      what is left out of a request because it is empty
 """

@@ -3,6 +3,8 @@
 from typing import Any, Optional
 
 from .kinds import Resource
+from .sending import object_sent
+from .users import user_info
 
 REVIEW = {"apiVersion": "admission.k8s.io/v1", "kind": "AdmissionReview"}
 
@@ -16,7 +18,7 @@ def placed(thing: dict, resource: Resource, namespace: str) -> dict:
     metadata = {key: value for key, value in thing["metadata"].items() if key != "namespace"}
     if resource.namespaced:
         metadata["namespace"] = thing["metadata"].get("namespace") or namespace
-    return {**thing, "metadata": metadata}
+    return object_sent({**thing, "metadata": metadata})
 
 
 def name_of(thing: dict) -> str:
@@ -64,8 +66,8 @@ def request_of(thing: dict, resource: Resource, old: Optional[dict], uid: str) -
     return made
 
 
-def review_of(request: dict, user: Optional[str]) -> dict:
-    """A review of a request, by a user if one is given."""
+def review_of(request: dict, user: Optional[str], groups: list) -> dict:
+    """A review of a request, by a user of groups if one is given."""
     if user is not None:
-        request = {**request, "userInfo": {"username": user, "groups": ["system:authenticated"]}}
+        request = {**request, "userInfo": user_info(user, groups)}
     return {**REVIEW, "request": request}

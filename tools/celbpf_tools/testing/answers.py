@@ -8,6 +8,7 @@ from typing import Any, Optional
 
 from ..asking.files import Files
 from ..documents import Unreadable, json_fault, one_in
+from ..manifests.sending import object_sent
 from .cases import Case
 from .reviews import compact, text_of_review
 
@@ -81,7 +82,7 @@ class Asked:
             if path.suffix not in (".yaml", ".yml"):
                 return str(path)
             value = one_in(path)
-        text = compact(value)
+        text = compact(object_sent(value))
         if text not in self.made:
             self.made[text] = self.write(f"document{len(self.made)}.json", text)
         return self.made[text]

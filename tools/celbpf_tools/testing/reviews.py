@@ -5,6 +5,7 @@ from pathlib import Path
 from typing import Any
 
 from ..documents import one_in, text_of
+from ..manifests.sending import request_sent
 
 REVIEW = {"apiVersion": "admission.k8s.io/v1", "kind": "AdmissionReview"}
 
@@ -23,7 +24,7 @@ def operation_of(parts: dict) -> str:
 
 
 def review_of_parts(parts: dict, uid: str, folder: Path) -> dict:
-    """A review of an object or an old one, which may be files; `request` adds what a request has besides."""
+    """A review of an object or an old one, which may be files, as an API server sends it; `request` adds more keys."""
     parts = {key: one_in(folder / value) if key in ("object", "oldObject") and isinstance(value, str) else value
              for key, value in parts.items()}
     thing = parts.get("object") if isinstance(parts.get("object"), dict) else parts.get("oldObject")
@@ -34,7 +35,7 @@ def review_of_parts(parts: dict, uid: str, folder: Path) -> dict:
         if isinstance(metadata, dict):
             request.update({key: metadata[key] for key in ("name", "namespace") if key in metadata})
     request.update({key: parts[key] for key in ("object", "oldObject") if key in parts})
-    return {**REVIEW, "request": {**request, **parts.get("request", {})}}
+    return {**REVIEW, "request": request_sent({**request, **parts.get("request", {})})}
 
 
 def text_of_review(review: Any, uid: str, folder: Path) -> str:

@@ -3,7 +3,6 @@
 import os
 import threading
 import unittest
-
 from pathlib import Path
 
 from ..asking import files, texts

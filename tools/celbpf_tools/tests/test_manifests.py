@@ -85,8 +85,37 @@ class Making(Ran):
         self.assertEqual((created["uid"], created["operation"], created["oldObject"]), ("2", "CREATE", None))
 
     def test_a_user(self) -> None:
-        request = self.requests("--user", "ann", self.file("node.json", NODE))[0]
-        self.assertEqual(request["userInfo"], {"username": "ann", "groups": ["system:authenticated"]})
+        node = self.file("node.json", NODE)
+        self.assertNotIn("userInfo", self.requests(node)[0])
+        for user, given, groups in [
+            ("ann", [], ["system:authenticated"]),
+            ("ann", ["dev", "ops"], ["dev", "ops", "system:authenticated"]),
+            ("ann", ["system:authenticated", "dev"], ["system:authenticated", "dev"]),
+            ("ann", ["system:unauthenticated"], ["system:unauthenticated"]),
+            ("system:anonymous", [], ["system:unauthenticated"]),
+            ("system:anonymous", ["system:authenticated"], ["system:authenticated", "system:unauthenticated"]),
+            ("system:serviceaccount:shop:web", [],
+             ["system:serviceaccounts", "system:serviceaccounts:shop", "system:authenticated"]),
+            ("system:serviceaccount:shop:web", ["dev"], ["dev", "system:authenticated"]),
+        ]:
+            with self.subTest(user=user, given=given):
+                words = [word for group in given for word in ("--group", group)]
+                request = self.requests("--user", user, *words, node)[0]
+                self.assertEqual(request["userInfo"], {"username": user, "groups": groups})
+
+    def test_empty_values_are_left_out(self) -> None:
+        metadata = {"name": "shop", "labels": {}, "annotations": {}, "finalizers": [], "generateName": "", "ownerReferences": None}
+        space = {"apiVersion": "v1", "kind": "Namespace", "metadata": metadata, "spec": {"finalizers": []}}
+        old = {**space, "metadata": {**metadata, "labels": {"a": ""}}}
+        created = self.requests(self.file("space.json", json.dumps(space)))[0]
+        self.assertEqual(created["object"], {**space, "metadata": {"name": "shop"}})
+        files = self.file("old.json", json.dumps(old)), self.file("space.json", json.dumps(space))
+        updated = self.requests("--old", *files)[0]
+        self.assertEqual(updated["oldObject"]["metadata"], {"name": "shop", "labels": {"a": ""}})
+        web = WEB.replace('"web"%s', '"", "generateName": "web-", "namespace": ""%s') % ("", 3)
+        request = self.requests(self.file("web.json", web))[0]
+        self.assertNotIn("name", request)
+        self.assertEqual(request["object"]["metadata"], {"generateName": "web-", "namespace": "default"})
 
     def test_custom_resources(self) -> None:
         team = self.file("team.json", TEAM % "v1")
@@ -106,6 +135,13 @@ class Making(Ran):
 
 
 class Refusing(Ran):
+    def test_groups_without_a_user_and_names_without_a_letter(self) -> None:
+        node = self.file("node.json", NODE)
+        for words in (["--group", "dev"], ["--user", ""], ["--user", "ann", "--group", ""]):
+            with self.subTest(words), self.assertRaises(SystemExit) as ends:
+                self.ran(*words, node)
+            self.assertEqual(ends.exception.code, 2)
+
     def test_unknown_kinds(self) -> None:
         team, node = self.file("team.json", TEAM % "v1alpha1"), self.file("node.json", NODE)
         state = self.file("state.json", DEFINITION)

@@ -1,12 +1,14 @@
 """Test files, what is wanted of answers, and how results are told."""
 
 import io
+import json
 import unittest
 import xml.etree.ElementTree as xml
+from pathlib import Path
 
 from ..asking.policies import whole
 from ..testing import output
-from ..testing.answers import Answer, answer_of, failures
+from ..testing.answers import Answer, Asked, answer_of, failures
 from ..testing.cases import Broken, read
 from ..testing.coverage import items_of, states
 from ..testing.output import Result
@@ -49,6 +51,21 @@ class Reading(Files):
             "uid": "u", "operation": "CREATE", "kind": {"group": "apps", "version": "v1", "kind": "Deployment"},
             "name": "web", "namespace": "shop", "object": thing, "dryRun": True,
         })
+
+
+    def test_empty_values_that_an_api_server_leaves_out(self) -> None:
+        user = {"username": "", "uid": "", "groups": [], "extra": {}}
+        more = {"userInfo": user, "subResource": "", "name": "", "namespace": "", "requestSubResource": "", "dryRun": False}
+        thing = {"metadata": {"labels": {}, "name": "a"}, "spec": {"labels": {}}}
+        review = review_of_parts({"object": thing, "oldObject": None, "request": more}, "", self.folder)
+        kind = {"group": "", "version": "", "kind": ""}
+        self.assertEqual(review["request"], {
+            "uid": "", "operation": "CREATE", "kind": kind, "userInfo": {}, "dryRun": False, "oldObject": None,
+            "object": {"metadata": {"name": "a"}, "spec": {"labels": {}}},
+        })
+        namespace = {"kind": "Namespace", "metadata": {"name": "a", "labels": {}}}
+        written = Path(Asked(self.folder).file(namespace, self.folder)).read_text()
+        self.assertEqual(json.loads(written), {"kind": "Namespace", "metadata": {"name": "a"}})
 
 
 class Wanted(Files):
