@@ -8,7 +8,7 @@ from pathlib import Path
 from typing import Any, Optional
 
 from ..entry import FILE, Stop
-from ..home import EXAMPLES, ROOT, TOOLS, built, installed, is_checkout, unproved
+from ..home import ROOT, TOOLS, built, installed, is_checkout, unproved
 
 # the statuses of refusals
 REFUSALS = range(2, 5)

@@ -1,6 +1,6 @@
 """Runs over the built program what the pages show: commands with what they print, sessions, and expressions.
 
-usage: python3 -m celbpf_tools.pages PROGRAM   (in tools, as tools/run-commands does)
+usage: python3 -m celbpf_tools.pages PROGRAM GATEKEEPER   (in tools, as tools/run-commands does)
 
 The commands are in the table tools/data/run-commands/pages. There `page` names a page and `end` ends it; `with` is
 a setting of its commands, and `file NAME WORDS` makes a file of the page's block that begins so. `$` is a command of
@@ -12,7 +12,7 @@ import sys
 import tempfile
 from typing import Any
 
-from ..asking.program import Program, located
+from ..asking.program import Program, located, usable
 
 from .commands import Commands, run_table
 from .expressions import Expressions
@@ -20,9 +20,9 @@ from .texts import read
 
 
 def main() -> Any:
-    path = located(sys.argv[1] if len(sys.argv) > 1 else "")
+    path, gatekeeper = located(sys.argv[1]), usable(sys.argv[2])
     with tempfile.TemporaryDirectory() as folder, tempfile.TemporaryDirectory() as other:
-        commands = Commands(path, folder)
+        commands = Commands(path, gatekeeper, folder)
         run_table(commands, read("tools/data/run-commands/pages").splitlines())
         expressions = Expressions(Program(path, other))
         expressions.cel()

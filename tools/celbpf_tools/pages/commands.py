@@ -20,12 +20,14 @@ MORE = {"seven lines more": 7, "ten lines more": 10}
 class Commands:
     """A folder in which the commands of a page are run as at the top of the repository."""
 
-    def __init__(self, program: Any, folder: Any):
+    def __init__(self, program: Any, gatekeeper: Any, folder: Any):
         self.folder = Path(folder)
         self.program = program
         self.runs = self.differing = 0
-        for name, path in ("celbpf", program), ("examples", ROOT / "examples"), ("tools", ROOT / "tools"):
+        for name, path in ("celbpf", program), ("gatekeeper", gatekeeper):
             os.symlink(path, self.folder / name)
+        for name in "examples", "tools":
+            os.symlink(ROOT / name, self.folder / name)
 
     def shell(self, text: str, asked: Any = '') -> Any:
         """The status and both outputs of a text that a shell runs."""
