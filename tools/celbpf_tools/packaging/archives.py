@@ -13,6 +13,7 @@ from ..entry import Stop
 from ..home import ROOT
 
 ARCHES = {"x86_64": "amd64", "aarch64": "arm64"}
+VERSION = re.compile(r'"gatekeeper ([0-9.]+)\\n"')
 GLIBC = re.compile(rb"GLIBC_2\.([0-9]+)")
 CONTROL = """Package: celbpf
 Version: {version}
@@ -23,18 +24,30 @@ Priority: optional
 Installed-Size: {size}
 Depends: {libc}, python3 (>= 3.10)
 Recommends: python3-yaml
-Suggests: bash-completion, man-db
+Suggests: bash-completion, zsh, man-db, gcc, pkg-config, golang, cargo
 Description: decides Kubernetes admission without a webhook
  Compiles ValidatingAdmissionPolicy documents to BPF programs, runs them on a BPF
- machine, answers reviews, and debugs a decision step by step. Its programs are
- proved; docs/PROOFS.md says what of.
+ machine, answers reviews, and debugs a decision step by step. It has programs,
+ scripts, and a library for C, Go, Python and Rust. README.md says what is proved.
 """
+SHARED = "lib/libcelbpf.so.1"
 
 
 def version_of() -> str:
-    """The version: the date of the newest entry of the changelog."""
-    found = re.search(r"^## (\d+)-(\d+)-(\d+)", (ROOT / "CHANGELOG.md").read_text(), re.MULTILINE)
-    return f"0.{''.join(found.groups())}" if found else "0"
+    """The version: the one that the sources of `gatekeeper --version` print."""
+    found = VERSION.search((ROOT / "crates" / "gatekeeper_runner" / "src" / "about.rt").read_text())
+    if not found:
+        raise Stop("the sources of gatekeeper have no version")
+    return found[1]
+
+
+def checked_version(gatekeeper: Path) -> str:
+    """The version, which this program prints too."""
+    ran = subprocess.run([gatekeeper, "--version"], capture_output=True, text=True, check=False)
+    version = version_of()
+    if ran.stdout != f"gatekeeper {version}\n":
+        raise Stop(f"{gatekeeper} is {ran.stdout.strip() or 'of no version'}, and the sources are gatekeeper {version}")
+    return version
 
 
 def arch_of() -> str:
@@ -42,9 +55,9 @@ def arch_of() -> str:
     return ARCHES.get(machine, machine)
 
 
-def libc_of(programs: dict) -> str:
-    """What of the C library the programs need, as a dependency."""
-    least = max((int(minor) for path in programs.values() for minor in GLIBC.findall(path.read_bytes())), default=0)
+def libc_of(files: list) -> str:
+    """What of the C library programs and libraries need, as a dependency."""
+    least = max((int(minor) for path in files for minor in GLIBC.findall(path.read_bytes())), default=0)
     return f"libc6 (>= 2.{least})" if least else "libc6"
 
 
@@ -61,21 +74,33 @@ def size_of(folder: Path) -> int:
     return sum(-(-path.lstat().st_size // 1024) for path in folder.rglob("*") if not path.is_dir())
 
 
-def deb(root: Path, programs: dict, version: str, target: Path) -> None:
+def deb(root: Path, version: str, target: Path) -> None:
     """The Debian package of a tree whose `usr` is planted."""
     if not shutil.which("dpkg-deb"):
         raise Stop("there is no command dpkg-deb; --tar makes the tar archive alone", 10)
     control = root / "DEBIAN"
     control.mkdir(mode=0o755)
-    text = CONTROL.format(version=version, arch=arch_of(), size=size_of(root / "usr"), libc=libc_of(programs))
-    (control / "control").write_text(text)
+    linked = [root / "usr" / "bin" / name for name in ("celbpf", "gatekeeper")]
+    if (root / "usr" / SHARED).exists():
+        linked.append(root / "usr" / SHARED)
+        written(control / "triggers", "activate-noawait ldconfig\n")
+    text = CONTROL.format(version=version, arch=arch_of(), size=size_of(root / "usr"), libc=libc_of(linked))
+    written(control / "control", text)
+    for folder in (root, control):
+        folder.chmod(0o755)
     dated(root)
-    environment = {**os.environ, "SOURCE_DATE_EPOCH": str(epoch_of())}
+    # xz by several threads packs other bytes than by one
+    environment = {**os.environ, "SOURCE_DATE_EPOCH": str(epoch_of()), "DPKG_DEB_THREADS_MAX": "1"}
     words = ["dpkg-deb", "--root-owner-group", "-Zxz", "--build", str(root), str(target)]
     ran = subprocess.run(words, env=environment, capture_output=True, text=True, check=False)
     if ran.returncode:
         raise Stop(f"dpkg-deb: {ran.stderr.strip()}")
     shutil.rmtree(control)
+
+
+def written(path: Path, text: str) -> None:
+    path.write_text(text)
+    path.chmod(0o644)
 
 
 def dated(root: Path) -> None:

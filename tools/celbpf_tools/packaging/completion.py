@@ -1,45 +1,39 @@
-"""Bash completion of the programs and the scripts."""
+"""Completion of the programs and the scripts, for bash and zsh."""
 
-# the words that a command takes; what is no option is a file
+import importlib
+import re
+
+from ..home import DATA
+from .pages import SCRIPTS
+
+# the words that a command of celbpf takes; what is no option is a file
 COMMANDS = {
     "compile": "", "review": "--policy --review --namespace --params --steps", "run-image": "--steps", "asm": "",
     "list": "", "debug": "--review --namespace --params",
 }
-OPTIONS = {
-    "gatekeeper": "--policy --namespace --params --cluster --partial --steps --max-line --verbose --help --version",
-    "celbpf-why": "--html --namespace --params --case --program",
-    "celbpf-place": "--program",
-    "celbpf-reviews": "--namespace --params --program",
-    "celbpf-test": "--junit --coverage --tap --program --gatekeeper",
-    "celbpf-adapt": "--program",
-    "celbpf-as-reviews": "--cluster --old --namespace --user --skip-unknown",
-    "celbpf-dap": "--program",
-}
-TEXT = """# bash completion of celbpf, gatekeeper and the scripts beside them
-
-_celbpf_words() {
+OPTION = re.compile(r"(?<![\w-])--[a-z][a-z-]*")
+NAMES = ["celbpf", "gatekeeper", *(f"celbpf-{name}" for name in SCRIPTS)]
+WORDS = """_celbpf_words() {
     case $1 in
 %s
     esac
 }
+"""
+BASH = """# bash completion of celbpf, gatekeeper and the scripts beside them
 
+%s
 _celbpf() {
     local word=${COMP_WORDS[COMP_CWORD]} name=${1##*/} words
     COMPREPLY=()
     if [ "$name" = celbpf ] && [ "$COMP_CWORD" -eq 1 ]; then
-        words='%s'
-    elif [ "$name" = celbpf ]; then
-        words=$(_celbpf_words "${COMP_WORDS[1]}")
-    else
-        words=$(_celbpf_words "$name")
+        mapfile -t COMPREPLY < <(compgen -W '%s' -- "$word")
+        return
     fi
+    [ "$name" != celbpf ] || name=${COMP_WORDS[1]}
+    words=$(_celbpf_words "$name")
     case $word in
     -*) mapfile -t COMPREPLY < <(compgen -W "$words" -- "$word") ;;
     *)
-        [ "$name" = celbpf ] && [ "$COMP_CWORD" -eq 1 ] && {
-            mapfile -t COMPREPLY < <(compgen -W "$words" -- "$word")
-            return
-        }
         compopt -o filenames 2>/dev/null
         mapfile -t COMPREPLY < <(compgen -f -- "$word")
         ;;
@@ -48,10 +42,50 @@ _celbpf() {
 
 complete -F _celbpf %s
 """
+ZSH = """#compdef %s
+# zsh completion of celbpf, gatekeeper and the scripts beside them
+
+%s
+_celbpf() {
+    local name=$service
+    if [[ $name == celbpf && $CURRENT -eq 2 ]]; then
+        compadd -- %s
+        return
+    fi
+    [[ $name != celbpf ]] || name=$words[2]
+    if [[ $words[CURRENT] == -* ]]; then
+        compadd -- $(_celbpf_words "$name")
+    else
+        _files
+    fi
+}
+
+_celbpf "$@"
+"""
 
 
-def completion() -> str:
-    """The text of the completion."""
-    cases = {**COMMANDS, **OPTIONS}
-    lines = [f"    {name}) echo '{words}' ;;" for name, words in cases.items()]
-    return TEXT % ("\n".join(lines), " ".join(COMMANDS), " ".join(["celbpf", *OPTIONS]))
+def of_gatekeeper() -> str:
+    """The options in its help text."""
+    return " ".join(dict.fromkeys(OPTION.findall((DATA / "run-commands" / "gatekeeper.help").read_text())))
+
+
+def of_script(name: str) -> str:
+    """The options in the usage of a script."""
+    doc = importlib.import_module(f"celbpf_tools.commands.{name.replace('-', '_')}").__doc__ or ""
+    return " ".join(dict.fromkeys(OPTION.findall(doc.split("usage: ")[1].split("\n\n")[0])))
+
+
+def words() -> str:
+    """The function that prints the options of a command, a program or a script."""
+    options = {**COMMANDS, "gatekeeper": of_gatekeeper(), **{f"celbpf-{name}": of_script(name) for name in SCRIPTS}}
+    return WORDS % "\n".join(f"    {name}) echo '{found}' ;;" for name, found in options.items())
+
+
+def bash() -> str:
+    """The completion for bash."""
+    return BASH % (words(), " ".join(COMMANDS), " ".join(NAMES))
+
+
+def zsh() -> str:
+    """The completion for zsh."""
+    return ZSH % (" ".join(NAMES), words(), " ".join(COMMANDS))

@@ -2,16 +2,18 @@
 
 import gzip
 import importlib
-import re
 import shutil
+import tempfile
 from pathlib import Path
+from typing import Optional
 
+from ..embedding.building import EMBED, installed, made
 from ..home import PACKAGE, ROOT
-from . import manual
-from .completion import OPTIONS, completion
+from . import manual, pages
+from .completion import NAMES, bash, zsh
 
 # the scripts for policies, which need nothing of the repository
-SCRIPTS = ("why", "place", "reviews", "test", "adapt", "as-reviews", "dap")
+SCRIPTS = pages.SCRIPTS
 # the packages of Python that these need
 MODULES = ("asking", "adapting", "testing", "evaluator", "manifests", "slots", "viewing", "dap", "commands")
 ENTRY = '''#!/usr/bin/env python3
@@ -62,8 +64,7 @@ def module_of(name: str) -> str:
 
 def doc_of(name: str) -> str:
     """What a script says of itself, by its installed name."""
-    doc = importlib.import_module(f"celbpf_tools.commands.{module_of(name)}").__doc__ or ""
-    return re.sub(r"\btools/(" + "|".join(SCRIPTS) + r")\b", r"celbpf-\1", doc)
+    return pages.renamed(importlib.import_module(f"celbpf_tools.commands.{module_of(name)}").__doc__ or "")
 
 
 def put_scripts(prefix: Path) -> None:
@@ -79,45 +80,57 @@ def put_scripts(prefix: Path) -> None:
         written(prefix / "bin" / f"celbpf-{name}", ENTRY.format(name=name, module=module, what=what), 0o755)
 
 
-def as_installed(text: str) -> str:
-    """A page of the repository without what it says of building, and with the installed names."""
-    kept = [one for one in text.split("\n\n") if "crates/" not in one]
-    text = re.sub(r"(?<![\w/])\./(celbpf|gatekeeper)\b", r"\1", "\n\n".join(kept))
-    return re.sub(r"(?<![\w/])examples/", "/usr/share/doc/celbpf/examples/", text)
+def put_library(prefix: Path, library: Path) -> None:
+    """The library made of the proved one, with its header, the packages as sources, and an example in C."""
+    with tempfile.TemporaryDirectory() as folder:
+        made(library, Path(folder))
+        installed(Path(folder), prefix)
+    copied(EMBED / "c" / "example.c", prefix / "share" / "doc" / "celbpf" / "examples" / "c" / "example.c")
 
 
 def put_pages(prefix: Path, version: str) -> None:
     """Man pages, compressed as Debian has them."""
-    pages = {name: manual.of_page(name, what, as_installed((ROOT / "docs" / page).read_text()), version)
+    found = {name: manual.of_page(name, what, pages.installed(f"docs/{page}"), version)
              for name, (what, page) in PROGRAMS.items()}
-    tests = manual.section((ROOT / "docs" / "SCRIPTS.md").read_text(), "Tests of policies")
+    tests = manual.section(pages.installed("docs/SCRIPTS.md"), "Tests of policies")
     for name in SCRIPTS:
-        more = tests.replace("tools/test", "celbpf-test") if name == "test" else ""
-        pages[f"celbpf-{name}"] = manual.of_script(f"celbpf-{name}", doc_of(name), version, more)
+        more = tests if name == "test" else ""
+        found[f"celbpf-{name}"] = manual.of_script(f"celbpf-{name}", doc_of(name), version, more)
     folder = prefix / "share" / "man" / "man1"
     folder.mkdir(parents=True)
-    for name, text in pages.items():
+    for name, text in found.items():
         (folder / f"{name}.1.gz").write_bytes(gzip.compress(text.encode(), mtime=0))
         (folder / f"{name}.1.gz").chmod(0o644)
 
 
 def put_documents(prefix: Path) -> None:
     doc = prefix / "share" / "doc" / "celbpf"
-    for file in ("README.md", "CHANGELOG.md", "docs", "examples"):
-        copied(ROOT / file, doc / file)
+    copied(ROOT / "examples", doc / "examples")
+    for name in pages.INSTALLED:
+        written(doc / name, pages.installed(name))
+    for path in pages.pictures():
+        copied(ROOT / path, doc / path)
     copied(ROOT / "LICENSE", doc / "copyright")
+
+
+def put_completion(prefix: Path) -> None:
     folder = prefix / "share" / "bash-completion" / "completions"
-    written(folder / "celbpf", completion())
-    for name in OPTIONS:
+    written(folder / "celbpf", bash())
+    for name in NAMES[1:]:
         (folder / name).symlink_to("celbpf")
+    written(prefix / "share" / "zsh" / "vendor-completions" / "_celbpf", zsh())
 
 
-def plant(prefix: Path, programs: dict, version: str) -> None:
-    """Puts all files of the package below a prefix, such as /usr."""
+def plant(prefix: Path, programs: dict, library: Optional[Path], version: str) -> None:
+    """Puts all files of the package below a prefix, such as /usr; without a library that is left out."""
     put_programs(prefix, programs)
     put_scripts(prefix)
     put_pages(prefix, version)
     put_documents(prefix)
+    put_completion(prefix)
+    if library:
+        put_library(prefix, library)
+    prefix.chmod(0o755)
     for path in sorted(prefix.rglob("*")):
         if not path.is_symlink():
             path.chmod(0o755 if path.is_dir() or path.parent == prefix / "bin" else 0o644)

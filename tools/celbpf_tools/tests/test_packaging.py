@@ -1,14 +1,18 @@
 """Man pages of pages and docstrings, and what a package says of itself."""
 
+import re
 import subprocess
 import tempfile
 import unittest
 from pathlib import Path
 
-from ..home import is_checkout
+from ..entry import Stop
+from ..home import ROOT, is_checkout
 from ..packaging import archives, manual
-from ..packaging.completion import completion
-from ..packaging.tree import as_installed, doc_of
+from ..packaging.checking import text_faults
+from ..packaging.completion import COMMANDS, bash, zsh
+from ..packaging.pages import linked, renamed, without_sections
+from ..packaging.tree import doc_of
 
 PAGE = """# Title
 
@@ -46,23 +50,60 @@ class Manual(unittest.TestCase):
         self.assertEqual(lines[lines.index(".SH SYNOPSIS") + 1 :][:4], [".nf", "tools/why A", "tools/why B", ".fi"])
 
     def test_names_as_installed(self) -> None:
-        self.assertEqual(as_installed("`./celbpf a`\n\nin crates/x\n\n<examples/b"), "`celbpf a`\n\n</usr/share/doc/celbpf/examples/b")
+        for text, named in [
+            ("`./celbpf a`", "`celbpf a`"), ("tools/why <examples/b", "celbpf-why </usr/share/doc/celbpf/examples/b"),
+            ("`tools/measure 1` takes", "`measure 1` of the repository takes"), ("cd ../examples", "cd ../examples"),
+        ]:
+            with self.subTest(text):
+                self.assertEqual(renamed(text), named)
         self.assertIn("usage: celbpf-why POLICY REVIEW", doc_of("why"))
 
 
 class Package(unittest.TestCase):
-    @unittest.skipUnless(is_checkout(), "the changelog is in the repository")
+    @unittest.skipUnless(is_checkout(), "the sources are in the repository")
     def test_version(self) -> None:
         self.assertRegex(archives.version_of(), r"^0\.20\d{6}$")
+        with tempfile.TemporaryDirectory() as folder:
+            program = Path(folder, "gatekeeper")
+            for said, why in [("gatekeeper 0.1", "is gatekeeper 0.1"), ("", "is of no version")]:
+                program.write_text(f"#!/bin/sh\necho '{said}'\n")
+                program.chmod(0o755)
+                with self.subTest(said), self.assertRaisesRegex(Stop, why):
+                    archives.checked_version(program)
 
     def test_the_c_library_that_programs_need(self) -> None:
         with tempfile.TemporaryDirectory() as folder:
             path = Path(folder, "program")
             path.write_bytes(b"..GLIBC_2.4\0GLIBC_2.34\0..")
-            self.assertEqual(archives.libc_of({"a": path}), "libc6 (>= 2.34)")
+            self.assertEqual(archives.libc_of([path]), "libc6 (>= 2.34)")
             path.write_bytes(b"static")
-            self.assertEqual(archives.libc_of({"a": path}), "libc6")
+            self.assertEqual(archives.libc_of([path]), "libc6")
 
-    def test_completion_is_bash(self) -> None:
-        ran = subprocess.run(["bash", "-n"], input=completion(), text=True, capture_output=True, check=False)
+    @unittest.skipUnless(is_checkout(), "the help text is in the repository")
+    def test_completion(self) -> None:
+        ran = subprocess.run(["bash", "-n"], input=bash(), text=True, capture_output=True, check=False)
         self.assertEqual((ran.returncode, ran.stderr), (0, ""))
+        self.assertTrue(zsh().startswith("#compdef celbpf gatekeeper celbpf-why "))
+        for text in (bash(), zsh()):
+            self.assertIn("celbpf-as-reviews) echo '--cluster --old --namespace --user --group --skip-unknown'", text)
+            self.assertRegex(text, "gatekeeper\\) echo '--policy .*--cluster --partial --help --version'")
+
+    @unittest.skipUnless(is_checkout(), "the pages are in the repository")
+    def test_completion_has_the_commands_of_the_page(self) -> None:
+        rows = re.findall(r"^\| `([a-z-]+) ([^`]*)` \|", (ROOT / "docs" / "COMMANDS.md").read_text(), re.MULTILINE)
+        shown = {name: set(re.findall(r"--[a-z]+", words)) for name, words in rows}
+        self.assertEqual({name: set(words.split()) for name, words in COMMANDS.items()}, shown)
+
+    @unittest.skipUnless(is_checkout(), "the pages are in the repository")
+    def test_a_page_as_installed(self) -> None:
+        page = "[A](CEL.md#b), [B](PROOFS.md), [C](../embed/c/celbpf.h)\n| [D](PROOFS.md) |\n| [E](CEL.md) |"
+        self.assertEqual(list(linked("docs/CLUSTER.md", page)), [
+            "[A](CEL.md#b), B (in the repository), `/usr/include/celbpf.h`", "| [E](CEL.md) |",
+        ])
+        self.assertEqual(without_sections("# T\n\n## A\n\na\n\n## B\n\nb\n", ("A",)), "# T\n\n## B\n\nb\n")
+
+    def test_links_that_lead_to_nothing(self) -> None:
+        with tempfile.TemporaryDirectory() as folder:
+            Path(folder, "A.md").write_text("# A `b`\n[x](A.md#a-b) [y](#c) [z](B.md) [w](http://a)\nrun tools/x or ./y, ../z")
+            found = [line.removeprefix(f"{folder}/A.md: ") for line in text_faults(Path(folder))]
+            self.assertEqual(found, ["run tools/x or ./y, ../z", "#c leads to nothing", "B.md# leads to nothing"])

@@ -1,0 +1,211 @@
+"""What is checked of a package once it is installed below a prefix."""
+
+import gzip
+import json
+import os
+import re
+import shutil
+import subprocess
+from pathlib import Path
+from typing import Any, Iterator
+
+from ..embedding.callers import missing
+
+BASH = """source "$1/share/bash-completion/completions/celbpf"
+COMP_WORDS=(celbpf re) COMP_CWORD=1
+_celbpf celbpf
+echo "${COMPREPLY[*]}"
+COMP_WORDS=(celbpf-test --j) COMP_CWORD=1
+_celbpf celbpf-test
+echo "${COMPREPLY[*]}"
+"""
+# the words that are handed to zsh, which chooses among them
+ZSH = """compadd() { shift; print -r -- $@ }
+_files() { print files }
+ask() { service=$1 words=($@) CURRENT=$# ; source $file }
+file=$1/share/zsh/vendor-completions/_celbpf
+ask celbpf re
+ask celbpf review --p
+ask celbpf review p
+ask celbpf-place --
+"""
+ZSH_SAYS = """compile review run-image asm list debug
+--policy --review --namespace --params --steps
+files
+--program
+"""
+PYTHON = """import sys
+from celbpf import Gate
+with Gate(open(sys.argv[1], "rb").read()) as gate:
+    response = gate.decide(open(sys.argv[2], "rb").read())
+print(response.json.decode())
+sys.exit(0 if response.allowed else 1)
+"""
+CARGO = '[package]\nname = "mine"\nversion = "1.0.0"\nedition = "2021"\n[dependencies]\ncelbpf = {{ path = "{}" }}\n'
+RUST = """use std::{env, fs, process::exit};
+
+fn main() {
+    let files: Vec<Vec<u8>> = env::args().skip(1).map(|name| fs::read(name).unwrap()).collect();
+    let mut gate = celbpf::Gate::new(&files[0]).unwrap();
+    let response = gate.decide(&celbpf::Request::of(&files[1])).unwrap();
+    println!("{}", String::from_utf8_lossy(&response.json));
+    exit(if response.allowed { 0 } else { 1 });
+}
+"""
+# what a page of a package must not have: files of the repository
+OF_REPOSITORY = re.compile(r"(?<!\w)tools/\w|(?<![\w.])\./")
+LINK = re.compile(r"\]\(([^)#\s]*)(?:#([^)\s]*))?\)")
+
+
+class Checks:
+    """What was run, and how much of it is not as it is to be."""
+
+    def __init__(self, folder: Path):
+        self.folder = folder
+        self.done = self.wrong = 0
+
+    def tell(self, what: str, is_right: bool, found: str) -> None:
+        self.done += 1
+        if not is_right:
+            self.wrong += 1
+            print(f"{what}\nfound: {found}", flush=True)
+
+    def run(self, words: list, status: int, wanted: str, asked: str = "", **more: Any) -> None:
+        """A run in the folder, whose output begins so, or is so if it ends with a line feed."""
+        ran = self.ran(words, asked, **more)
+        fits = ran.stdout == wanted if wanted.endswith("\n") else ran.stdout.startswith(wanted)
+        self.tell(" ".join(map(str, words)), ran.returncode == status and fits, f"{ran.stdout}{ran.stderr}[{ran.returncode}]")
+
+    def ran(self, words: list, asked: str = "", **more: Any) -> subprocess.CompletedProcess:
+        environment = {**os.environ, "LC_ALL": "C.UTF-8", "MANWIDTH": "100", **more}
+        return subprocess.run(
+            [str(word) for word in words], cwd=self.folder, env=environment, input=asked, capture_output=True, encoding="utf-8",
+            check=False,
+        )
+
+
+class Installed:
+    """A prefix with a package, and the first example there."""
+
+    def __init__(self, prefix: Path):
+        self.prefix = prefix
+        self.doc = prefix / "share" / "doc" / "celbpf"
+        self.examples = self.doc / "examples"
+        self.replicas = self.examples / "policies" / "replicas"
+        self.policy, self.review = self.replicas / "policy.json", self.replicas / "five.review.json"
+        self.response = (self.replicas / "five.response.json").read_text()
+        self.program = prefix / "bin" / "celbpf"
+
+
+def dap_launch(policy: Path) -> str:
+    """What an editor writes to launch a policy."""
+    body = json.dumps({"seq": 1, "type": "request", "command": "launch", "arguments": {"policy": str(policy)}})
+    return f"Content-Length: {len(body)}\r\n\r\n{body}"
+
+
+def check_programs(checks: Checks, it: Installed) -> None:
+    """The programs and the scripts, on the examples."""
+    gate, program = it.examples / "gatekeeper", it.program
+    checks.run([program, "review", "--policy", it.policy, "--review", it.review], 1, it.response)
+    policies = [word for name in ("few", "even") for word in ("--policy", gate / "policies" / f"{name}.json")]
+    lines, answers = (gate / "reviews.jsonl").read_text(), (gate / "answers.jsonl").read_text()
+    checks.run([it.prefix / "bin" / "gatekeeper", *policies], 0, answers, lines)
+    checks.run([f"{program}-why", it.policy, it.review], 1, "denied\nvalidation 0: false\n    object.spec.replicas <= 3")
+    checks.run([f"{program}-why", it.policy, it.review, "--html", "why.html"], 1, "denied\nvalidation 0")
+    page = checks.folder / "why.html"
+    checks.tell("the page of celbpf-why", page.exists() and ">denied</h1>" in page.read_text(), "no page of a denial")
+    checks.run([f"{program}-place", it.policy], 0, "accepted\n")
+    checks.run([f"{program}-reviews", it.policy, it.review], 1, f"{it.review}: denied")
+    checks.run([f"{program}-test", it.replicas], 0, "TAP version 13\n1..3\nok 1")
+    checks.run([f"{program}-adapt", it.policy], 0, '{\n  "apiVersion"')
+    checks.run([f"{program}-as-reviews", it.policy], 0, '{"apiVersion":"admission.k8s.io/v1"')
+    checks.run([f"{program}-dap"], 0, "Content-Length: ", dap_launch(it.policy))
+    # its name and its usage are those that it is installed by
+    checks.run([f"{program}-test", "--help"], 0, "usage: celbpf-test [--junit F]")
+
+
+def check_library(checks: Checks, it: Installed) -> Iterator[str]:
+    """The library, from each language; yields what is left out."""
+    pkg = {"PKG_CONFIG_PATH": str(it.prefix / "lib" / "pkgconfig")}
+    sources, words = it.prefix / "share" / "celbpf", [it.policy, it.review]
+    if lacking := missing("cc", "pkg-config"):
+        yield f"C and Rust {lacking}"
+        return
+    example = it.examples / "c" / "example.c"
+    checks.run(["sh", "-c", f"cc -o archive {example} $(pkg-config --cflags --libs celbpf)"], 0, "", **pkg)
+    checks.run(["./archive", *words], 1, it.response)
+    lib = it.prefix / "lib"
+    checks.run(["cc", "-o", "shared", example, "-I", it.prefix / "include", f"-L{lib}", "-lcelbpf", f"-Wl,-rpath,{lib}"], 0, "")
+    checks.run(["./shared", *words], 1, it.response)
+    (checks.folder / "mine.py").write_text(PYTHON)
+    python = {"PYTHONPATH": str(sources / "python" / "celbpf"), "CELBPF_LIBRARY": str(lib / "libcelbpf.so.1")}
+    checks.run(["python3", "-B", "mine.py", *words], 1, it.response, **python)
+    if lacking := missing("go"):
+        yield f"Go {lacking}"
+    else:
+        # the packages are copied, as a user may not write beside them
+        shutil.copytree(sources / "go", checks.folder / "go", dirs_exist_ok=True)
+        names = {"GOCACHE": str(checks.folder / "cache"), "GOFLAGS": "-mod=mod", "GOPROXY": "off", "CGO_ENABLED": "1"}
+        checks.run(["sh", "-c", "cd go/example && go build -o ../../go-example ."], 0, "", **pkg, **names)
+        checks.run(["./go-example", *words], 1, it.response)
+    if lacking := missing("cargo"):
+        yield f"Rust {lacking}"
+    else:
+        check_rust(checks, sources / "rust" / "celbpf", pkg, words, it.response)
+
+
+def check_rust(checks: Checks, package: Path, pkg: dict, words: list, response: str) -> None:
+    """A program in Rust that depends on the package."""
+    shutil.copytree(package, checks.folder / "rust", dirs_exist_ok=True)
+    folder = checks.folder / "mine"
+    (folder / "src").mkdir(parents=True, exist_ok=True)
+    (folder / "Cargo.toml").write_text(CARGO.format("../rust"))
+    (folder / "src" / "main.rs").write_text(RUST)
+    run = ["cargo", "run", "-q", "--offline", "--manifest-path", folder / "Cargo.toml", "--", *words]
+    checks.run(run, 1, response, **pkg)
+
+
+def check_manual(checks: Checks, it: Installed) -> Iterator[str]:
+    """The man pages and the completion; yields what is left out."""
+    pages = sorted((it.prefix / "share" / "man" / "man1").iterdir())
+    if lacking := missing("man"):
+        yield f"man pages {lacking}"
+    else:
+        for page in pages:
+            ran = checks.ran(["man", "--warnings", "-l", page])
+            name = page.name.removesuffix(".1.gz")
+            is_right = ran.returncode == 0 and not ran.stderr and f"{name} - " in " ".join(ran.stdout.split())
+            checks.tell(f"man {name}", is_right, f"{ran.stderr}[{ran.returncode}] {ran.stdout[:300]}")
+    checks.run(["bash", "-c", BASH, "bash", it.prefix], 0, "review\n--junit\n")
+    if lacking := missing("zsh"):
+        yield f"zsh {lacking}"
+    else:
+        checks.run(["zsh", "-f", "-c", ZSH, "zsh", it.prefix], 0, ZSH_SAYS)
+
+
+def anchors_of(text: str) -> set:
+    """The anchors of a page's headings."""
+    heads = re.findall(r"^#+ (.*)$", text, re.MULTILINE)
+    return {re.sub(r"[^\w\- ]", "", head).strip().lower().replace(" ", "-") for head in heads}
+
+
+def text_faults(doc: Path) -> Iterator[str]:
+    """The links of pages that lead to nothing, and the words that only the repository has."""
+    for page in sorted(doc.rglob("*.md")):
+        text = page.read_text()
+        yield from (f"{page}: {line}" for line in text.split("\n") if OF_REPOSITORY.search(line))
+        for target, anchor in LINK.findall(text):
+            if "://" in target:
+                continue
+            there = page.parent / target if target else page
+            if not there.exists() or (anchor and anchor not in anchors_of(there.read_text())):
+                yield f"{page}: {target}#{anchor} leads to nothing"
+
+
+def check_texts(checks: Checks, it: Installed) -> None:
+    """The pages, and the texts of the man pages."""
+    faults = list(text_faults(it.doc))
+    for page in sorted((it.prefix / "share" / "man" / "man1").iterdir()):
+        text = gzip.decompress(page.read_bytes()).decode()
+        faults += [f"{page.name}: {line}" for line in text.split("\n") if OF_REPOSITORY.search(line)]
+    checks.tell("the texts of pages", not faults, "\n".join(faults))
