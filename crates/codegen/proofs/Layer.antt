@@ -1,5 +1,5 @@
 -- The code of expressions, as an emitter makes it.
-use Rattle.codegen.proofs.Prelude.{◌≡◌, ℕ, ◌+◌, ◌≤◌, Bool, true, List, [], ◌∷◌, ◌++◌, length, append-nil, refl, sym, ap, ◌∙◌, arith, ◌*◌, false, length-append, suc, subst, and_from, le-leb, nat_le, saturated, if◌then◌else◌, map as each, pos, All, zip, length-map, map-append, Image, Core, Cores, CoreEntries, no_cores, more_cores, no_core_entries, more_core_entries, variable, select, has, index, call, method, unary, binary, ternary, list, fold, fold_map, plain_tree, Roots, lookup, meaning, deepest, deepest_of, entries_deepest, need, depth, nodes, Declaration, depths_of, declared, nothing_kept, FrameUse, IsScope, Variable, scope_setting, Returns, first_use, wider_gives, scope_begins, scope_grows, routine_named, texts_of, whole_code, routine_code, Computes, Ready, TextsStand, environment_in, names, nestings, routines, scope_context, variable_of, with_texts, IsDeep, cost, spent_by, AreShallow, AreTaken, EmitsRoutine, ExpressionGives, FramesAreEnough, HasConstants, IsEmittable, VariableIsTaken, VariableJoins, RoutineGives, RoutineIsPassed, Emitted, with_piece, HasLiterals, routines_of, ints, Insn, ja, size, AreInsns, IsCodeAt, slots, size-append, size-cons, stands_first, stands_rest, done, looser, to_place, jump, passed, code_at, has_room, with_counted, with_expression, with_variable, Value, memo_tail, insns_append, memo_insns, routine_returns, EmitsExpression, EmitsVariable, HasRoutines, Running, Suits, caller_context, context, cost_in, meaning_in, next_routine, next_variable, setting, variable_depth_limit, record_limit, memo_limit, word_limit, slot_reach, code_limit, node_limit, call_reach, part_slots_per_node, steps_per_visit, charge_per_unit}
+use Rattle.codegen.proofs.Prelude.{◌≡◌, ℕ, ◌+◌, ◌<◌, ◌≤◌, ◌⊎◌, Bool, true, List, [], ◌∷◌, ◌++◌, length, append-nil, refl, sym, ap, ◌∙◌, arith, ◌*◌, false, inl, inr, cases_lt, length-append, suc, subst, and_from, and_parts, le-leb, leb-true, nat_le, saturated, if◌then◌else◌, map as each, pos, All, zip, length-map, map-append, Image, Core, Cores, CoreEntries, no_cores, more_cores, no_core_entries, more_core_entries, variable, select, has, index, call, method, unary, binary, ternary, list, fold, fold_map, plain_tree, Roots, lookup, meaning, deepest, deepest_of, entries_deepest, need, depth, nodes, Declaration, depths_of, declared, nothing_kept, FrameUse, IsScope, Variable, scope_setting, Returns, first_use, wider_gives, scope_begins, scope_grows, routine_named, texts_of, whole_code, routine_code, Computes, Ready, TextsStand, environment_in, names, nestings, routines, scope_context, variable_of, with_texts, IsDeep, cost, spent_by, AreShallow, AreTaken, EmitsRoutine, ExpressionGives, FramesAreEnough, HasConstants, IsEmittable, VariableIsTaken, VariableJoins, RoutineGives, RoutineIsPassed, Emitted, with_piece, without_code, HasLiterals, routines_of, ints, Insn, ja, size, AreInsns, IsCodeAt, slots, size-append, size-cons, stands_first, stands_rest, done, looser, to_place, jump, passed, code_at, has_room, with_counted, with_expression, with_variable, Value, memo_tail, insns_append, memo_insns, routine_returns, EmitsExpression, EmitsVariable, HasRoutines, Running, Suits, LacksRoom, caller_context, context, cost_in, meaning_in, next_routine, next_variable, setting, variable_depth_limit, record_limit, memo_limit, word_limit, slot_reach, code_limit, node_limit, call_reach, part_slots_per_node, steps_per_visit, charge_per_unit}
 use Rattle.std.specs.Prelude.{unwrap_or}
 use Rattle.cel_macros.specs.CoreTree.{map}
 use Rattle.codegen.proofs.Accepted.{names_declared, typed_accepted}
@@ -146,6 +146,12 @@ low_each (s ∷ slots) h = (h 0 0 (omega arith), low_each slots (λ k d inside. 
 room_is : (e : Emitted) → e.nodes ≤ node_limit → length e.code ≤ code_limit → has_room e ≡ true
 room_is e few near = and_from (nat_le e.nodes node_limit) (nat_le (length e.code) code_limit) (le-leb e.nodes node_limit few) (le-leb (length e.code) code_limit near)
 
+-- the bounds within which there is room
+room_within : (e : Emitted) → has_room e ≡ true → (e.nodes ≤ node_limit) × (length e.code ≤ code_limit)
+room_within e room =
+    let parts = and_parts (nat_le e.nodes node_limit) (nat_le (length e.code) code_limit) room in
+    (leb-true e.nodes node_limit parts.0, leb-true (length e.code) code_limit parts.1)
+
 module _ (old : Emitted) (ds : List Declaration) (e : Core) (few : 2 * length old.routines ≤ old.nodes) (low : AreLow old.routines) (fits : need e ≤ word_limit) (literals : HasLiterals (plain_tree e)) where
   abbrev known : List (List ℕ)
   known = with_texts old.constants (texts_of e)
@@ -185,10 +191,28 @@ module _ (old : Emitted) (ds : List Declaration) (e : Core) (few : 2 * length ol
 
   -- ---- an expression
 
+  -- code is left out only if there is no room for n nodes
+  no_room_by : (n : ℕ) → has_room (with_counted old e n) ≡ false → (node_limit < old.nodes + n) ⊎ (old.nodes + n ≤ node_limit)
+      → (code_limit < length old.code) ⊎ (length old.code ≤ code_limit) → LacksRoom old n
+  no_room_by n none (inl many) far = inl many
+  no_room_by n none (inr few) (inl far) = inr far
+  no_room_by n none (inr few) (inr near) = let yes = room_is (with_counted old e n) (omega (arith, few)) near in absurd (cc)
+
+  no_room : (n : ℕ) → has_room (with_counted old e n) ≡ false → LacksRoom old n
+  no_room n none = no_room_by n none (cases_lt node_limit (old.nodes + n)) (cases_lt code_limit (length old.code))
+
+  abbrev added : Emitted
+  added = with_counted old e (nodes e)
+
+  expression_by : (here : Bool) → has_room added ≡ here
+      → EmitsExpression old (if here then with_piece added (code_at added ds e (length old.code)) else without_code added) ds e
+  expression_by true room =
+      let within = room_within added room in
+      inl (grind (arith, within, whole_short, piece_spells, near, computed))
+  expression_by false room = inr (no_room (nodes e) room, inr refl)
+
   pub emits_expression : EmitsExpression old (with_expression old ds e) ds e
-  emits_expression short inside =
-      let room = room_is (with_counted old e (nodes e)) (omega (arith, short)) inside in
-      grind (arith, room, whole_short, piece_spells, near, computed)
+  emits_expression = expression_by (has_room added) refl
 
   -- ---- a variable
 
@@ -223,28 +247,31 @@ module _ (old : Emitted) (ds : List Declaration) (e : Core) (few : 2 * length ol
         rw (← all) (λ q b ready. looser (setting r) _ _ (omega (arith, some)) (omega arith) (routine_returns r.image r.is_deep (each first_use r.scope) r.roots r.constants (r.scope ++ r.later) v words items frame base here gives (omega (arith, all, few, most)) low (omega (arith, near)) q b ready))
 
     variable_by : (here : Bool) → has_room (with_counted old e (1 + nodes e)) ≡ here
-        → EmitsVariable old (if here then record (with_piece (with_counted old e (1 + nodes e)) (passed (code_at (with_counted old e (1 + nodes e)) ds e slot ++ memo_tail (length old.routines)))) { routines = old.routines ++ slot ∷ [] } else with_counted old e (1 + nodes e)) ds e
-    variable_by true room short inside =
-        let within : saturated (old.nodes + (1 + nodes e)) ≤ node_limit = omega (arith, short) in
+        → EmitsVariable old (if here then record (with_piece (with_counted old e (1 + nodes e)) (passed (code_at (with_counted old e (1 + nodes e)) ds e slot ++ memo_tail (length old.routines)))) { routines = old.routines ++ slot ∷ [] } else without_code (with_counted old e (1 + nodes e))) ds e
+    variable_by true room =
+        let fit = room_within (with_counted old e (1 + nodes e)) room in
+        let within : saturated (old.nodes + (1 + nodes e)) ≤ node_limit = fit.0 in
+        let inside = fit.1 in
         let most : old.nodes ≤ node_limit = omega (arith, within) in
         let long = whole_short e known table slot in
-        let whole = size-append body (memo_tail (length old.routines)) in
+        let both = size-append body (memo_tail (length old.routines)) in
         let first = size-cons (ja (size routine)) routine in
-        record {
+        inl (record {
           piece = passed routine;
           body = body;
           behind = refl;
-          short = omega (arith, long, whole, first);
-          spells = λ constants are. (omega (arith, long, whole, within), insns_append body (memo_tail (length old.routines)) (piece_spells slot (omega (arith, within, inside)) (omega (arith, within)) most) (memo_insns (length old.routines) (omega (arith, few, most))));
+          short = omega (arith, long, both, first);
+          spells = λ constants are. (omega (arith, long, both, within), insns_append body (memo_tail (length old.routines)) (piece_spells slot (omega (arith, within, inside)) (omega (arith, within)) most) (memo_insns (length old.routines) (omega (arith, few, most))));
           passes = λ s b stands. to_place s (length (old.code ++ slots (passed routine))) (sym (length-append old.code (slots (passed routine)))) (routine_is_passed s (length old.code) routine b stands);
           returns = λ first rest r name items words frame base. returned first rest r name items words frame base most;
           joins = λ r name. joined_scope r name most;
           taken = λ roots scope name t taken.
               subst (λ (rs : List (List ℕ × ℕ)). AreTaken (old.routines ++ slot ∷ []) (ds ++ declared name t (depth e (depths_of ds)) ∷ []) (scope ++ next_variable old (whole_code e known rs slot) roots scope name e ∷ []) []) (sym (routines_are old.routines ds scope [] taken))
               (variable_is_taken old.constants old.routines ds e slot roots scope name t taken);
-          counted = omega (arith, short);
-        }
-    variable_by false room short inside = let yes = room_is (with_counted old e (1 + nodes e)) (omega (arith, short)) inside in absurd (cc)
+          counted = omega (arith, within);
+          complete = refl;
+        })
+    variable_by false room = inr (no_room (1 + nodes e) room, inr refl)
 
     pub emits_variable : EmitsVariable old (with_variable old ds e) ds e
     emits_variable = variable_by (has_room (with_counted old e (1 + nodes e))) refl

@@ -1,11 +1,11 @@
 -- The names of the library, of the crates below and of the definitions that these proofs use. Declares nothing.
 pub use Rattle.std.proofs.Common.{All, Bool, IfOk, IfSome, IsSome, List, None, Option, Result, Some, le-leb, nat_le}
 pub use Rattle.std.proofs.Common.{ℕ, ℤ, [], add-one, ap, append-nil, append_assoc, arith, bytes_eq, codes, drop}
-pub use Rattle.std.proofs.Common.{drop-cons, false, get_or, if◌then◌else◌, leb-false, leb-true, length, length-append, negsuc}
+pub use Rattle.std.proofs.Common.{drop-cons, false, get_or, if◌then◌else◌, inl, inr, leb-false, leb-true, length, length-append, negsuc}
 pub use Rattle.std.proofs.Common.{map, min, option_map, pos, refl, rules, slice_get, string_bytes, string_eq, subst}
 pub use Rattle.std.proofs.Common.{suc, sym, take, true, unwrap_or, zero, ◌&&◌, ◌*◌, ◌++◌, ◌+◌, ◌-◌, ◌<◌, ◌^◌, ◌||◌}
-pub use Rattle.std.proofs.Common.{◌∙◌, ◌∷◌, ◌≡◌, ◌≤◌}
-pub use Rattle.std.proofs.lemmas.Bool.{and_from, eqb-true}
+pub use Rattle.std.proofs.Common.{◌∙◌, ◌∷◌, ◌≡◌, ◌≤◌, ◌⊎◌}
+pub use Rattle.std.proofs.lemmas.Bool.{and_from, and_parts, cases_lt, eqb-true}
 pub use Rattle.std.proofs.lemmas.Int.{ints, to_z-of_z}
 pub use Rattle.std.proofs.lemmas.List.{drop-drop, drop_at, length-map, map-append, take-map, take_all, take_at}
 pub use Rattle.std.proofs.lemmas.List.Folds.{list_any-append}
@@ -161,9 +161,10 @@ pub use Rattle.codegen.specs.Constants.{joined, place_of, with_text, with_texts}
 pub use Rattle.codegen.specs.Cost.{Cost, IsDeep, call_cost, each_item, kept, kept_by, literal_cost}
 pub use Rattle.codegen.specs.Cost.{macro_cost, map_cost, name_or_text, node, nothing, one_visit, selection_cost}
 pub use Rattle.codegen.specs.Cost.{spent_by, ◌and◌}
-pub use Rattle.codegen.specs.Emission.{EmitsExpression, EmitsVariable, HasRoutines, Running, Suits, caller_context}
+pub use Rattle.codegen.specs.Emission.{EmitsExpression, EmitsVariable, HasRoutines, LacksRoom, Running, Suits, caller_context}
 pub use Rattle.codegen.specs.Emission.{context, cost_in, meaning_in, next_routine, next_variable, setting}
-pub use Rattle.codegen.specs.Emitted.{Emitted, slot_spellings, with_piece}
+pub use Rattle.codegen.specs.Emitted.{Emitted, IsTooLong, slot_spellings, with_insn_at, with_nodes, with_piece}
+pub use Rattle.codegen.specs.Emitted.{without_code}
 pub use Rattle.codegen.specs.FrameWords.{lists_view, path_view, words_of, words_step}
 pub use Rattle.codegen.specs.HasLiterals.{EntriesHaveLiterals, HasLiterals, HaveLiterals}
 pub use Rattle.codegen.specs.Laws.{CodeGives, RoutineGives, RoutineIsPassed, TextsStay, TypedIsAccepted}

@@ -11,7 +11,7 @@ use Rattle.expression_code.specs.Variables.{memo_tail}
 use Rattle.codegen.specs.Code.Expressions.{texts_of}
 use Rattle.codegen.specs.Code.Whole.{whole_code}
 use Rattle.codegen.specs.Constants.{with_texts}
-use Rattle.codegen.specs.Emitted.{Emitted, with_nodes, with_piece}
+use Rattle.codegen.specs.Emitted.{Emitted, with_nodes, with_piece, without_code}
 use Rattle.codegen.specs.NameTable.{routines_of}
 use Rattle.codegen.specs.declared.emitter.Addition.{Addition, TheVariants.Expression, TheVariants.Variable}
 
@@ -32,22 +32,22 @@ passed piece = ja (size piece) ∷ piece
 abbrev pub with_counted : Emitted → Core → ℕ → Emitted
 with_counted e tree n = record (with_nodes e n) { constants = with_texts e.constants (texts_of tree) }
 
--- the expression's code is appended if there is room; its texts and nodes are already counted
+-- the expression's code is appended, or left out if there is no room; its texts and nodes are already counted
 abbrev pub with_code : Emitted → List Declaration → Core → Emitted
-with_code e scope tree = if has_room e then with_piece e (code_at e scope tree (length e.code)) else e
+with_code e scope tree = if has_room e then with_piece e (code_at e scope tree (length e.code)) else without_code e
 
 -- an expression is added: its texts and nodes, then its code
 abbrev pub with_expression : Emitted → List Declaration → Core → Emitted
 with_expression e scope tree = with_code (with_counted e tree (nodes tree)) scope tree
 
--- the routine of the next variable is appended after a jump over it, if there is room; texts and nodes are already
--- counted
+-- the routine of the next variable is appended after a jump over it, or left out if there is no room; texts and nodes
+-- are already counted
 abbrev pub with_routine : Emitted → List Declaration → Core → Emitted
 with_routine e scope tree =
     if has_room e
     then record (with_piece e (passed (code_at e scope tree (length e.code + 1) ++ memo_tail (length e.routines))))
     { routines = e.routines ++ (length e.code + 1) ∷ [] }
-    else e
+    else without_code e
 
 -- a variable is added: its texts, its nodes and one more, then its routine
 abbrev pub with_variable : Emitted → List Declaration → Core → Emitted

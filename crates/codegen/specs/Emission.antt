@@ -1,8 +1,8 @@
 -- What the code does that an emitter adds for an expression or a variable. The statements are about the piece after
 -- the emitter's old code, in every image that has the piece at its slot, even if more is added later.
-use Rattle.std.specs.Prelude.{◌≡◌, ℕ, ◌+◌, ◌*◌, ◌≤◌, Bool, true, List, [], ◌∷◌, ◌++◌, length}
+use Rattle.std.specs.Prelude.{◌≡◌, ℕ, ◌+◌, ◌*◌, ◌<◌, ◌≤◌, ◌⊎◌, Bool, true, List, [], ◌∷◌, ◌++◌, length}
 use Rattle.bpf_machine.specs.Limits.{record_limit}
-use Rattle.expression_code.specs.Limits.{code_limit, slots_per_node, node_limit, word_limit, steps_per_visit, charge_per_unit}
+use Rattle.expression_code.specs.Limits.{code_limit, node_limit, slots_per_node, word_limit, steps_per_visit, charge_per_unit}
 use Rattle.insn_codec.specs.declared.insn.Insn.{Insn}
 use Rattle.loader.specs.Contents.{Image}
 use Rattle.loader.specs.Limits.{constants_limit}
@@ -25,7 +25,7 @@ use Rattle.expression_code.specs.Variables.{used_context}
 use Rattle.codegen.specs.Computes.{Computes, environment_in, scope_context, variable_with}
 use Rattle.codegen.specs.Constants.{joined, with_texts}
 use Rattle.codegen.specs.Cost.{Cost, IsDeep, cost, spent_by}
-use Rattle.codegen.specs.Emitted.{Emitted}
+use Rattle.codegen.specs.Emitted.{Emitted, IsTooLong}
 use Rattle.codegen.specs.Layer.{AreTaken}
 
 -- ---- the machine that runs the code
@@ -75,9 +75,10 @@ pub record Suits (slots : List ℕ) (texts : List (List ℕ)) (declarations : Li
   pub texts_are : AreConstants r.constants texts
   pub may : IsDeep (plain_tree e) (environment_in r.roots [] r.scope) → r.is_deep ≡ true
 
--- the code is short enough that calls after it reach all routines; in an image it always is
-abbrev pub IsNear : Emitted → Type 0
-IsNear e = length e.code ≤ code_limit
+-- There is no room for code of n nodes: there are more than 512 in all, or calls after the emitter's code may not reach
+-- all routines. In an image they always do.
+abbrev pub LacksRoom : Emitted → ℕ → Type 0
+LacksRoom e n = (node_limit < e.nodes + n) ⊎ (code_limit < length e.code)
 
 -- ---- an expression
 
@@ -95,10 +96,11 @@ pub record EmitsPiece (old new : Emitted) (declarations : List Declaration) (e :
       → Computes (setting r) (length old.code) piece (context r) frame 0 (meaning_in r e) (cost_in r e)
   pub counted : new.nodes ≡ old.nodes + nodes e
   pub kept : new.routines ≡ old.routines
+  pub complete : new.lacks_code ≡ old.lacks_code
 
--- the same, if there are at most 512 nodes in all
+-- the same; or there is no room, and `finish` returns `TooManyNodes`
 abbrev pub EmitsExpression : Emitted → Emitted → List Declaration → Core → Type 0
-EmitsExpression old new declarations e = old.nodes + nodes e ≤ node_limit → IsNear old → EmitsPiece old new declarations e
+EmitsExpression old new declarations e = EmitsPiece old new declarations e ⊎ (LacksRoom old (nodes e) × IsTooLong new)
 
 -- ---- a variable
 
@@ -141,7 +143,8 @@ pub record EmitsPassedRoutine (old new : Emitted) (declarations : List Declarati
       → AreTaken new.routines (declarations ++ declared name t (depth e (depths_of declarations)) ∷ [])
       (scope ++ next_variable old body roots scope name e ∷ []) []
   pub counted : new.nodes ≡ old.nodes + (1 + nodes e)
+  pub complete : new.lacks_code ≡ old.lacks_code
 
--- the same, if there are at most 512 nodes in all
+-- the same; or there is no room, and `finish` returns `TooManyNodes`
 abbrev pub EmitsVariable : Emitted → Emitted → List Declaration → Core → Type 0
-EmitsVariable old new declarations e = old.nodes + (1 + nodes e) ≤ node_limit → IsNear old → EmitsPassedRoutine old new declarations e
+EmitsVariable old new declarations e = EmitsPassedRoutine old new declarations e ⊎ (LacksRoom old (1 + nodes e) × IsTooLong new)

@@ -20,10 +20,11 @@ use Rattle.expression_code.specs.Paths.{FrameUse, nothing_kept}
 use Rattle.expression_code.specs.Pieces.{IsCodeAt, size}
 use Rattle.expression_code.specs.Scopes.{IsScope, Variable, scope_setting}
 use Rattle.codegen.specs.Accepted.{IsAccepted}
-use Rattle.codegen.specs.Added.{passed}
+use Rattle.codegen.specs.Added.{passed, with_expression, with_variable}
 use Rattle.codegen.specs.Computes.{Computes, Ready, TextsStand, environment_in, routines, scope_context, variable_of}
 use Rattle.codegen.specs.Constants.{joined, with_texts}
 use Rattle.codegen.specs.Cost.{cost}
+use Rattle.codegen.specs.Emitted.{Emitted, IsTooLong, with_insn_at, with_nodes, with_piece}
 use Rattle.codegen.specs.HasLiterals.{HasLiterals}
 use Rattle.codegen.specs.Code.Expressions.{code_of}
 use Rattle.codegen.specs.Code.Whole.{plain_code, routine_code, whole_code}
@@ -78,3 +79,13 @@ TextsStay = (texts used later : List (List ℕ)) → length (joined (with_texts 
 abbrev pub RoutineIsPassed : Type 0
 RoutineIsPassed = (s : RunContext) (p : ℕ) (piece : List Insn) (b : CpuState) → IsCodeAt s.image.code p (passed piece)
     → RunsTo s 1 0 p b (p + size (passed piece)) (λ new. new ≡ b)
+
+-- an emitter that `finish` refuses with `TooManyNodes` is still refused after each call
+pub record TooLongStays : Type 0 where
+  pub piece : (e : Emitted) (piece : List Insn) → IsTooLong e → IsTooLong (with_piece e piece)
+  pub insn : (e : Emitted) (slot : ℕ) (i : Insn) → IsTooLong e → IsTooLong (with_insn_at e slot i)
+  pub nodes : (e : Emitted) (n : ℕ) → IsTooLong e → IsTooLong (with_nodes e n)
+  pub expression : (e : Emitted) (declarations : List Declaration) (tree : Core)
+      → IsTooLong e → IsTooLong (with_expression e declarations tree)
+  pub variable : (e : Emitted) (declarations : List Declaration) (tree : Core)
+      → IsTooLong e → IsTooLong (with_variable e declarations tree)

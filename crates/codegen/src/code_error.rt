@@ -17,7 +17,7 @@ pub enum CodeError {
     #[error("the variables that a variable names are nested more than six deep")]
     VariableTooDeep,
     /// The expressions have more than 512 nodes. An image has 65,536 slots, which is 128 for each
-    /// node.
+    /// node. Also if an expression or a variable was added after more than 0x7fff_0000 slots.
     #[error("the expressions have more than 512 nodes")]
     TooManyNodes,
     /// The texts, each counted once, have more than 1,048,576 bytes together, which is the limit

@@ -18,9 +18,8 @@ use expression_code::limits::{VARIABLE_DEPTH_LIMIT, WORD_LIMIT};
 use std::alloc::Global;
 
 /// Adds the expression's code, its texts and its nodes to the emitter. The variables of the scope
-/// are the first ones of the emitter, in order. Beyond 512 nodes, where `finish` returns
-/// `TooManyNodes`, and after 0x7fff_0000 slots, which is more than an image has, only texts and
-/// nodes are added.
+/// are the first ones of the emitter, in order. Beyond 512 nodes, or after more than 0x7fff_0000
+/// slots, the code is left out, and `finish` returns `TooManyNodes`. An image has 65,536 slots.
 ///
 /// # Errors
 ///
@@ -52,8 +51,8 @@ pub fn expression(
 
 /// Adds the next variable to the emitter: the routine of its expression with its memo, its texts,
 /// and 1 more than its nodes. The variables of the scope are the first ones of the emitter, in
-/// order. Beyond 512 nodes, where `finish` returns `TooManyNodes`, and after 0x7fff_0000 slots,
-/// which is more than an image has, only texts and nodes are added.
+/// order. Beyond 512 nodes, or after more than 0x7fff_0000 slots, the routine is left out, and
+/// `finish` returns `TooManyNodes`. An image has 65,536 slots.
 ///
 /// # Errors
 ///

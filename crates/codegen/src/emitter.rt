@@ -56,6 +56,8 @@ pub struct Emitter {
     nodes: u64,
     /// The slots of the variables' routines, in order of the variables.
     routines: Vec<u32>,
+    /// Whether code was left out because there was no room for it. Then `finish` refuses the rest.
+    lacks_code: bool,
 }
 
 impl Model for Emitter {
@@ -65,7 +67,7 @@ impl Model for Emitter {
 
     ghost Value = { Emitted };
 
-    ghost view = { λ e. record { code = e.code.items; constants = map string_bytes e.constants.keys; nodes = e.nodes; routines = e.routines.items } };
+    ghost view = { λ e. record { code = e.code.items; constants = map string_bytes e.constants.keys; nodes = e.nodes; routines = e.routines.items; lacks_code = e.lacks_code } };
 
     ghost invariant = { λ e. All (λ slot. slot ≤ slot_reach) e.routines.items × (2 * length e.routines.items ≤ e.nodes) };
 }
@@ -80,6 +82,7 @@ impl Emitter {
             constants: IndexSet::new(alloc),
             nodes: 0,
             routines: Vec::new(alloc),
+            lacks_code: false,
         }
     }
 
@@ -113,8 +116,8 @@ impl Emitter {
         self.nodes = self.nodes.saturating_add(n);
     }
 
-    /// Adds the texts, the nodes and, if there is room, the code of an expression. Its literals are
-    /// values.
+    /// Adds the texts, the nodes and the code of an expression, or leaves out the code if there is no
+    /// room. Its literals are values.
     pub(crate) fn add(
         &mut self,
         alloc: Global,
@@ -158,6 +161,8 @@ impl Emitter {
                 if has_room(self.nodes, self.code.len()) {
                     let piece = self.code_at(alloc, core, scope, self.code.len())?;
                     self.append(alloc, &piece)?;
+                } else {
+                    self.lacks_code = true;
                 }
             }
             Addition::Variable => {
@@ -168,6 +173,8 @@ impl Emitter {
                     let routine = passed_routine(alloc, &body, self.routines.len())?;
                     self.routines.push(slot as u32)?;
                     self.append(alloc, &routine)?;
+                } else {
+                    self.lacks_code = true;
                 }
             }
         }
@@ -220,7 +227,7 @@ impl Emitter {
     }
 
     /// The code, ended by an exit, and its constants, as bytes. `TooManyNodes` if there are too
-    /// many nodes, else `TooManyTextBytes` if the texts have too many bytes.
+    /// many nodes or code was left out, else `TooManyTextBytes` if the texts have too many bytes.
     pub fn finish(self) -> Result<(Vec<u8>, Vec<u8>), CodeError>
         ensures code { IfOk result (λ r. r.0.items ≡ slot_spellings self.code ++ spelling Exit) }
         ensures constants { IfOk result (λ r. r.1.items ≡ joined_texts self.constants) }
@@ -230,7 +237,7 @@ impl Emitter {
         ensures g2 { result ≢ Err CodeError.VariableTooDeep }
     {
         let texts = self.constants.as_slice();
-        if self.nodes > NODE_LIMIT {
+        if self.nodes > NODE_LIMIT || self.lacks_code {
             return Err(CodeError::TooManyNodes);
         }
         if byte_count(texts) > CONSTANTS_LIMIT {

@@ -2,7 +2,7 @@
 
 ghost use Rattle.codegen.specs.CostRows.{CostRows};
 ghost use Rattle.codegen.specs.Layer.{ExpressionGives, FramesAreEnough, VariableIsTaken, VariableJoins};
-ghost use Rattle.codegen.specs.Laws.{CodeGives, CodeIsShort, RoutineGives, RoutineIsPassed, TextsStay, TypedIsAccepted, WholeIsShort};
+ghost use Rattle.codegen.specs.Laws.{CodeGives, CodeIsShort, RoutineGives, RoutineIsPassed, TextsStay, TooLongStays, TypedIsAccepted, WholeIsShort};
 
 /// Costs of expressions, worked by hand.
 pub fn costs_stand()
@@ -40,6 +40,11 @@ pub fn routine_gives()
 #[tactic(auto, using(crate::proofs::Lent::texts_stand))]
 pub fn texts_stay()
     ensures { TextsStay }
+{}
+
+/// An emitter that `finish` refuses with `TooManyNodes` is still refused after each call.
+pub fn too_long_stays()
+    ensures { TooLongStays }
 {}
 
 /// Code before a routine passes it in one step.

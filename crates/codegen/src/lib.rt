@@ -25,5 +25,5 @@ pub use emission::{expression, variable};
 pub use emitter::Emitter;
 pub use laws::{
     code_gives, code_is_short, costs_stand, expression_gives, routine_gives, routine_is_passed,
-    texts_stay, typed_has_code, variables_join,
+    texts_stay, too_long_stays, typed_has_code, variables_join,
 };

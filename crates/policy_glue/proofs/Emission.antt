@@ -1,5 +1,6 @@
 -- The program of a policy as it is emitted.
-use Rattle.policy_glue.proofs.Prelude.{◌≡◌, ℕ, zero, suc, ◌+◌, ◌-◌, ◌<◌, ◌≤◌, Bool, true, false, List, [], ◌∷◌, ◌++◌, length, map, take, get_or, Option, Some, None, Result, Ok, OnOk, IfOk, refl, sym, ap, ◌∙◌, subst, arith, append_assoc, length-append, append-nil, ◌*◌, IsErrOf, take-append_seam, if◌then◌else◌, slice_get, slice_index_or, slice_set, option_map, fold, length-map, slice_get-map, slice_get_read, and_from, and_parts, nat_le, leb-true, le-leb, cases_lt, le-ltb, lt-ltb, slot_count, spelling, Insn, Tree, Core, expanded, core_view, CodeCore, depth, need, nodes, Declaration, declared, depths_of, scope_of, typing as type_of, code_at, has_room, with_counted, with_expression, passed, Emitted, with_insn_at, with_nodes, with_piece, no_code, HasTooManyTexts, IsTooLong, slot_spellings, routines_of, whole_short, size, slots, spellings, length-insn_slots, slots-append, size-append, size-cons, validation_expanded, validation_trees, variable_expanded, IsChecked, depth_in, scope_after, type_or_any, with_variable as with_declared, FitInOrder, MayFit, with_condition, with_conditions, with_decided, with_result, with_validation, with_validations, with_variables, with_way, emitted, denial_code, leave_error, message_tail, condition_tail, conditions_code, decided_code, decided_tail, if_true, message_code, outcome_tail, policy_code, result_code, routines_code, validation_code, validations_code, AreConditions, AreValidations, AreVariables, ValidationTree, VariableTree, PolicyTree, CheckedValidation, FailurePolicy, sum_by, fold-append, sum_by-cons, saturated, with_texts, joined, message_nodes, part_nodes, policy_nodes, policy_texts, validation_nodes, validation_texts, excess, Laid, after_condition, after_conditions, after_variables, before_message, condition_codes, laid_conditions, laid_routines, message_codes, nothing_laid, texts_with, tree_code, validation_codes, variable_code, variable_codes, with_routine, with_slots, with_tree, with_message as with_message_laid, program_of, decided_slots, Exit, slot_spellings-append, slots_spelled, Checked, TooManyNodes, TooManyTextBytes, part_slot_limit, code_limit, node_limit, jump_limit, word_limit, variable_depth_limit, slot_limit, slots_per_node}
+use Rattle.policy_glue.proofs.Prelude.{◌≡◌, ℕ, zero, suc, ◌+◌, ◌-◌, ◌<◌, ◌≤◌, Bool, true, false, List, [], ◌∷◌, ◌++◌, length, map, take, get_or, Option, Some, None, Result, Ok, OnOk, IfOk, refl, sym, ap, ◌∙◌, subst, arith, append_assoc, length-append, append-nil, ◌*◌, IsErrOf, take-append_seam, if◌then◌else◌, slice_get, slice_index_or, slice_set, option_map, fold, length-map, slice_get-map, slice_get_read, and_from, and_parts, nat_le, leb-true, le-leb, cases_lt, le-ltb, lt-ltb, slot_count, spelling, Insn, Tree, Core, expanded, core_view, CodeCore, depth, need, nodes, Declaration, declared, depths_of, scope_of, typing as type_of, code_at, has_room, with_counted, with_expression, passed, Emitted, with_insn_at, with_nodes, with_piece, without_code, no_code, HasTooManyTexts, IsTooLong, slot_spellings, routines_of, whole_short, size, slots, spellings, length-insn_slots, slots-append, size-append, size-cons, validation_expanded, validation_trees, variable_expanded, IsChecked, depth_in, scope_after, type_or_any, with_variable as with_declared, FitInOrder, MayFit, with_condition, with_conditions, with_decided, with_result, with_validation, with_validations, with_variables, with_way, emitted, denial_code, leave_error, message_tail, condition_tail, conditions_code, decided_code, decided_tail, if_true, message_code, outcome_tail, policy_code, result_code, routines_code, validation_code, validations_code, AreConditions, AreValidations, AreVariables, ValidationTree, VariableTree, PolicyTree, CheckedValidation, FailurePolicy, sum_by, fold-append, sum_by-cons, saturated, with_texts, joined, message_nodes, part_nodes, policy_nodes, policy_texts, validation_nodes, validation_texts, excess, Laid, after_condition, after_conditions, after_variables, before_message, condition_codes, laid_conditions, laid_routines, message_codes, nothing_laid, texts_with, tree_code, validation_codes, variable_code, variable_codes, with_routine, with_slots, with_tree, with_message as with_message_laid, program_of, decided_slots, Exit, slot_spellings-append, slots_spelled, Checked, TooManyNodes, TooManyTextBytes, part_slot_limit, code_limit, node_limit, jump_limit, word_limit, variable_depth_limit, slot_limit, slots_per_node}
+use Rattle.std.proofs.Common.{inl, inr, ◌⊎◌}
 use Rattle.codegen.specs.Added.{with_variable}
 use Rattle.policy_glue.specs.Emission.{FitsFrame, with_message}
 use Rattle.policy_glue.proofs.Programs.Validations.{denial_size, message_tail_size, outcome_tail_size, result_size}
@@ -32,7 +33,7 @@ last_slot i tail d e1 e2 r is at put = grind (arith, message_tail_last, length-a
 -- ---- an expression
 
 -- it has few slots, whether or not there is room for it
-few_where : (room : Bool) (e : Emitted) (piece : List Insn) → (room ≡ true → size piece ≤ part_slot_limit) → length (if room then with_piece e piece else e).code ≤ length e.code + part_slot_limit
+few_where : (room : Bool) (e : Emitted) (piece : List Insn) → (room ≡ true → size piece ≤ part_slot_limit) → length (if room then with_piece e piece else without_code e).code ≤ length e.code + part_slot_limit
 few_where true e piece few = let counted = length-append e.code (slots piece) in let within = few refl in omega arith
 few_where false e piece few = omega arith
 
@@ -45,7 +46,7 @@ few_slots e scope tree =
     omega (arith, within, short))
 
 -- it follows the code that was already there
-begins_where : (room : Bool) (e : Emitted) (piece : List Insn) → (more : List (Option Insn)) × ((if room then with_piece e piece else e).code ≡ e.code ++ more)
+begins_where : (room : Bool) (e : Emitted) (piece : List Insn) → (more : List (Option Insn)) × ((if room then with_piece e piece else without_code e).code ≡ e.code ++ more)
 begins_where true e piece = (slots piece, refl)
 begins_where false e piece = ([], sym (append-nil e.code))
 
@@ -163,7 +164,7 @@ messages_fit scope (r ∷ more) (v ∷ vs) are same (suc k) d below = messages_f
 
 -- the emitter with this code, these texts, nodes and routines
 abbrev pub emitter : List Insn → List (List ℕ) → ℕ → List ℕ → Emitted
-emitter code texts n routines = record { code = slots code; constants = texts; nodes = saturated n; routines = routines }
+emitter code texts n routines = record { code = slots code; constants = texts; nodes = saturated n; routines = routines; lacks_code = false }
 
 -- the emitter has counted n nodes and everything so far; if there was room for the slots, it also has the code
 pub record Same (e : Emitted) (l : Laid) (code : List Insn) (n : ℕ) : Type 0 where
@@ -340,12 +341,17 @@ nodes_counted f t = (whole_is f t).nodes_are
 pub texts_counted : (f : FailurePolicy) (t : PolicyTree) → (emitted_of f t).constants ≡ policy_texts t
 texts_counted f t = (whole_is f t).texts_are ∙ texts_laid t
 
-pub policy_emitted : (f : FailurePolicy) (t : PolicyTree) → policy_nodes t ≤ node_limit → (emitted_of f t).code ≡ slots (code_before f t)
+-- if there are few nodes, no code is left out
+all_emitted : (f : FailurePolicy) (t : PolicyTree) → policy_nodes t ≤ node_limit
+    → emitted_of f t ≡ emitter (code_before f t) (laid_whole t).texts (policy_nodes t) (laid_whole t).routines
 unfolding program_of
-policy_emitted f t few =
+all_emitted f t few =
     let short = program_is_short f t in
     let whole = size-append (code_before f t) (Exit ∷ []) in
-    ap (λ (e : Emitted). e.code) ((whole_is f t).is few (omega (arith, short, whole, few)))
+    (whole_is f t).is few (omega (arith, short, whole, few))
+
+pub policy_emitted : (f : FailurePolicy) (t : PolicyTree) → policy_nodes t ≤ node_limit → (emitted_of f t).code ≡ slots (code_before f t)
+policy_emitted f t few = ap (λ (e : Emitted). e.code) (all_emitted f t few)
 
 -- the checked parts are emitted as the policy's trees
 pub emitted_is : (f : FailurePolicy) (c : Checked) (t : PolicyTree) → IsChecked c t → emitted f c ≡ emitted_of f t
@@ -353,11 +359,17 @@ emitted_is f c t is = grind arith
 
 -- ---- limits
 
+too_many_by : (f : FailurePolicy) (t : PolicyTree) → (emitted_of f t).lacks_code ≡ true
+    → (node_limit < policy_nodes t) ⊎ (policy_nodes t ≤ node_limit) → slot_limit < slots_per_node * policy_nodes t
+too_many_by f t lacks (inl many) = omega (arith, many)
+too_many_by f t lacks (inr few) = let whole = ap (λ (e : Emitted). e.lacks_code) (all_emitted f t few) in absurd (cc)
+
 pub too_long : (f : FailurePolicy) (t : PolicyTree) → IsTooLong (emitted_of f t) → slot_limit < slots_per_node * policy_nodes t
-too_long f t h = let counted = nodes_counted f t in omega arith
+too_long f t (inl many) = let counted = nodes_counted f t in omega (arith, many)
+too_long f t (inr lacks) = too_many_by f t lacks (cases_lt node_limit (policy_nodes t))
 
 pub too_long_is : (f : FailurePolicy) (t : PolicyTree) → slot_limit < slots_per_node * policy_nodes t → IsTooLong (emitted_of f t)
-too_long_is f t h = let counted = nodes_counted f t in omega arith
+too_long_is f t h = let counted = nodes_counted f t in inl (omega arith)
 
 joined_counted : (f : FailurePolicy) (t : PolicyTree) → length (joined (emitted_of f t).constants) ≡ length (joined (policy_texts t))
 joined_counted f t = ap (λ (texts : List (List ℕ)). length (joined texts)) (texts_counted f t)

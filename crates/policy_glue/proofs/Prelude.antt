@@ -95,7 +95,7 @@ pub use Rattle.codegen.specs.Computes.{environment_in, variable_of}
 pub use Rattle.codegen.specs.Constants.{joined, with_text, with_texts}
 pub use Rattle.codegen.specs.Cost.{Cost, IsDeep, spent_by}
 pub use Rattle.codegen.specs.Emitted.{Emitted, HasTooManyTexts, IsTooLong, no_code, slot_spellings, with_insn_at}
-pub use Rattle.codegen.specs.Emitted.{with_nodes, with_piece}
+pub use Rattle.codegen.specs.Emitted.{with_nodes, with_piece, without_code}
 pub use Rattle.codegen.specs.HasLiterals.{EntriesHaveLiterals, HasLiterals, HaveLiterals}
 pub use Rattle.codegen.specs.Layer.{AreShallow, HasConstants, IsEmittable}
 pub use Rattle.codegen.specs.NameTable.{routines_of}
