@@ -1,4 +1,4 @@
-//! Tests of words, instructions, texts, images, memory, listings and sources.
+//! Tests of words, instructions, texts, images, memory, listings, sources and label selectors.
 #![tactic(auto)]
 
 #[cfg(test)]

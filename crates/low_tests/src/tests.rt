@@ -7,5 +7,6 @@ mod lines;
 mod listings;
 mod memory;
 mod scans;
+mod selectors;
 mod sources;
 mod words;

@@ -5,7 +5,8 @@ use Rattle.assembler.specs.Answers.{AssembleReturns, IsAssemblyResult}
 use Rattle.assembler.specs.declared.asm_error.AsmError.{AsmError}
 use Rattle.disassembler.specs.Answers.{GivesListing}
 
--- if `listing` returns this text for the code, then `assemble` returns the code for the text, unless an allocation fails
+-- if `listing` returns this text for the code, then `assemble` returns the code for the text, unless an allocation
+-- fails
 abbrev pub ListingAssemblesToCode : Type 0
 ListingAssemblesToCode =
     (code : List ℕ) (text : String Global) (r : Result (Vec ℕ Global) AsmError) → All (λ b. b < 256) code

@@ -6,7 +6,7 @@ mod lists;
 use serde_json::{Map, Value};
 use std::alloc::Global;
 use std::test::Fail;
-use value_store::{TableError, ValueStore};
+use value_store::{PlainTable, TableError, ValueStore};
 use value_table::Table;
 
 /// Five null roots.
@@ -42,6 +42,11 @@ fn table_of(alloc: Global, texts: [&str; 5]) -> Result<Table, Fail> {
     Ok(Table::of_roots(alloc, &roots)?)
 }
 
+fn plain_table_of(alloc: Global, texts: [&str; 5]) -> Result<PlainTable, Fail> {
+    let roots = documents(alloc, texts)?;
+    Ok(PlainTable::of_roots(alloc, &roots)?)
+}
+
 fn refusal_of(alloc: Global, texts: [&str; 5]) -> Result<Option<TableError>, Fail> {
     let roots = documents(alloc, texts)?;
     Ok(Table::of_roots(alloc, &roots).err())
@@ -54,10 +59,17 @@ pub(crate) fn json_of<V: ValueStore>(table: &V, h: u64) -> Result<String, Fail> 
     Err("no such reference")?
 }
 
-/// The first roots without this error.
+fn plain_refusal_of(alloc: Global, texts: [&str; 5]) -> Result<Option<TableError>, Fail> {
+    let roots = documents(alloc, texts)?;
+    Ok(PlainTable::of_roots(alloc, &roots).err())
+}
+
+/// The first roots that one of the tables does not refuse with this error.
 fn first_taken(alloc: Global, rows: &[([&str; 5], TableError)]) -> Result<Option<usize>, Fail> {
     for (row, (texts, cause)) in rows.iter().enumerate() {
-        if refusal_of(alloc, *texts)?.as_ref() != Some(cause) {
+        let cells = refusal_of(alloc, *texts)?;
+        let plain = plain_refusal_of(alloc, *texts)?;
+        if cells.as_ref() != Some(cause) || plain.as_ref() != Some(cause) {
             return Ok(Some(row));
         }
     }

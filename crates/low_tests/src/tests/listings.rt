@@ -148,6 +148,29 @@ fn code_has_its_listing(rt: HostRuntime) -> Result<(), Fail> {
     Ok(())
 }
 
+/// Lengths in bytes of code that has no listing; both errors apply to the last.
+const LENGTHS: [(usize, DisError); 3] = [
+    (12, DisError::PartialSlot),
+    (524_296, DisError::CodeTooLong),
+    (524_300, DisError::PartialSlot),
+];
+
+#[test]
+fn refuses_lengths(rt: HostRuntime) -> Result<(), Fail> {
+    for (length, error) in LENGTHS {
+        let code = vec![in rt.alloc(); 0; length]?;
+        assert!(rt;
+            listing(rt.alloc(), &code).err() == Some(error),
+            "lists {length}"
+        );
+        assert!(rt;
+            line_at(rt.alloc(), &code, 0).err() == Some(error),
+            "reads {length}"
+        );
+    }
+    Ok(())
+}
+
 /// The longest code, of slots that encode no instruction: each line has 25 bytes.
 #[test]
 fn lists_the_longest_code(rt: HostRuntime) -> Result<(), Fail> {

@@ -1,6 +1,6 @@
 //! Calls of a table that were worked out by hand.
 
-use crate::table_tests::{NULLS, json_of, table_of};
+use crate::table_tests::{NULLS, json_of, plain_table_of, table_of};
 use std::alloc::{AllocError, Global};
 use std::test::Fail;
 use value_store::{Shape, ValueStore};
@@ -44,6 +44,17 @@ const STEPS: [(u64, Step, &str); 20] = [
     (26, Item(16, 1), "-2"),
     (27, Join(14, 15), "[1]"),
     (28, Text("a"), "\"a\""),
+];
+
+/// Versions of a list: two of them append to the same one.
+const VERSIONS: [(u64, Step, &str); 7] = [
+    (9, List, "[]"),
+    (10, Int(1), "1"),
+    (11, Push(9, 10), "[1]"),
+    (12, Int(2), "2"),
+    (13, Push(11, 12), "[1,2]"),
+    (14, Int(3), "3"),
+    (15, Push(11, 14), "[1,3]"),
 ];
 
 /// The list with the bool, the int or the list appended.
@@ -179,20 +190,34 @@ fn first_changed<V: ValueStore>(
 }
 
 /// Whether each step places its value, and no value has changed after all of them.
-fn places_all<V: ValueStore>(table: &mut V) -> Result<bool, Fail> {
-    let misplaced = first_misplaced(table, &STEPS)?;
-    let changed = first_changed(table, &STEPS)?;
+fn places_all<V: ValueStore>(table: &mut V, steps: &[(u64, Step, &str)]) -> Result<bool, Fail> {
+    let misplaced = first_misplaced(table, steps)?;
+    let changed = first_changed(table, steps)?;
     Ok(misplaced.is_none() && changed.is_none())
 }
 
-fn nulls_place_all(alloc: Global) -> Result<bool, Fail> {
+fn cells_place_all(alloc: Global, steps: &[(u64, Step, &str)]) -> Result<bool, Fail> {
     let mut table = table_of(alloc, NULLS)?;
-    places_all(&mut table)
+    places_all(&mut table, steps)
+}
+
+fn plain_places_all(alloc: Global, steps: &[(u64, Step, &str)]) -> Result<bool, Fail> {
+    let mut table = plain_table_of(alloc, NULLS)?;
+    places_all(&mut table, steps)
 }
 
 /// Each value is appended, and does not change.
 #[test]
 fn places(rt: HostRuntime) -> Result<(), Fail> {
-    assert!(rt; nulls_place_all(rt.alloc())?);
+    assert!(rt; cells_place_all(rt.alloc(), &STEPS)?);
+    assert!(rt; plain_places_all(rt.alloc(), &STEPS)?);
+    Ok(())
+}
+
+/// An earlier version of a list does not see what is appended to it later.
+#[test]
+fn keeps_versions_of_a_list(rt: HostRuntime) -> Result<(), Fail> {
+    assert!(rt; cells_place_all(rt.alloc(), &VERSIONS)?);
+    assert!(rt; plain_places_all(rt.alloc(), &VERSIONS)?);
     Ok(())
 }
