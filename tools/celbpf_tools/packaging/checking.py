@@ -52,8 +52,8 @@ fn main() {
     exit(if response.allowed { 0 } else { 1 });
 }
 """
-# what a page of a package must not have: files of the repository
-OF_REPOSITORY = re.compile(r"(?<!\w)tools/\w|(?<![\w.])\./")
+# what a page of a package must not have: files of the repository, and commands of the toolchain
+OF_REPOSITORY = re.compile(r"(?<!\w)tools/\w|(?<![\w.])\./|^ {4}rt\b")
 LINK = re.compile(r"\]\(([^)#\s]*)(?:#([^)\s]*))?\)")
 
 

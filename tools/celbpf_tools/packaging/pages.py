@@ -22,7 +22,7 @@ LEFT_OUT = {
     "docs/INSTALL.md": ("Make the package",),
 }
 # what a paragraph has that says how the programs are built
-BUILDING = re.compile(r"`rt\b|\btools/(?:first|build)\b|\bcrates/\w+/out\b|`crates\.txt`")
+BUILDING = re.compile(r"`rt\b|^    rt\b|^passes all proofs\b|\btools/(?:quick|build)\b|\bcrates/\w+/out\b|`crates\.txt`")
 LINK = re.compile(r"\[([^\]]*)\]\(([^)#\s]+)(#[^)\s]*)?\)")
 NAMES = [
     (re.compile(r"(?<![\w/.])tools/(" + "|".join(SCRIPTS) + r")\b"), r"celbpf-\1"),
