@@ -1,5 +1,5 @@
 -- Requests that are allowed because no policy does anything.
-use Rattle.cluster_gate.proofs.Prelude.{◌≡◌, ◌∙◌, ℕ, List, [], Bool, true, false, Option, Some, None, ap, refl, subst, sym, BoundPolicy, ClusterState, Dispatches, Event, OneImage, PlannedStep, Request, RunsSteps, asked_policy, policies_asked, policy_steps}
+use Rattle.cluster_gate.proofs.Prelude.{◌≡◌, ◌∙◌, ℕ, List, [], Bool, true, false, Option, Some, None, ap, refl, subst, sym, BoundPolicy, ClusterState, Dispatches, Event, OneImage, PlannedStep, Request, RunsBindings, asked_policy, policies_asked, policy_steps}
 use Rattle.value_store.specs.Reviews.{uid_in}
 use Rattle.policy_glue.specs.Rejections.{response_text}
 use Rattle.policy_glue.specs.Response.{review_tree}
@@ -9,7 +9,7 @@ use Rattle.admission_match.specs.declared.answer.Answer.TheVariants.{No}
 use Rattle.cluster_plan.specs.Steps.{PolicyBlock}
 use Rattle.cluster_state.specs.Params.{namespace_labels}
 use Rattle.cluster_response.specs.Response.{cluster_response}
-use Rattle.cluster_gate.specs.Dispatch.{DecidesInCluster, FindsWith, no_review, decided, no_policies, next, last, no_steps, denied, not_known, blocked, found, refused, at_end, request_given}
+use Rattle.cluster_gate.specs.Dispatch.{DecidesInCluster, FindsWith, no_review, decided, no_policies, next, last, no_bindings, next_binding, last_binding, request_given}
 use Rattle.cluster_gate.specs.Laws.{ExemptIsAllowed, NoneMatches, UnmatchedIsAllowed}
 
 -- no events allow
@@ -17,15 +17,11 @@ nothing_told : (q : Request) (uid : List ℕ) → cluster_response q uid [] ≡ 
 unfolding cluster_response response_text review_tree
 nothing_told q uid = refl
 
-no_events : (policy : List ℕ) (finds : FindsWith) (steps : List PlannedStep) (es : List Event) (ended : Bool) → RunsSteps policy finds steps es ended → steps ≡ []
+no_events : (p : BoundPolicy) (finds : FindsWith) (all : List (List PlannedStep)) (es : List Event) (ended : Bool) → RunsBindings p finds all es ended → all ≡ []
     → (es ≡ []) × (ended ≡ false)
-no_events policy finds _ _ _ no_steps e = (refl, refl)
-no_events policy finds _ _ _ (denied rest) e = absurd (cc)
-no_events policy finds _ _ _ not_known e = absurd (cc)
-no_events policy finds _ _ _ blocked e = absurd (cc)
-no_events policy finds _ _ _ (found f rest) e = absurd (cc)
-no_events policy finds _ _ _ (refused f r) e = absurd (cc)
-no_events policy finds _ _ _ at_end e = absurd (cc)
+no_events p finds _ _ _ no_bindings e = (refl, refl)
+no_events p finds _ _ _ (next_binding r rest) e = absurd (cc)
+no_events p finds _ _ _ (last_binding r) e = absurd (cc)
 
 none_asked : (s : ClusterState) (review : List ℕ) (n : ℕ) (q : Request) (ps : List BoundPolicy) (es : List Event)
     → Dispatches OneImage s review n q ps es → ps ≡ [] → es ≡ []
@@ -42,10 +38,10 @@ all_silent : (s : ClusterState) (review : List ℕ) (n : ℕ) (q : Request) (ps 
     → Dispatches OneImage s review n q ps es → NoneMatches s q ps → es ≡ []
 all_silent s review n q _ _ no_policies none = refl
 all_silent s review n q _ _ (next {p = p} {ps = ps} {es = es} {more = more} asks rest) none =
-    let silent = no_events p.name _ _ es false asks.runs (steps_none s p _ q none.0) in
+    let silent = no_events p _ _ es false asks.runs (steps_none s p _ q none.0) in
     rw silent.0 (all_silent s review n q ps more rest none.1)
 all_silent s review n q _ _ (last {p = p} {ps = ps} {es = es} asks) none =
-    let silent = (no_events p.name _ _ es true asks.runs (steps_none s p _ q none.0)).1 in absurd (cc)
+    let silent = (no_events p _ _ es true asks.runs (steps_none s p _ q none.0)).1 in absurd (cc)
 
 -- no events, no denial
 allowed_by : (s : ClusterState) (review : List ℕ) (n : ℕ) (q : Request) (o : Option (List ℕ)) → request_given review ≡ Some q

@@ -1,5 +1,5 @@
 -- A policy that is asked about a request.
-use Rattle.cluster_gate.proofs.Prelude.{◌≡◌, ◌∙◌, ℕ, List, [], ◌∷◌, Bool, true, false, Option, Some, None, ap, option_map, subst, Adds, AddsMatched, AddsPolicy, AddsTrouble, BoundPolicy, ClusterState, CodeEvents, Event, IsGateFor, IsJudged, OneImage, PolicyGate, PlannedStep, Request, RunsSteps, bindings_steps, asked_policy, block_of, policy_view}
+use Rattle.cluster_gate.proofs.Prelude.{◌≡◌, ◌∙◌, ℕ, List, [], ◌∷◌, Bool, true, false, Option, Some, None, ap, option_map, subst, Adds, AddsMatched, AddsPolicy, AddsTrouble, BoundPolicy, ClusterState, CodeEvents, Event, IsGateFor, IsJudged, OneImage, PolicyGate, PlannedStep, Request, RunsBindings, bindings_steps, asked_policy, block_of, policy_view}
 use Rattle.admission_match.specs.Matching.{match_answer}
 use Rattle.admission_match.specs.declared.answer.Answer.{Answer}
 use Rattle.admission_match.specs.declared.answer.Answer.TheVariants as matching
@@ -10,7 +10,7 @@ use Rattle.cluster_plan.specs.Steps as plan
 use Rattle.cluster_plan.specs.Steps.{AskedPolicy, error_steps, fails_closed, policy_answered, trouble_text}
 use Rattle.cluster_response.specs.declared.cluster_refusal.ClusterRefusal.TheVariants as refusal
 use Rattle.cluster_gate.proofs.Runs.{adds_none}
-use Rattle.cluster_gate.specs.Dispatch.{EvaluatesPolicy, FindsWith, no_steps, denied, not_known, blocked, undecided_event, block_refusal}
+use Rattle.cluster_gate.specs.Dispatch.{EvaluatesPolicy, FindsWith, no_steps, denied, not_known, blocked, undecided_event, block_refusal, no_bindings, next_binding}
 use Rattle.cluster_gate.specs.Gates.{IsAskedGate, IsGateOfText, IsBlockedBy, IsCompiledPolicy, StandsAs}
 use Rattle.policy_glue.specs.Naming.{conditions_name_namespace}
 use Rattle.cluster_gate.specs.Running.{error_events}
@@ -44,7 +44,7 @@ module _ (s : ClusterState) (review : List ℕ) (n : ℕ) (q : Request) (p : Bou
   -- the events of a policy, by whether its constraints match
   pub asks_by : (answer : Answer) (es : List Event) (ended : Bool) (t : Standing) → StandsAs s p t
       → answer ≡ match_answer p.constraints (namespace_labels s.objects) q.attributes → Adds before after es
-      → ((block : Option plan.PolicyBlock) → RunsSteps p.name (EvaluatesPolicy OneImage review n p) (policy_answered s (asked_policy s p) block q answer) es ended)
+      → ((block : Option plan.PolicyBlock) → RunsBindings p (EvaluatesPolicy OneImage review n p) (policy_answered s (asked_policy s p) block q answer) es ended)
       → AddsPolicy OneImage s review n q p before after ended
   asks_by answer es ended t stands is adds runs =
       let j = judged_of s p t stands in (
@@ -53,7 +53,7 @@ module _ (s : ClusterState) (review : List ℕ) (n : ℕ) (q : Request) (p : Bou
         record {
           cause = j.0;
           judged = j.1;
-          runs = subst (λ (a : Answer). RunsSteps p.name (EvaluatesPolicy OneImage review n p) (policy_answered s (asked_policy s p) (option_map block_of j.0) q a) es ended) is (runs (option_map block_of j.0));
+          runs = subst (λ (a : Answer). RunsBindings p (EvaluatesPolicy OneImage review n p) (policy_answered s (asked_policy s p) (option_map block_of j.0) q a) es ended) is (runs (option_map block_of j.0));
         },
       )
 
@@ -66,13 +66,14 @@ module _ (s : ClusterState) (review : List ℕ) (n : ℕ) (q : Request) (p : Bou
     record {
       cause = cause;
       judged = judged;
-      runs = subst (λ (a : Answer). RunsSteps p.name (EvaluatesPolicy OneImage review n p) (policy_answered s (asked_policy s p) (option_map block_of cause) q a) es ended) is runs;
+      runs = subst (λ (a : Answer). RunsBindings p (EvaluatesPolicy OneImage review n p) (policy_answered s (asked_policy s p) (option_map block_of cause) q a) es ended) is runs;
     },
   )
 
-  trouble_runs : (fails : Bool) (message : List ℕ) (finds : FindsWith) → RunsSteps p.name finds (error_steps fails None message) (error_events fails p.name message) false
-  trouble_runs true message finds = denied no_steps
-  trouble_runs false message finds = no_steps
+  trouble_runs : (fails : Bool) (message : List ℕ) (finds : FindsWith)
+      → RunsBindings p finds (error_steps fails None message ∷ []) (error_events fails p.name message) false
+  trouble_runs true message finds = next_binding (denied no_steps) no_bindings
+  trouble_runs false message finds = next_binding no_steps no_bindings
 
   -- the labels of the namespace are not known
   pub asks_in_trouble : (trouble : Trouble) (t : Standing) → StandsAs s p t
@@ -83,40 +84,40 @@ module _ (s : ClusterState) (review : List ℕ) (n : ℕ) (q : Request) (p : Bou
       (λ block. trouble_runs (fails_closed p.document) (trouble_text trouble q.attributes.namespace) (EvaluatesPolicy OneImage review n p))
 
   -- the event of an unknown match
-  pub asks_unknown : (name : List ℕ) (t : Standing) → StandsAs s p t → name ≡ p.name
+  pub asks_unknown : (asked : BoundPolicy) (t : Standing) → StandsAs s p t → asked ≡ p
       → matching.Unknown ≡ match_answer p.constraints (namespace_labels s.objects) q.attributes
-      → Adds before after (undecided_event name refusal.UnknownMatch ∷ []) → AddsPolicy OneImage s review n q p before after false
-  asks_unknown name t stands same is adds =
-      asks_by matching.Unknown (undecided_event p.name refusal.UnknownMatch ∷ []) false t stands is
-      (subst (λ (x : List ℕ). Adds before after (undecided_event x refusal.UnknownMatch ∷ [])) same adds) (λ block. not_known)
+      → Adds before after (undecided_event asked refusal.UnknownMatch ∷ []) → AddsPolicy OneImage s review n q p before after false
+  asks_unknown asked t stands same is adds =
+      asks_by matching.Unknown (undecided_event p refusal.UnknownMatch ∷ []) false t stands is
+      (subst (λ (x : BoundPolicy). Adds before after (undecided_event x refusal.UnknownMatch ∷ [])) same adds) (λ block. next_binding not_known no_bindings)
 
   -- a policy that is blocked
-  pub matched_blocked : (name : List ℕ) (cause : BlockCause) → IsBlockedBy s p cause → name ≡ p.name
-      → Adds before after (undecided_event name (block_refusal (block_of cause)) ∷ []) → AddsMatched OneImage s review n q p before after false
-  matched_blocked name cause stands same adds = (
-    undecided_event p.name (block_refusal (block_of cause)) ∷ [],
-    subst (λ (x : List ℕ). Adds before after (undecided_event x (block_refusal (block_of cause)) ∷ [])) same adds,
+  pub matched_blocked : (asked : BoundPolicy) (cause : BlockCause) → IsBlockedBy s p cause → asked ≡ p
+      → Adds before after (undecided_event asked (block_refusal (block_of cause)) ∷ []) → AddsMatched OneImage s review n q p before after false
+  matched_blocked asked cause stands same adds = (
+    undecided_event p (block_refusal (block_of cause)) ∷ [],
+    subst (λ (x : BoundPolicy). Adds before after (undecided_event x (block_refusal (block_of cause)) ∷ [])) same adds,
     Some cause,
     stands,
-    blocked,
+    next_binding blocked no_bindings,
   )
 
   -- a policy that is compiled
   pub matched_asked : (ended : Bool) (gate : PolicyAndImage) → StandsAs s p (Asked gate)
       → ((more : List Event) × Adds before after more
-      × RunsSteps p.name (EvaluatesPolicy OneImage review n p) (bindings_steps s (asked_policy s p) q s.bindings) more ended)
+      × RunsBindings p (EvaluatesPolicy OneImage review n p) (bindings_steps s (asked_policy s p) q s.bindings) more ended)
       → AddsMatched OneImage s review n q p before after ended
   matched_asked ended gate stands (es, adds, runs) = (es, adds, None, (compiled_of p gate stands.0, stands.1), runs)
 
 -- the constraints do not match
 pub asks_no : (s : ClusterState) (review : List ℕ) (n : ℕ) (q : Request) (p : BoundPolicy) (e : CodeEvents) (t : Standing) → StandsAs s p t
     → matching.No ≡ match_answer p.constraints (namespace_labels s.objects) q.attributes → AddsPolicy OneImage s review n q p e e false
-asks_no s review n q p e t stands is = asks_by s review n q p e e matching.No [] false t stands is (adds_none e) (λ block. no_steps)
+asks_no s review n q p e t stands is = asks_by s review n q p e e matching.No [] false t stands is (adds_none e) (λ block. no_bindings)
 
 -- ---- the code's
 
 -- the steps of bindings under the policy and the state that the code has
-pub bound_steps : (s t : ClusterState) (a b : AskedPolicy) (q : Request) (steps : List PlannedStep) → t ≡ s → a ≡ b → steps ≡ bindings_steps t a q t.bindings
+pub bound_steps : (s t : ClusterState) (a b : AskedPolicy) (q : Request) (steps : List (List PlannedStep)) → t ≡ s → a ≡ b → steps ≡ bindings_steps t a q t.bindings
     → steps ≡ bindings_steps s b q s.bindings
 bound_steps s t a b q steps state asked is =
     let same : bindings_steps t a q t.bindings ≡ bindings_steps s b q s.bindings = λ i. bindings_steps (state i) (asked i) q (state i).bindings in is ∙ same

@@ -1,8 +1,7 @@
 -- Lists that are joined from a list for each element, and their order.
-use Rattle.std.proofs.Common.{◌≡◌, ◌∙◌, ◌∷◌, ◌++◌, List, [], Bool, true, false, ap, append_assoc, arith, refl, subst, sym}
-use Rattle.std.proofs.lemmas.List.Concat.{flat_map-cons}
+use Rattle.std.proofs.Common.{◌≡◌, ◌∙◌, ◌∷◌, ◌++◌, List, [], Bool, true, false, arith, map, refl}
 use Rattle.std.proofs.lemmas.List.Sorted.{IsPermutation-cons, IsPermutation-refl, IsPermutation-swap, IsPermutation-trans}
-use Rattle.std.specs.List.{filter, flat_map}
+use Rattle.std.specs.List.{filter}
 use Rattle.std.specs.Prelude.{IsPermutation, cond}
 use Rattle.cluster_gate.specs.Orders.{InAnyOrder, none, first, exchanged, through}
 
@@ -89,41 +88,14 @@ module _ {X Y : Type 0} (R : X → List Y → Type 0) where
       let whole = each_reordered ys zs half.now b half.each in
       record { now = whole.now; each = whole.each; same = through half.same whole.same }
 
-  -- the parts of a list of two parts
-  pub record InParts (xs ys : List X) (es : List Y) : Type 0 where
-    pub before : List Y
-    pub after : List Y
-    pub are : es ≡ before ++ after
-    pub each_before : Each R xs before
-    pub each_after : Each R ys after
+  -- over the values of a function
+  pub of_map : {Z : Type 0} (f : Z → X) (zs : List Z) (es : List Y) → Each R (map f zs) es → Each (λ z. R (f z)) zs es
+  of_map f [] _ over_none = over_none
+  of_map f (z ∷ zs) _ (over_one {fs = fs} r others) = over_one r (of_map f zs fs others)
 
-  pub in_parts : (xs ys : List X) (es : List Y) → Each R (xs ++ ys) es → InParts xs ys es
-  in_parts [] ys es each = record { before = []; after = es; are = refl; each_before = over_none; each_after = each }
-  in_parts (x ∷ xs) ys _ (over_one {es = es} {fs = fs} r others) =
-      let rest = in_parts xs ys fs others in record {
-        before = es ++ rest.before;
-        after = rest.after;
-        are = ap (λ (l : List Y). es ++ l) rest.are ∙ sym (append_assoc es rest.before rest.after);
-        each_before = over_one r rest.each_before;
-        each_after = rest.each_after;
-      }
-
-  pub of_parts : (xs ys : List X) (es fs : List Y) → Each R xs es → Each R ys fs → Each R (xs ++ ys) (es ++ fs)
-  of_parts _ ys _ fs over_none after = after
-  of_parts _ ys _ fs (over_one {x = x} {xs = xs} {es = es} {fs = gs} r others) after =
-      subst (λ (l : List Y). Each R (x ∷ (xs ++ ys)) l) (sym (append_assoc es gs fs)) (over_one r (of_parts xs ys gs fs others after))
-
-  -- over lists that are joined
-  pub of_flat : {Z : Type 0} (f : Z → List X) (zs : List Z) (es : List Y) → Each R (flat_map f zs) es → Each (λ z. Each R (f z)) zs es
-  of_flat f [] _ over_none = over_none
-  of_flat f (z ∷ zs) es each =
-      let parts = in_parts (f z) (flat_map f zs) es (subst (λ (l : List X). Each R l es) (flat_map-cons f z zs) each) in
-      subst (λ (l : List Y). Each (λ z. Each R (f z)) (z ∷ zs) l) (sym parts.are) (over_one parts.each_before (of_flat f zs parts.after parts.each_after))
-
-  pub to_flat : {Z : Type 0} (f : Z → List X) (zs : List Z) (es : List Y) → Each (λ z. Each R (f z)) zs es → Each R (flat_map f zs) es
-  to_flat f _ _ over_none = over_none
-  to_flat f _ _ (over_one {x = z} {xs = zs} {es = es} {fs = fs} r others) =
-      subst (λ (l : List X). Each R l (es ++ fs)) (sym (flat_map-cons f z zs)) (of_parts (f z) (flat_map f zs) es fs r (to_flat f zs fs others))
+  pub to_map : {Z : Type 0} (f : Z → X) (zs : List Z) (es : List Y) → Each (λ z. R (f z)) zs es → Each R (map f zs) es
+  to_map f _ _ over_none = over_none
+  to_map f _ _ (over_one {xs = zs} {fs = fs} r others) = over_one r (to_map f zs fs others)
 
 -- what one relation gives, another gives in any order
 pub each_through : {X Y : Type 0} (R S : X → List Y → Type 0) → ((x : X) (es : List Y) → R x es → (fs : List Y) × S x fs × InAnyOrder es fs)

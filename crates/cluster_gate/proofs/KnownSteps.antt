@@ -1,9 +1,8 @@
 -- The namespace of each evaluation is the request's, so it has the same place beside the review.
-use Rattle.cluster_gate.proofs.Prelude.{◌≡◌, ◌<◌, ◌∷◌, ℕ, zero, suc, arith, get_or, length, List, [], Bool, true, false, Option, Some, None, Result, Ok, Err, map, subst, sym, ClusterState, PlannedStep, Request, bindings_steps}
-use Rattle.std.proofs.lemmas.List.Elements.{All-append, All-cons, All-head, All-nil, All-tail}
-use Rattle.std.proofs.lemmas.List.Concat.{flat_map-cons}
+use Rattle.cluster_gate.proofs.Prelude.{◌≡◌, ◌<◌, ◌∷◌, ℕ, zero, suc, arith, get_or, length, List, [], Bool, true, false, Option, Some, None, Result, Ok, Err, map, subst, sym, ClusterState, PlannedStep, Request}
+use Rattle.std.proofs.lemmas.List.Elements.{All-cons, All-head, All-nil, All-tail}
 use Rattle.std.specs.Borrow.{Bor}
-use Rattle.std.specs.List.{All, flat_map}
+use Rattle.std.specs.List.{All}
 use Rattle.std.specs.Prelude.{◌==◌, ◌||◌, if◌then◌else◌}
 use Rattle.serde_json.specs.Data as json
 use Rattle.value_table.specs.DocumentPool.{OpenValues}
@@ -15,7 +14,7 @@ use Rattle.cluster_state.specs.Bindings.{Binding}
 use Rattle.cluster_state.specs.Params.{NamespaceObject, missing, namespace_object, namespace_labels, namespace_named, no_object, object, object_or_missing, param_error_text}
 use Rattle.cluster_state.specs.declared.param_error.ParamError.{ParamError}
 use Rattle.cluster_plan.specs.Steps as plan
-use Rattle.cluster_plan.specs.Steps.{AskedPolicy, binding_answered, binding_steps, bindings_of, error_steps, evaluations, fails_closed, params_for, params_steps, step_view, trouble_text}
+use Rattle.cluster_plan.specs.Steps.{AskedPolicy, binding_answered, binding_steps, error_steps, evaluations, fails_closed, params_for, params_steps, step_view, trouble_text}
 use Rattle.cluster_plan.specs.declared.step.Step.{Step as CodeStep}
 use Rattle.cluster_gate.specs.Beside.{HasKnownNamespace, IsBesideIf}
 use Rattle.cluster_gate.specs.declared.namespace_place.NamespacePlace.{NamespacePlace}
@@ -70,11 +69,6 @@ module _ (opened : Option (Bor OpenValues)) (place : Option NamespacePlace) wher
   null_or false None is = tt
   null_or false (Some d) is = is
 
-  each : (f : Binding → List PlannedStep) (bs : List Binding) → ((b : Binding) → All (Known opened place) (f b)) → All (Known opened place) (flat_map f bs)
-  each f [] all = All-nil (Known opened place)
-  each f (b ∷ bs) all =
-      subst (All (Known opened place)) (sym (flat_map-cons f b bs)) (All-append (Known opened place) (f b) (flat_map f bs) (all b) (each f bs all))
-
   module _ (s : ClusterState) (p : AskedPolicy) (q : Request) (is : IsBesideIf opened place (namespace_named q.attributes.namespace s.objects)) where
     by_binding : (b : Binding) (answer : Answer) → All (Known opened place) (binding_answered s p q b answer)
     by_binding b matching.No = All-nil (Known opened place)
@@ -85,7 +79,5 @@ module _ (opened : Option (Bor OpenValues)) (place : Option NamespacePlace) wher
         (params_for s.objects p.kind b.param_ref q.attributes.namespace)
         (null_or (is_core_namespace q.kind || length q.attributes.namespace == 0) (namespace_named q.attributes.namespace s.objects) is)
 
-    pub steps_are_known : All (Known opened place) (bindings_steps s p q s.bindings)
-    steps_are_known =
-        each (binding_steps s p q) (bindings_of p.policy.name s.bindings)
-        (λ b. by_binding b (match_answer b.resources (namespace_labels s.objects) q.attributes))
+    pub steps_are_known : (b : Binding) → All (Known opened place) (binding_steps s p q b)
+    steps_are_known b = by_binding b (match_answer b.resources (namespace_labels s.objects) q.attributes)

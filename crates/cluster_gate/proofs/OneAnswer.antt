@@ -1,6 +1,6 @@
 -- A review has one answer in a cluster.
 use Rattle.cluster_gate.specs.declared.block_cause.BlockCause.{BlockCause}
-use Rattle.cluster_gate.proofs.Prelude.{◌≡◌, ◌∙◌, ◌∷◌, ◌++◌, ℕ, List, [], Bool, true, false, Option, Some, None, Result, Ok, Err, ap, option_map, refl, subst, sym, AsksPolicy, BoundPolicy, ClusterState, Dispatches, Event, OneImage, PlannedStep, Request, RunsSteps, asked_policy, block_of, policies_asked, policy_steps, IsJudged}
+use Rattle.cluster_gate.proofs.Prelude.{◌≡◌, ◌∙◌, ◌∷◌, ◌++◌, ℕ, List, [], Bool, true, false, Option, Some, None, Result, Ok, Err, ap, option_map, refl, subst, sym, AsksPolicy, BoundPolicy, ClusterState, Dispatches, Event, OneImage, PlannedStep, Request, RunsBindings, RunsSteps, asked_policy, block_of, policies_asked, policy_steps, IsJudged}
 use Rattle.std.proofs.lemmas.List.Elements.{All-head, All-nil, All-tail, All-weaker}
 use Rattle.std.specs.List.{All}
 use Rattle.std.specs.Prelude.{◌≢◌, if◌then◌else◌}
@@ -17,8 +17,8 @@ use Rattle.cluster_response.specs.Response.{cluster_response}
 use Rattle.cluster_response.specs.declared.cluster_refusal.ClusterRefusal.{ClusterRefusal}
 use Rattle.cluster_gate.proofs.JudgedOnce.{judged_once}
 use Rattle.cluster_gate.proofs.SameReading.{IsShallowIf, SameReading, findings_moved, runs_moved, same_contents, same_policy, same_text, same_text_if, compiled_shallow}
-use Rattle.cluster_gate.proofs.ShallowSteps.{IsShallowStep, steps_are_shallow}
-use Rattle.cluster_gate.specs.Dispatch.{DecidesInCluster, EvaluatesPolicy, FindsWith, error_refusal, undecided_event, no_review, decided, no_policies, next, last, no_steps, denied, not_known, blocked, found, refused, at_end}
+use Rattle.cluster_gate.proofs.ShallowSteps.{AreShallow, IsShallowStep, steps_are_shallow}
+use Rattle.cluster_gate.specs.Dispatch.{DecidesInCluster, EvaluatesPolicy, FindsWith, error_refusal, undecided_event, no_review, decided, no_policies, next, last, no_steps, denied, not_known, blocked, found, refused, at_end, no_bindings, next_binding, last_binding}
 use Rattle.cluster_gate.specs.Laws.{HasShallowDocuments, IsShallow, ReviewsHaveOneAnswer}
 use Rattle.cluster_gate.specs.CompiledDocuments.{compiled_document}
 
@@ -44,7 +44,7 @@ refusal_is_no_failure e r is failed =
     let same : e ≡ Memory = cc in
     let none : None ≡ Some r = subst (λ (x : RunError). error_refusal x ≡ Some r) same is in absurd (cc)
 
-module _ (policy : List ℕ) (finds : FindsWith) where
+module _ (p : BoundPolicy) (finds : FindsWith) where
   found_once : (params namespace : Option json.Data) (fs gs : List PolicyFinding) → FindsOnce finds params namespace → finds params namespace (Ok fs)
       → finds params namespace (Ok gs) → fs ≡ gs
   found_once params namespace fs gs once a b =
@@ -62,26 +62,41 @@ module _ (policy : List ℕ) (finds : FindsWith) where
       let same : e ≡ f = cc in
       let some : Some r ≡ Some s = sym is ∙ (ap error_refusal same ∙ also) in cc
 
-  -- the steps of a policy have one list of events, and end the dispatch always or never
-  pub runs_once : (steps : List PlannedStep) (es fs : List Event) (x y : Bool) → All (IsOnce finds) steps → RunsSteps policy finds steps es x → RunsSteps policy finds steps fs y
+  -- the steps under a binding have one list of events, and end the dispatch always or never
+  pub runs_once : (steps : List PlannedStep) (es fs : List Event) (x y : Bool) → All (IsOnce finds) steps → RunsSteps p finds steps es x → RunsSteps p finds steps fs y
       → (es ≡ fs) × (x ≡ y)
   runs_once _ _ _ _ _ all no_steps no_steps = (refl, refl)
   runs_once _ _ _ _ _ all (denied {binding = b} {message = t} {steps = steps} {es = es} {ended = x} r) (denied {es = fs} {ended = y} s) =
       let rest = runs_once steps es fs x y (All-tail (IsOnce finds) (plan.denies b t) steps all) r s in
-      (ap (λ (l : List Event). configuration_event policy b t ∷ l) rest.0, rest.1)
+      (ap (λ (l : List Event). configuration_event p.name b t ∷ l) rest.0, rest.1)
   runs_once _ _ _ _ _ all not_known not_known = (refl, refl)
   runs_once _ _ _ _ _ all blocked blocked = (refl, refl)
   runs_once _ _ _ _ _ all (found {b = b} {params = ps} {namespace = n} {fs = fs} {steps = steps} {es = es} {ended = x} f r) (found {fs = gs} {es = hs} {ended = y} g s) =
       let rest = runs_once steps es hs x y (All-tail (IsOnce finds) (plan.evaluates b ps n) steps all) r s in
       let same = found_once ps n fs gs (All-head (IsOnce finds) (plan.evaluates b ps n) steps all) f g in
-      (ap (λ (l : List PolicyFinding). findings_events policy b l ++ es) same ∙ ap (λ (l : List Event). findings_events policy b gs ++ l) rest.0, rest.1)
+      (ap (λ (l : List PolicyFinding). findings_events p.name b l ++ es) same ∙ ap (λ (l : List Event). findings_events p.name b gs ++ l) rest.0, rest.1)
   runs_once _ _ _ _ _ all (found {b = b} {params = ps} {namespace = n} {fs = fs} {steps = steps} f r) (refused {e = e} {r = why} g is) =
       absurd (found_or_refused ps n fs e why (All-head (IsOnce finds) (plan.evaluates b ps n) steps all) f g is)
   runs_once _ _ _ _ _ all (refused {b = b} {params = ps} {namespace = n} {e = e} {r = why} {steps = steps} g is) (found {fs = fs} f r) =
       absurd (found_or_refused ps n fs e why (All-head (IsOnce finds) (plan.evaluates b ps n) steps all) f g is)
   runs_once _ _ _ _ _ all (refused {b = b} {params = ps} {namespace = n} {e = e} {r = why} {steps = steps} g is) (refused {e = f} {r = other} h also) =
-      (ap (λ (x : ClusterRefusal). undecided_event policy x ∷ []) (refused_once ps n e f why other (All-head (IsOnce finds) (plan.evaluates b ps n) steps all) g h is also), refl)
+      (ap (λ (x : ClusterRefusal). undecided_event p x ∷ []) (refused_once ps n e f why other (All-head (IsOnce finds) (plan.evaluates b ps n) steps all) g h is also), refl)
   runs_once _ _ _ _ _ all at_end at_end = (refl, refl)
+
+  -- so have those of all bindings
+  pub bindings_once : (all : List (List PlannedStep)) (es fs : List Event) (x y : Bool) → All (All (IsOnce finds)) all → RunsBindings p finds all es x → RunsBindings p finds all fs y
+      → (es ≡ fs) × (x ≡ y)
+  bindings_once _ _ _ _ _ each no_bindings no_bindings = (refl, refl)
+  bindings_once _ _ _ _ _ each (next_binding {steps = steps} {others = others} {es = es} {more = more} {ended = x} r rest) (next_binding {es = fs} {more = other} {ended = y} s left) =
+      let first = runs_once steps es fs false false (All-head (All (IsOnce finds)) steps others each) r s in
+      let after = bindings_once others more other x y (All-tail (All (IsOnce finds)) steps others each) rest left in
+      (ap (λ (l : List Event). l ++ more) first.0 ∙ ap (λ (l : List Event). fs ++ l) after.0, after.1)
+  bindings_once _ _ _ _ _ each (next_binding {steps = steps} {others = others} {es = es} r rest) (last_binding {es = fs} s) =
+      let both = (runs_once steps es fs false true (All-head (All (IsOnce finds)) steps others each) r s).1 in absurd (cc)
+  bindings_once _ _ _ _ _ each (last_binding {steps = steps} {others = others} {es = es} r) (next_binding {es = fs} s left) =
+      let both = (runs_once steps es fs true false (All-head (All (IsOnce finds)) steps others each) r s).1 in absurd (cc)
+  bindings_once _ _ _ _ _ each (last_binding {steps = steps} {others = others} {es = es} r) (last_binding {es = fs} s) =
+      ((runs_once steps es fs true true (All-head (All (IsOnce finds)) steps others each) r s).0, refl)
 
 -- ---- evaluations
 
@@ -112,16 +127,16 @@ module _ (compiles : CompileHasOneResult) (findings : FindingsHaveOneResult) (re
 
   module _ (s : ClusterState) (q : Request) (shallow : HasShallowDocuments s) where
     -- a policy has one list of events by its steps, for each way in which it may be blocked
-    pub policy_once : (p : BoundPolicy) (steps : Option plan.PolicyBlock → List PlannedStep) → ((block : Option plan.PolicyBlock) → All IsShallowStep (steps block))
+    pub policy_once : (p : BoundPolicy) (steps : Option plan.PolicyBlock → List (List PlannedStep)) → ((block : Option plan.PolicyBlock) → AreShallow (steps block))
         → IsShallow p.document → (c d : Option BlockCause) (es fs : List Event) (x y : Bool) → IsJudged s p c → IsJudged s p d
-        → RunsSteps p.name (EvaluatesPolicy OneImage review n p) (steps (option_map block_of c)) es x
-        → RunsSteps p.name (EvaluatesPolicy OneImage review n p) (steps (option_map block_of d)) fs y → (es ≡ fs) × (x ≡ y)
+        → RunsBindings p (EvaluatesPolicy OneImage review n p) (steps (option_map block_of c)) es x
+        → RunsBindings p (EvaluatesPolicy OneImage review n p) (steps (option_map block_of d)) fs y → (es ≡ fs) × (x ≡ y)
     policy_once p steps deep_steps deep c d es fs x y judged other one two =
         let finds = EvaluatesPolicy OneImage review n p in
-        runs_once p.name finds (steps (option_map block_of c)) es fs x y
-        (All-weaker IsShallowStep (IsOnce finds) (once_at p deep) (steps (option_map block_of c)) (deep_steps (option_map block_of c)))
+        bindings_once p finds (steps (option_map block_of c)) es fs x y
+        (All-weaker (All IsShallowStep) (All (IsOnce finds)) (All-weaker IsShallowStep (IsOnce finds) (once_at p deep)) (steps (option_map block_of c)) (deep_steps (option_map block_of c)))
         one
-        (subst (λ (k : Option plan.PolicyBlock). RunsSteps p.name finds (steps k) fs y) (judged_once compiles p deep s d c other judged) two)
+        (subst (λ (k : Option plan.PolicyBlock). RunsBindings p finds (steps k) fs y) (judged_once compiles p deep s d c other judged) two)
 
     asks_once : (p : BoundPolicy) (es fs : List Event) (x y : Bool) → IsShallow p.document → AsksPolicy OneImage s review n q p es x
         → AsksPolicy OneImage s review n q p fs y → (es ≡ fs) × (x ≡ y)

@@ -6,8 +6,8 @@ use Rattle.std.proofs.lemmas.List.Concat.{flat_map-cons}
 use Rattle.std.proofs.lemmas.List.Elements.{All-head}
 use Rattle.cluster_gate.specs.Gates.{IsRefusedPolicy, kind_of}
 use Rattle.cluster_plan.specs.Steps.{bindings_of, binding_answered, binding_steps, evaluations, fails_closed, params_for, params_steps, policy_answered}
-use Rattle.cluster_gate.proofs.Prelude.{◌≡◌, ◌∙◌, ◌∷◌, ◌++◌, ℕ, List, [], Bool, true, false, Option, Some, None, Result, Ok, Err, ap, append-nil, map, option_map, refl, subst, sym, BoundPolicy, ClusterState, Dispatches, Event, IsJudged, OneImage, PlannedStep, Request, RunsSteps, asked_policy, block_of, by_block, policies_asked, policy_steps}
-use Rattle.std.specs.List.{flat_map, list_any, All}
+use Rattle.cluster_gate.proofs.Prelude.{◌≡◌, ◌∙◌, ◌∷◌, ◌++◌, ℕ, List, [], Bool, true, false, Option, Some, None, Result, Ok, Err, ap, append-nil, map, option_map, refl, subst, sym, BoundPolicy, ClusterState, Dispatches, Event, IsJudged, OneImage, PlannedStep, Request, RunsBindings, RunsSteps, asked_policy, block_of, by_block, policies_asked, policy_steps}
+use Rattle.std.specs.List.{list_any, All}
 use Rattle.std.specs.Prelude.{◌≢◌, bytes_eq, if◌then◌else◌, cond, is_some, is_none, option_and_then, ◌&&◌}
 use Rattle.serde_json.specs.Data as json
 use Rattle.serde_json.specs.Written.{compact_text}
@@ -27,7 +27,8 @@ use Rattle.cluster_state.specs.Params.{NamespaceObject, missing, namespace_objec
 use Rattle.cluster_state.specs.declared.action.Action.{Action}
 use Rattle.cluster_state.specs.declared.action.Action.TheVariants.{Deny}
 use Rattle.cluster_plan.specs.Steps as plan
-use Rattle.cluster_response.specs.Events.{findings_events, summary_of, action_event, finding_events}
+use Rattle.cluster_response.proofs.Firsts.{told_one}
+use Rattle.cluster_response.specs.Events.{Undecided, findings_events, is_closed, summary_of, action_event, finding_events}
 use Rattle.cluster_response.specs.Laws.{AllowedExactly, allowed_in, is_against}
 use Rattle.cluster_response.specs.Response.{answer_tree, cluster_response, undecided_tree}
 use Rattle.cluster_response.specs.declared.cluster_refusal.ClusterRefusal.{ClusterRefusal}
@@ -35,7 +36,7 @@ use Rattle.cluster_response.specs.declared.cluster_refusal.ClusterRefusal.TheVar
 use Rattle.cluster_gate.proofs.FoundOrAllowed.{NoneExactlyIf, found_or_allowed}
 use Rattle.cluster_gate.proofs.JudgedOnce.{one_reading}
 use Rattle.cluster_gate.proofs.SameReading.{SameReading, findings_moved, runs_moved, same_contents, same_text_if, IsShallowIf, refused_moved}
-use Rattle.cluster_gate.specs.Dispatch.{EvaluatesPolicy, error_refusal, undecided_event, no_policies, next, last, no_steps, blocked, found, refused, decided, FindsWith, block_refusal}
+use Rattle.cluster_gate.specs.Dispatch.{EvaluatesPolicy, error_refusal, undecided_event, no_policies, next, last, no_steps, blocked, found, refused, decided, no_bindings, next_binding, last_binding, FindsWith, block_refusal}
 use Rattle.cluster_gate.specs.Laws.{HasShallowDocuments, IsShallow}
 use Rattle.cluster_gate.specs.OnePolicy.{AreDocumentsOf, HasOnePolicy, IsSameDecision, OnePolicyIsReview, namespace_seen}
 use Rattle.cluster_gate.specs.Texts.{IsJsonTextIf}
@@ -62,10 +63,17 @@ reply_by d n fs finds runs =
 
 -- ---- answers by events
 
-module _ (exactly : AllowedExactly) (q : Request) (uid : List ℕ) (policy : List ℕ) where
-  refused_answer : (r : ClusterRefusal) → answer_tree q uid (summary_of (undecided_event policy r ∷ [])) ≡ undecided_tree (record { policy = policy; refusal = r }) uid
-  refused_answer r = refl
+-- why the policy does not decide
+abbrev undecided : BoundPolicy → ClusterRefusal → Undecided
+undecided p r = record { policy = p.name; fails_closed = fails_closed p.document; refusal = r }
 
+refused_answer : (q : Request) (uid : List ℕ) (p : BoundPolicy) (r : ClusterRefusal)
+    → answer_tree q uid (summary_of (undecided_event p r ∷ [])) ≡ undecided_tree (undecided p r) uid
+refused_answer q uid p r =
+    ap (λ (o : Option Undecided). answer_tree q uid (record { denial = None; warnings = []; audit = None; undecided = o; ended = false }))
+    (told_one is_closed (undecided p r))
+
+module _ (exactly : AllowedExactly) (q : Request) (uid : List ℕ) (policy : List ℕ) where
   first_denies : (b : Binding) (f : PolicyFinding) (rest : List PolicyFinding) → b.actions ≡ Deny ∷ []
       → list_any is_against (findings_events policy b (f ∷ rest) ++ []) ≡ true
   first_denies b f rest actions =
@@ -85,19 +93,33 @@ module _ (exactly : AllowedExactly) (q : Request) (uid : List ℕ) (policy : Lis
 -- ---- steps
 
 -- what one evaluation does
-data EvaluatesOne (policy : List ℕ) (finds : FindsWith) (b : Binding) (params namespace : Option json.Data) : List Event → Type 0 where
-  it_finds : {fs : List PolicyFinding} → finds params namespace (Ok fs) → EvaluatesOne policy finds b params namespace (findings_events policy b fs ++ [])
+data EvaluatesOne (p : BoundPolicy) (finds : FindsWith) (b : Binding) (params namespace : Option json.Data) : List Event → Type 0 where
+  it_finds : {fs : List PolicyFinding} → finds params namespace (Ok fs) → EvaluatesOne p finds b params namespace (findings_events p.name b fs ++ [])
   it_refuses : {e : RunError} {r : ClusterRefusal} → finds params namespace (Err e) → error_refusal e ≡ Some r
-      → EvaluatesOne policy finds b params namespace (undecided_event policy r ∷ [])
+      → EvaluatesOne p finds b params namespace (undecided_event p r ∷ [])
 
-one_evaluation : (policy : List ℕ) (finds : FindsWith) (b : Binding) (params namespace : Option json.Data) (es : List Event) (ended : Bool)
-    → RunsSteps policy finds (plan.evaluates b params namespace ∷ []) es ended → EvaluatesOne policy finds b params namespace es
-one_evaluation policy finds b params namespace _ _ (found f no_steps) = it_finds f
-one_evaluation policy finds b params namespace _ _ (refused f is) = it_refuses f is
+module _ (p : BoundPolicy) (finds : FindsWith) where
+  -- the events of one binding are those of its steps
+  alone : (P : List Event → Type 0) (steps : List PlannedStep) → ((es : List Event) (ended : Bool) → RunsSteps p finds steps es ended → P es)
+      → (es : List Event) (ended : Bool) → RunsBindings p finds (steps ∷ []) es ended → P es
+  alone P steps each _ _ (next_binding {es = es} r no_bindings) = subst P (sym (append-nil es)) (each es false r)
+  alone P steps each _ _ (last_binding {es = es} r) = each es true r
 
-one_block : (policy : List ℕ) (finds : FindsWith) (k : plan.PolicyBlock) (es : List Event) (ended : Bool) → RunsSteps policy finds (plan.is_blocked k ∷ []) es ended
-    → es ≡ undecided_event policy (block_refusal k) ∷ []
-one_block policy finds k _ _ blocked = refl
+  one_step : (b : Binding) (params namespace : Option json.Data) (es : List Event) (ended : Bool) → RunsSteps p finds (plan.evaluates b params namespace ∷ []) es ended
+      → EvaluatesOne p finds b params namespace es
+  one_step b params namespace _ _ (found f no_steps) = it_finds f
+  one_step b params namespace _ _ (refused f is) = it_refuses f is
+
+  one_evaluation : (b : Binding) (params namespace : Option json.Data) (es : List Event) (ended : Bool)
+      → RunsBindings p finds ((plan.evaluates b params namespace ∷ []) ∷ []) es ended → EvaluatesOne p finds b params namespace es
+  one_evaluation b params namespace = alone (EvaluatesOne p finds b params namespace) (plan.evaluates b params namespace ∷ []) (one_step b params namespace)
+
+  block_step : (k : plan.PolicyBlock) (es : List Event) (ended : Bool) → RunsSteps p finds (plan.is_blocked k ∷ []) es ended → es ≡ undecided_event p (block_refusal k) ∷ []
+  block_step k _ _ blocked = refl
+
+  one_block : (k : plan.PolicyBlock) (es : List Event) (ended : Bool) → RunsBindings p finds ((plan.is_blocked k ∷ []) ∷ []) es ended
+      → es ≡ undecided_event p (block_refusal k) ∷ []
+  one_block k = alone (λ (es : List Event). es ≡ undecided_event p (block_refusal k) ∷ []) (plan.is_blocked k ∷ []) (block_step k)
 
 itself : (t : List ℕ) → bytes_eq t t ≡ true
 itself t = (bytes_eq-Decides t t).1 refl
@@ -129,11 +151,10 @@ module _ (s : ClusterState) (q : Request) (p : BoundPolicy) (b : Binding) (has :
       ∙ (ap (λ (k : Option KnownKind). params_steps (fails_closed p.document) b Namespace (params_for s.objects k b.param_ref q.attributes.namespace)) no_kind
       ∙ evaluated_with b Namespace has.found)
 
-  the_steps : policy_steps s (asked_policy s p) None q ≡ plan.evaluates b None (namespace_seen Namespace) ∷ []
+  the_steps : policy_steps s (asked_policy s p) None q ≡ (plan.evaluates b None (namespace_seen Namespace) ∷ []) ∷ []
   the_steps =
       matched None
-      ∙ (ap (flat_map (binding_steps s (asked_policy s p) q)) the_binding
-      ∙ (flat_map-cons (binding_steps s (asked_policy s p) q) b [] ∙ (append-nil (binding_steps s (asked_policy s p) q b) ∙ its_steps)))
+      ∙ (ap (map (binding_steps s (asked_policy s p) q)) the_binding ∙ ap (λ (l : List PlannedStep). l ∷ []) its_steps)
 
   asked_one : policies_asked s q ≡ p ∷ []
   asked_one = ap (λ (x : Bool). if x then [] else s.policies) has.not_exempt ∙ has.policies
@@ -164,7 +185,7 @@ module _ (compiles : CompileHasOneResult) (reviews : ReviewHasOneResult) (exactl
     (of : AreDocumentsOf s review q p d) (some : result ≢ Err run_error.Memory) (is : IsAnswerTo d n result) where
   -- the answer by these events is the decision of the review
   abbrev Same : List Event → Type 0
-  Same es = IsSameDecision p.name (uid_in review) result (answer_tree q (uid_in review) (summary_of es))
+  Same es = IsSameDecision p (uid_in review) result (answer_tree q (uid_in review) (summary_of es))
 
   deep : IsShallow p.document
   deep = All-head (λ (x : BoundPolicy). IsShallow x.document) p [] (subst (All (λ (x : BoundPolicy). IsShallow x.document)) has.policies shallow.policies)
@@ -182,12 +203,12 @@ module _ (compiles : CompileHasOneResult) (reviews : ReviewHasOneResult) (exactl
         (same_text_if None x.documents.params d.params tt x.params_text (subst (λ (o : Option (List ℕ)). IsJsonTextIf None o) (sym of.no_params) tt));
   }
 
-  by_evaluation : (es : List Event) → EvaluatesOne p.name (EvaluatesPolicy OneImage review n p) b None (namespace_seen (namespace_object s.objects q.kind q.attributes.namespace)) es → Same es
+  by_evaluation : (es : List Event) → EvaluatesOne p (EvaluatesPolicy OneImage review n p) b None (namespace_seen (namespace_object s.objects q.kind q.attributes.namespace)) es → Same es
   by_evaluation _ (it_finds {fs = fs} x) =
       let same = same_reading (Ok fs) x in
       let told = reply_by d n fs (findings_moved x.documents d same n (Ok fs) x.finds) (runs_moved x.documents d same OneImage n (Ok fs) x.runs) in
       let reply : result ≡ Ok told.reply = reviews d n result (Ok told.reply) some (λ e. absurd (cc)) is told.answers in
-      subst (λ (r : Result Reply RunError). IsSameDecision p.name (uid_in review) r (answer_tree q (uid_in review) (summary_of (findings_events p.name b fs ++ [])))) (sym reply)
+      subst (λ (r : Result Reply RunError). IsSameDecision p (uid_in review) r (answer_tree q (uid_in review) (summary_of (findings_events p.name b fs ++ [])))) (sym reply)
       (denied_events exactly q (uid_in review) p.name b fs has.actions told.reply.allowed told.exactly)
   by_evaluation _ (it_refuses {e = e} {r = r} x why) =
       let same = same_reading (Err e) x in
@@ -196,10 +217,10 @@ module _ (compiles : CompileHasOneResult) (reviews : ReviewHasOneResult) (exactl
         runs = agrees_alike (List PolicyFinding) Reply d n e (runs_moved x.documents d same {A = List PolicyFinding} OneImage n (Err e) x.runs);
       } in
       let refused : result ≡ Err e = reviews d n result (Err e) some (no_failure e r why) is answers in
-      subst (λ (y : Result Reply RunError). IsSameDecision p.name (uid_in review) y (answer_tree q (uid_in review) (summary_of (undecided_event p.name r ∷ [])))) (sym refused)
-      (r, why, refl)
+      subst (λ (y : Result Reply RunError). IsSameDecision p (uid_in review) y (answer_tree q (uid_in review) (summary_of (undecided_event p r ∷ [])))) (sym refused)
+      (r, why, refused_answer q (uid_in review) p r)
 
-  by_refusal : (e : PolicyRefusal) → IsRefusedPolicy p e → (es : List Event) → es ≡ undecided_event p.name refusal.PolicyRefused ∷ [] → Same es
+  by_refusal : (e : PolicyRefusal) → IsRefusedPolicy p e → (es : List Event) → es ≡ undecided_event p refusal.PolicyRefused ∷ [] → Same es
   by_refusal e refuses es are =
       let answers : IsAnswerTo d n (Err (run_error.PolicyRefused e)) = record {
         reviews = refused_moved refuses.text d.policy (one_reading compiles p deep refuses.text d.policy refuses.has_text of.policy) e refuses.refused;
@@ -207,17 +228,17 @@ module _ (compiles : CompileHasOneResult) (reviews : ReviewHasOneResult) (exactl
       } in
       let refused : result ≡ Err (run_error.PolicyRefused e) = reviews d n result (Err (run_error.PolicyRefused e)) some (λ x. absurd (cc)) is answers in
       subst Same (sym are)
-      (subst (λ (y : Result Reply RunError). IsSameDecision p.name (uid_in review) y (answer_tree q (uid_in review) (summary_of (undecided_event p.name refusal.PolicyRefused ∷ [])))) (sym refused)
-      (refusal.PolicyRefused, refl, refl))
+      (subst (λ (y : Result Reply RunError). IsSameDecision p (uid_in review) y (answer_tree q (uid_in review) (summary_of (undecided_event p refusal.PolicyRefused ∷ [])))) (sym refused)
+      (refusal.PolicyRefused, refl, refused_answer q (uid_in review) p refusal.PolicyRefused))
 
   by_cause : (cause : Option BlockCause) → IsJudged s p cause → (es : List Event) (ended : Bool)
-      → RunsSteps p.name (EvaluatesPolicy OneImage review n p) (policy_steps s (asked_policy s p) (option_map block_of cause) q) es ended → Same es
+      → RunsBindings p (EvaluatesPolicy OneImage review n p) (policy_steps s (asked_policy s p) (option_map block_of cause) q) es ended → Same es
   by_cause None judged es ended runs =
-      by_evaluation es (one_evaluation p.name (EvaluatesPolicy OneImage review n p) b None (namespace_seen (namespace_object s.objects q.kind q.attributes.namespace)) es ended
-      (subst (λ (l : List PlannedStep). RunsSteps p.name (EvaluatesPolicy OneImage review n p) l es ended) (the_steps s q p b has) runs))
+      by_evaluation es (one_evaluation p (EvaluatesPolicy OneImage review n p) b None (namespace_seen (namespace_object s.objects q.kind q.attributes.namespace)) es ended
+      (subst (λ (l : List (List PlannedStep)). RunsBindings p (EvaluatesPolicy OneImage review n p) l es ended) (the_steps s q p b has) runs))
   by_cause (Some (Refused e)) judged es ended runs =
-      by_refusal e judged es (one_block p.name (EvaluatesPolicy OneImage review n p) plan.policy_refused es ended
-      (subst (λ (l : List PlannedStep). RunsSteps p.name (EvaluatesPolicy OneImage review n p) l es ended) (matched s q p b has (Some plan.policy_refused)) runs))
+      by_refusal e judged es (one_block p (EvaluatesPolicy OneImage review n p) plan.policy_refused es ended
+      (subst (λ (l : List (List PlannedStep)). RunsBindings p (EvaluatesPolicy OneImage review n p) l es ended) (matched s q p b has (Some plan.policy_refused)) runs))
   by_cause (Some NamesNamespace) judged es ended runs = absurd (has.unnamed judged)
   by_cause (Some UnknownParamKind) judged es ended runs =
       let lacks = ap (λ (k : Option ParamKind). is_some k && is_none (kind_of s p)) has.no_params in

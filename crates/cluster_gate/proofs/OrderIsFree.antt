@@ -5,7 +5,6 @@ use Rattle.cluster_gate.specs.Dispatch.{no_review, decided}
 use Rattle.cluster_gate.proofs.Prelude.{OneImage, ◌≡◌, ◌∙◌, ◌∷◌, ℕ, List, [], Bool, true, false, Some, refl, subst, sym, Event, Request, policies_asked, Dispatches, ClusterState}
 use Rattle.std.proofs.lemmas.List.Sorted.{list_any-IsPermutation}
 use Rattle.std.specs.List.{list_any}
-use Rattle.serde_json.specs.Data as json
 use Rattle.value_store.specs.Reviews.{uid_in}
 use Rattle.policy_glue.specs.OneAnswer.{CompileHasOneResult}
 use Rattle.admission.specs.OneAnswer.{FindingsHaveOneResult}
@@ -16,7 +15,7 @@ use Rattle.cluster_response.specs.Laws.{AllowedExactly, WarningsAreThoseOfEvents
 use Rattle.cluster_gate.proofs.Each.{to_permutation}
 use Rattle.cluster_gate.proofs.OneAnswer.{asked_shallow, dispatches_once}
 use Rattle.cluster_gate.proofs.OtherOrder.{also_shallow, differ_back, other_events}
-use Rattle.cluster_gate.proofs.ToldSteps.{GoOn}
+use Rattle.cluster_gate.proofs.ToldSteps.{GoesOn}
 use Rattle.cluster_gate.specs.Orders.{InAnyOrder, OrderIsFree, answer, Agree, no_reviews, decisions, HaveInCommon, DifferInOrder}
 
 -- ---- ends
@@ -41,35 +40,31 @@ same_end : (es fs : List Event) → InAnyOrder es fs → has_end es ≡ has_end 
 same_end es fs same = some_end es ∙ (list_any-IsPermutation is_end es fs (to_permutation es fs same) ∙ sym (some_end fs))
 
 -- an end is against the request
-no_end_from : (es : List Event) → list_any is_against es ≡ false → has_end es ≡ false
-no_end_from [] none = refl
-no_end_from (event.denies d ∷ es) none = absurd (cc)
-no_end_from (event.warns t ∷ es) none = no_end_from es none
-no_end_from (event.audits a ∷ es) none = no_end_from es none
-no_end_from (event.refuses r ∷ es) none = no_end_from es none
-no_end_from (event.ends ∷ es) none = absurd (cc)
+end_against : (es : List Event) → has_end es ≡ true → list_any is_against es ≡ true
+end_against [] end = absurd (cc)
+end_against (event.denies d ∷ es) end = refl
+end_against (event.warns t ∷ es) end = end_against es end
+end_against (event.audits a ∷ es) end = end_against es end
+end_against (event.refuses r ∷ es) end = end_against es end
+end_against (event.ends ∷ es) end = refl
 
 -- ---- what is allowed
 
--- nothing is against the request, and each policy decides
-record Allows (es : List Event) : Type 0 where
-  none_against : list_any is_against es ≡ false
-  none_refuses : list_any is_refusal es ≡ false
-
 module _ (exactly : AllowedExactly) (q : Request) (uid : List ℕ) where
-  allows_by : (es : List Event) (against refuses : Bool) → list_any is_against es ≡ against → list_any is_refusal es ≡ refuses
-      → allowed_in (answer q uid es) ≡ Some (json.boolean true) → Allows es
-  allows_by es true r a b allowed = let both = sym ((exactly q uid es).denied a) ∙ allowed in absurd (cc)
-  allows_by es false true a b allowed = let both = sym ((exactly q uid es).undecided a b) ∙ allowed in absurd (cc)
-  allows_by es false false a b allowed = record { none_against = a; none_refuses = b }
+  alike : (es fs : List Event) (against refuses : Bool) → list_any is_against es ≡ against → list_any is_against fs ≡ against
+      → list_any is_refusal es ≡ refuses → list_any is_refusal fs ≡ refuses → allowed_in (answer q uid es) ≡ allowed_in (answer q uid fs)
+  alike es fs true refuses a b c d = (exactly q uid es).denied a ∙ sym ((exactly q uid fs).denied b)
+  alike es fs false true a b c d = (exactly q uid es).undecided a c ∙ sym ((exactly q uid fs).undecided b d)
+  alike es fs false false a b c d = (exactly q uid es).allowed a c ∙ sym ((exactly q uid fs).allowed b d)
 
-  same_allowed : (es fs : List Event) → (GoOn es → InAnyOrder es fs) → allowed_in (answer q uid es) ≡ Some (json.boolean true)
-      → allowed_in (answer q uid fs) ≡ Some (json.boolean true)
-  same_allowed es fs same allowed =
-      let allows = allows_by es _ _ refl refl allowed in
-      let order = to_permutation es fs (same (record { decide = allows.none_refuses; no_end = no_end_from es allows.none_against })) in
-      (exactly q uid fs).allowed (sym (list_any-IsPermutation is_against es fs order) ∙ allows.none_against)
-      (sym (list_any-IsPermutation is_refusal es fs order) ∙ allows.none_refuses)
+  -- the same events in any order, or an end in both
+  same_allowed : (es fs : List Event) (end : Bool) → has_end es ≡ end → has_end fs ≡ end → (GoesOn es → InAnyOrder es fs)
+      → allowed_in (answer q uid es) ≡ allowed_in (answer q uid fs)
+  same_allowed es fs true a b same = (exactly q uid es).denied (end_against es a) ∙ sym ((exactly q uid fs).denied (end_against fs b))
+  same_allowed es fs false a b same =
+      let order = to_permutation es fs (same a) in
+      alike es fs (list_any is_against es) (list_any is_refusal es) refl (sym (list_any-IsPermutation is_against es fs order))
+      refl (sym (list_any-IsPermutation is_refusal es fs order))
 
 -- ---- both orders
 
@@ -84,24 +79,22 @@ in_common : CompileHasOneResult → FindingsHaveOneResult → AllowedExactly →
     → Dispatches OneImage s review n q (policies_asked s q) es → Dispatches OneImage t review n q (policies_asked t q) fs → HaveInCommon q (uid_in review) es fs
 in_common compiles findings exactly warn s t review n q es fs shallow differ one other =
     let also = also_shallow s t differ review n q shallow in
-    let same : GoOn es → InAnyOrder es fs = λ on.
+    let same : GoesOn es → InAnyOrder es fs = λ on.
     let events = other_events s t differ review n q es one on in
     subst (λ (l : List Event). InAnyOrder es l)
     (dispatches_once compiles findings review n t q also (policies_asked t q) events.0 fs (asked_shallow compiles findings review n t (is_exempt q.attributes.resource) also) events.1 other)
     events.2 in
-    let reverse : GoOn fs → InAnyOrder fs es = λ on.
+    let reverse : GoesOn fs → InAnyOrder fs es = λ on.
     let events = other_events t s (differ_back s t differ) review n q fs other on in
     subst (λ (l : List Event). InAnyOrder fs l)
     (dispatches_once compiles findings review n s q shallow (policies_asked s q) events.0 es (asked_shallow compiles findings review n s (is_exempt q.attributes.resource) shallow) events.1 one)
     events.2 in
+    let end : has_end es ≡ has_end fs = both_end es fs _ _ refl refl (λ no. same_end es fs (same no)) (λ no. sym (same_end fs es (reverse no))) in
     record {
-      allowed = same_allowed exactly q (uid_in review) es fs same;
-      allowed_back = same_allowed exactly q (uid_in review) fs es reverse;
-      not_found = λ a b. both_end es fs _ _ refl refl
-          (λ no. same_end es fs (same (record { decide = a; no_end = no })))
-          (λ no. sym (same_end fs es (reverse (record { decide = b; no_end = no }))));
-      events = λ a no. to_permutation es fs (same (record { decide = a; no_end = no }));
-      warnings = λ a no text. warn text es ∙ (list_any-IsPermutation (warns_by text) es fs (to_permutation es fs (same (record { decide = a; no_end = no }))) ∙ sym (warn text fs));
+      allowed = same_allowed exactly q (uid_in review) es fs (has_end fs) end refl same;
+      not_found = end;
+      events = λ no. to_permutation es fs (same no);
+      warnings = λ no text. warn text es ∙ (list_any-IsPermutation (warns_by text) es fs (to_permutation es fs (same no)) ∙ sym (warn text fs));
     }
 
 pub order_is_free : CompileHasOneResult → FindingsHaveOneResult → AllowedExactly → WarningsAreThoseOfEvents → OrderIsFree

@@ -1,7 +1,7 @@
 -- What a cluster decides in another order of its policies and bindings.
-use Rattle.cluster_gate.proofs.Prelude.{◌≡◌, ◌∙◌, ℕ, List, [], Bool, true, false, Option, Some, None, ap, option_map, refl, subst, sym, BoundPolicy, ClusterState, Dispatches, Event, IsJudged, OneImage, PlannedStep, Request, asked_policy, bindings_steps, block_of, policies_asked}
+use Rattle.cluster_gate.proofs.Prelude.{◌≡◌, ◌∙◌, ℕ, List, [], Bool, true, false, Option, Some, None, ap, map, option_map, refl, subst, sym, BoundPolicy, ClusterState, Dispatches, Event, IsJudged, OneImage, PlannedStep, Request, asked_policy, bindings_steps, block_of, policies_asked}
 use Rattle.std.proofs.lemmas.List.Sorted.{All-permutation}
-use Rattle.std.specs.List.{All, flat_map}
+use Rattle.std.specs.List.{All}
 use Rattle.std.specs.Prelude.{bytes_eq, if◌then◌else◌, is_none, is_some, option_and_then, ◌&&◌}
 use Rattle.serde_json.specs.Data as json
 use Rattle.admission_match.specs.Matching.{match_answer}
@@ -13,8 +13,8 @@ use Rattle.cluster_state.specs.Objects.{Named, Objects}
 use Rattle.cluster_state.specs.Params.{KnownKind, known_kind, namespace_labels}
 use Rattle.cluster_state.specs.Policies.{ParamKind}
 use Rattle.cluster_plan.specs.Steps.{PolicyBlock, binding_steps, bindings_of, policy_answered}
-use Rattle.cluster_gate.proofs.Each.{Each, as_it_is, back, each_reordered, each_through, filtered, of_flat, to_flat, to_permutation}
-use Rattle.cluster_gate.proofs.ToldSteps.{GoOn, PolicyTells, StepTells, all_dispatched, told_dispatched}
+use Rattle.cluster_gate.proofs.Each.{Each, as_it_is, back, each_reordered, each_through, filtered, of_map, to_map, to_permutation}
+use Rattle.cluster_gate.proofs.ToldSteps.{BindingTells, GoesOn, PolicyTells, all_dispatched, told_dispatched}
 use Rattle.cluster_gate.specs.Dispatch.{EvaluatesPolicy}
 use Rattle.cluster_gate.specs.Gates.{kind_of, lacks_kind}
 use Rattle.cluster_gate.specs.Laws.{HasShallowDocuments, IsShallow}
@@ -68,19 +68,19 @@ module _ (s t : ClusterState) (differ : DifferInOrder s t) (review : List ℕ) (
   -- ---- one policy
 
   module _ (p : BoundPolicy) where
-    abbrev Tells : List PlannedStep → List Event → Type 0
-    Tells = Each (StepTells p.name (EvaluatesPolicy OneImage review n p))
+    abbrev Tells : List (List PlannedStep) → List Event → Type 0
+    Tells = Each (BindingTells p (EvaluatesPolicy OneImage review n p))
 
     bindings_alike : (es : List Event) → Tells (bindings_steps s (asked_policy s p) q s.bindings) es
         → (fs : List Event) × Tells (bindings_steps t (asked_policy t p) q t.bindings) fs × InAnyOrder es fs
     bindings_alike es told =
         let steps = binding_steps s (asked_policy s p) q in
-        let each = of_flat (StepTells p.name (EvaluatesPolicy OneImage review n p)) steps (bindings_of p.name s.bindings) es told in
+        let each = of_map (BindingTells p (EvaluatesPolicy OneImage review n p)) steps (bindings_of p.name s.bindings) es told in
         let order = filtered (λ (b : Binding). bytes_eq b.policy_name p.name) s.bindings t.bindings differ.bindings in
-        let other = each_reordered (λ (b : Binding) (l : List Event). Tells (steps b) l) (bindings_of p.name s.bindings) (bindings_of p.name t.bindings) es order each in (
+        let other = each_reordered (λ (b : Binding) (l : List Event). BindingTells p (EvaluatesPolicy OneImage review n p) (steps b) l) (bindings_of p.name s.bindings) (bindings_of p.name t.bindings) es order each in (
           other.now,
-          subst (λ (f : Binding → List PlannedStep). Tells (flat_map f (bindings_of p.name t.bindings)) other.now) (sym (same_steps p))
-              (to_flat (StepTells p.name (EvaluatesPolicy OneImage review n p)) steps (bindings_of p.name t.bindings) other.now other.each),
+          subst (λ (f : Binding → List PlannedStep). Tells (map f (bindings_of p.name t.bindings)) other.now) (sym (same_steps p))
+              (to_map (BindingTells p (EvaluatesPolicy OneImage review n p)) steps (bindings_of p.name t.bindings) other.now other.each),
           other.same,
         )
 
@@ -110,8 +110,8 @@ module _ (s t : ClusterState) (differ : DifferInOrder s t) (review : List ℕ) (
   policies_alike true = none
   policies_alike false = differ.policies
 
-  -- if each policy decides and the dispatch does not end, it has the same events in the other order
-  pub other_events : (es : List Event) → Dispatches OneImage s review n q (policies_asked s q) es → GoOn es
+  -- if the dispatch does not end, it has the same events in the other order
+  pub other_events : (es : List Event) → Dispatches OneImage s review n q (policies_asked s q) es → GoesOn es
       → (fs : List Event) × Dispatches OneImage t review n q (policies_asked t q) fs × InAnyOrder es fs
   other_events es dispatches on =
       let told = all_dispatched s review n q (policies_asked s q) es dispatches on in

@@ -1,9 +1,8 @@
 -- The params and the namespace of each evaluation are documents of the state.
 use Rattle.cluster_gate.specs.Servers.{MatchAnswers, answered_steps_by, binding_steps_by, block_steps_by, policy_steps_by}
 use Rattle.cluster_gate.proofs.Prelude.{◌∷◌, ℕ, List, [], Bool, true, false, Option, Some, None, Result, Ok, Err, map, subst, sym, ClusterState, PlannedStep, Request, by_block, policy_steps}
-use Rattle.std.proofs.lemmas.List.Elements.{All-append, All-cons, All-filter, All-head, All-map, All-nil, All-tail, All-weaker}
-use Rattle.std.proofs.lemmas.List.Concat.{flat_map-cons}
-use Rattle.std.specs.List.{All, filter, flat_map}
+use Rattle.std.proofs.lemmas.List.Elements.{All-cons, All-filter, All-head, All-map, All-nil, All-tail, All-weaker}
+use Rattle.std.specs.List.{All, filter}
 use Rattle.std.specs.Option.{option_to_list}
 use Rattle.std.specs.Prelude.{◌==◌, ◌&&◌, ◌||◌, bytes_eq, cond, length, if◌then◌else◌}
 use Rattle.serde_json.specs.Data as json
@@ -13,6 +12,7 @@ use Rattle.admission_documents.specs.Selectors.{labels_in}
 use Rattle.admission_match.specs.Matching.{match_answer}
 use Rattle.admission_match.specs.declared.answer.Answer.{Answer}
 use Rattle.admission_match.specs.declared.answer.Answer.TheVariants as matching
+use Rattle.admission_match.specs.declared.trouble.Trouble.{Trouble}
 use Rattle.cluster_state.specs.Bindings.{Binding, ParamChoice, ParamRef, by_labels, by_name}
 use Rattle.cluster_state.specs.Items.{Collection}
 use Rattle.cluster_state.specs.Objects.{Named, object_named}
@@ -79,10 +79,16 @@ unless : (b : Bool) (e : ParamError) (r : Result (List json.Data) ParamError) �
 unless true e r are = tt
 unless false e r are = are
 
-each : (f : Binding → List PlannedStep) (bs : List Binding) → ((b : Binding) → All IsShallowStep (f b)) → All IsShallowStep (flat_map f bs)
-each f [] all = All-nil IsShallowStep
-each f (b ∷ bs) all =
-    subst (All IsShallowStep) (sym (flat_map-cons f b bs)) (All-append IsShallowStep (f b) (flat_map f bs) (all b) (each f bs all))
+-- so have the evaluations under each binding
+abbrev pub AreShallow : List (List PlannedStep) → Type 0
+AreShallow all = All (All IsShallowStep) all
+
+each : (f : Binding → List PlannedStep) (bs : List Binding) → ((b : Binding) → All IsShallowStep (f b)) → AreShallow (map f bs)
+each f [] all = All-nil (All IsShallowStep)
+each f (b ∷ bs) all = All-cons (All IsShallowStep) (f b) (map f bs) (all b) (each f bs all)
+
+alone : (steps : List PlannedStep) → All IsShallowStep steps → AreShallow (steps ∷ [])
+alone steps all = All-cons (All IsShallowStep) steps [] all (All-nil (All IsShallowStep))
 
 one : (step : PlannedStep) → IsShallowStep step → All IsShallowStep (step ∷ [])
 one step is = All-cons IsShallowStep step [] is (All-nil IsShallowStep)
@@ -132,33 +138,42 @@ module _ (s : ClusterState) (shallow : (c : Collection) → Shallow (s.objects c
       by_params (fails_closed p.policy.document) b (namespace_object s.objects q.kind q.attributes.namespace)
       (params_for s.objects p.kind b.param_ref q.attributes.namespace) namespace_is (params_are p.kind b.param_ref q.attributes.namespace)
 
-  unless_blocked : (block : Option PolicyBlock) → All IsShallowStep (by_block s p q block)
-  unless_blocked (Some b) = one (plan.is_blocked b) tt
+  unless_blocked : (block : Option PolicyBlock) → AreShallow (by_block s p q block)
+  unless_blocked (Some b) = alone (plan.is_blocked b ∷ []) (one (plan.is_blocked b) tt)
   unless_blocked None =
       each (binding_steps s p q) (bindings_of p.policy.name s.bindings) (λ b. by_binding b (match_answer b.resources (namespace_labels s.objects) q.attributes))
 
-  by_answer : (block : Option PolicyBlock) (answer : Answer) → All IsShallowStep (policy_answered s p block q answer)
-  by_answer block matching.No = All-nil IsShallowStep
-  by_answer block matching.Unknown = one plan.unknown_match tt
-  by_answer block (matching.Trouble t) = an_error (fails_closed p.policy.document) None (trouble_text t q.attributes.namespace)
+  in_trouble : Trouble → List PlannedStep
+  in_trouble t = error_steps (fails_closed p.policy.document) None (trouble_text t q.attributes.namespace)
+
+  troubled : (t : Trouble) → AreShallow (in_trouble t ∷ [])
+  unfolding in_trouble
+  troubled t = alone (in_trouble t) (an_error (fails_closed p.policy.document) None (trouble_text t q.attributes.namespace))
+
+  by_answer : (block : Option PolicyBlock) (answer : Answer) → AreShallow (policy_answered s p block q answer)
+  unfolding in_trouble
+  by_answer block matching.No = All-nil (All IsShallowStep)
+  by_answer block matching.Unknown = alone (plan.unknown_match ∷ []) (one plan.unknown_match tt)
+  by_answer block (matching.Trouble t) = troubled t
   by_answer block matching.Yes = unless_blocked block
 
   -- each evaluation of the policy has params and a namespace of the state
-  pub steps_are_shallow : (block : Option PolicyBlock) → All IsShallowStep (policy_steps s p block q)
+  pub steps_are_shallow : (block : Option PolicyBlock) → AreShallow (policy_steps s p block q)
   steps_are_shallow block = by_answer block (match_answer p.policy.constraints (namespace_labels s.objects) q.attributes)
 
   -- ---- steps by other answers
 
-  blocked_by : (answers : MatchAnswers) (block : Option PolicyBlock) → All IsShallowStep (block_steps_by answers s p q block)
-  blocked_by answers (Some b) = one (plan.is_blocked b) tt
+  blocked_by : (answers : MatchAnswers) (block : Option PolicyBlock) → AreShallow (block_steps_by answers s p q block)
+  blocked_by answers (Some b) = alone (plan.is_blocked b ∷ []) (one (plan.is_blocked b) tt)
   blocked_by answers None = each (binding_steps_by answers s p q) (bindings_of p.policy.name s.bindings) (λ b. by_binding b (answers b.resources))
 
-  answered_by : (answers : MatchAnswers) (block : Option PolicyBlock) (answer : Answer) → All IsShallowStep (answered_steps_by answers s p block q answer)
-  answered_by answers block matching.No = All-nil IsShallowStep
-  answered_by answers block matching.Unknown = one plan.unknown_match tt
-  answered_by answers block (matching.Trouble t) = an_error (fails_closed p.policy.document) None (trouble_text t q.attributes.namespace)
+  answered_by : (answers : MatchAnswers) (block : Option PolicyBlock) (answer : Answer) → AreShallow (answered_steps_by answers s p block q answer)
+  unfolding in_trouble
+  answered_by answers block matching.No = All-nil (All IsShallowStep)
+  answered_by answers block matching.Unknown = alone (plan.unknown_match ∷ []) (one plan.unknown_match tt)
+  answered_by answers block (matching.Trouble t) = troubled t
   answered_by answers block matching.Yes = blocked_by answers block
 
   -- likewise by the answers of a server
-  pub steps_by_are_shallow : (answers : MatchAnswers) (block : Option PolicyBlock) → All IsShallowStep (policy_steps_by answers s p block q)
+  pub steps_by_are_shallow : (answers : MatchAnswers) (block : Option PolicyBlock) → AreShallow (policy_steps_by answers s p block q)
   steps_by_are_shallow answers block = answered_by answers block (answers p.policy.constraints)

@@ -10,7 +10,7 @@ use Rattle.cluster_state.specs.Bindings.{Binding}
 use Rattle.cluster_state.specs.Policies.{BoundPolicy}
 use Rattle.cluster_state.specs.State.{ClusterState}
 use Rattle.cluster_plan.specs.Steps as plan
-use Rattle.cluster_plan.specs.Steps.{PlannedStep, PolicyBlock, policy_steps}
+use Rattle.cluster_plan.specs.Steps.{PlannedStep, PolicyBlock, fails_closed, policy_steps}
 use Rattle.admission.specs.Deciding.{Documents}
 use Rattle.admission.specs.Findings.{FindsReview}
 use Rattle.admission.specs.Standing.{Images, RunAgrees}
@@ -56,9 +56,9 @@ error_refusal run_error.OutOfSteps = Some refusal.OutOfSteps
 error_refusal run_error.OverLimit = Some refusal.OverLimit
 error_refusal run_error.Memory = None
 
--- a policy of this name does not decide
-abbrev pub undecided_event : List ℕ → ClusterRefusal → Event
-undecided_event policy r = event.refuses (record { policy = policy; refusal = r })
+-- the policy does not decide
+abbrev pub undecided_event : BoundPolicy → ClusterRefusal → Event
+undecided_event p r = event.refuses (record { policy = p.name; fails_closed = fails_closed p.document; refusal = r })
 
 -- ---- evaluations
 
@@ -79,24 +79,34 @@ pub record EvaluatesPolicy (chosen : Images) (review : List ℕ) (n : ℕ) (p : 
 
 -- ---- steps
 
--- the events of the steps of a policy of this name, and whether they end the dispatch. A step that refuses is the
--- policy's last
-pub data RunsSteps (policy : List ℕ) (finds : FindsWith) : List PlannedStep → List Event → Bool → Type 0 where
-  no_steps : RunsSteps policy finds [] [] false
+-- the events of the steps of a policy under one of its bindings, and whether they end the dispatch. A step that refuses is
+-- the binding's last
+pub data RunsSteps (p : BoundPolicy) (finds : FindsWith) : List PlannedStep → List Event → Bool → Type 0 where
+  no_steps : RunsSteps p finds [] [] false
   denied : {binding : Option (List ℕ)} {message : List ℕ} {steps : List PlannedStep} {es : List Event} {ended : Bool}
-      → RunsSteps policy finds steps es ended
-      → RunsSteps policy finds (plan.denies binding message ∷ steps) (configuration_event policy binding message ∷ es) ended
+      → RunsSteps p finds steps es ended
+      → RunsSteps p finds (plan.denies binding message ∷ steps) (configuration_event p.name binding message ∷ es) ended
   not_known : {steps : List PlannedStep}
-      → RunsSteps policy finds (plan.unknown_match ∷ steps) (undecided_event policy refusal.UnknownMatch ∷ []) false
+      → RunsSteps p finds (plan.unknown_match ∷ steps) (undecided_event p refusal.UnknownMatch ∷ []) false
   blocked : {b : PolicyBlock} {steps : List PlannedStep}
-      → RunsSteps policy finds (plan.is_blocked b ∷ steps) (undecided_event policy (block_refusal b) ∷ []) false
+      → RunsSteps p finds (plan.is_blocked b ∷ steps) (undecided_event p (block_refusal b) ∷ []) false
   found : {b : Binding} {params namespace : Option json.Data} {fs : List PolicyFinding} {steps : List PlannedStep} {es : List Event}
-      {ended : Bool} → finds params namespace (Ok fs) → RunsSteps policy finds steps es ended
-      → RunsSteps policy finds (plan.evaluates b params namespace ∷ steps) (findings_events policy b fs ++ es) ended
+      {ended : Bool} → finds params namespace (Ok fs) → RunsSteps p finds steps es ended
+      → RunsSteps p finds (plan.evaluates b params namespace ∷ steps) (findings_events p.name b fs ++ es) ended
   refused : {b : Binding} {params namespace : Option json.Data} {e : RunError} {r : ClusterRefusal} {steps : List PlannedStep}
       → finds params namespace (Err e) → error_refusal e ≡ Some r
-      → RunsSteps policy finds (plan.evaluates b params namespace ∷ steps) (undecided_event policy r ∷ []) false
-  at_end : {steps : List PlannedStep} → RunsSteps policy finds (plan.ends ∷ steps) (event.ends ∷ []) true
+      → RunsSteps p finds (plan.evaluates b params namespace ∷ steps) (undecided_event p r ∷ []) false
+  at_end : {steps : List PlannedStep} → RunsSteps p finds (plan.ends ∷ steps) (event.ends ∷ []) true
+
+-- the events of a policy by the steps of each of its bindings, one binding after another, and whether they end the
+-- dispatch. A binding that refuses does not end its policy
+pub data RunsBindings (p : BoundPolicy) (finds : FindsWith) : List (List PlannedStep) → List Event → Bool → Type 0 where
+  no_bindings : RunsBindings p finds [] [] false
+  next_binding : {steps : List PlannedStep} {others : List (List PlannedStep)} {es more : List Event} {ended : Bool}
+      → RunsSteps p finds steps es false → RunsBindings p finds others more ended
+      → RunsBindings p finds (steps ∷ others) (es ++ more) ended
+  last_binding : {steps : List PlannedStep} {others : List (List PlannedStep)} {es : List Event} → RunsSteps p finds steps es true
+      → RunsBindings p finds (steps ∷ others) es true
 
 -- ---- the dispatch
 
@@ -105,7 +115,7 @@ pub record AsksPolicy (chosen : Images) (s : ClusterState) (review : List ℕ) (
     (ended : Bool) : Type 0 where
   pub cause : Option BlockCause
   pub judged : IsJudged s p cause
-  pub runs : RunsSteps p.name (EvaluatesPolicy chosen review n p) (policy_steps s (asked_policy s p) (option_map block_of cause) q) es ended
+  pub runs : RunsBindings p (EvaluatesPolicy chosen review n p) (policy_steps s (asked_policy s p) (option_map block_of cause) q) es ended
 
 -- the events of policies, one after another
 pub data Dispatches (chosen : Images) (s : ClusterState) (review : List ℕ) (n : ℕ) (q : Request) : List BoundPolicy

@@ -17,6 +17,7 @@ use Rattle.cluster_state.specs.Params.{NamespaceObject, missing, namespace_label
 use Rattle.cluster_state.specs.Policies.{BoundPolicy}
 use Rattle.cluster_state.specs.State.{ClusterState}
 use Rattle.cluster_state.specs.declared.action.Action.TheVariants.{Deny}
+use Rattle.cluster_plan.specs.Steps.{fails_closed}
 use Rattle.cluster_response.specs.Laws.{allowed_in}
 use Rattle.cluster_response.specs.Response.{undecided_tree}
 use Rattle.cluster_response.specs.declared.cluster_refusal.ClusterRefusal.{ClusterRefusal}
@@ -54,10 +55,11 @@ pub record AreDocumentsOf (s : ClusterState) (review : List ℕ) (q : Request) (
   pub no_params : d.params ≡ None
 
 -- the answer allows the request exactly if the reply does, or reports the same refusal
-abbrev pub IsSameDecision : List ℕ → List ℕ → Result Reply RunError → json.Data → Type 0
-IsSameDecision name uid (Ok reply) answer = allowed_in answer ≡ Some (json.boolean reply.allowed)
-IsSameDecision name uid (Err e) answer =
-    (r : ClusterRefusal) × (error_refusal e ≡ Some r) × (answer ≡ undecided_tree (record { policy = name; refusal = r }) uid)
+abbrev pub IsSameDecision : BoundPolicy → List ℕ → Result Reply RunError → json.Data → Type 0
+IsSameDecision p uid (Ok reply) answer = allowed_in answer ≡ Some (json.boolean reply.allowed)
+IsSameDecision p uid (Err e) answer =
+    (r : ClusterRefusal) × (error_refusal e ≡ Some r)
+    × (answer ≡ undecided_tree (record { policy = p.name; fails_closed = fails_closed p.document; refusal = r }) uid)
 
 -- a cluster with one such policy decides as a review under the policy
 abbrev pub OnePolicyIsReview : Type 0
@@ -65,4 +67,4 @@ OnePolicyIsReview = (s : ClusterState) (review : List ℕ) (n : ℕ) (q : Reques
     (result : Result Reply RunError) (text : List ℕ)
     → HasShallowDocuments s → request_given review ≡ Some q → HasOnePolicy s q p b → AreDocumentsOf s review q p d
     → result ≢ Err run_error.Memory → IsAnswerTo d n result → DecidesInCluster OneImage s review n (Some text)
-    → (answer : json.Data) × (text ≡ compact_text answer) × IsSameDecision p.name (uid_in review) result answer
+    → (answer : json.Data) × (text ≡ compact_text answer) × IsSameDecision p (uid_in review) result answer

@@ -9,7 +9,7 @@ use Rattle.cluster_state.specs.Params.{known_kind}
 use Rattle.cluster_state.specs.Policies.{ParamKind}
 use Rattle.cluster_state.specs.State.{AreObjects, ClusterState}
 use Rattle.cluster_response.specs.Events.{Event, has_end, summary_of}
-use Rattle.cluster_response.specs.Laws.{allowed_in, is_refusal}
+use Rattle.cluster_response.specs.Laws.{allowed_in}
 use Rattle.cluster_response.specs.Response.{answer_tree, cluster_response}
 use Rattle.cluster_gate.specs.Dispatch.{DecidesInCluster, Dispatches, policies_asked, request_given}
 use Rattle.cluster_gate.specs.Laws.{HasShallowDocuments}
@@ -32,23 +32,14 @@ pub record DifferInOrder (s t : ClusterState) : Type 0 where
 abbrev pub answer : Request → List ℕ → List Event → json.Data
 answer q uid es = answer_tree q uid (summary_of es)
 
--- the answer allows the request
-abbrev pub IsAllowed : json.Data → Type 0
-IsAllowed d = allowed_in d ≡ Some (json.boolean true)
-
--- each policy decides
-abbrev pub EachDecides : List Event → Type 0
-EachDecides es = list_any is_refusal es ≡ false
-
--- What two orders have in common. A request is allowed in both or in neither. If each policy decides in both, either
--- both dispatches end because the namespace is not found, or neither. If each policy decides in one, whose dispatch
--- does not end so, the other has the same events, in any order, and so the same warnings.
+-- What two orders have in common. A request is allowed in both, denied in both, or decided in neither. Either both
+-- dispatches end because the namespace is not found, or neither. If they do not end so, they have the same events, in any
+-- order, and so the same warnings.
 pub record HaveInCommon (q : Request) (uid : List ℕ) (es fs : List Event) : Type 0 where
-  pub allowed : IsAllowed (answer q uid es) → IsAllowed (answer q uid fs)
-  pub allowed_back : IsAllowed (answer q uid fs) → IsAllowed (answer q uid es)
-  pub not_found : EachDecides es → EachDecides fs → has_end es ≡ has_end fs
-  pub events : EachDecides es → has_end es ≡ false → IsPermutation es fs
-  pub warnings : EachDecides es → has_end es ≡ false
+  pub allowed : allowed_in (answer q uid es) ≡ allowed_in (answer q uid fs)
+  pub not_found : has_end es ≡ has_end fs
+  pub events : has_end es ≡ false → IsPermutation es fs
+  pub warnings : has_end es ≡ false
       → (t : List ℕ) → list_any (bytes_eq t) (summary_of es).warnings ≡ list_any (bytes_eq t) (summary_of fs).warnings
 
 -- the answers in two orders: none if there is no review, else those by the events of both, with these in common

@@ -10,19 +10,19 @@ use Rattle.admission.specs.Standing.{Images}
 use Rattle.admission.specs.declared.run_error.RunError.{RunError}
 use Rattle.admission_match.specs.declared.trouble.Trouble.{Trouble}
 use Rattle.admission_documents.specs.Requests.{Request}
-use Rattle.cluster_state.specs.Policies.{BoundPolicy}
+use Rattle.cluster_state.specs.Policies.{BoundPolicy, policy_view}
 use Rattle.cluster_state.specs.State.{ClusterState}
 use Rattle.cluster_plan.specs.Steps.{PlannedStep, bindings_steps, by_block, fails_closed, trouble_text}
 use Rattle.cluster_response.specs.Events.{Event, KeepsEvents, configuration_event}
 use Rattle.cluster_response.specs.Response.{cluster_response}
 use Rattle.cluster_response.specs.declared.cluster_refusal.ClusterRefusal.{ClusterRefusal}
 use Rattle.cluster_response.specs.declared.events.Events.{Events as CodeEvents}
-use Rattle.cluster_gate.specs.Dispatch.{AsksPolicy, Dispatches, EvaluatesPolicy, FindsWith, RunsSteps, error_refusal, policies_asked}
+use Rattle.cluster_gate.specs.Dispatch.{AsksPolicy, Dispatches, EvaluatesPolicy, FindsWith, RunsBindings, RunsSteps, error_refusal, policies_asked}
 use Rattle.cluster_gate.specs.Gates.{IsAskedGate, IsJudged, asked_policy, block_of}
 use Rattle.cluster_gate.specs.declared.block_cause.BlockCause.{BlockCause}
 use Rattle.cluster_gate.specs.declared.policy_run.PolicyRun.{PolicyRun}
 use Rattle.cluster_gate.specs.declared.progress.Progress.{Progress}
-use Rattle.cluster_gate.specs.declared.progress.Progress.TheVariants.{NextStep, NextPolicy, End}
+use Rattle.cluster_gate.specs.declared.progress.Progress.TheVariants.{NextStep, NextBinding, End}
 
 -- ---- evaluations
 
@@ -47,36 +47,50 @@ Adds before after more = (es : List Event) → KeepsEvents before es → KeepsEv
 
 -- the code's run is of this policy
 pub record IsRunOf (p : BoundPolicy) (run : PolicyRun) : Type 0 where
-  pub name : run.name.now ≡ p.name
+  pub policy : policy_view run.policy.now ≡ p
   pub gate : IsAskedGate p run.gate.now
 
 -- what the policy of a run finds
 abbrev pub finds_of : BoundPolicy → PolicyRun → FindsWith
 finds_of p run params namespace result = EvaluatesPolicy OneImage run.case.now.review.now run.case.now.steps p params namespace result
 
--- the events of a step, followed by those of other steps unless the policy or the dispatch ends
-abbrev pub StepRuns : List ℕ → FindsWith → Progress → PlannedStep → List Event → Type 0
-StepRuns policy finds NextStep step fs = (steps : List PlannedStep) (es : List Event) (ended : Bool) → RunsSteps policy finds steps es ended
-    → RunsSteps policy finds (step ∷ steps) (fs ++ es) ended
-StepRuns policy finds NextPolicy step fs = (steps : List PlannedStep) → RunsSteps policy finds (step ∷ steps) fs false
-StepRuns policy finds End step fs = (steps : List PlannedStep) → RunsSteps policy finds (step ∷ steps) fs true
+-- the events of a step, followed by those of other steps unless the binding or the dispatch ends
+abbrev pub StepRuns : BoundPolicy → FindsWith → Progress → PlannedStep → List Event → Type 0
+StepRuns p finds NextStep step fs = (steps : List PlannedStep) (es : List Event) (ended : Bool) → RunsSteps p finds steps es ended
+    → RunsSteps p finds (step ∷ steps) (fs ++ es) ended
+StepRuns p finds NextBinding step fs = (steps : List PlannedStep) → RunsSteps p finds (step ∷ steps) fs false
+StepRuns p finds End step fs = (steps : List PlannedStep) → RunsSteps p finds (step ∷ steps) fs true
 
 -- the events of a step are added
 abbrev pub AddsStep : BoundPolicy → PolicyRun → PlannedStep → CodeEvents → CodeEvents → Progress → Type 0
 AddsStep p run step before after progress =
-    (more : List Event) × Adds before after more × StepRuns p.name (finds_of p run) progress step more
+    (more : List Event) × Adds before after more × StepRuns p (finds_of p run) progress step more
 
 -- the events of steps are added
 abbrev pub AddsSteps : BoundPolicy → PolicyRun → List PlannedStep → CodeEvents → CodeEvents → Bool → Type 0
 AddsSteps p run steps before after ended =
-    (more : List Event) × Adds before after more × RunsSteps p.name (finds_of p run) steps more ended
+    (more : List Event) × Adds before after more × RunsSteps p (finds_of p run) steps more ended
 
 -- the events of the first steps are added, and those of the others come after them
 abbrev pub AddedBefore : BoundPolicy → PolicyRun → List PlannedStep → List PlannedStep → CodeEvents → CodeEvents → Type 0
 AddedBefore p run all rest before now =
     (more : List Event) × Adds before now more
-    × ((es : List Event) (ended : Bool) → RunsSteps p.name (finds_of p run) rest es ended
-    → RunsSteps p.name (finds_of p run) all (more ++ es) ended)
+    × ((es : List Event) (ended : Bool) → RunsSteps p (finds_of p run) rest es ended
+    → RunsSteps p (finds_of p run) all (more ++ es) ended)
+
+-- ---- bindings
+
+-- the events of bindings with these steps are added
+abbrev pub AddsBindings : BoundPolicy → PolicyRun → List (List PlannedStep) → CodeEvents → CodeEvents → Bool → Type 0
+AddsBindings p run all before after ended =
+    (more : List Event) × Adds before after more × RunsBindings p (finds_of p run) all more ended
+
+-- the events of the first bindings are added, and those of the others come after them
+abbrev pub BoundBefore : BoundPolicy → PolicyRun → List (List PlannedStep) → List (List PlannedStep) → CodeEvents → CodeEvents → Type 0
+BoundBefore p run all rest before now =
+    (more : List Event) × Adds before now more
+    × ((es : List Event) (ended : Bool) → RunsBindings p (finds_of p run) rest es ended
+    → RunsBindings p (finds_of p run) all (more ++ es) ended)
 
 -- ---- policies
 
@@ -100,13 +114,12 @@ abbrev pub AddsMatched : Images → ClusterState → List ℕ → ℕ → Reques
 AddsMatched chosen s review n q p before after ended =
     (more : List Event) × Adds before after more
     × (cause : Option BlockCause) × IsJudged s p cause
-    × RunsSteps p.name (EvaluatesPolicy chosen review n p) (by_block s (asked_policy s p) q (option_map block_of cause)) more ended
+    × RunsBindings p (EvaluatesPolicy chosen review n p) (by_block s (asked_policy s p) q (option_map block_of cause)) more ended
 
 -- the events of the bindings of a run's policy are added
 abbrev pub AddsRun : ClusterState → Request → BoundPolicy → PolicyRun → CodeEvents → CodeEvents → Bool → Type 0
 AddsRun s q p run before after ended =
-    (more : List Event) × Adds before after more
-    × RunsSteps p.name (finds_of p run) (bindings_steps s (asked_policy s p) q s.bindings) more ended
+    AddsBindings p run (bindings_steps s (asked_policy s p) q s.bindings) before after ended
 
 -- the code keeps the events of these policies
 abbrev pub GivesEvents : Images → ClusterState → List ℕ → ℕ → Request → List BoundPolicy → CodeEvents → Type 0

@@ -1,6 +1,6 @@
 -- Decisions of an API server that knows other resources, which it stores in the same place as the request's.
-use Rattle.std.specs.Prelude.{◌≡◌, ℕ, Bool, true, false, List, [], ◌∷◌, ◌++◌, All, Option, Some, None, option_map}
-use Rattle.std.specs.List.{flat_map, list_any}
+use Rattle.std.specs.Prelude.{◌≡◌, ℕ, Bool, true, false, List, [], ◌∷◌, ◌++◌, All, map, Option, Some, None, option_map}
+use Rattle.std.specs.List.{list_any}
 use Rattle.policy_glue.specs.OneImage.{OneImage}
 use Rattle.admission.specs.Standing.{Images}
 use Rattle.admission_documents.specs.Requests.{Request}
@@ -18,12 +18,12 @@ use Rattle.cluster_plan.specs.Steps as plan
 use Rattle.cluster_plan.specs.Steps.{AskedPolicy, PlannedStep, PolicyBlock, binding_answered, bindings_of, error_steps, fails_closed, trouble_text}
 use Rattle.cluster_response.specs.Events.{Event}
 use Rattle.cluster_response.specs.Laws.{is_refusal}
-use Rattle.cluster_gate.specs.Dispatch.{Dispatches, EvaluatesPolicy, RunsSteps, policies_asked}
+use Rattle.cluster_gate.specs.Dispatch.{Dispatches, EvaluatesPolicy, RunsBindings, policies_asked}
 use Rattle.cluster_gate.specs.Gates.{IsJudged, asked_policy, block_of}
 use Rattle.cluster_gate.specs.Laws.{HasShallowDocuments}
 use Rattle.cluster_gate.specs.declared.block_cause.BlockCause.{BlockCause}
 
--- ---- the steps of a policy, by the answers of its constraints and of its bindings
+-- ---- the steps of a policy under each of its bindings, by the answers of its constraints and of the bindings
 
 -- the answer of match resources
 abbrev pub MatchAnswers : Type 0
@@ -32,18 +32,19 @@ MatchAnswers = MatchResources → Answer
 abbrev pub binding_steps_by : MatchAnswers → ClusterState → AskedPolicy → Request → Binding → List PlannedStep
 binding_steps_by answers s p q b = binding_answered s p q b (answers b.resources)
 
-abbrev pub block_steps_by : MatchAnswers → ClusterState → AskedPolicy → Request → Option PolicyBlock → List PlannedStep
-block_steps_by answers s p q (Some b) = plan.is_blocked b ∷ []
-block_steps_by answers s p q None = flat_map (binding_steps_by answers s p q) (bindings_of p.policy.name s.bindings)
+abbrev pub block_steps_by : MatchAnswers → ClusterState → AskedPolicy → Request → Option PolicyBlock → List (List PlannedStep)
+block_steps_by answers s p q (Some b) = (plan.is_blocked b ∷ []) ∷ []
+block_steps_by answers s p q None = map (binding_steps_by answers s p q) (bindings_of p.policy.name s.bindings)
 
-abbrev pub answered_steps_by : MatchAnswers → ClusterState → AskedPolicy → Option PolicyBlock → Request → Answer → List PlannedStep
+abbrev pub answered_steps_by : MatchAnswers → ClusterState → AskedPolicy → Option PolicyBlock → Request → Answer
+    → List (List PlannedStep)
 answered_steps_by answers s p block q matching.No = []
-answered_steps_by answers s p block q matching.Unknown = plan.unknown_match ∷ []
+answered_steps_by answers s p block q matching.Unknown = (plan.unknown_match ∷ []) ∷ []
 answered_steps_by answers s p block q (matching.Trouble t) =
-    error_steps (fails_closed p.policy.document) None (trouble_text t q.attributes.namespace)
+    error_steps (fails_closed p.policy.document) None (trouble_text t q.attributes.namespace) ∷ []
 answered_steps_by answers s p block q matching.Yes = block_steps_by answers s p q block
 
-abbrev pub policy_steps_by : MatchAnswers → ClusterState → AskedPolicy → Option PolicyBlock → Request → List PlannedStep
+abbrev pub policy_steps_by : MatchAnswers → ClusterState → AskedPolicy → Option PolicyBlock → Request → List (List PlannedStep)
 policy_steps_by answers s p block q = answered_steps_by answers s p block q (answers p.policy.constraints)
 
 -- ---- a server
@@ -57,7 +58,7 @@ pub record ServerAsksPolicy (served : List GroupVersionResource) (chosen : Image
     (q : Request) (p : BoundPolicy) (es : List Event) (ended : Bool) : Type 0 where
   pub cause : Option BlockCause
   pub judged : IsJudged s p cause
-  pub runs : RunsSteps p.name (EvaluatesPolicy chosen review n p)
+  pub runs : RunsBindings p (EvaluatesPolicy chosen review n p)
       (policy_steps_by (server_answers served s q) s (asked_policy s p) (option_map block_of cause) q) es ended
 
 -- the events of policies, one after another

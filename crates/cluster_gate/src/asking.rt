@@ -1,23 +1,25 @@
 //! A policy that is asked about a request.
-ghost use Rattle.std.specs.Prelude.{◌≡◌, false, IfOk};
+ghost use Rattle.std.specs.Prelude.{◌≡◌, false, map, IfOk};
 ghost use Rattle.admission_documents.specs.Requests.{request_view};
 ghost use Rattle.policy_glue.specs.OneImage.{OneImage};
 ghost use Rattle.cluster_state.specs.Params.{namespace_named};
 ghost use Rattle.cluster_state.specs.Policies.{policy_view, BoundPolicy};
 ghost use Rattle.cluster_state.specs.State.{state_view, ClusterState};
-ghost use Rattle.cluster_plan.specs.Steps.{asked_view};
+ghost use Rattle.cluster_state.specs.Bindings.{binding_view};
+ghost use Rattle.cluster_plan.specs.Steps.{asked_view, binding_steps};
 ghost use Rattle.cluster_gate.specs.Gates.{asked_policy, IsGateFor};
 ghost use Rattle.cluster_gate.specs.Beside.{IsBesideIf};
-ghost use Rattle.cluster_gate.specs.Running.{AddsMatched, AddsPolicy, AddsRun, AddsTrouble, IsRunOf};
+ghost use Rattle.cluster_gate.specs.Running.{AddsBindings, AddsMatched, AddsPolicy, AddsRun, AddsSteps, AddsTrouble, IsRunOf};
 
 use crate::case::Case;
 use crate::policy_gate::PolicyGate;
 use crate::policy_run::PolicyRun;
+use crate::refusing::refuse;
 use crate::standing::Standing;
 use admission_match::{Answer, Trouble};
 use cluster_plan::{AskedPolicy, fails_closed, trouble_text};
 use cluster_response::{ClusterRefusal, Events};
-use cluster_state::{Policy, State};
+use cluster_state::{Binding, Policy, State};
 use std::alloc::{AllocError, Global};
 
 /// Adds the events of a policy. Returns whether the dispatch ends. The error is a failed
@@ -38,7 +40,7 @@ pub(crate) fn ask<'a>(
     match policy.constraints.matches(&request.attributes, state) {
         Answer::No => Ok(false),
         Answer::Unknown => {
-            events.refuse(alloc, policy.name, ClusterRefusal::UnknownMatch)?;
+            refuse(alloc, policy, ClusterRefusal::UnknownMatch, events)?;
             Ok(false)
         }
         Answer::Trouble(trouble) => {
@@ -85,21 +87,21 @@ fn ask_matched<'a>(
         Standing::Asked(compiled) => {
             let run = PolicyRun {
                 alloc,
-                name: policy.name,
+                policy,
                 gate: compiled,
                 case,
             };
             run.run_bindings(state, &gate.asked, events)
         }
         Standing::Blocked(cause) => {
-            events.refuse(alloc, policy.name, cause.refusal())?;
+            refuse(alloc, policy, cause.refusal(), events)?;
             Ok(false)
         }
     }
 }
 
 impl<'a> PolicyRun<'_, '_, '_, '_, 'a> {
-    /// Adds the events of the bindings of the policy, which is compiled.
+    /// Adds the events of the policy, which is compiled, under each of its bindings.
     fn run_bindings(
         &self,
         state: &State<'a>,
@@ -110,8 +112,44 @@ impl<'a> PolicyRun<'_, '_, '_, '_, 'a> {
         ensures { IfOk result (λ ended. (s : ClusterState) (p : BoundPolicy) → state_view state.now ≡ s → asked_view asked.now ≡ asked_policy s p
             → IsRunOf p self.now → AddsRun s (request_view self.now.case.now.request.now) p self.now events.old events.new ended) }
     {
+        let bindings = state.bindings_of(self.alloc, asked.policy.name)?;
+        self.run_each(state, asked, bindings, events)
+    }
+
+    /// Adds the events of these bindings, up to the one that ends the dispatch.
+    fn run_each(
+        &self,
+        state: &State<'a>,
+        asked: &AskedPolicy<'_, 'a>,
+        bindings: Vec<&Binding<'a>>,
+        events: &mut Events,
+    ) -> Result<bool, AllocError>
+        requires { IsBesideIf self.now.case.now.opened self.now.case.now.place (namespace_named (request_view self.now.case.now.request.now).attributes.namespace (state_view state.now).objects) }
+        ensures { IfOk result (λ ended. (p : BoundPolicy) → IsRunOf p self.now
+            → AddsBindings p self.now (map (λ b. binding_steps (state_view state.now) (asked_view asked.now) (request_view self.now.case.now.request.now) (binding_view b.now)) bindings.entry.items) events.old events.new ended) }
+    {
+        for binding in bindings {
+            if self.run_binding(state, asked, binding, events)? {
+                return Ok(true);
+            }
+        }
+        Ok(false)
+    }
+
+    /// Adds the events of a binding.
+    fn run_binding(
+        &self,
+        state: &State<'a>,
+        asked: &AskedPolicy<'_, 'a>,
+        binding: &Binding<'a>,
+        events: &mut Events,
+    ) -> Result<bool, AllocError>
+        requires { IsBesideIf self.now.case.now.opened self.now.case.now.place (namespace_named (request_view self.now.case.now.request.now).attributes.namespace (state_view state.now).objects) }
+        ensures { IfOk result (λ ended. (p : BoundPolicy) → IsRunOf p self.now
+            → AddsSteps p self.now (binding_steps (state_view state.now) (asked_view asked.now) (request_view self.now.case.now.request.now) (binding_view binding.now)) events.old events.new ended) }
+    {
         let case = self.case;
-        let steps = asked.bindings_steps(self.alloc, state, case.request)?;
+        let steps = asked.binding_steps(self.alloc, state, case.request, binding)?;
         self.run(events, steps.as_slice())
     }
 }

@@ -20,6 +20,7 @@ mod policy_gate;
 mod policy_run;
 mod progress;
 mod read_document;
+mod refusing;
 mod review_opening;
 mod review_request;
 mod running;

@@ -4,6 +4,6 @@
 #[derive(Clone, Copy, Debug, PartialEq, Eq)]
 pub(crate) enum Progress {
     NextStep,
-    NextPolicy,
+    NextBinding,
     End,
 }

@@ -1,18 +1,19 @@
-//! The steps of a policy, one after another.
+//! The steps of a policy under a binding, one after another.
 ghost use Rattle.std.specs.List.{All};
 ghost use Rattle.std.specs.Prelude.{◌≡◌, [], ◌∷◌, map, option_map, IfOk};
 ghost use Rattle.serde_json.specs.View.{view};
 ghost use Rattle.cluster_plan.specs.Steps.{evaluates, step_view};
 ghost use Rattle.cluster_state.specs.Bindings.{binding_view};
-ghost use Rattle.cluster_state.specs.Policies.{BoundPolicy};
+ghost use Rattle.cluster_state.specs.Policies.{policy_view, BoundPolicy};
 ghost use Rattle.cluster_gate.specs.Beside.{HasKnownNamespace, IsBesideIf};
 ghost use Rattle.cluster_gate.specs.Running.{Adds, AddsStep, AddsSteps, IsRunOf};
 ghost use Rattle.cluster_gate.specs.Dispatch.{undecided_event};
-ghost use Rattle.cluster_gate.specs.declared.progress.Progress.TheVariants.{NextPolicy};
+ghost use Rattle.cluster_gate.specs.declared.progress.Progress.TheVariants.{NextBinding};
 
 use crate::evaluating::evaluate;
 use crate::policy_run::PolicyRun;
 use crate::progress::Progress;
+use crate::refusing::refuse;
 use cluster_plan::Step;
 use cluster_response::{ClusterRefusal, Events};
 use cluster_state::Binding;
@@ -20,8 +21,8 @@ use serde_json::Value;
 use std::alloc::AllocError;
 
 impl<'a> PolicyRun<'_, '_, '_, '_, 'a> {
-    /// Adds the events of the steps, up to the first one that ends the policy. Returns whether the
-    /// dispatch ends.
+    /// Adds the events of the steps of a binding, up to the first one that refuses. Returns whether
+    /// the dispatch ends.
     pub(crate) fn run(
         &self,
         events: &mut Events,
@@ -33,7 +34,7 @@ impl<'a> PolicyRun<'_, '_, '_, '_, 'a> {
         for step in steps {
             match self.run_step(events, step)? {
                 Progress::NextStep => {}
-                Progress::NextPolicy => return Ok(false),
+                Progress::NextBinding => return Ok(false),
                 Progress::End => return Ok(true),
             }
         }
@@ -47,7 +48,8 @@ impl<'a> PolicyRun<'_, '_, '_, '_, 'a> {
     {
         match step {
             Step::Denial { binding, message } => {
-                events.add_configuration_error(self.alloc, self.name, *binding, message.as_str())?;
+                let name = self.policy.name;
+                events.add_configuration_error(self.alloc, name, *binding, message.as_str())?;
                 Ok(Progress::NextStep)
             }
             Step::UnknownMatch => self.refuse(events, ClusterRefusal::UnknownMatch),
@@ -77,7 +79,8 @@ impl<'a> PolicyRun<'_, '_, '_, '_, 'a> {
     {
         match evaluate(self.alloc, self.gate, self.case, params, namespace)? {
             Ok(findings) => {
-                events.add_findings(self.alloc, self.name, binding, findings.as_slice())?;
+                let name = self.policy.name;
+                events.add_findings(self.alloc, name, binding, findings.as_slice())?;
                 Ok(Progress::NextStep)
             }
             Err(refusal) => self.refuse(events, refusal),
@@ -86,9 +89,9 @@ impl<'a> PolicyRun<'_, '_, '_, '_, 'a> {
 
     /// The policy does not decide.
     fn refuse(&self, events: &mut Events, refusal: ClusterRefusal) -> Result<Progress, AllocError>
-        ensures { IfOk result (λ progress. (progress ≡ NextPolicy) × Adds events.old events.new (undecided_event self.now.name.now refusal ∷ [])) }
+        ensures { IfOk result (λ progress. (progress ≡ NextBinding) × Adds events.old events.new (undecided_event (policy_view self.now.policy.now) refusal ∷ [])) }
     {
-        events.refuse(self.alloc, self.name, refusal)?;
-        Ok(Progress::NextPolicy)
+        refuse(self.alloc, self.policy, refusal, events)?;
+        Ok(Progress::NextBinding)
     }
 }

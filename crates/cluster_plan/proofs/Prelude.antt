@@ -13,5 +13,5 @@ pub use Rattle.cluster_state.specs.Bindings.{Binding, binding_view}
 pub use Rattle.cluster_state.specs.State.{ClusterState, state_view}
 pub use Rattle.cluster_state.specs.declared.param_error.ParamError.{ParamError}
 pub use Rattle.cluster_plan.specs.Quotes.{go_escape}
-pub use Rattle.cluster_plan.specs.Steps.{AskedPolicy, PlannedStep, asked_view, binding_steps, bindings_steps, evaluates, found_params, step_view}
+pub use Rattle.cluster_plan.specs.Steps.{AskedPolicy, PlannedStep, asked_view, evaluates, found_params, step_view}
 pub use Rattle.cluster_state.specs.declared.binding.Binding.{Binding as CodeBinding}

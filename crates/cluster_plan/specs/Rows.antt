@@ -30,27 +30,31 @@ row_of (plan.is_blocked b) = blocked
 row_of (evaluates b params namespace) = evaluated b.name (option_and_then name_of params) (option_and_then name_of namespace)
 row_of ends = not_found
 
-abbrev pub steps_with : ClusterState → BoundPolicy → Option PolicyBlock → Request → List StepRow
+abbrev pub steps_with : ClusterState → BoundPolicy → Option PolicyBlock → Request → List (List StepRow)
 steps_with s p block q =
-    map row_of (policy_steps s (record { policy = p; kind = option_and_then (λ k. known_kind k s.items s.objects) p.param_kind }) block q)
+    map (map row_of) (policy_steps s (record { policy = p; kind = option_and_then (λ k. known_kind k s.items s.objects) p.param_kind }) block q)
 
 -- the steps of the first policy
-abbrev pub first_steps : Option PolicyBlock → ClusterState → List BoundPolicy → Request → Option (List StepRow)
+abbrev pub first_steps : Option PolicyBlock → ClusterState → List BoundPolicy → Request → Option (List (List StepRow))
 first_steps block s [] q = None
 first_steps block s (p ∷ ps) q = Some (steps_with s p block q)
 
-abbrev pub of_state : Option PolicyBlock → Request → Result ClusterState Refusal → Option (List StepRow)
+abbrev pub of_state : Option PolicyBlock → Request → Result ClusterState Refusal → Option (List (List StepRow))
 of_state block q (Ok s) = first_steps block s s.policies q
 of_state block q (Err e) = None
 
 -- the steps of the policy in a list of these items with a request
-abbrev pub rows_by : Option PolicyBlock → List (List ℕ) → List ℕ → Option (List StepRow)
+abbrev pub rows_by : Option PolicyBlock → List (List ℕ) → List ℕ → Option (List (List StepRow))
 rows_by block items request =
     option_and_then (λ q. option_and_then (λ ds. of_state block q (state_of ds)) (documents (listing (commas items) ∷ [])))
     (option_and_then request_in (read request))
 
-abbrev pub rows_with : List (List ℕ) → List ℕ → Option (List StepRow)
+abbrev pub rows_with : List (List ℕ) → List ℕ → Option (List (List StepRow))
 rows_with items request = rows_by None items request
+
+-- the steps of one binding, or of the policy alone
+abbrev pub of_one : List StepRow → Option (List (List StepRow))
+of_one rows = Some (rows ∷ [])
 
 -- ---- items
 
@@ -161,76 +165,76 @@ of_other_version =
 
 pub record StepRowsHold : Type 0 where
   pub one_evaluation : rows_with (policy matches_all ∷ bare ∷ prod ∷ []) (pod_in (codes "prod"))
-      ≡ Some (evaluated (codes "b") None (Some (codes "prod")) ∷ [])
-  pub of_a_node : rows_with (policy matches_all ∷ bare ∷ prod ∷ []) node ≡ Some (evaluated (codes "b") None None ∷ [])
-  pub namespace_not_found : rows_with (policy (under_ignore matches_all) ∷ bare ∷ prod ∷ []) (pod_in (codes "gone")) ≡ Some (not_found ∷ [])
+      ≡ of_one (evaluated (codes "b") None (Some (codes "prod")) ∷ [])
+  pub of_a_node : rows_with (policy matches_all ∷ bare ∷ prod ∷ []) node ≡ of_one (evaluated (codes "b") None None ∷ [])
+  pub namespace_not_found : rows_with (policy (under_ignore matches_all) ∷ bare ∷ prod ∷ []) (pod_in (codes "gone")) ≡ of_one (not_found ∷ [])
   pub no_labels : rows_with (policy matches_labels ∷ bare ∷ prod ∷ []) (pod_in (codes "gone"))
-      ≡ Some (error None (codes "namespaces \"gone\" not found") ∷ [])
-  pub no_labels_under_ignore : rows_with (policy (under_ignore matches_labels) ∷ bare ∷ prod ∷ []) (pod_in (codes "gone")) ≡ Some []
+      ≡ of_one (error None (codes "namespaces \"gone\" not found") ∷ [])
+  pub no_labels_under_ignore : rows_with (policy (under_ignore matches_labels) ∷ bare ∷ prod ∷ []) (pod_in (codes "gone")) ≡ of_one []
   pub other_labels : rows_with (policy matches_labels ∷ bare ∷ prod ∷ []) (pod_in (codes "prod")) ≡ Some []
-  pub other_version : rows_with (policy matches_all ∷ bare ∷ prod ∷ []) of_other_version ≡ Some (unknown ∷ [])
+  pub other_version : rows_with (policy matches_all ∷ bare ∷ prod ∷ []) of_other_version ≡ of_one (unknown ∷ [])
   pub other_version_exact :
       rows_with (policy (constraints (codes ",\"matchPolicy\":\"Exact\"")) ∷ bare ∷ prod ∷ []) of_other_version ≡ Some []
-  pub is_blocked : rows_by (Some policy_refused) (policy matches_all ∷ bare ∷ prod ∷ []) node ≡ Some (blocked ∷ [])
+  pub is_blocked : rows_by (Some policy_refused) (policy matches_all ∷ bare ∷ prod ∷ []) node ≡ of_one (blocked ∷ [])
   pub is_blocked_for_others : rows_by (Some policy_refused) (policy matches_labels ∷ bare ∷ prod ∷ []) (pod_in (codes "prod")) ≡ Some []
   pub params_of_a_node : rows_with (policy (with_params matches_all) ∷ to_limits ∷ config (codes "limits") ∷ prod ∷ []) node
-      ≡ Some (error (Some (codes "b")) (codes "cannot use namespaced paramRef in policy binding that matches cluster-scoped resources") ∷ [])
+      ≡ of_one (error (Some (codes "b")) (codes "cannot use namespaced paramRef in policy binding that matches cluster-scoped resources") ∷ [])
   pub no_reference : rows_with (policy (with_params matches_all) ∷ bare ∷ config (codes "limits") ∷ prod ∷ []) (pod_in (codes "prod"))
-      ≡ Some (evaluated (codes "b") None (Some (codes "prod")) ∷ [])
+      ≡ of_one (evaluated (codes "b") None (Some (codes "prod")) ∷ [])
   pub two_params :
       rows_with (policy (with_params matches_all) ∷ to_each ∷ config (codes "c") ∷ config (codes "a") ∷ prod ∷ []) (pod_in (codes "prod"))
-      ≡ Some (evaluated (codes "b") (Some (codes "a")) (Some (codes "prod"))
+      ≡ of_one (evaluated (codes "b") (Some (codes "a")) (Some (codes "prod"))
       ∷ evaluated (codes "b") (Some (codes "c")) (Some (codes "prod")) ∷ [])
   pub absent_params : rows_with (policy (with_params matches_all) ∷ to_limits ∷ config (codes "a") ∷ prod ∷ []) (pod_in (codes "prod"))
-      ≡ Some (error (Some (codes "b")) (codes "no params found for policy binding with `Deny` parameterNotFoundAction") ∷ [])
+      ≡ of_one (error (Some (codes "b")) (codes "no params found for policy binding with `Deny` parameterNotFoundAction") ∷ [])
   pub absent_params_under_ignore :
       rows_with (policy (under_ignore (with_params matches_all)) ∷ to_limits ∷ config (codes "a") ∷ prod ∷ [])
-      (pod_in (codes "prod")) ≡ Some []
+      (pod_in (codes "prod")) ≡ of_one []
   pub no_params_and_no_namespace :
       rows_with (policy (with_params matches_all) ∷ to_each ∷ config (codes "a") ∷ prod ∷ []) (pod_in (codes "gone"))
-      ≡ Some (not_found ∷ [])
+      ≡ of_one (not_found ∷ [])
   -- a binding that does not match, or of which it is not known
-  pub other_labels_of_binding : rows_with (policy matches_all ∷ bound_by_labels ∷ prod ∷ []) (pod_in (codes "prod")) ≡ Some []
+  pub other_labels_of_binding : rows_with (policy matches_all ∷ bound_by_labels ∷ prod ∷ []) (pod_in (codes "prod")) ≡ of_one []
   pub no_labels_of_binding : rows_with (policy matches_all ∷ bound_by_labels ∷ prod ∷ []) (pod_in (codes "gone"))
-      ≡ Some (error (Some (codes "b")) (codes "namespaces \"gone\" not found") ∷ [])
+      ≡ of_one (error (Some (codes "b")) (codes "namespaces \"gone\" not found") ∷ [])
   pub other_version_of_binding :
-      rows_with (policy matches_all ∷ bound_to_other_version ∷ prod ∷ []) (pod_in (codes "prod")) ≡ Some (unknown ∷ [])
+      rows_with (policy matches_all ∷ bound_to_other_version ∷ prod ∷ []) (pod_in (codes "prod")) ≡ of_one (unknown ∷ [])
   pub quotes_in_a_name : rows_with (policy matches_labels ∷ bare ∷ prod ∷ []) (pod_in (codes "a\\\"b"))
-      ≡ Some (error None (codes "namespaces \"a\\\"b\" not found") ∷ [])
+      ≡ of_one (error None (codes "namespaces \"a\\\"b\" not found") ∷ [])
   -- all namespaces at once
   pub no_name : rows_with (policy matches_labels ∷ bare ∷ prod ∷ []) spaces
-      ≡ Some (error None (codes "Internal error occurred: resource name may not be empty") ∷ [])
+      ≡ of_one (error None (codes "Internal error occurred: resource name may not be empty") ∷ [])
   -- what comes before a block, and what after it
   pub is_blocked_in_trouble : rows_by (Some policy_refused) (policy matches_labels ∷ bare ∷ prod ∷ []) (pod_in (codes "gone"))
-      ≡ Some (error None (codes "namespaces \"gone\" not found") ∷ [])
+      ≡ of_one (error None (codes "namespaces \"gone\" not found") ∷ [])
   pub is_blocked_if_it_matches :
-      rows_by (Some policy_refused) (policy matches_all ∷ bare ∷ prod ∷ []) of_other_version ≡ Some (unknown ∷ [])
+      rows_by (Some policy_refused) (policy matches_all ∷ bare ∷ prod ∷ []) of_other_version ≡ of_one (unknown ∷ [])
   pub is_blocked_before_its_bindings :
-      rows_by (Some policy_refused) (policy matches_all ∷ bare ∷ prod ∷ []) (pod_in (codes "gone")) ≡ Some (blocked ∷ [])
+      rows_by (Some policy_refused) (policy matches_all ∷ bare ∷ prod ∷ []) (pod_in (codes "gone")) ≡ of_one (blocked ∷ [])
   -- errors of params come before the namespace
   pub absent_params_and_no_namespace :
       rows_with (policy (with_params matches_all) ∷ to_limits ∷ config (codes "a") ∷ prod ∷ []) (pod_in (codes "gone"))
-      ≡ Some (error (Some (codes "b")) (codes "no params found for policy binding with `Deny` parameterNotFoundAction") ∷ [])
+      ≡ of_one (error (Some (codes "b")) (codes "no params found for policy binding with `Deny` parameterNotFoundAction") ∷ [])
   pub absent_params_and_no_namespace_under_ignore :
       rows_with (policy (under_ignore (with_params matches_all)) ∷ to_limits ∷ config (codes "a") ∷ prod ∷ [])
-      (pod_in (codes "gone")) ≡ Some []
+      (pod_in (codes "gone")) ≡ of_one []
   pub needless_namespace : rows_with (policy (with_namespaces matches_all) ∷ to_prod ∷ prod ∷ []) (pod_in (codes "prod"))
-      ≡ Some (error (Some (codes "b")) (codes "paramRef.namespace must not be provided for a cluster-scoped `paramKind`") ∷ [])
+      ≡ of_one (error (Some (codes "b")) (codes "paramRef.namespace must not be provided for a cluster-scoped `paramKind`") ∷ [])
   pub none_of_a_label :
-      rows_with (policy (with_params matches_all) ∷ to_labelled ∷ config (codes "a") ∷ prod ∷ []) (pod_in (codes "prod")) ≡ Some []
+      rows_with (policy (with_params matches_all) ∷ to_labelled ∷ config (codes "a") ∷ prod ∷ []) (pod_in (codes "prod")) ≡ of_one []
   pub no_kind : rows_with (policy matches_all ∷ to_limits ∷ config (codes "limits") ∷ prod ∷ []) (pod_in (codes "prod"))
-      ≡ Some (evaluated (codes "b") None (Some (codes "prod")) ∷ [])
+      ≡ of_one (evaluated (codes "b") None (Some (codes "prod")) ∷ [])
   -- params of a namespace are looked up in it, and its object is null
   pub of_a_namespace : rows_with (policy (with_params matches_all) ∷ to_limits ∷ config (codes "limits") ∷ prod ∷ []) space
-      ≡ Some (evaluated (codes "b") (Some (codes "limits")) None ∷ [])
+      ≡ of_one (evaluated (codes "b") (Some (codes "limits")) None ∷ [])
   -- several bindings, of which one is of another policy
   pub two_bindings :
       rows_with (policy matches_all ∷ binding_of (codes "c") (bound_to (codes "p") []) ∷ binding_of (codes "b") (bound_to (codes "q") [])
       ∷ binding_of (codes "a") (bound_to (codes "p") []) ∷ prod ∷ []) node
-      ≡ Some (evaluated (codes "a") None None ∷ evaluated (codes "c") None None ∷ [])
+      ≡ Some ((evaluated (codes "a") None None ∷ []) ∷ (evaluated (codes "c") None None ∷ []) ∷ [])
   pub error_before_others :
       rows_with (policy (with_params matches_all) ∷ binding_of (codes "c") (bound_to (codes "p") []) ∷ to_limits
       ∷ config (codes "a") ∷ prod ∷ [])
       (pod_in (codes "prod"))
-      ≡ Some (error (Some (codes "b")) (codes "no params found for policy binding with `Deny` parameterNotFoundAction")
-      ∷ evaluated (codes "c") None (Some (codes "prod")) ∷ [])
+      ≡ Some ((error (Some (codes "b")) (codes "no params found for policy binding with `Deny` parameterNotFoundAction") ∷ [])
+      ∷ (evaluated (codes "c") None (Some (codes "prod")) ∷ []) ∷ [])

@@ -2,7 +2,7 @@
 -- policy's expressions are not evaluated here.
 use Rattle.std.specs.Prelude.{◌≡◌, ℕ, Vec, Bool, true, false, not, List, [], ◌∷◌, map, Option, Some, None, Result, Ok, Err, codes, option_map, string_bytes}
 use Rattle.std.specs.Borrow.{Bor}
-use Rattle.std.specs.List.{concat, flat_map}
+use Rattle.std.specs.List.{concat}
 use Rattle.std.specs.declared.alloc.Global.{Global}
 use Rattle.serde_json.specs.Data as json
 use Rattle.serde_json.specs.View.{view}
@@ -114,23 +114,24 @@ binding_steps s p q b = binding_answered s p q b (match_answer b.resources (name
 -- ---- a policy
 
 -- the steps of each binding of the policy among these
-abbrev pub bindings_steps : ClusterState → AskedPolicy → Request → List Binding → List PlannedStep
-bindings_steps s p q bs = flat_map (binding_steps s p q) (bindings_of p.policy.name bs)
+abbrev pub bindings_steps : ClusterState → AskedPolicy → Request → List Binding → List (List PlannedStep)
+bindings_steps s p q bs = map (binding_steps s p q) (bindings_of p.policy.name bs)
 
 -- a policy that is blocked is not asked
-abbrev pub by_block : ClusterState → AskedPolicy → Request → Option PolicyBlock → List PlannedStep
-by_block s p q (Some b) = is_blocked b ∷ []
+abbrev pub by_block : ClusterState → AskedPolicy → Request → Option PolicyBlock → List (List PlannedStep)
+by_block s p q (Some b) = (is_blocked b ∷ []) ∷ []
 by_block s p q None = bindings_steps s p q s.bindings
 
 -- by whether its constraints match
-abbrev pub policy_answered : ClusterState → AskedPolicy → Option PolicyBlock → Request → Answer → List PlannedStep
+abbrev pub policy_answered : ClusterState → AskedPolicy → Option PolicyBlock → Request → Answer → List (List PlannedStep)
 policy_answered s p block q matching.No = []
-policy_answered s p block q matching.Unknown = unknown_match ∷ []
-policy_answered s p block q (matching.Trouble t) = error_steps (fails_closed p.policy.document) None (trouble_text t q.attributes.namespace)
+policy_answered s p block q matching.Unknown = (unknown_match ∷ []) ∷ []
+policy_answered s p block q (matching.Trouble t) =
+    error_steps (fails_closed p.policy.document) None (trouble_text t q.attributes.namespace) ∷ []
 policy_answered s p block q matching.Yes = by_block s p q block
 
--- the steps of a policy with a request, by why it is blocked, if it is
-abbrev pub policy_steps : ClusterState → AskedPolicy → Option PolicyBlock → Request → List PlannedStep
+-- the steps of a policy with a request, by why it is blocked, if it is: those of each of its bindings, or else its own alone
+abbrev pub policy_steps : ClusterState → AskedPolicy → Option PolicyBlock → Request → List (List PlannedStep)
 policy_steps s p block q =
     policy_answered s p block q (match_answer p.policy.constraints (namespace_labels s.objects) q.attributes)
 

@@ -6,7 +6,7 @@ ghost use Rattle.cluster_state.specs.Bindings.{binding_view};
 ghost use Rattle.cluster_state.specs.Params.{namespace_object_view, param_error_text};
 ghost use Rattle.value_store.specs.Documents.{equals_string};
 ghost use Rattle.cluster_state.specs.State.{state_view};
-ghost use Rattle.cluster_plan.specs.Steps.{binding_steps, bindings_steps, absent_text, error_steps, evaluates, evaluations, fails_closed, params_for, FindsParams, asked_view, matched_steps, step_view, trouble_text};
+ghost use Rattle.cluster_plan.specs.Steps.{binding_steps, absent_text, error_steps, evaluates, evaluations, fails_closed, params_for, FindsParams, asked_view, matched_steps, step_view, trouble_text};
 
 use crate::asked_policy::AskedPolicy;
 use crate::quotes::go_quoted;
@@ -18,26 +18,9 @@ use serde_json::Value;
 use std::alloc::{AllocError, Global};
 
 impl<'a> AskedPolicy<'_, 'a> {
-    /// The steps of each binding of the policy with this request, which the policy's constraints
-    /// match, in the order of the bindings' names. The error is that an allocation failed.
-    pub fn bindings_steps<'s>(
-        &self,
-        alloc: Global,
-        state: &'s State<'a>,
-        request: &Request<'_>,
-    ) -> Result<Vec<Step<'s, 'a>>, AllocError>
-        ensures { IfOk result (λ v. map step_view v.items ≡ bindings_steps (state_view state.now) (asked_view self.now) (request_view request.now) (state_view state.now).bindings) }
-    {
-        let bindings = state.bindings_of(alloc, self.policy.name)?;
-        let mut steps = Vec::new(alloc);
-        for binding in bindings {
-            let mut more = self.binding_steps(alloc, state, request, binding)?;
-            steps.append(&mut more)?;
-        }
-        Ok(steps)
-    }
-
-    fn binding_steps<'s>(
+    /// The steps of a binding of the policy with this request, which the policy's constraints match.
+    /// The error is that an allocation failed.
+    pub fn binding_steps<'s>(
         &self,
         alloc: Global,
         state: &'s State<'a>,

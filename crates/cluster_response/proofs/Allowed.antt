@@ -1,9 +1,16 @@
 -- What is allowed, and which warnings there are.
 use Rattle.serde_json.specs.Data as json
-use Rattle.cluster_response.proofs.Prelude.{◌≡◌, ◌||◌, ◌∙◌, ◌∷◌, ℕ, Bool, true, false, true≢false, List, [], Option, None, Some, Request, ClusterAudit, ClusterDenial, Event, Undecided, AllowsByEvents, allowed_in, answer_tree, ap, sym, refl, bytes_eq, denies, warns, audits, refuses, ends, each_once, first_denial, first_undecided, has_end, is_against, is_refusal, is_some, list_any, review_tree, summary_of, warning_texts, warns_by}
+use Rattle.cluster_response.proofs.Prelude.{◌≡◌, ◌||◌, ◌∙◌, ◌∷◌, ℕ, Bool, true, false, true≢false, List, [], Option, None, Some, Request, ClusterAudit, ClusterDenial, Event, Undecided, AllowsByEvents, allowed_in, answer_tree, ap, sym, refl, bytes_eq, denies, warns, audits, refuses, ends, each_once, all_undecided, first_denial, has_end, is_closed, is_closed_refusal, told_of, told_undecided, is_against, is_refusal, is_some, list_any, review_tree, summary_of, warning_texts, warns_by}
+use Rattle.std.specs.Option.{option_or}
+use Rattle.std.specs.Prelude.{find}
+use Rattle.cluster_response.proofs.Firsts.{told_fails}
 use Rattle.cluster_response.proofs.Kept.{any-without, or_true, without}
 
 -- ---- what is allowed
+
+some_of : (o : Option Undecided) (r : Undecided) → is_some (option_or o (Some r)) ≡ true
+some_of (Some u) r = refl
+some_of None r = refl
 
 -- `allowed`, by whether the dispatch ends, something denies and a policy does not decide
 decides : Bool → Bool → Bool → Option json.Data
@@ -28,13 +35,29 @@ against_is (audits a ∷ es) = against_is es
 against_is (refuses r ∷ es) = against_is es
 against_is (ends ∷ es) = refl
 
-refusal_is : (es : List Event) → list_any is_refusal es ≡ is_some (first_undecided es)
+-- a policy is told of a list exactly if there is one
+some_told : (r : Undecided) (rs : List Undecided) → is_some (told_of is_closed (r ∷ rs)) ≡ true
+some_told r rs = some_of (find is_closed (r ∷ rs)) r
+
+refusal_is : (es : List Event) → list_any is_refusal es ≡ is_some (told_undecided es)
 refusal_is [] = refl
 refusal_is (denies d ∷ es) = refusal_is es
 refusal_is (warns t ∷ es) = refusal_is es
 refusal_is (audits a ∷ es) = refusal_is es
-refusal_is (refuses r ∷ es) = refl
+refusal_is (refuses r ∷ es) = sym (some_told r (all_undecided es))
 refusal_is (ends ∷ es) = refusal_is es
+
+-- the policies that fail closed and do not decide
+closed_is : (es : List Event) → list_any is_closed_refusal es ≡ list_any is_closed (all_undecided es)
+closed_is [] = refl
+closed_is (denies d ∷ es) = closed_is es
+closed_is (warns t ∷ es) = closed_is es
+closed_is (audits a ∷ es) = closed_is es
+closed_is (refuses r ∷ es) = ap (λ b. is_closed r || b) (closed_is es)
+closed_is (ends ∷ es) = closed_is es
+
+pub hide_no_fail : (es : List Event) (r : Undecided) → (summary_of es).undecided ≡ Some r → r.fails_closed ≡ false → list_any is_closed_refusal es ≡ false
+hide_no_fail es r told ignored = closed_is es ∙ told_fails is_closed (all_undecided es) r told ignored
 
 decides_against : (b d r : Bool) → b || d ≡ true → decides b d r ≡ Some (json.boolean false)
 unfolding decides
@@ -58,7 +81,7 @@ decides_for false false false e h = refl
 
 pub allows_by_events : (q : Request) (uid : List ℕ) (es : List Event) → AllowsByEvents q uid es
 allows_by_events q uid es =
-    let at = allowed_at q uid (first_denial es) _ _ (first_undecided es) (has_end es) in
+    let at = allowed_at q uid (first_denial es) _ _ (told_undecided es) (has_end es) in
     record {
       denied = λ e. at ∙ decides_against (has_end es) _ _ (sym (against_is es) ∙ e);
       undecided = λ e h. at ∙ decides_nothing (has_end es) _ _ (sym (against_is es) ∙ e) (sym (refusal_is es) ∙ h);

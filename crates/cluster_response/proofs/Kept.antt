@@ -1,5 +1,6 @@
 -- What counts of events after more of them.
-use Rattle.cluster_response.proofs.Prelude.{◌≡◌, ◌||◌, ◌∙◌, ◌++◌, ◌∷◌, ℕ, Bool, true, false, not, List, [], Option, None, Some, ap, sym, refl, append-nil, append_assoc, filter, filter-append, bytes_eq, bytes_eq-Decides, list_any, Event, KeepsEvents, denies, warns, audits, refuses, ends, each_once, events_view, first_audit, first_denial, first_undecided, has_end, summary_of, warning_texts, or_first, or_there, with_event, with_events, CodeEvents}
+use Rattle.cluster_response.proofs.Firsts.{told_more}
+use Rattle.cluster_response.proofs.Prelude.{◌≡◌, ◌||◌, ◌∙◌, ◌++◌, ◌∷◌, ℕ, Bool, true, false, not, List, [], Option, None, Some, ap, sym, refl, append-nil, append_assoc, filter, filter-append, bytes_eq, bytes_eq-Decides, list_any, Event, KeepsEvents, denies, warns, audits, refuses, ends, each_once, events_view, all_undecided, first_audit, first_denial, has_end, is_closed, preferred, summary_of, told_undecided, warning_texts, or_first, or_there, with_event, with_events, CodeEvents, Undecided, told_of}
 
 -- ---- texts, each once
 
@@ -64,13 +65,20 @@ first_audit-append (audits a ∷ es) fs = refl
 first_audit-append (refuses r ∷ es) fs = first_audit-append es fs
 first_audit-append (ends ∷ es) fs = first_audit-append es fs
 
-first_undecided-append : (es fs : List Event) → first_undecided (es ++ fs) ≡ or_else (first_undecided es) (first_undecided fs)
-first_undecided-append [] fs = refl
-first_undecided-append (denies d ∷ es) fs = first_undecided-append es fs
-first_undecided-append (warns t ∷ es) fs = first_undecided-append es fs
-first_undecided-append (audits a ∷ es) fs = first_undecided-append es fs
-first_undecided-append (refuses r ∷ es) fs = refl
-first_undecided-append (ends ∷ es) fs = first_undecided-append es fs
+all_undecided-append : (es fs : List Event) → all_undecided (es ++ fs) ≡ all_undecided es ++ all_undecided fs
+all_undecided-append [] fs = refl
+all_undecided-append (denies d ∷ es) fs = all_undecided-append es fs
+all_undecided-append (warns t ∷ es) fs = all_undecided-append es fs
+all_undecided-append (audits a ∷ es) fs = all_undecided-append es fs
+all_undecided-append (refuses r ∷ es) fs = ap (λ rs. r ∷ rs) (all_undecided-append es fs)
+all_undecided-append (ends ∷ es) fs = all_undecided-append es fs
+
+-- no more policies that do not decide, and one more
+same_undecided : (es : List Event) (f : Event) → all_undecided (f ∷ []) ≡ [] → told_undecided (es ++ f ∷ []) ≡ told_undecided es
+same_undecided es f e = ap (told_of is_closed) (all_undecided-append es (f ∷ []) ∙ ap (λ rs. all_undecided es ++ rs) e ∙ append-nil _)
+
+more_undecided : (es : List Event) (r : Undecided) → told_undecided (es ++ refuses r ∷ []) ≡ Some (preferred is_closed (told_undecided es) r)
+more_undecided es r = ap (told_of is_closed) (all_undecided-append es (refuses r ∷ [])) ∙ told_more is_closed (all_undecided es) r
 
 warning_texts-append : (es fs : List Event) → warning_texts (es ++ fs) ≡ warning_texts es ++ warning_texts fs
 warning_texts-append [] fs = refl
@@ -80,7 +88,7 @@ warning_texts-append (audits a ∷ es) fs = warning_texts-append es fs
 warning_texts-append (refuses r ∷ es) fs = warning_texts-append es fs
 warning_texts-append (ends ∷ es) fs = warning_texts-append es fs
 
-has_end-append : (es fs : List Event) → has_end (es ++ fs) ≡ has_end es || has_end fs
+pub has_end-append : (es fs : List Event) → has_end (es ++ fs) ≡ has_end es || has_end fs
 has_end-append [] fs = refl
 has_end-append (denies d ∷ es) fs = has_end-append es fs
 has_end-append (warns t ∷ es) fs = has_end-append es fs
@@ -104,15 +112,15 @@ no_more_texts es f e = warning_texts-append es (f ∷ []) ∙ ap (λ ts. warning
 -- what counts after one more event
 pub summary-more : (es : List Event) (f : Event) → with_event (summary_of es) f ≡ summary_of (es ++ f ∷ [])
 summary-more es (denies d) =
-    rw (first_denial-append, or_else-Some, no_more_texts es (denies d) refl, first_audit-append, or_else-None, first_undecided-append, or_else-None, has_end-append, or_false) refl
+    rw (first_denial-append, or_else-Some, no_more_texts es (denies d) refl, first_audit-append, or_else-None, same_undecided es (denies d) refl, has_end-append, or_false) refl
 summary-more es (warns t) =
-    rw (first_denial-append, or_else-None, warning_texts-append es (warns t ∷ []), each_once-more, first_audit-append, or_else-None, first_undecided-append, or_else-None, has_end-append, or_false) refl
+    rw (first_denial-append, or_else-None, warning_texts-append es (warns t ∷ []), each_once-more, first_audit-append, or_else-None, same_undecided es (warns t) refl, has_end-append, or_false) refl
 summary-more es (audits a) =
-    rw (first_denial-append, or_else-None, no_more_texts es (audits a) refl, first_audit-append, or_else-Some, first_undecided-append, or_else-None, has_end-append, or_false) refl
+    rw (first_denial-append, or_else-None, no_more_texts es (audits a) refl, first_audit-append, or_else-Some, same_undecided es (audits a) refl, has_end-append, or_false) refl
 summary-more es (refuses r) =
-    rw (first_denial-append, or_else-None, no_more_texts es (refuses r) refl, first_audit-append, or_else-None, first_undecided-append, or_else-Some, has_end-append, or_false) refl
+    rw (first_denial-append, or_else-None, no_more_texts es (refuses r) refl, first_audit-append, or_else-None, more_undecided es r, has_end-append, or_false) refl
 summary-more es ends =
-    rw (first_denial-append, or_else-None, no_more_texts es ends refl, first_audit-append, or_else-None, first_undecided-append, or_else-None, has_end-append, or_true) refl
+    rw (first_denial-append, or_else-None, no_more_texts es ends refl, first_audit-append, or_else-None, same_undecided es ends refl, has_end-append, or_true) refl
 
 -- what counts after more events
 pub summary-append : (es fs : List Event) → with_events (summary_of es) fs ≡ summary_of (es ++ fs)

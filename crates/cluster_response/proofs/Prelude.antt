@@ -16,9 +16,10 @@ pub use Rattle.cluster_state.specs.Bindings.{binding_view}
 pub use Rattle.policy_glue.specs.Findings.{finding_view}
 unfoldable pub use Rattle.policy_glue.specs.Response.{review_tree}
 pub use Rattle.cluster_response.specs.Annotations.{action_tree, html_escape}
-pub use Rattle.cluster_response.specs.Events.{ClusterAudit, ClusterDenial, Event, EventSummary, KeepsEvents, Undecided, action_event, configuration_event, denies, warns, audits, refuses, ends, each_once, events_view, finding_events, findings_events, first_audit, first_denial, first_undecided, has_end, summary_of, warning_texts}
+pub use Rattle.cluster_response.specs.Events.{ClusterAudit, ClusterDenial, Event, EventSummary, KeepsEvents, Undecided, action_event, configuration_event, denies, warns, audits, refuses, ends, all_undecided, each_once, events_view, finding_events, findings_events, first_audit, first_denial, has_end, is_closed, summary_of, told_undecided, warning_texts}
+pub use Rattle.cluster_response.specs.Firsts.{first_of, preferred, told_of}
 pub use Rattle.cluster_response.specs.Keeping.{or_first, or_there, with_event, with_events}
-pub use Rattle.cluster_response.specs.Laws.{AllowsByEvents, allowed_in, is_against, is_refusal, warns_by}
+pub use Rattle.cluster_response.specs.Laws.{AllowsByEvents, allowed_in, is_against, is_closed_refusal, is_refusal, warns_by}
 unfoldable pub use Rattle.cluster_response.specs.Messages.{denial_text}
 pub use Rattle.cluster_response.specs.Response.{annotations_tree, answer_by, answer_tree, decision_tree, if_member, if_texts, status_of, summary_response}
 unfoldable pub use Rattle.cluster_response.specs.Response.{cluster_response}

@@ -7,6 +7,7 @@ use Rattle.cluster_state.specs.declared.action.Action.TheVariants.{Deny, Warn, A
 use Rattle.policy_glue.specs.Findings.{PolicyFinding}
 use Rattle.policy_glue.specs.declared.reason.Reason.{Reason}
 use Rattle.policy_glue.specs.declared.reason.Reason.TheVariants.{Invalid}
+use Rattle.cluster_response.specs.Firsts.{told_of}
 use Rattle.cluster_response.specs.declared.audit.Audit.{Audit as CodeAudit}
 use Rattle.cluster_response.specs.declared.cluster_refusal.ClusterRefusal.{ClusterRefusal}
 use Rattle.cluster_response.specs.declared.denial.Denial.{Denial as CodeDenial}
@@ -28,9 +29,10 @@ pub record ClusterAudit : Type 0 where
   pub message : List ℕ
   pub actions : List Action
 
--- a policy that does not decide the request, and why
+-- a policy that does not decide the request, whether it fails closed, and why it does not decide
 pub record Undecided : Type 0 where
   pub policy : List ℕ
+  pub fails_closed : Bool
   pub refusal : ClusterRefusal
 
 -- a denial, a warning by its text, a failure that is audited, a policy that does not decide, or the end because the
@@ -95,14 +97,21 @@ first_audit (audits a ∷ es) = Some a
 first_audit (refuses r ∷ es) = first_audit es
 first_audit (ends ∷ es) = first_audit es
 
--- the first policy that does not decide
-abbrev pub first_undecided : List Event → Option Undecided
-first_undecided [] = None
-first_undecided (denies d ∷ es) = first_undecided es
-first_undecided (warns t ∷ es) = first_undecided es
-first_undecided (audits a ∷ es) = first_undecided es
-first_undecided (refuses r ∷ es) = Some r
-first_undecided (ends ∷ es) = first_undecided es
+-- the policies that do not decide, in order
+abbrev pub all_undecided : List Event → List Undecided
+all_undecided [] = []
+all_undecided (denies d ∷ es) = all_undecided es
+all_undecided (warns t ∷ es) = all_undecided es
+all_undecided (audits a ∷ es) = all_undecided es
+all_undecided (refuses r ∷ es) = r ∷ all_undecided es
+all_undecided (ends ∷ es) = all_undecided es
+
+abbrev pub is_closed : Undecided → Bool
+is_closed r = r.fails_closed
+
+-- the policy that is told of those that do not decide: the first that fails closed, else the first
+abbrev pub told_undecided : List Event → Option Undecided
+told_undecided es = told_of is_closed (all_undecided es)
 
 -- the dispatch ended because the namespace is not found
 abbrev pub has_end : List Event → Bool
@@ -135,13 +144,13 @@ pub record EventSummary : Type 0 where
   pub undecided : Option Undecided
   pub ended : Bool
 
--- the first of each kind, and each warning once
+-- the first of each kind, the policy that is told of those that do not decide, and each warning once
 abbrev pub summary_of : List Event → EventSummary
 summary_of es = record {
   denial = first_denial es;
   warnings = each_once (warning_texts es);
   audit = first_audit es;
-  undecided = first_undecided es;
+  undecided = told_undecided es;
   ended = has_end es;
 }
 
@@ -165,7 +174,7 @@ audit_view a = record {
 }
 
 abbrev pub undecided_view : CodeUndecided → Undecided
-undecided_view r = record { policy = string_bytes r.policy; refusal = r.refusal }
+undecided_view r = record { policy = string_bytes r.policy; fails_closed = r.fails_closed; refusal = r.refusal }
 
 abbrev pub events_view : CodeEvents → EventSummary
 events_view e = record {

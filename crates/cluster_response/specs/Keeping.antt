@@ -1,7 +1,8 @@
 -- What counts of events after one more.
 use Rattle.std.specs.Prelude.{ℕ, true, List, [], ◌∷◌, ◌++◌, fold, Option, Some, None, bytes_eq, if◌then◌else◌}
 use Rattle.std.specs.List.{list_any}
-use Rattle.cluster_response.specs.Events.{Event, denies, warns, audits, refuses, ends, EventSummary}
+use Rattle.cluster_response.specs.Events.{Event, denies, warns, audits, refuses, ends, EventSummary, is_closed}
+use Rattle.cluster_response.specs.Firsts.{preferred}
 
 -- the first of its kind, with one more
 abbrev pub or_first : {A : Type 0} → Option A → A → Option A
@@ -17,7 +18,7 @@ abbrev pub with_event : EventSummary → Event → EventSummary
 with_event s (denies d) = record s { denial = or_first s.denial d }
 with_event s (warns t) = record s { warnings = or_there s.warnings t }
 with_event s (audits a) = record s { audit = or_first s.audit a }
-with_event s (refuses r) = record s { undecided = or_first s.undecided r }
+with_event s (refuses r) = record s { undecided = Some (preferred is_closed s.undecided r) }
 with_event s ends = record s { ended = true }
 
 -- after more events

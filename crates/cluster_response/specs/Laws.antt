@@ -4,7 +4,7 @@ use Rattle.std.specs.List.{list_any}
 use Rattle.serde_json.specs.Data as json
 use Rattle.serde_json.specs.Find.{get}
 use Rattle.admission_documents.specs.Requests.{Request}
-use Rattle.cluster_response.specs.Events.{Event, denies, warns, audits, refuses, ends, summary_of}
+use Rattle.cluster_response.specs.Events.{Event, Undecided, denies, warns, audits, refuses, ends, summary_of}
 use Rattle.cluster_response.specs.Response.{answer_tree}
 
 -- ---- what is allowed
@@ -40,6 +40,21 @@ pub record AllowsByEvents (q : Request) (uid : List ℕ) (es : List Event) : Typ
 -- a request is allowed exactly if nothing denies it, the dispatch does not end and each policy decides
 abbrev pub AllowedExactly : Type 0
 AllowedExactly = (q : Request) (uid : List ℕ) (es : List Event) → AllowsByEvents q uid es
+
+-- ---- refusals
+
+-- a policy that fails closed does not decide
+abbrev pub is_closed_refusal : Event → Bool
+is_closed_refusal (denies d) = false
+is_closed_refusal (warns t) = false
+is_closed_refusal (audits a) = false
+is_closed_refusal (refuses r) = r.fails_closed
+is_closed_refusal ends = false
+
+-- a policy that does not fail closed is told only if each policy that fails closed decides
+abbrev pub RefusalsHideNoFail : Type 0
+RefusalsHideNoFail = (es : List Event) (r : Undecided) → (summary_of es).undecided ≡ Some r → r.fails_closed ≡ false
+    → list_any is_closed_refusal es ≡ false
 
 -- ---- warnings
 

@@ -1,5 +1,5 @@
 -- Answers to requests, worked by hand.
-use Rattle.std.specs.Prelude.{◌≡◌, ℕ, List, [], ◌∷◌, ◌++◌, Option, Some, None, codes}
+use Rattle.std.specs.Prelude.{◌≡◌, ℕ, true, false, List, [], ◌∷◌, ◌++◌, Option, Some, None, codes}
 use Rattle.serde_json.specs.Data as json
 use Rattle.serde_json.specs.Read.{read}
 use Rattle.admission_documents.specs.Matching.{match_all}
@@ -117,9 +117,16 @@ denied_by_m =
 abbrev pub is_not_found : List ℕ
 is_not_found = codes "\"status\":{\"code\":404,\"message\":\"namespaces \\\"prod\\\" not found\",\"reason\":\"NotFound\"},\"uid\":\"u1\""
 
+-- a policy of this name under Fail does not decide, or one under Ignore
+abbrev pub under_fail : List ℕ → ClusterRefusal → Event
+under_fail policy refusal = refuses (record { policy = policy; fails_closed = true; refusal = refusal })
+
+abbrev pub under_ignore : List ℕ → ClusterRefusal → Event
+under_ignore policy refusal = refuses (record { policy = policy; fails_closed = false; refusal = refusal })
+
 -- the policy q does not decide, for this reason
 abbrev pub undecided_by : ClusterRefusal → Event
-undecided_by refusal = refuses (record { policy = codes "q"; refusal = refusal })
+undecided_by refusal = under_fail (codes "q") refusal
 
 -- the line that says so
 abbrev pub refused_as : List ℕ → List ℕ
@@ -154,13 +161,9 @@ pub record AnswerRowsHold : Type 0 where
       ≡ reviewed (codes "{\"allowed\":false,\"status\":{\"code\":422,\"message\":\"deployments.apps \\\"web\\\" is forbidden: ValidatingAdmissionPolicy 'p' denied request: failed to configure policy: e\",\"reason\":\"Invalid\"},\"uid\":\"u1\"}")
   pub binding_not_configured : answer (configuration_event (codes "p") (Some (codes "b")) (codes "e") ∷ [])
       ≡ reviewed (codes "{\"allowed\":false,\"status\":{\"code\":422,\"message\":\"deployments.apps \\\"web\\\" is forbidden: ValidatingAdmissionPolicy 'p' with binding 'b' denied request: failed to configure binding: e\",\"reason\":\"Invalid\"},\"uid\":\"u1\"}")
-  pub undecided :
-      answer (refuses (record { policy = codes "q"; refusal = OutOfSteps })
-      ∷ refuses (record { policy = codes "r"; refusal = PolicyRefused }) ∷ [])
-      ≡ codes "{\"policy\":\"q\",\"refused\":\"N4\",\"uid\":\"u1\"}"
-  pub denied_after_refusal :
-      answer (refuses (record { policy = codes "a"; refusal = OutOfSteps }) ∷ under (Deny ∷ []) twice) ≡ reviewed denied_by_m
-  pub no_namespace_after_refusal : answer (refuses (record { policy = codes "a"; refusal = OutOfSteps }) ∷ ends ∷ [])
+  pub undecided : answer (under_fail (codes "q") OutOfSteps ∷ under_fail (codes "r") PolicyRefused ∷ []) ≡ refused_as (codes "N4")
+  pub denied_after_refusal : answer (under_fail (codes "a") OutOfSteps ∷ under (Deny ∷ []) twice) ≡ reviewed denied_by_m
+  pub no_namespace_after_refusal : answer (under_fail (codes "a") OutOfSteps ∷ ends ∷ [])
       ≡ reviewed (codes "{\"allowed\":false," ++ (is_not_found ++ codes "}"))
   -- a denial beside audits and warnings
   pub denied_and_audited : answer (under (Deny ∷ Audit ∷ []) (found 1 (codes "m") Forbidden ∷ found 2 (codes "n") Invalid ∷ []))
@@ -173,7 +176,14 @@ pub record AnswerRowsHold : Type 0 where
   pub escaped : answer (under (Audit ∷ []) (found 0 (codes "<a>\"&") Invalid ∷ []))
       ≡ reviewed (codes "{\"allowed\":true,"
       ++ (annotation_of (codes "\\\\u003ca\\\\u003e\\\\\\\"\\\\u0026") (codes "0") (codes "\\\"Audit\\\"") ++ codes ",\"uid\":\"u1\"}"))
-  -- refusals
+  -- refusals: the first under Fail, else the first
+  pub fail_after_ignore : answer (under_ignore (codes "a") OutOfSteps ∷ under_fail (codes "q") PolicyRefused ∷ []) ≡ refused_as (codes "C7")
+  pub fail_before_ignore : answer (under_fail (codes "q") PolicyRefused ∷ under_ignore (codes "r") OutOfSteps ∷ []) ≡ refused_as (codes "C7")
+  pub fail_between : answer (under_ignore (codes "a") OutOfSteps ∷ under_fail (codes "q") OverLimit ∷ under_fail (codes "r") OutOfSteps ∷ [])
+      ≡ refused_as (codes "N5")
+  pub ignore_alone : answer (under_ignore (codes "q") OverLimit ∷ under_ignore (codes "r") OutOfSteps ∷ []) ≡ refused_as (codes "N5")
+  pub denied_between : answer (under_ignore (codes "a") OutOfSteps ∷ under (Deny ∷ []) twice ++ under_fail (codes "q") OverLimit ∷ [])
+      ≡ reviewed denied_by_m
   pub after_warning : answer (under (Warn ∷ Audit ∷ []) twice ++ undecided_by OverLimit ∷ []) ≡ refused_as (codes "N5")
   pub of_review : answer (undecided_by ReviewRefused ∷ []) ≡ refused_as (codes "N2")
   pub of_params : answer (undecided_by NamespaceOrParamsRefused ∷ []) ≡ refused_as (codes "N3")

@@ -5,6 +5,8 @@ ghost use Rattle.policy_glue.specs.Findings.{finding_view};
 ghost use Rattle.cluster_response.specs.Events.{Event, KeepsEvents, action_event, audit_view, audits, configuration_event};
 ghost use Rattle.cluster_response.specs.Events.{configured, denial_view, denies, ends, events_view, finding_events};
 ghost use Rattle.cluster_response.specs.Events.{findings_events, refuses, summary_of, undecided_view, warning_text, warns};
+ghost use Rattle.cluster_response.specs.Events.{is_closed};
+ghost use Rattle.cluster_response.specs.Firsts.{preferred};
 ghost use Rattle.cluster_response.specs.Keeping.{with_event, with_events};
 
 use crate::audit::Audit;
@@ -16,14 +18,16 @@ use indexmap::IndexSet;
 use policy_glue::{Finding, Reason};
 use std::alloc::{AllocError, Global};
 
-/// What counts of the events of a dispatch: the first of each kind, and the warnings. If an
-/// allocation fails, events are missing.
+/// What counts of the events of a dispatch: the first denial and failure that is audited, the
+/// warnings, and the policy that is told of those that do not decide. If an allocation fails, events
+/// are missing.
 #[derive(Drop)]
 pub struct Events {
     pub(crate) denial: Option<Denial>,
     /// Each text once, in the order of first occurrences.
     pub(crate) warnings: IndexSet<String>,
     pub(crate) audit: Option<Audit>,
+    /// The first that fails closed, or else the first.
     pub(crate) undecided: Option<Undecided>,
     /// The request's namespace is not found.
     pub(crate) ended: bool,
@@ -72,17 +76,18 @@ impl Events {
         self.deny_unconfigured(alloc, policy, binding, error)
     }
 
-    /// The policy does not decide the request.
+    /// The policy does not decide the request. `fails_closed`: its `failurePolicy` is not `Ignore`.
     pub fn refuse(
         &mut self,
         alloc: Global,
         policy: &str,
+        fails_closed: bool,
         refusal: ClusterRefusal,
     ) -> Result<(), AllocError>
         ensures { (es : List Event) → KeepsEvents self.old es → OnOk result
-            (KeepsEvents self.new (es ++ refuses (record { policy = policy.now; refusal = refusal }) ∷ [])) }
+            (KeepsEvents self.new (es ++ refuses (record { policy = policy.now; fails_closed = fails_closed; refusal = refusal }) ∷ [])) }
     {
-        let undecided = Undecided::new(alloc, policy, refusal)?;
+        let undecided = Undecided::new(alloc, policy, fails_closed, refusal)?;
         self.keep_undecided(undecided);
         Ok(())
     }
@@ -252,9 +257,25 @@ impl Events {
     fn keep_undecided(&mut self, undecided: Undecided)
         ensures { events_view self.new ≡ with_event (events_view self.old) (refuses (undecided_view undecided)) }
     {
-        if self.undecided.is_none() {
-            self.undecided = Some(undecided);
+        self.undecided = Some(told_of(self.undecided.take(), undecided));
+    }
+}
+
+/// The policy that is told, if this one does not decide after others.
+fn told_of(first: Option<Undecided>, later: Undecided) -> Undecided
+    ensures { undecided_view result ≡ preferred is_closed (option_map undecided_view first) (undecided_view later) }
+{
+    match first {
+        Some(first) => {
+            if first.fails_closed {
+                first
+            } else if later.fails_closed {
+                later
+            } else {
+                first
+            }
         }
+        None => later,
     }
 }
 

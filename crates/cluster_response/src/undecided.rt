@@ -8,6 +8,8 @@ use std::alloc::{AllocError, Global};
 #[derive(Debug, Drop)]
 pub(crate) struct Undecided {
     pub(crate) policy: String,
+    /// Whether the policy's `failurePolicy` is not `Ignore`.
+    pub(crate) fails_closed: bool,
     pub(crate) refusal: ClusterRefusal,
 }
 
@@ -17,11 +19,16 @@ impl Undecided {
     pub(crate) fn new(
         alloc: Global,
         policy: &str,
+        fails_closed: bool,
         refusal: ClusterRefusal,
     ) -> Result<Undecided, AllocError>
-        ensures { IfOk result (λ r. undecided_view r ≡ record { policy = policy.now; refusal = refusal }) }
+        ensures { IfOk result (λ r. undecided_view r ≡ record { policy = policy.now; fails_closed = fails_closed; refusal = refusal }) }
     {
         let policy = String::from_str(alloc, policy)?;
-        Ok(Undecided { policy, refusal })
+        Ok(Undecided {
+            policy,
+            fails_closed,
+            refusal,
+        })
     }
 }

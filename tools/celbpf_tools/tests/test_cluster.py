@@ -233,20 +233,32 @@ class Refusals(Cases):
         widgets = [rule(["widgets"], ["x.io"], ["v1"])]
         later = [policy("q", rules=[rule(["pods"])], validations=FALSE), binding("c", "q", actions=["Warn"])]
         self.check([*denies(rules=widgets), *later], BETA, self.refused("N6"))
-        # the answer has the first refusal
+        # the answer has the first refusal of the policies under Fail
         self.check([*denies(), *later], half, self.refused("N2"))
+        ignoring = [policy(validations=FALSE, failurePolicy="Ignore"), binding()]
+        also = [policy("q", failurePolicy="Ignore"), binding("c", "q")]
+        self.check([*ignoring, *also, policy("r"), binding("d", "r")], half, self.refused("N2", "r"))
+        self.check([*denies(), *also], half, self.refused("N2"))
+        # or else the first
+        self.check([*ignoring, *also], half, self.refused("N2"))
         # and a denial wins over it
         not_there = binding("c", "q", paramRef={"name": "y", "parameterNotFoundAction": "Deny"})
         self.check([*denies(), policy("q", paramKind=LIMITS), not_there, LIMITS_X], half, denial(
             "pods \"web\" is forbidden: ValidatingAdmissionPolicy 'q' with binding 'c' denied request: "
             "failed to configure binding: no params found for policy binding with `Deny` parameterNotFoundAction"))
 
-    def test_a_refusal_passes_over_the_rest_of_its_policy(self) -> None:
+    def test_a_refusal_passes_over_the_rest_of_its_binding(self) -> None:
         found = {"selector": {}, "parameterNotFoundAction": "Deny"}
         maps = [{**thing("ConfigMap", "a", namespace="prod"), "data": 0.5}, thing("ConfigMap", "b", namespace="prod")]
         self.check([policy(paramKind=LIMITS, validations=FALSE), binding(paramRef=found), *maps], pod(), self.refused("N3"))
+        # and the next binding is asked
+        denied = [policy(paramKind=LIMITS, validations=FALSE), binding("a", paramRef=found), binding()]
+        self.check([*denied, *maps], pod(), forbidden())
         unknown = binding("a", matchResources={"resourceRules": [rule(["widgets"], ["x.io"], ["v1"])]})
-        self.check([policy(validations=FALSE), unknown, binding()], BETA, self.refused("N6"))
+        widgets = {"resource": "widgets.x.io"}
+        self.check([policy(validations=FALSE), unknown, binding()], BETA, forbidden(**widgets))
+        self.check([policy(validations=FALSE), unknown, binding(actions=["Warn"])], BETA, self.refused("N6"))
+        self.check([policy(), unknown, binding()], BETA, self.refused("N6"))
 
     def test_a_missing_namespace_wins_over_a_refusal(self) -> None:
         blocked = policy("a", validations=[{"expression": "'a'.matches('a')"}])

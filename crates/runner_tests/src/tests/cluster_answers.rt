@@ -43,6 +43,21 @@ const WARN_AND_AUDIT: &str =
 const DENY_VERSION_2: &str =
     r#"{"apiVersion":"admissionregistration.k8s.io/v1","kind":"ValidatingAdmissionPolicyBinding","metadata":{"name":"b"},"spec":{"policyName":"p","validationActions":["Deny"],"matchResources":{"resourceRules":[{"apiGroups":["*"],"apiVersions":["v2"],"operations":["*"],"resources":["*"]}]}}}"#;
 
+/// That binding, here named `a`, and then `b` for all resources.
+const DENY_VERSION_2_FIRST: &str =
+    r#"{"apiVersion":"admissionregistration.k8s.io/v1","kind":"ValidatingAdmissionPolicyBinding","metadata":{"name":"a"},"spec":{"policyName":"p","validationActions":["Deny"],"matchResources":{"resourceRules":[{"apiGroups":["*"],"apiVersions":["v2"],"operations":["*"],"resources":["*"]}]}}},
+{"apiVersion":"admissionregistration.k8s.io/v1","kind":"ValidatingAdmissionPolicyBinding","metadata":{"name":"b"},"spec":{"policyName":"p","validationActions":["Deny"]}}"#;
+
+/// A policy `p` under Ignore and `q` under Fail, for all resources of version v1.
+const IGNORE_AND_FAIL: &str =
+    r#"{"apiVersion":"admissionregistration.k8s.io/v1","kind":"ValidatingAdmissionPolicy","metadata":{"name":"p"},"spec":{"matchConstraints":{"resourceRules":[{"apiGroups":["*"],"apiVersions":["v1"],"operations":["*"],"resources":["*"]}]},"failurePolicy":"Ignore","validations":[{"expression":"true"}]}},
+{"apiVersion":"admissionregistration.k8s.io/v1","kind":"ValidatingAdmissionPolicy","metadata":{"name":"q"},"spec":{"matchConstraints":{"resourceRules":[{"apiGroups":["*"],"apiVersions":["v1"],"operations":["*"],"resources":["*"]}]},"validations":[{"expression":"true"}]}}"#;
+
+/// A binding of each.
+const DENY_EACH: &str =
+    r#"{"apiVersion":"admissionregistration.k8s.io/v1","kind":"ValidatingAdmissionPolicyBinding","metadata":{"name":"b"},"spec":{"policyName":"p","validationActions":["Deny"]}},
+{"apiVersion":"admissionregistration.k8s.io/v1","kind":"ValidatingAdmissionPolicyBinding","metadata":{"name":"c"},"spec":{"policyName":"q","validationActions":["Deny"]}}"#;
+
 /// The same, with params that are listed.
 const WITH_LIMITS: &str =
     r#"{"apiVersion":"admissionregistration.k8s.io/v1","kind":"ValidatingAdmissionPolicyBinding","metadata":{"name":"b"},"spec":{"policyName":"p","validationActions":["Deny"],"paramRef":{"name":"limits","parameterNotFoundAction":"Deny"}}}"#;
@@ -86,7 +101,7 @@ struct Case {
 }
 
 #[rattlefmt::skip]
-const CASES: [Case; 13] = [
+const CASES: [Case; 15] = [
     Case {
         name: "the namespace is selected",
         words: STATE,
@@ -158,6 +173,22 @@ const CASES: [Case; 13] = [
         binding: DENY_VERSION_2,
         review: POD,
         answer: r#"{"policy":"p","refused":"N6","uid":"u1"}"#,
+    },
+    Case {
+        name: "another version than the first binding's",
+        words: STATE,
+        policy: DENIES,
+        binding: DENY_VERSION_2_FIRST,
+        review: POD,
+        answer: r#"{"apiVersion":"admission.k8s.io/v1","kind":"AdmissionReview","response":{"allowed":false,"status":{"code":422,"message":"pods \"web\" is forbidden: ValidatingAdmissionPolicy 'p' with binding 'b' denied request: failed expression: false","reason":"Invalid"},"uid":"u1"}}"#,
+    },
+    Case {
+        name: "too few steps under Ignore and then under Fail",
+        words: "gatekeeper --cluster state --steps 1",
+        policy: IGNORE_AND_FAIL,
+        binding: DENY_EACH,
+        review: POD,
+        answer: r#"{"policy":"q","refused":"N4","uid":"u1"}"#,
     },
     Case {
         name: "a number in the request",

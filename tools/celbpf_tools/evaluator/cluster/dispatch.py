@@ -11,7 +11,7 @@ from ..values import size
 from . import labels
 from .attributes import Attributes
 from .bindings import Binding, ParamRef
-from .events import INVALID, Denial, Events, findings
+from .events import INVALID, Denial, Events, Refusal, findings
 from .fields import in_name_order
 from .lists import name_of, namespace_of
 from .matching import Trouble, not_found
@@ -92,8 +92,12 @@ class Dispatch:
         for finding in findings(policy.compiled.policy, verdict):
             self.events.add(policy.name, binding, finding)
 
+    def refuse(self, policy: Policy, why: Refused) -> None:
+        """The policy does not decide."""
+        self.events.refusals.append(Refusal(policy.name, policy.ignores, why.text))
+
     def bind(self, policy: Policy, binding: Binding) -> None:
-        """One binding of a policy whose constraints match; or the refusal that ends the policy."""
+        """One binding of a policy whose constraints match; or the refusal that ends the binding."""
         answer = binding.resources.answer(self.attributes, self.state.namespaces)
         if answer == NO:
             return
@@ -108,7 +112,7 @@ class Dispatch:
             self.evaluate(policy, binding, one, namespace)
 
     def ask(self, policy: Policy) -> None:
-        """One policy; or the refusal that ends it."""
+        """One policy under each of its bindings; or the refusal that ends it."""
         answer = policy.constraints.answer(self.attributes, self.state.namespaces)
         if answer == NO:
             return
@@ -120,16 +124,19 @@ class Dispatch:
         if policy.blocked:
             raise Refused(policy.blocked)
         for binding in policy.bindings:
-            self.bind(policy, binding)
+            try:
+                self.bind(policy, binding)
+            except Refused as why:
+                self.refuse(policy, why)
 
     def run(self) -> Events:
-        """The events of the request: a refusal is noted, and the next policy is asked."""
+        """The events of the request: a refusal is noted, and the next binding or policy is asked."""
         try:
             for policy in [] if self.attributes.is_exempt else self.state.policies:
                 try:
                     self.ask(policy)
                 except Refused as why:
-                    self.events.refuse(policy.name, why.text)
+                    self.refuse(policy, why)
         except NamespaceNotFound:
             self.events.not_found = not_found(self.attributes.namespace)
         return self.events

@@ -34,18 +34,29 @@ class Failure:
 
 
 @dataclass
+class Refusal:
+    """A policy that does not decide, whether it is under Ignore, and why it does not."""
+
+    policy: str
+    ignores: bool
+    text: str
+
+
+@dataclass
 class Events:
     """What the dispatch met, in order."""
 
     denials: list = member(default_factory=list)
     warnings: list = member(default_factory=list)
     failures: list = member(default_factory=list)
-    refusal: Optional[tuple] = None
+    refusals: list = member(default_factory=list)
     not_found: Optional[str] = None
 
-    def refuse(self, policy: str, text: str) -> None:
-        """Keeps the first refusal."""
-        self.refusal = self.refusal or (policy, text)
+    @property
+    def refusal(self) -> Optional[Refusal]:
+        """The refusal that is told: the first of a policy under Fail, or else the first."""
+        under_fail = [one for one in self.refusals if not one.ignores]
+        return next(iter(under_fail + self.refusals), None)
 
     def add(self, policy: str, binding: Any, finding: tuple) -> None:
         """Adds a finding, for each action of the binding."""

@@ -58,8 +58,8 @@ def by_events(given: Attributes, events: Events, uid: str) -> str:
     """The response's text; a refusal if nothing else is decided."""
     denied = events.not_found is not None or bool(events.denials)
     if events.refusal and not denied:
-        policy, text = events.refusal
-        return f'{{"policy":{quoted(policy)},"refused":{quoted(text)},"uid":{quoted(uid)}}}'
+        told = events.refusal
+        return f'{{"policy":{quoted(told.policy)},"refused":{quoted(told.text)},"uid":{quoted(uid)}}}'
     parts = [f'"allowed":{"false" if denied else "true"}']
     if events.failures:
         parts.append(f'"auditAnnotations":{{{quoted(ANNOTATION)}:{quoted(annotation(events.failures[0]))}}}')

@@ -1,5 +1,5 @@
 -- Proof obligations of `asking::ask`.
-use Rattle.cluster_gate.proofs.Prelude.{IfOk-weaker, ap, policy_view, request_view, state_view, BoundPolicy}
+use Rattle.cluster_gate.proofs.Prelude.{IfOk-weaker, policy_view, request_view, state_view}
 use Rattle.cluster_gate.proofs.Asked.{asks_in_trouble, asks_matched, asks_no, asks_unknown, policy_of, same_answer}
 use Rattle.cluster_gate.proofs.asking.ask.Goals as goal
 
@@ -11,8 +11,8 @@ returns-in-No c s p state is =
 
 pub returns-in_ok-refuse-in-Unknown : goal.returns-in_ok-refuse-in-Unknown
 returns-in_ok-refuse-in-Unknown c s p state is =
-    asks_unknown s c.args.case.now.review.now c.args.case.now.steps (request_view c.args.case.now.request.now) p c.args.events.now c.refuse.new.self
-    c.args.gate.now.asked.policy.now.name.now c.args.gate.now.standing is.stands (ap (λ (x : BoundPolicy). x.name) (policy_of s p c.args.gate.now is))
+    asks_unknown s c.args.case.now.review.now c.args.case.now.steps (request_view c.args.case.now.request.now) p c.args.events.now c.refuse.new.events
+    (policy_view c.args.gate.now.asked.policy.now) c.args.gate.now.standing is.stands (policy_of s p c.args.gate.now is)
     (same_answer s (state_view c.args.state.now) (policy_view c.args.gate.now.asked.policy.now) p (request_view c.args.case.now.request.now) _ state (policy_of s p c.args.gate.now is)
     c.in-Unknown.ensures)
     c.in_ok-refuse-in-Unknown.ensures

@@ -1,5 +1,5 @@
 -- Proof obligations of `asking::ask_matched`.
-use Rattle.cluster_gate.proofs.Prelude.{IfOk-weaker, ap, request_view, BoundPolicy}
+use Rattle.cluster_gate.proofs.Prelude.{IfOk-weaker, policy_view, request_view}
 use Rattle.cluster_gate.proofs.Asked.{matched_asked, matched_blocked, policy_of}
 use Rattle.cluster_gate.proofs.asking.ask_matched.Goals as goal
 
@@ -10,11 +10,11 @@ returns-in-Asked c =
     let stands = rw c.in-Asked.is at is.stands in
     matched_asked s c.args.case.now.review.now c.args.case.now.steps (request_view c.args.case.now.request.now) p c.args.events.now c.run_bindings.new.events ended
     c.in-Asked.compiled stands
-    (h s p state is.asked (record { name = ap (λ (x : BoundPolicy). x.name) (policy_of s p c.args.gate.now is); gate = stands.0 })))
+    (h s p state is.asked (record { policy = policy_of s p c.args.gate.now is; gate = stands.0 })))
     c.run_bindings.ensures
 
 pub returns-in_ok-refuse-in-Blocked : goal.returns-in_ok-refuse-in-Blocked
 returns-in_ok-refuse-in-Blocked c s p state is =
-    matched_blocked s c.args.case.now.review.now c.args.case.now.steps (request_view c.args.case.now.request.now) p c.args.events.now c.refuse.new.self
-    c.args.gate.now.asked.policy.now.name.now c.in-Blocked.cause (rw c.in-Blocked.is at is.stands) (ap (λ (x : BoundPolicy). x.name) (policy_of s p c.args.gate.now is))
+    matched_blocked s c.args.case.now.review.now c.args.case.now.steps (request_view c.args.case.now.request.now) p c.args.events.now c.refuse.new.events
+    (policy_view c.args.gate.now.asked.policy.now) c.in-Blocked.cause (rw c.in-Blocked.is at is.stands) (policy_of s p c.args.gate.now is)
     (rw c.refusal.ensures at c.in_ok-refuse-in-Blocked.ensures)

@@ -10,13 +10,13 @@ run_step-requires c =
     all_at (HasKnownNamespace c.args.self.now.case.now.opened c.args.self.now.case.now.place) c.args.steps.now c.loop-step.step-index c.step-item.result
     c.loop-step-test.true c.step-item.is c.requires
 
-pub returns-in-NextPolicy : goal.returns-in-NextPolicy
-returns-in-NextPolicy c p of =
+pub returns-in-NextBinding : goal.returns-in-NextBinding
+returns-in-NextBinding c p of =
     added_last p c.args.self.now (map step_view c.args.steps.now) c.args.events.now (step_view c.step-item.result)
     (map step_view (drop (c.loop-step.step-index + 1) c.args.steps.now)) c.loop-step.events c.run_step.new.events
     (at_step p c.args.self.now c.args.steps.now c.loop-step.step-index c.args.events.now c.loop-step.events (c.loop-step.invariant p of) c.step-item.result
     c.loop-step-test.true c.step-item.is)
-    (rw c.in-NextPolicy.is at (c.in_ok-run_step.ensures p of))
+    (rw c.in-NextBinding.is at (c.in_ok-run_step.ensures p of))
 
 pub returns-in-End : goal.returns-in-End
 returns-in-End c p of =

@@ -1,23 +1,16 @@
 -- Proof obligations of `policy_run::PolicyRun::run_bindings`.
-use Rattle.std.specs.List.{All}
-use Rattle.cluster_gate.specs.Beside.{HasKnownNamespace}
-use Rattle.cluster_gate.proofs.KnownSteps.{steps_are_known}
-use Rattle.cluster_gate.proofs.Prelude.{◌∙◌, List, sym, IfOk-weaker, ap, asked_policy, asked_view, map, request_view, state_view, step_view, subst, AddsSteps, PlannedStep}
+use Rattle.cluster_gate.proofs.Prelude.{List, IfOk-weaker, asked_policy, asked_view, binding_steps, refl, request_view, state_view, subst, AddsBindings, PlannedStep}
 use Rattle.cluster_gate.proofs.Asked.{bound_steps}
+use Rattle.cluster_gate.proofs.Runs.{steps_of_bindings}
 use Rattle.cluster_gate.proofs.policy_run.PolicyRun.run_bindings.Goals as goal
-
-pub run-requires : goal.run-requires
-run-requires c =
-    let case = c.args.self.now.case.now in
-    subst (All (HasKnownNamespace case.opened case.place)) (sym (ap (map step_view) c.as_slice.ensures.value ∙ c.in_ok-steps.ensures))
-    (steps_are_known case.opened case.place (state_view c.args.state.now) (asked_view c.args.asked.now) (request_view case.request.now) c.requires)
 
 pub returns : goal.returns
 returns c =
-    IfOk-weaker c.run.result _ _
+    IfOk-weaker c.run_each.result _ _
     (λ ended h s p state asked of.
-    subst (λ (st : List PlannedStep). AddsSteps p c.args.self.now st c.args.events.now c.run.new.events ended)
-    (ap (map step_view) c.as_slice.ensures.value
-    ∙ bound_steps s (state_view c.args.state.now) (asked_view c.args.asked.now) (asked_policy s p) (request_view c.args.self.now.case.now.request.now) _ state asked c.in_ok-steps.ensures)
+    subst (λ (all : List (List PlannedStep)). AddsBindings p c.args.self.now all c.args.events.now c.run_each.new.events ended)
+    (bound_steps s (state_view c.args.state.now) (asked_view c.args.asked.now) (asked_policy s p) (request_view c.args.self.now.case.now.request.now) _ state asked
+    (steps_of_bindings (binding_steps (state_view c.args.state.now) (asked_view c.args.asked.now) (request_view c.args.self.now.case.now.request.now)) _ _ _
+    refl c.in_ok-bindings.ensures))
     (h p of))
-    c.run.ensures
+    c.run_each.ensures
