@@ -1,5 +1,5 @@
 -- Lists that are joined from a list for each element, and their order.
-use Rattle.std.proofs.Common.{◌≡◌, ◌∙◌, ◌∷◌, ◌++◌, List, [], Bool, true, false, arith, map, refl}
+use Rattle.std.proofs.Common.{◌∷◌, ◌++◌, List, [], Bool, true, false, arith, map, refl}
 use Rattle.std.proofs.lemmas.List.Sorted.{IsPermutation-cons, IsPermutation-refl, IsPermutation-swap, IsPermutation-trans}
 use Rattle.std.specs.List.{filter}
 use Rattle.std.specs.Prelude.{IsPermutation, cond}

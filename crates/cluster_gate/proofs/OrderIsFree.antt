@@ -10,7 +10,7 @@ use Rattle.policy_glue.specs.OneAnswer.{CompileHasOneResult}
 use Rattle.admission.specs.OneAnswer.{FindingsHaveOneResult}
 use Rattle.admission_match.specs.Requests.{is_exempt}
 use Rattle.cluster_response.specs.Events as event
-use Rattle.cluster_response.specs.Events.{has_end, summary_of}
+use Rattle.cluster_response.specs.Events.{has_end}
 use Rattle.cluster_response.specs.Laws.{AllowedExactly, WarningsAreThoseOfEvents, allowed_in, is_against, is_refusal, warns_by}
 use Rattle.cluster_gate.proofs.Each.{to_permutation}
 use Rattle.cluster_gate.proofs.OneAnswer.{asked_shallow, dispatches_once}

@@ -1,6 +1,6 @@
 -- The params and the namespace of each evaluation are documents of the state.
 use Rattle.cluster_gate.specs.Servers.{MatchAnswers, answered_steps_by, binding_steps_by, block_steps_by, policy_steps_by}
-use Rattle.cluster_gate.proofs.Prelude.{◌∷◌, ℕ, List, [], Bool, true, false, Option, Some, None, Result, Ok, Err, map, subst, sym, ClusterState, PlannedStep, Request, by_block, policy_steps}
+use Rattle.cluster_gate.proofs.Prelude.{◌∷◌, ℕ, List, [], Bool, true, false, Option, Some, None, Result, Ok, Err, map, ClusterState, PlannedStep, Request, by_block, policy_steps}
 use Rattle.std.proofs.lemmas.List.Elements.{All-cons, All-filter, All-head, All-map, All-nil, All-tail, All-weaker}
 use Rattle.std.specs.List.{All, filter}
 use Rattle.std.specs.Option.{option_to_list}

@@ -1,5 +1,5 @@
 -- Bindings and policies that do not end the dispatch, one after another.
-use Rattle.cluster_gate.proofs.Prelude.{◌≡◌, ◌∙◌, ◌∷◌, ◌++◌, ℕ, List, [], Bool, true, false, Option, ap, option_map, refl, sym, BoundPolicy, ClusterState, Dispatches, Event, IsJudged, OneImage, PlannedStep, Request, RunsBindings, RunsSteps, asked_policy, block_of, policy_steps}
+use Rattle.cluster_gate.proofs.Prelude.{◌≡◌, ◌∙◌, ◌++◌, ℕ, List, Bool, true, false, Option, ap, option_map, refl, sym, BoundPolicy, ClusterState, Dispatches, Event, IsJudged, OneImage, PlannedStep, Request, RunsBindings, RunsSteps, asked_policy, block_of, policy_steps}
 use Rattle.std.proofs.Common.{true≢false}
 use Rattle.std.proofs.lemmas.Bool.{or_parts}
 use Rattle.std.specs.Prelude.{◌||◌}

@@ -1,5 +1,5 @@
 -- What does not depend on the order of policies and of bindings, which API servers leave open.
-use Rattle.std.specs.Prelude.{◌≡◌, ℕ, false, true, List, [], ◌∷◌, Option, Some, None, IsPermutation, bytes_eq}
+use Rattle.std.specs.Prelude.{◌≡◌, ℕ, false, List, [], ◌∷◌, Option, Some, None, IsPermutation, bytes_eq}
 use Rattle.std.specs.List.{list_any}
 use Rattle.serde_json.specs.Data as json
 use Rattle.value_store.specs.Reviews.{uid_in}

@@ -1,5 +1,5 @@
 -- The params of the evaluations under a binding.
-use Rattle.cluster_plan.proofs.Prelude.{◌≡◌, ◌∙◌, ◌++◌, ◌∷◌, List, [], Option, Some, Result, Ok, ap, append_assoc, map, option_map, refl, Binding, CodeBinding, binding_view, Bor, ParamError, PlannedStep, Value, found_params, view}
+use Rattle.cluster_plan.proofs.Prelude.{◌≡◌, ◌∷◌, List, [], Option, Some, Result, Ok, ap, map, option_map, refl, Bor, ParamError, Value, found_params, view}
 use Rattle.serde_json.specs.Data as json
 
 given_each : (ds : List (Bor Value)) → map Some (map (λ d. view d.now) ds) ≡ map (option_map (λ d. view d.now)) (map Some ds)

@@ -30,7 +30,7 @@ use Rattle.gatekeeper_runner.specs.ClusterLines.{decision_text}
 use Rattle.gatekeeper_runner.specs.ClusterStarting.{cause_code, cause_text, code_and_name, fault_line, fault_text, state_text}
 use Rattle.gatekeeper_runner.specs.ClusterTelling.{block_text, params_text, policy_line}
 use Rattle.gatekeeper_runner.specs.Lines.{answer_text, refusal_text, too_long_text, uid_shown}
-use Rattle.gatekeeper_runner.specs.Together.{PolicyResult, Refused as RefusedReview, and_also, first_refused, joined, rejections}
+use Rattle.gatekeeper_runner.specs.Together.{PolicyResult, Refused as RefusedReview, and_also, joined, rejections, told_refusal}
 use Rattle.gatekeeper_runner.specs.declared.cluster_fault.ClusterFault.TheVariants.{NoList, NoState, Blocked}
 
 -- ---- lines
@@ -80,6 +80,16 @@ rejecting file message reason = result_of file (Ok (record { rejection = Some (r
 abbrev pub endless : List ℕ → PolicyResult
 endless file = result_of file (Err run_error.OutOfSteps)
 
+-- a policy under Ignore in this file does not end in its steps
+abbrev pub ignoring : List ℕ → PolicyResult
+ignoring file = record {
+  policy = record { file = file; document = codes "{\"spec\":{\"failurePolicy\":\"Ignore\"}}" };
+  result = Err run_error.OutOfSteps;
+}
+
+abbrev pub ignored_by : List ℕ → RefusedReview
+ignored_by file = record { error = run_error.OutOfSteps; policy = Some (record { name = file; failure_policy = codes "Ignore" }) }
+
 -- the refusal by the policy in this file, which has no failure policy of its own
 abbrev pub refused_by : List ℕ → RefusedReview
 refused_by file = record { error = run_error.OutOfSteps; policy = Some (record { name = file; failure_policy = codes "Fail" }) }
@@ -97,9 +107,15 @@ pub record TogetherRowsHold : Type 0 where
       ∷ rejecting (codes "d.json") (codes "n") Invalid ∷ [])
       ≡ Some (rejects (codes "m; n") Forbidden)
   pub of_none : rejections (allowing ∷ endless (codes "c.json") ∷ []) ≡ None
-  pub first_refusal : first_refused (allowing ∷ endless (codes "b.json") ∷ endless (codes "c.json") ∷ [])
+  pub first_refusal : told_refusal (allowing ∷ endless (codes "b.json") ∷ endless (codes "c.json") ∷ [])
       ≡ Some (refused_by (codes "b.json"))
-  pub no_refusal : first_refused (allowing ∷ []) ≡ None
+  pub no_refusal : told_refusal (allowing ∷ []) ≡ None
+  -- the first under Fail, else the first
+  pub fail_after_ignore : told_refusal (ignoring (codes "a.json") ∷ endless (codes "b.json") ∷ endless (codes "c.json") ∷ [])
+      ≡ Some (refused_by (codes "b.json"))
+  pub fail_before_ignore : told_refusal (endless (codes "a.json") ∷ ignoring (codes "b.json") ∷ []) ≡ Some (refused_by (codes "a.json"))
+  pub ignore_alone : told_refusal (ignoring (codes "a.json") ∷ ignoring (codes "b.json") ∷ allowing ∷ [])
+      ≡ Some (ignored_by (codes "a.json"))
   pub rejected : joined (Some first_reason) (Some no_review) (codes "u1") ≡ Ok (record { rejection = Some first_reason; uid = codes "u1" })
   pub refused : joined None (Some no_review) (codes "u1") ≡ Err no_review
   pub allowed : joined None None (codes "u1") ≡ Ok (record { rejection = None; uid = codes "u1" })

@@ -1,4 +1,5 @@
 -- The proofs of gatekeeper_runner, file by file.
+mod FailFirst
 mod Gates
 mod Tallies
 mod RefusalTexts

@@ -1,5 +1,5 @@
 -- A line has one answer.
-use Rattle.gatekeeper_runner.proofs.Prelude.{◌≡◌, ℕ, List, [], ◌∷◌, map, None, Result, Err, refl, sym, ap, ◌∙◌, subst, OneImage, ReviewHasOneResult, Decision, RunError, DecidesLine, answer_text, decides, too_long_text, LinesHaveOneAnswer, AreResults, IsResult, DecideTogether, Gatekeeper, PolicyFile, PolicyResult, Refused, first_refused, joined, rejections, uid_in, under}
+use Rattle.gatekeeper_runner.proofs.Prelude.{◌≡◌, ℕ, List, [], ◌∷◌, map, None, Result, Err, refl, sym, ap, ◌∙◌, subst, OneImage, ReviewHasOneResult, Decision, RunError, DecidesLine, answer_text, decides, too_long_text, LinesHaveOneAnswer, AreResults, IsResult, DecideTogether, Gatekeeper, PolicyFile, PolicyResult, Refused, joined, rejections, told_refusal, uid_in, under}
 use Rattle.line_answers.proofs.OneAnswer.{HasOneText, answers_same}
 use Rattle.gatekeeper_runner.specs.Together as together
 use Rattle.policy_glue.specs.OneAnswer as policy
@@ -27,7 +27,7 @@ module _ (compiles_once : policy.CompileHasOneResult) (reviews_once : ReviewHasO
   together_once r s (together.no_values is) (together.decided rs given of are) = absurd (cc)
   together_once r s (together.decided rs given of are) (together.no_values is) = absurd (cc)
   together_once r s (together.decided xs given of are) (together.decided ys given2 of2 are2) =
-      ap (λ (rs : List PolicyResult). joined (rejections rs) (first_refused rs) (uid_in line)) (results_once xs ys (of ∙ sym of2) are are2)
+      ap (λ (rs : List PolicyResult). joined (rejections rs) (told_refusal rs) (uid_in line)) (results_once xs ys (of ∙ sym of2) are are2)
 
   text_once : HasOneText t.max_line too_long_text (DecidesLine OneImage t) line
   text_once a b (decides {result = r} by) (decides {result = s} also) = ap (answer_text line) (together_once r s by also)

@@ -43,9 +43,9 @@ pub use Rattle.gatekeeper_runner.specs.Starting.{GatesFrom, IsUnopened, OneUnope
 pub use Rattle.gatekeeper_runner.specs.Starting.{no_params, no_policy, ready, refused, unread}
 pub use Rattle.gatekeeper_runner.specs.Together.{AreGates, AreResults, AreValuesOf, DecideTogether, DecidesAlone}
 pub use Rattle.gatekeeper_runner.specs.Together.{Gatekeeper, IsGateOf, IsResult, RefusingPolicy, PolicyFile, PolicyResult, Refused}
-pub use Rattle.gatekeeper_runner.specs.Together.{and_also, decided, first_refused, gatekeeper_of, joined, label_of}
-pub use Rattle.gatekeeper_runner.specs.Together.{label_view, refused_or, refused_view, rejection_in, rejections}
-pub use Rattle.gatekeeper_runner.specs.Together.{under}
+pub use Rattle.gatekeeper_runner.specs.Together.{and_also, decided, gatekeeper_of, joined, label_of}
+pub use Rattle.gatekeeper_runner.specs.Together.{label_view, refused_and, refused_view, rejection_in, rejections}
+pub use Rattle.gatekeeper_runner.specs.Together.{is_by_fail, refusals, told_refusal, under}
 pub use Rattle.gatekeeper_runner.specs.Tally.{AddsResult, AreTallied, IsTallyOf, ending_of}
 pub use Rattle.gatekeeper_runner.specs.declared.named_gate.NamedGate.{NamedGate}
 pub use Rattle.gatekeeper_runner.specs.declared.order.Order.{Order}

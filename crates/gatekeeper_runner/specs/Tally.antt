@@ -5,13 +5,13 @@ use Rattle.policy_glue.specs.Rejections.{rejection_view}
 use Rattle.admission.specs.Decisions.{Decision}
 use Rattle.admission.specs.Standing.{Images}
 use Rattle.admission.specs.declared.run_error.RunError.{RunError, TheVariants.Memory}
-use Rattle.gatekeeper_runner.specs.Together.{AreResults, first_refused, joined, Gatekeeper, label_of, RefusingPolicy, PolicyFile, PolicyResult, Refused, refused_view, rejections}
+use Rattle.gatekeeper_runner.specs.Together.{AreResults, joined, Gatekeeper, label_of, RefusingPolicy, PolicyFile, PolicyResult, Refused, refused_view, rejections, told_refusal}
 use Rattle.gatekeeper_runner.specs.declared.tally.Tally.{Tally}
 
--- the joined rejections among these results, and the first refusal
+-- the joined rejections among these results, and the refusal that is told of theirs
 pub record IsTallyOf (results : List PolicyResult) (tally : Tally) : Type 0 where
   pub rejection : option_map rejection_view tally.rejection ≡ rejections results
-  pub refused : option_map refused_view tally.refused ≡ first_refused results
+  pub refused : option_map refused_view tally.refused ≡ told_refusal results
 
 -- the result of a policy with this label is added; no allocation failed
 pub record AddsResult (label : RefusingPolicy) (result : Result Decision RunError) (before after : Tally) : Type 0 where

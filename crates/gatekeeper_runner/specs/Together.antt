@@ -1,6 +1,8 @@
 -- The joint decision of several policies on a review.
-use Rattle.std.specs.Prelude.{◌≡◌, ◌≢◌, ℕ, List, [], ◌∷◌, ◌++◌, codes, fold, map, Option, Some, None, Result, Ok, Err}
-use Rattle.std.specs.Prelude.{option_map, string_bytes, unwrap_or}
+use Rattle.std.specs.Prelude.{◌≡◌, ◌≢◌, ℕ, Bool, true, false, List, [], ◌∷◌, ◌++◌, bytes_eq, codes, fold, map, Option, Some, None, Result, Ok, Err}
+use Rattle.std.specs.List.{All}
+use Rattle.std.specs.Option.{option_map_or}
+use Rattle.std.specs.Prelude.{is_ok, option_map, string_bytes, unwrap_or}
 use Rattle.value_store.specs.Placing.{Contents}
 use Rattle.policy_glue.specs.Documents.{document_of}
 use Rattle.policy_glue.specs.OneImage.{OneImage}
@@ -11,6 +13,7 @@ use Rattle.admission.specs.Reviews.{contents_given, uid_in}
 use Rattle.admission.specs.Standing.{Images, RunAgrees}
 use Rattle.admission.specs.declared.decision.Decision.{Decision as CodeDecision}
 use Rattle.admission.specs.declared.run_error.RunError.{RunError, TheVariants.Memory}
+use Rattle.cluster_response.specs.Firsts.{told_of}
 use Rattle.gatekeeper_runner.specs.Texts.{text_at}
 use Rattle.gatekeeper_runner.specs.declared.gatekeeper.Gatekeeper.{Gatekeeper as CodeGatekeeper}
 use Rattle.gatekeeper_runner.specs.declared.named_gate.NamedGate.{NamedGate}
@@ -92,17 +95,29 @@ pub record Refused : Type 0 where
   pub error : RunError
   pub policy : Option RefusingPolicy
 
-abbrev pub refused_or : PolicyFile → Result Decision RunError → Option Refused → Option Refused
-refused_or policy (Ok decision) next = next
-refused_or policy (Err e) next = Some (record { error = e; policy = Some (label_of policy) })
+-- the failure policy is `Fail`
+abbrev pub is_under_fail : RefusingPolicy → Bool
+is_under_fail label = bytes_eq label.failure_policy (codes "Fail")
 
--- the first refusal among these results
-abbrev pub first_refused : List PolicyResult → Option Refused
-first_refused [] = None
-first_refused (r ∷ rs) = refused_or r.policy r.result (first_refused rs)
+-- a policy under `Fail` refuses
+abbrev pub is_by_fail : Refused → Bool
+is_by_fail refused = option_map_or is_under_fail refused.policy false
 
--- the joint result: a rejection if a policy rejects, even if others refuse; else the first refusal; else the request
--- is allowed
+abbrev pub refused_and : PolicyFile → Result Decision RunError → List Refused → List Refused
+refused_and policy (Ok decision) others = others
+refused_and policy (Err e) others = record { error = e; policy = Some (label_of policy) } ∷ others
+
+-- the refusals among these results, in order
+abbrev pub refusals : List PolicyResult → List Refused
+refusals [] = []
+refusals (r ∷ rs) = refused_and r.policy r.result (refusals rs)
+
+-- the refusal that is told: the first by a policy under `Fail`, else the first
+abbrev pub told_refusal : List PolicyResult → Option Refused
+told_refusal results = told_of is_by_fail (refusals results)
+
+-- the joint result: a rejection if a policy rejects, even if others refuse; else the refusal that is told; else the
+-- request is allowed
 abbrev pub joined : Option Rejection → Option Refused → List ℕ → Result Decision Refused
 joined (Some rejection) refused uid = Ok (record { rejection = Some rejection; uid = uid })
 joined None (Some refused) uid = Err refused
@@ -119,7 +134,26 @@ pub data DecideTogether (chosen : Images) (t : Gatekeeper) (review : List ℕ) :
       → DecideTogether chosen t review (Err (record { error = e; policy = None }))
   decided : {values : Contents} (results : List PolicyResult) → values_under t review ≡ Ok values
       → map (λ r. r.policy) results ≡ t.policies → AreResults chosen t review results
-      → DecideTogether chosen t review (joined (rejections results) (first_refused results) (uid_in review))
+      → DecideTogether chosen t review (joined (rejections results) (told_refusal results) (uid_in review))
+
+-- ---- failure policies
+
+-- the result of a policy is a decision, if the policy is under `Fail`
+abbrev pub DecidesUnderFail : PolicyResult → Type 0
+DecidesUnderFail r = is_under_fail (label_of r.policy) ≡ true → is_ok r.result ≡ true
+
+-- each policy under `Fail` decides the review
+pub record EachFailDecides (chosen : Images) (t : Gatekeeper) (review : List ℕ) : Type 0 where
+  pub results : List PolicyResult
+  pub of_policies : map (λ r. r.policy) results ≡ t.policies
+  pub are : AreResults chosen t review results
+  pub decide : All DecidesUnderFail results
+
+-- a refusal names a policy that is not under `Fail` only if each policy under `Fail` decides
+abbrev pub HidesNoFail : Images → Gatekeeper → List ℕ → Result Decision Refused → Type 0
+HidesNoFail chosen t review (Ok decision) = Unit {0}
+HidesNoFail chosen t review (Err refused) =
+    (label : RefusingPolicy) → refused.policy ≡ Some label → is_under_fail label ≡ false → EachFailDecides chosen t review
 
 -- ---- values of the code
 

@@ -5,7 +5,7 @@ ghost use Rattle.policy_glue.specs.OneImage.{OneImage};
 ghost use Rattle.admission.specs.Decisions.{said_view};
 ghost use Rattle.admission.specs.declared.run_error.RunError.TheVariants.{Memory};
 ghost use Rattle.gatekeeper_runner.specs.Tally.{AreTallied};
-ghost use Rattle.gatekeeper_runner.specs.Together.{gatekeeper_of, together_view, AreGates, AreValuesOf, DecidesAlone, DecideTogether, IsGateOf, PolicyFile};
+ghost use Rattle.gatekeeper_runner.specs.Together.{gatekeeper_of, together_view, AreGates, AreValuesOf, DecidesAlone, DecideTogether, HidesNoFail, IsGateOf, PolicyFile};
 
 use crate::errors::is_memory;
 use crate::named_gate::NamedGate;
@@ -33,13 +33,15 @@ pub struct Gatekeeper {
 }
 
 impl Gatekeeper {
-    /// The joint decision of the policies on a review, or why the review is refused.
+    /// The joint decision of the policies on a review, or why the review is refused. A refusal names
+    /// a policy under `Ignore` only if each policy under `Fail` decides.
     ///
     /// # Errors
     ///
     /// An allocation failed, which implies nothing about the review.
     pub fn decision(&self, review: &[u8]) -> Result<Result<Decision, Refused>, AllocError>
-        ensures { IfOk result (λ r. (policies : List PolicyFile) → AreGates policies self.now.gates.items → DecideTogether OneImage (gatekeeper_of policies self.now) review.now (together_view r)) }
+        ensures decides { IfOk result (λ r. (policies : List PolicyFile) → AreGates policies self.now.gates.items → DecideTogether OneImage (gatekeeper_of policies self.now) review.now (together_view r)) }
+        ensures hides_no_fail { IfOk result (λ r. (policies : List PolicyFile) → AreGates policies self.now.gates.items → HidesNoFail OneImage (gatekeeper_of policies self.now) review.now (together_view r)) }
     {
         match self.documents.table_of(review) {
             Ok((table, uid)) => self.decision_on(table, uid),

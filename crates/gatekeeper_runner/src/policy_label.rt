@@ -1,6 +1,6 @@
 //! Labels of policies.
 ghost use Rattle.std.specs.Prelude.{◌≡◌, IfOk};
-ghost use Rattle.gatekeeper_runner.specs.Together.{label_view};
+ghost use Rattle.gatekeeper_runner.specs.Together.{is_under_fail, label_view};
 
 use std::alloc::{AllocError, Global};
 
@@ -14,6 +14,13 @@ pub struct PolicyLabel {
 }
 
 impl PolicyLabel {
+    /// Whether the failure policy is `Fail`.
+    pub fn is_under_fail(&self) -> bool
+        ensures { result ≡ is_under_fail (label_view self.now) }
+    {
+        self.failure_policy.as_str() == "Fail"
+    }
+
     /// A copy of the label.
     pub fn copy(&self, alloc: Global) -> Result<PolicyLabel, AllocError>
         ensures { IfOk result (λ l. label_view l ≡ label_view self.now) }

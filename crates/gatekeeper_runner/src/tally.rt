@@ -1,9 +1,9 @@
 //! Collects the results of the policies for one review.
 ghost use Rattle.std.specs.Prelude.{◌≡◌, ℕ, List, option_map, IfOk, Err, Ok, Some, []};
-ghost use Rattle.std.specs.Option.{option_or};
 ghost use Rattle.admission.specs.Decisions.{said_view};
 ghost use Rattle.gatekeeper_runner.specs.Tally.{AddsResult, IsTallyOf, ending_of};
-ghost use Rattle.gatekeeper_runner.specs.Together.{label_view, refused_view, together_view};
+ghost use Rattle.cluster_response.specs.Firsts.{preferred};
+ghost use Rattle.gatekeeper_runner.specs.Together.{is_by_fail, label_view, refused_view, together_view};
 
 use crate::errors::is_memory;
 use crate::joining::and_also;
@@ -18,7 +18,7 @@ use std::alloc::{AllocError, Global};
 pub struct Tally {
     /// The rejections of the policies that decided, joined.
     pub rejection: Option<Rejection>,
-    /// The first refusal of a policy that did not decide.
+    /// The first refusal of a policy under `Fail`, or else the first.
     pub refused: Option<Refused>,
 }
 
@@ -76,14 +76,14 @@ impl Tally {
         if is_memory(error) {
             return Err(AllocError);
         }
-        let refused = first_of(alloc, self.refused, label, error)?;
+        let refused = told_of(alloc, self.refused, label, error)?;
         Ok(Tally {
             rejection: self.rejection,
             refused: Some(refused),
         })
     }
 
-    /// The joint decision on the request with this uid, or the first refusal.
+    /// The joint decision on the request with this uid, or the refusal that is told.
     pub fn ending(self, uid: String) -> Result<Decision, Refused>
         ensures { together_view result ≡ ending_of self uid }
     {
@@ -104,20 +104,35 @@ impl Tally {
     }
 }
 
-/// The first refusal, given that the policy with this label refuses next.
-fn first_of(
+/// The refusal that is told, if the policy with this label refuses after the others.
+fn told_of(
     alloc: Global,
     first: Option<Refused>,
     label: &PolicyLabel,
     error: RunError,
 ) -> Result<Refused, AllocError>
-    ensures { IfOk result (λ r. Some (refused_view r) ≡ option_or (option_map refused_view first) (Some (record { error = error; policy = Some (label_view label.now) }))) }
+    ensures { IfOk result (λ r. refused_view r ≡ preferred is_by_fail (option_map refused_view first) (record { error = error; policy = Some (label_view label.now) })) }
 {
     match first {
-        Some(first) => Ok(first),
-        None => Ok(Refused {
-            error,
-            policy: Some(label.copy(alloc)?),
-        }),
+        Some(first) => {
+            if first.is_by_fail() {
+                Ok(first)
+            } else if label.is_under_fail() {
+                refused_by(alloc, label, error)
+            } else {
+                Ok(first)
+            }
+        }
+        None => refused_by(alloc, label, error),
     }
+}
+
+/// The refusal by the policy with this label.
+fn refused_by(alloc: Global, label: &PolicyLabel, error: RunError) -> Result<Refused, AllocError>
+    ensures { IfOk result (λ r. refused_view r ≡ record { error = error; policy = Some (label_view label.now) }) }
+{
+    Ok(Refused {
+        error,
+        policy: Some(label.copy(alloc)?),
+    })
 }

@@ -39,6 +39,17 @@ const ONE_REFUSED: &str =
 {"apiVersion":"admission.k8s.io/v1","kind":"AdmissionReview","response":{"allowed":false,"status":{"code":422,"message":"failed expression: object.spec.replicas <= 3","reason":"Invalid"},"uid":"u2"}}
 "#;
 
+/// The answers if each policy needs more steps than it may take, and `few` is one of them. It is under Fail.
+const BOTH_REFUSED: &str = r#"{"refused":"N4","uid":"u1","policy":"few","failurePolicy":"Fail"}
+{"refused":"N4","uid":"u2","policy":"few","failurePolicy":"Fail"}
+"#;
+
+/// The answers if all policies that need more steps are under Ignore.
+const IGNORE_REFUSED: &str =
+    r#"{"refused":"N4","uid":"u1","policy":"slow-one","failurePolicy":"Ignore"}
+{"refused":"N4","uid":"u2","policy":"slow-one","failurePolicy":"Ignore"}
+"#;
+
 /// A review of 1.5 replicas, an empty line, a document that is not a review, one that is not JSON, and a
 /// review of 2 replicas in a line without a line feed.
 const REST: &str =
@@ -50,7 +61,7 @@ no
 
 /// The words, the input, the status, standard output and the refusal.
 #[rattlefmt::skip]
-const ROWS: [(&str, &str, u8, &str, &str); 20] = [
+const ROWS: [(&str, &str, u8, &str, &str); 23] = [
     (FEW, TWO, 0, TWO_ANSWERS, ""),
     (
         FEW,
@@ -81,15 +92,10 @@ const ROWS: [(&str, &str, u8, &str, &str); 20] = [
 "#,
         "",
     ),
-    (
-        "gatekeeper --policy few --policy even --steps 1",
-        TWO,
-        0,
-        r#"{"refused":"N4","uid":"u1","policy":"few","failurePolicy":"Fail"}
-{"refused":"N4","uid":"u2","policy":"few","failurePolicy":"Fail"}
-"#,
-        "",
-    ),
+    ("gatekeeper --policy few --policy even --steps 1", TWO, 0, BOTH_REFUSED, ""),
+    ("gatekeeper --policy few --policy slow --steps 1", TWO, 0, BOTH_REFUSED, ""),
+    ("gatekeeper --policy slow --policy few --policy even --steps 1", TWO, 0, BOTH_REFUSED, ""),
+    ("gatekeeper --policy slow --policy slow --steps 1", TWO, 0, IGNORE_REFUSED, ""),
     (
         "gatekeeper --policy deep",
         TWO,
