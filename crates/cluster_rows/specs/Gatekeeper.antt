@@ -57,9 +57,15 @@ pub record GatekeeperLinesHold : Type 0 where
   pub refused_line : answer_text (codes "{\"request\":{\"uid\":\"u2\"}}") (Err no_review) ≡ codes "{\"refused\":\"N2\",\"uid\":\"u2\"}"
   pub decision_in_a_cluster : decision_text (codes "{}") (Some (codes "{\"a\":1}")) ≡ codes "{\"a\":1}"
   pub no_review_in_a_cluster : decision_text (codes "{\"request\":{\"uid\":\"u2\"}}") None ≡ codes "{\"refused\":\"N2\",\"uid\":\"u2\"}"
-  pub all_answered : ending_of (Ok tt) ≡ Ok 0
-  pub unread : ending_of (Err session_error.ReadFailed) ≡ Err refusal.Input
-  pub unwritten : ending_of (Err session_error.WriteFailed) ≡ Err refusal.Output
+  -- status 1 exactly with --status, if all lines were answered and some answer does not allow
+  pub all_answered : ending_of false (Ok true) ≡ Ok 0
+  pub some_denied : ending_of false (Ok false) ≡ Ok 0
+  pub all_allowed : ending_of true (Ok true) ≡ Ok 0
+  pub some_denied_with_status : ending_of true (Ok false) ≡ Ok 1
+  pub unread : ending_of false (Err session_error.ReadFailed) ≡ Err refusal.Input
+  pub unwritten : ending_of false (Err session_error.WriteFailed) ≡ Err refusal.Output
+  pub unread_with_status : ending_of true (Err session_error.ReadFailed) ≡ Err refusal.Input
+  pub unwritten_with_status : ending_of true (Err session_error.WriteFailed) ≡ Err refusal.Output
 
 -- ---- several policies
 

@@ -3,7 +3,7 @@ use Rattle.std.specs.Prelude.{◌≡◌, true, false, List, [], ◌∷◌, ◌++
 use Rattle.clap.specs.Words.{Text}
 use Rattle.host.specs.declared.order_error.OrderError.TheVariants.{InvalidArguments}
 use Rattle.gatekeeper_runner.specs.About.{text_asked}
-use Rattle.gatekeeper_runner.specs.Orders.{by_cluster, by_policies, entered, faults, is_partial, is_verbose, order_from}
+use Rattle.gatekeeper_runner.specs.Orders.{by_cluster, by_policies, entered, faults, has_status, is_partial, is_verbose, order_from}
 
 -- gatekeeper --policy a.json
 abbrev pub under_policy : List Text
@@ -27,6 +27,7 @@ pub record CommandOrdersHold : Type 0 where
         steps = 10000000;
         max_line = 16777216;
         verbose = false;
+        status = false;
       })
   pub more : order_from
       (entered (under_policy
@@ -38,11 +39,12 @@ pub record CommandOrdersHold : Type 0 where
         steps = 5;
         max_line = 16777216;
         verbose = false;
+        status = false;
       })
   pub cluster : order_from (entered as_cluster)
-      ≡ by_cluster (record { files = codes "c.json" ∷ []; partial = false; steps = 10000000; max_line = 16777216; verbose = false })
+      ≡ by_cluster (record { files = codes "c.json" ∷ []; partial = false; steps = 10000000; max_line = 16777216; verbose = false; status = false })
   pub partial : order_from (entered (as_cluster ++ codes "--partial" ∷ []))
-      ≡ by_cluster (record { files = codes "c.json" ∷ []; partial = true; steps = 10000000; max_line = 16777216; verbose = false })
+      ≡ by_cluster (record { files = codes "c.json" ∷ []; partial = true; steps = 10000000; max_line = 16777216; verbose = false; status = false })
   pub verbose : order_from (entered (under_policy ++ codes "--verbose" ∷ []))
       ≡ by_policies (record {
         policies = codes "a.json" ∷ [];
@@ -51,9 +53,22 @@ pub record CommandOrdersHold : Type 0 where
         steps = 10000000;
         max_line = 16777216;
         verbose = true;
+        status = false;
       })
   pub verbose_cluster : order_from (entered (codes "gatekeeper" ∷ codes "--verbose" ∷ codes "--cluster" ∷ codes "c.json" ∷ []))
-      ≡ by_cluster (record { files = codes "c.json" ∷ []; partial = false; steps = 10000000; max_line = 16777216; verbose = true })
+      ≡ by_cluster (record { files = codes "c.json" ∷ []; partial = false; steps = 10000000; max_line = 16777216; verbose = true; status = false })
+  pub status : order_from (entered (under_policy ++ codes "--status" ∷ []))
+      ≡ by_policies (record {
+        policies = codes "a.json" ∷ [];
+        namespace = None;
+        params = None;
+        steps = 10000000;
+        max_line = 16777216;
+        verbose = false;
+        status = true;
+      })
+  pub status_cluster : order_from (entered (as_cluster ++ codes "--status" ∷ codes "--verbose" ∷ []))
+      ≡ by_cluster (record { files = codes "c.json" ∷ []; partial = false; steps = 10000000; max_line = 16777216; verbose = true; status = true })
 
 -- words that go together, and others
 pub record FaultRowsHold : Type 0 where
@@ -72,6 +87,11 @@ pub record FaultRowsHold : Type 0 where
   pub verbose_twice : faults (under_policy ++ codes "--verbose" ∷ codes "--verbose" ∷ []) ≡ [] → ⊥
   pub verbose_value : faults (under_policy ++ codes "--verbose" ∷ codes "yes" ∷ []) ≡ [] → ⊥
   pub not_verbose : is_verbose [] ≡ false
+  -- so is --status
+  pub status_taken : faults (as_cluster ++ codes "--status" ∷ []) ≡ []
+  pub status_twice : faults (under_policy ++ codes "--status" ∷ codes "--status" ∷ []) ≡ [] → ⊥
+  pub status_value : faults (under_policy ++ codes "--status" ∷ codes "1" ∷ []) ≡ [] → ⊥
+  pub no_status : has_status [] ≡ false
   -- a line may have 1 to 16,777,216 bytes
   pub longest : faults (with_line (codes "16777216")) ≡ []
   pub longer : faults (with_line (codes "16777217")) ≡ [] → ⊥
@@ -81,8 +101,8 @@ pub record FaultRowsHold : Type 0 where
 -- the usage that the program prints
 abbrev pub usage : Text
 usage =
-    codes "usage: gatekeeper --policy F [--policy F ..] [--namespace F] [--params F]\n                  [--steps N] [--max-line N] [--verbose]\n"
-    ++ (codes "       gatekeeper --cluster F [--cluster F ..] [--partial]\n                  [--steps N] [--max-line N] [--verbose]\n\n"
+    codes "usage: gatekeeper --policy F [--policy F ..] [--namespace F] [--params F]\n                  [--steps N] [--max-line N] [--verbose] [--status]\n"
+    ++ (codes "       gatekeeper --cluster F [--cluster F ..] [--partial]\n                  [--steps N] [--max-line N] [--verbose] [--status]\n\n"
     ++ (codes "Compiles the policies, and answers each review on standard input, a JSON document\n"
     ++ (codes "a line, with a line on standard output.\n\n"
     ++ (codes "  --policy F     a ValidatingAdmissionPolicy; once or more\n  --namespace F  the namespace of the requests\n"
@@ -93,7 +113,8 @@ usage =
     ++ (codes "  --steps N      the most steps of a policy's program; 10000000 if not given\n"
     ++ (codes "  --max-line N   the most bytes of a line; 16777216 if not given\n"
     ++ (codes "  --verbose      tells of each refused line on standard error, with its number\n"
-    ++ codes "  --help         prints this text\n  --version      prints the version\n")))))))))))
+    ++ (codes "  --status       ends with status 1 if an answer is a denial or a refusal\n"
+    ++ codes "  --help         prints this text\n  --version      prints the version\n"))))))))))))
 
 -- the first word after the program's name asks for a text
 pub record HelpRowsHold : Type 0 where

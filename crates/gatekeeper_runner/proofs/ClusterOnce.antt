@@ -1,5 +1,5 @@
 -- The text of a line as a cluster decides it.
-use Rattle.gatekeeper_runner.proofs.Prelude.{◌≡◌, ℕ, List, Option, Result, sym, subst, OneImage, too_long_text}
+use Rattle.gatekeeper_runner.proofs.Prelude.{◌≡◌, ℕ, Bool, List, Option, Result, sym, subst, OneImage, too_long_text}
 use Rattle.streams.specs.Streams.{Stream}
 use Rattle.streams.specs.declared.session_error.SessionError.{SessionError}
 use Rattle.line_answers.specs.Lines.{AnswersInputLine}
@@ -17,7 +17,7 @@ pub cluster_decided : (s : ClusterState) (steps : ℕ) (line text : List ℕ) (d
 cluster_decided s steps line text decision by is = subst (DecidesClusterLine OneImage s steps line) (sym is) (decides {decision = decision} by)
 
 -- the lines are answered as the cluster of this state does
-pub as_cluster : (r r_after w w_after : Stream) (result : Result (Unit {0}) SessionError) (c : AnsweringCluster) (k : ClusterKeeper) → IsKeeperOf c k
+pub as_cluster : (r r_after w w_after : Stream) (result : Result Bool SessionError) (c : AnsweringCluster) (k : ClusterKeeper) → IsKeeperOf c k
     → AnswersInput (AnswersInputLine k.max_line too_long_text (DecidesAsCluster OneImage k)) r r_after w w_after result
     → AnswersInput (AnswersClusterLine OneImage c) r r_after w w_after result
 as_cluster r r_after w w_after result c k keeps answered =
@@ -25,7 +25,7 @@ as_cluster r r_after w w_after result c k keeps answered =
     rw (← keeps.max_line, ← keeps.steps) (input_gives _ _ gives r r_after w w_after result answered)
 
 -- the refused lines are reported as the cluster of this state does
-pub tells_as_cluster : (r r_after w w_after e e_after : Stream) (result : Result (Unit {0}) SessionError) (c : AnsweringCluster) (k : ClusterKeeper) → IsKeeperOf c k
+pub tells_as_cluster : (r r_after w w_after e e_after : Stream) (result : Result Bool SessionError) (c : AnsweringCluster) (k : ClusterKeeper) → IsKeeperOf c k
     → TellsInput (AnswersInputLine k.max_line too_long_text (DecidesAsCluster OneImage k)) r r_after w w_after e e_after result
     → TellsInput (AnswersClusterLine OneImage c) r r_after w w_after e e_after result
 tells_as_cluster r r_after w w_after e e_after result c k keeps told =

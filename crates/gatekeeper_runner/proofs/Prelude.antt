@@ -1,5 +1,5 @@
 -- The names of the library, of the crates below and of the definitions that these proofs use. Declares nothing.
-pub use Rattle.std.proofs.Common.{Err, List, None, Ok, OnErr, OnOk, Option, Result, Some}
+pub use Rattle.std.proofs.Common.{Bool, Err, List, None, Ok, OnErr, OnOk, Option, Result, Some}
 pub use Rattle.std.proofs.Common.{String, ℕ, [], ap, append-nil, append_assoc, arith, codes, drop, false, get_or, inl}
 pub use Rattle.std.proofs.Common.{inr, length, map, option_map, refl, string_bytes}
 pub use Rattle.std.proofs.Common.{subst, suc, sym, take, true, unwrap_or, zero, ◌++◌, ◌+◌, ◌<◌, ◌∙◌, ◌∷◌}
@@ -52,5 +52,5 @@ pub use Rattle.gatekeeper_runner.specs.declared.order.Order.{Order}
 pub use Rattle.gatekeeper_runner.specs.declared.tally.Tally.{Tally}
 unfoldable pub use Rattle.gatekeeper_runner.specs.Lines.{refusal_text}
 unfoldable pub use Rattle.gatekeeper_runner.specs.Orders.{entered, faults, files_rule, gatekeeper_app, max_line_rule}
-unfoldable pub use Rattle.gatekeeper_runner.specs.Orders.{partial_rule, policies_app, verbose_rule}
+unfoldable pub use Rattle.gatekeeper_runner.specs.Orders.{partial_rule, policies_app, status_rule, verbose_rule}
 pub use Rattle.gatekeeper_runner.specs.declared.start_refusal.StartRefusal.{StartRefusal}

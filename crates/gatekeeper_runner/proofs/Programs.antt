@@ -1,5 +1,5 @@
 -- How the program ends.
-use Rattle.gatekeeper_runner.proofs.Prelude.{◌≡◌, ℕ, true, false, List, Some, None, Ok, Err, refl, OneImage, Text, GatekeeperOrderReturns, lines_order_view, AsksGatekeeper, Order}
+use Rattle.gatekeeper_runner.proofs.Prelude.{◌≡◌, ℕ, Bool, true, false, List, Some, None, Ok, Err, refl, OneImage, Text, GatekeeperOrderReturns, lines_order_view, AsksGatekeeper, Order}
 use Rattle.streams.specs.Streams.{Stream}
 use Rattle.cli.specs.Ending.{Ending, Given, System}
 use Rattle.gatekeeper_runner.specs.About.{text_asked}
@@ -10,6 +10,7 @@ use Rattle.gatekeeper_runner.specs.Orders.{GatekeeperOrder, by_policies}
 use Rattle.gatekeeper_runner.specs.Program.{AnswersUnder, GatekeeperEffect, GatekeeperResult, IsNotBegun, IsTaskOf, PerformsTask, ReadsNothing, ServesReviews, TellsText, all, answers, as_cluster, lines, no_lists, no_order, no_policies, not_started, nothing, part, serves, telling, tells, tells_part, under_policies}
 use Rattle.gatekeeper_runner.specs.Starting.{GatekeeperStarts}
 use Rattle.gatekeeper_runner.specs.Together.{Gatekeeper, gatekeeper_of}
+use Rattle.gatekeeper_runner.specs.declared.gatekeeper.Gatekeeper.{Gatekeeper as CodeGatekeeper}
 use Rattle.gatekeeper_runner.specs.declared.start_refusal.StartRefusal.{StartRefusal}
 use Rattle.gatekeeper_runner.specs.declared.task.Task.{Task}
 use Rattle.gatekeeper_runner.specs.declared.task.Task.TheVariants as task
@@ -26,11 +27,29 @@ told given old new text r asked reads (part writes) = tells_part asked reads wri
 
 -- the lines are answered under policies
 served : (given : Given) (old new : System) (order : GatekeeperOrder) (t : Gatekeeper) (r : Ending) → AsksGatekeeper given (by_policies order)
-    → order.verbose ≡ false → GatekeeperStarts old.files order (Ok t) → new.files ≡ old.files → AnswersUnder OneImage t old.input new.input old.output new.output r
-    → ServesReviews OneImage given old new r
+    → order.verbose ≡ false → GatekeeperStarts old.files order (Ok t) → new.files ≡ old.files
+    → AnswersUnder order.status OneImage t old.input new.input old.output new.output r → ServesReviews OneImage given old new r
 served given old new order t r asked quiet starts files (lines result answered) = answers result asked quiet starts answered files
 
 module _ (given : Given) (old new : System) (e e_after : Stream) (status : ℕ) where
+  -- the lines are answered under policies, and refused ones are reported or not
+  answered : (keeper : CodeGatekeeper) (verbose reports : Bool) → new.files ≡ old.files
+      → IsTaskOf given old.files (task.Policies keeper (record { verbose = verbose; status = reports }))
+      → PerformsTask OneImage (task.Policies keeper (record { verbose = verbose; status = reports })) old.input new.input old.output new.output e e_after status
+      → GatekeeperResult OneImage given old new e e_after status
+  answered keeper true reports files is does =
+      let keeps = is.5 in
+      telling is.1 is.2 is.3 keeps.2 files (rw is.4 (does keeps.0 keeps.1))
+  answered keeper false reports files is does =
+      let keeps = is.5 in
+      let ends = does keeps.0 keeps.1 in
+      under_policies (record {
+        ending = ends.ending;
+        does = serves is.1 (served given old new is.0 (gatekeeper_of keeps.0 keeper) ends.ending is.2 is.3 keeps.2 files (rw is.4 ends.does));
+        status_is = ends.status_is;
+        says = ends.says;
+      })
+
   -- a task is performed
   pub performed : (t : Task) → new.files ≡ old.files → IsTaskOf given old.files t → PerformsTask OneImage t old.input new.input old.output new.output e e_after status
       → GatekeeperResult OneImage given old new e e_after status
@@ -40,18 +59,7 @@ module _ (given : Given) (old new : System) (e e_after : Stream) (status : ℕ) 
     status_is = does.1.status_is;
     says = does.1.says;
   })
-  performed (task.Policies keeper true) files is does =
-      let keeps = is.4 in
-      telling is.1 is.2 is.3 keeps.2 files (does keeps.0 keeps.1)
-  performed (task.Policies keeper false) files is does =
-      let keeps = is.4 in
-      let ends = does keeps.0 keeps.1 in
-      under_policies (record {
-        ending = ends.ending;
-        does = serves is.1 (served given old new is.0 (gatekeeper_of keeps.0 keeper) ends.ending is.2 is.3 keeps.2 files ends.does);
-        status_is = ends.status_is;
-        says = ends.says;
-      })
+  performed (task.Policies keeper reports) files is does = answered keeper reports.verbose reports.status files is does
   performed (task.Cluster t) files is does = as_cluster is.0 is.1 files (does old.files is.2)
 
   -- no task is begun

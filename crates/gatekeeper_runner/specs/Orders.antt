@@ -29,6 +29,10 @@ partial_rule = record (option_rule (codes "partial")) { action = Some arg_action
 unfoldable pub verbose_rule : Rule
 verbose_rule = record (option_rule (codes "verbose")) { action = Some arg_action.SetTrue }
 
+-- --status, a switch
+unfoldable pub status_rule : Rule
+status_rule = record (option_rule (codes "status")) { action = Some arg_action.SetTrue }
+
 -- the largest value of --max-line, and its default
 abbrev pub longest_line : ℕ
 longest_line = 16777216
@@ -45,11 +49,11 @@ max_line_rule = record (new_rule (codes "max-line")) {
 unfoldable pub policies_app : App
 policies_app = with_documents (with_rule (new_app (codes "gatekeeper")) (files_rule (codes "policy")))
 
--- the arguments under policies, and [--cluster F ..] [--partial] [--steps N] [--max-line N] [--verbose]
+-- the arguments under policies, and [--cluster F ..] [--partial] [--steps N] [--max-line N] [--verbose] [--status]
 unfoldable pub gatekeeper_app : App
 gatekeeper_app =
-    with_rule (with_rule (with_rule (with_rule (with_rule policies_app (files_rule (codes "cluster"))) partial_rule) steps_rule)
-    max_line_rule) verbose_rule
+    with_rule (with_rule (with_rule (with_rule (with_rule (with_rule policies_app (files_rule (codes "cluster"))) partial_rule)
+    steps_rule) max_line_rule) verbose_rule) status_rule
 
 -- ---- words that go together
 
@@ -64,6 +68,10 @@ is_partial rows = option_map_or (λ t. bytes_eq t (codes "true")) (first_of (cod
 -- --verbose was given
 abbrev pub is_verbose : List Row → Bool
 is_verbose rows = option_map_or (λ t. bytes_eq t (codes "true")) (first_of (codes "verbose") rows) false
+
+-- --status was given
+abbrev pub has_status : List Row → Bool
+has_status rows = option_map_or (λ t. bytes_eq t (codes "true")) (first_of (codes "status") rows) false
 
 -- with --cluster there is no --policy, --namespace or --params; without it there is --policy, and no --partial
 abbrev pub go_together : List Row → Bool
@@ -86,8 +94,8 @@ faults words = fault_of gatekeeper_app words ++ choice_faults (entered words)
 
 -- ---- what they ask for
 
--- the names of the files, the policies in the order of the words, the most steps, the most bytes of a line, and whether
--- refused lines are reported
+-- the names of the files, the policies in the order of the words, the most steps, the most bytes of a line, whether
+-- refused lines are reported, and whether the status reports answers that do not allow
 pub record GatekeeperOrder : Type 0 where
   pub policies : List Text
   pub namespace : Option Text
@@ -95,15 +103,18 @@ pub record GatekeeperOrder : Type 0 where
   pub steps : ℕ
   pub max_line : ℕ
   pub verbose : Bool
+  pub status : Bool
 
 -- the names of the files of a cluster's state in the order of the words, whether a policy may be refused, the most
--- steps, the most bytes of a line, and whether refused lines are reported
+-- steps, the most bytes of a line, whether refused lines are reported, and whether the status reports answers that do not
+-- allow
 pub record ClusterOrder : Type 0 where
   pub files : List Text
   pub partial : Bool
   pub steps : ℕ
   pub max_line : ℕ
   pub verbose : Bool
+  pub status : Bool
 
 -- lines are answered under policies, or as a cluster does
 pub data LinesOrder : Type 0 where
@@ -131,6 +142,7 @@ policies_from rows = record {
   steps = steps_from rows;
   max_line = max_line_from rows;
   verbose = is_verbose rows;
+  status = has_status rows;
 }
 
 -- from the values of the arguments
@@ -141,6 +153,7 @@ cluster_from rows = record {
   steps = steps_from rows;
   max_line = max_line_from rows;
   verbose = is_verbose rows;
+  status = has_status rows;
 }
 
 -- by whether files of a cluster's state are named
@@ -158,6 +171,7 @@ order_view o = record {
   steps = o.steps;
   max_line = o.max_line;
   verbose = o.verbose;
+  status = o.status;
 }
 
 abbrev pub cluster_order_view : CodeClusterOrder → ClusterOrder
@@ -167,6 +181,7 @@ cluster_order_view o = record {
   steps = o.steps;
   max_line = o.max_line;
   verbose = o.verbose;
+  status = o.status;
 }
 
 abbrev pub lines_order_view : CodeOrder → LinesOrder

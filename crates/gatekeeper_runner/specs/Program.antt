@@ -31,10 +31,10 @@ pub data ServesReviews (chosen : Images) (given : Given) (old new : System) : En
   not_started : {order : GatekeeperOrder} {r : Refusal} → AsksGatekeeper given (by_policies order)
       → GatekeeperStarts old.files order (Err r)
       → new ≡ old → ServesReviews chosen given old new (Err r)
-  answers : {order : GatekeeperOrder} {keeper : Gatekeeper} (result : Result (Unit {0}) SessionError)
+  answers : {order : GatekeeperOrder} {keeper : Gatekeeper} (result : Result Bool SessionError)
       → AsksGatekeeper given (by_policies order) → order.verbose ≡ false → GatekeeperStarts old.files order (Ok keeper)
       → AnswersLines chosen keeper old.input new.input old.output new.output result → new.files ≡ old.files
-      → ServesReviews chosen given old new (ending_of result)
+      → ServesReviews chosen given old new (ending_of order.status result)
 
 -- no file and no input is read
 pub record ReadsNothing (old new : System) : Type 0 where
@@ -58,7 +58,7 @@ pub data GatekeeperResult (chosen : Images) (given : Given) (old new : System) (
   -- with --verbose
   telling : {order : GatekeeperOrder} {keeper : Gatekeeper} → text_asked given ≡ None → AsksGatekeeper given (by_policies order)
       → order.verbose ≡ true → GatekeeperStarts old.files order (Ok keeper) → new.files ≡ old.files
-      → TellsRefused (AnswersReviewLine chosen keeper) old.input new.input old.output new.output errors errors_after status
+      → TellsRefused order.status (AnswersReviewLine chosen keeper) old.input new.input old.output new.output errors errors_after status
       → GatekeeperResult chosen given old new errors errors_after status
   as_cluster : {order : ClusterOrder} → text_asked given ≡ None → AsksGatekeeper given (by_cluster order) → new.files ≡ old.files
       → ClusterEnds chosen old.files order old.input new.input old.output new.output errors errors_after status
@@ -77,9 +77,9 @@ pub data IsNotBegun (given : Given) (known : Option FileSystem) : StartRefusal �
 -- what the words ask for, with what was read for it
 abbrev pub IsTaskOf : Given → Option FileSystem → Task → Type 0
 IsTaskOf given known (task.Text text) = text_asked given ≡ Some text.now
-IsTaskOf given known (task.Policies keeper verbose) =
-    (order : GatekeeperOrder) × (text_asked given ≡ None) × AsksGatekeeper given (by_policies order) × (order.verbose ≡ verbose)
-    × KeepsFrom known order (Ok keeper)
+IsTaskOf given known (task.Policies keeper reports) =
+    (order : GatekeeperOrder) × (text_asked given ≡ None) × AsksGatekeeper given (by_policies order)
+    × (order.verbose ≡ reports.verbose) × (order.status ≡ reports.status) × KeepsFrom known order (Ok keeper)
 IsTaskOf given known (task.Cluster t) =
     (text_asked given ≡ None) × AsksGatekeeper given (by_cluster (cluster_order_view t.order))
     × HoldLists known (map string_bytes t.order.files.items) (map view t.lists.items)
@@ -95,22 +95,24 @@ pub data TellsText (text : Text) (w w_after : Stream) : Ending → Type 0 where
   part : WritesPart w w_after text → TellsText text w w_after (Err Output)
 
 -- the lines are answered under policies
-pub data AnswersUnder (chosen : Images) (t : Gatekeeper) (r r_after w w_after : Stream) : Ending → Type 0 where
-  lines : (result : Result (Unit {0}) SessionError) → AnswersLines chosen t r r_after w w_after result
-      → AnswersUnder chosen t r r_after w w_after (ending_of result)
+pub data AnswersUnder (reports : Bool) (chosen : Images) (t : Gatekeeper) (r r_after w w_after : Stream) : Ending → Type 0 where
+  lines : (result : Result Bool SessionError) → AnswersLines chosen t r r_after w w_after result
+      → AnswersUnder reports chosen t r r_after w w_after (ending_of reports result)
 
--- how the program ends under policies, by whether refused lines are reported
-abbrev pub EndsUnder : Bool → Images → Gatekeeper → Stream → Stream → Stream → Stream → Stream → Stream → ℕ → Type 0
-EndsUnder false chosen t r r_after w w_after e e_after status = ProgramEnds (AnswersUnder chosen t r r_after w w_after) e e_after status
-EndsUnder true chosen t r r_after w w_after e e_after status =
-    TellsRefused (AnswersReviewLine chosen t) r r_after w w_after e e_after status
+-- how the program ends under policies, by whether refused lines are reported, and whether the status reports answers that
+-- do not allow
+abbrev pub EndsUnder : Bool → Bool → Images → Gatekeeper → Stream → Stream → Stream → Stream → Stream → Stream → ℕ → Type 0
+EndsUnder false reports chosen t r r_after w w_after e e_after status =
+    ProgramEnds (AnswersUnder reports chosen t r r_after w w_after) e e_after status
+EndsUnder true reports chosen t r r_after w w_after e e_after status =
+    TellsRefused reports (AnswersReviewLine chosen t) r r_after w w_after e e_after status
 
 -- how a task ends
 abbrev pub PerformsTask : Images → Task → Stream → Stream → Stream → Stream → Stream → Stream → ℕ → Type 0
 PerformsTask chosen (task.Text text) r r_after w w_after e e_after status =
     (r_after ≡ r) × ProgramEnds (TellsText text.now w w_after) e e_after status
-PerformsTask chosen (task.Policies keeper verbose) r r_after w w_after e e_after status =
-    UnderPolicies keeper (λ t. EndsUnder verbose chosen t r r_after w w_after e e_after status)
+PerformsTask chosen (task.Policies keeper reports) r r_after w w_after e e_after status =
+    UnderPolicies keeper (λ t. EndsUnder reports.verbose reports.status chosen t r r_after w w_after e e_after status)
 PerformsTask chosen (task.Cluster t) r r_after w w_after e e_after status =
     (known : Option FileSystem) → HoldLists known (map string_bytes t.order.files.items) (map view t.lists.items)
     → ClusterEnds chosen known (cluster_order_view t.order) r r_after w w_after e e_after status

@@ -36,9 +36,9 @@ fn help_text() -> &'static str
     ensures { result.now ≡ help_text }
 {
     "usage: gatekeeper --policy F [--policy F ..] [--namespace F] [--params F]
-                  [--steps N] [--max-line N] [--verbose]
+                  [--steps N] [--max-line N] [--verbose] [--status]
        gatekeeper --cluster F [--cluster F ..] [--partial]
-                  [--steps N] [--max-line N] [--verbose]
+                  [--steps N] [--max-line N] [--verbose] [--status]
 
 Compiles the policies, and answers each review on standard input, a JSON document
 a line, with a line on standard output.
@@ -53,6 +53,7 @@ a line, with a line on standard output.
   --steps N      the most steps of a policy's program; 10000000 if not given
   --max-line N   the most bytes of a line; 16777216 if not given
   --verbose      tells of each refused line on standard error, with its number
+  --status       ends with status 1 if an answer is a denial or a refusal
   --help         prints this text
   --version      prints the version
 "

@@ -16,7 +16,7 @@ use std::alloc::{AllocError, Global};
 use streams::{LineSource, SessionError, Sink};
 
 /// Answers each line before it reads the next, until the end of the input. At most the first 2^63
-/// bytes of the input are read.
+/// bytes of the input are read. Returns whether each line has an answer that allows, or none.
 ///
 /// # Errors
 ///
@@ -25,7 +25,7 @@ pub fn answer_lines<R: LineSource, W: Sink>(
     keeper: &Gatekeeper,
     r: &mut R,
     w: &mut W,
-) -> Result<(), SessionError>
+) -> Result<bool, SessionError>
     ensures { let written = stream (W.taken w.old) (W.failed w.old) in
         let written_after = stream (W.taken w.new) (W.failed w.new) in
         let read = stream (R.left r.old) (R.failed r.old) in

@@ -11,6 +11,7 @@ use crate::cluster_task::ClusterTask;
 use crate::listing::read_lists;
 use crate::order::Order;
 use crate::ordering::order_of;
+use crate::reports::Reports;
 use crate::start_refusal::StartRefusal;
 use crate::starting::start;
 use crate::task::Task;
@@ -57,7 +58,13 @@ fn begin_order<F: Files>(alloc: Global, order: Order, files: &mut F) -> Result<T
     ensures known { F.known files.new ≡ F.known files.old }
 {
     match order {
-        Order::Policies(order) => Ok(Task::Policies(start(alloc, &order, files)?, order.verbose)),
+        Order::Policies(order) => {
+            let reports = Reports {
+                verbose: order.verbose,
+                status: order.status,
+            };
+            Ok(Task::Policies(start(alloc, &order, files)?, reports))
+        }
         Order::Cluster(order) => begin_cluster(alloc, order, files),
     }
 }

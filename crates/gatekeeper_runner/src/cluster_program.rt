@@ -14,8 +14,9 @@ ghost use Rattle.gatekeeper_runner.specs.Orders.{cluster_order_view};
 use crate::cluster_keeper::ClusterKeeper;
 use crate::cluster_opening::{open_cluster, state_refusal};
 use crate::cluster_task::ClusterTask;
+use crate::reports::Reports;
 use crate::start_ending::{end_start, tell_bytes};
-use crate::verbose::end_telling;
+use crate::verbose::{end_telling, ending_of};
 use cli::{Refusal, exit_with};
 use cluster_state::State;
 use line_answers::{LineRules, answer_lines};
@@ -56,7 +57,13 @@ fn answer_by_state<'s, 'a, R: LineSource, W: Sink, E: Sink>(
         (stream (E.taken errors.old) (E.failed errors.old)) (stream (E.taken errors.new) (E.failed errors.new)) (exit_status result) }
 {
     match open_cluster(task, state) {
-        Ok(keeper) => tell_and_answer(&keeper, task.order.verbose, requests, answers, errors),
+        Ok(keeper) => {
+            let reports = Reports {
+                verbose: task.order.verbose,
+                status: task.order.status,
+            };
+            tell_and_answer(&keeper, reports, requests, answers, errors)
+        }
         Err(refusal) => end_start(task.alloc, refusal, errors),
     }
 }
@@ -64,55 +71,56 @@ fn answer_by_state<'s, 'a, R: LineSource, W: Sink, E: Sink>(
 /// Writes a line of standard error for each policy, and answers the lines.
 fn tell_and_answer<R: LineSource, W: Sink, E: Sink>(
     keeper: &ClusterKeeper<'_, '_>,
-    verbose: bool,
+    reports: Reports,
     requests: &mut R,
     answers: &mut W,
     errors: &mut E,
 ) -> ExitCode
     ensures { (c : AnsweringCluster) → IsKeeperOf c keeper.now
-        → TellsAndAnswers OneImage c verbose (stream (R.left requests.old) (R.failed requests.old)) (stream (R.left requests.new) (R.failed requests.new))
+        → TellsAndAnswers OneImage c reports.verbose reports.status (stream (R.left requests.old) (R.failed requests.old)) (stream (R.left requests.new) (R.failed requests.new))
         (stream (W.taken answers.old) (W.failed answers.old)) (stream (W.taken answers.new) (W.failed answers.new))
         (stream (E.taken errors.old) (E.failed errors.old)) (stream (E.taken errors.new) (E.failed errors.new)) (exit_status result) }
 {
     tell_bytes(keeper.told.as_slice(), errors);
-    end_cluster(keeper, verbose, requests, answers, errors)
+    end_cluster(keeper, reports, requests, answers, errors)
 }
 
 /// Answers the lines, and reports refused ones if that is asked for. Returns the code.
 fn end_cluster<R: LineSource, W: Sink, E: Sink>(
     keeper: &ClusterKeeper<'_, '_>,
-    verbose: bool,
+    reports: Reports,
     requests: &mut R,
     answers: &mut W,
     errors: &mut E,
 ) -> ExitCode
     ensures { (c : AnsweringCluster) → IsKeeperOf c keeper.now
-        → EndsAsCluster verbose OneImage c (stream (R.left requests.old) (R.failed requests.old)) (stream (R.left requests.new) (R.failed requests.new))
+        → EndsAsCluster reports.verbose reports.status OneImage c (stream (R.left requests.old) (R.failed requests.old)) (stream (R.left requests.new) (R.failed requests.new))
         (stream (W.taken answers.old) (W.failed answers.old)) (stream (W.taken answers.new) (W.failed answers.new))
         (stream (E.taken errors.old) (E.failed errors.old)) (stream (E.taken errors.new) (E.failed errors.new)) (exit_status result) }
 {
-    if verbose {
+    if reports.verbose {
         let rules = LineRules {
             alloc: keeper.alloc,
             decider: keeper,
             max_line: keeper.max_line,
         };
-        return end_telling(&rules, requests, answers, errors);
+        return end_telling(&rules, reports.status, requests, answers, errors);
     }
-    let ending = answer_by(keeper, requests, answers);
+    let ending = answer_by(keeper, reports.status, requests, answers);
     exit_with(keeper.alloc, ending, errors)
 }
 
 /// Answers the lines. Returns the status.
 fn answer_by<R: LineSource, W: Sink>(
     keeper: &ClusterKeeper<'_, '_>,
+    reports: bool,
     requests: &mut R,
     answers: &mut W,
 ) -> Result<u8, Refusal>
     ensures { (c : AnsweringCluster) → IsKeeperOf c keeper.now
-        → AnswersAsCluster OneImage c (stream (R.left requests.old) (R.failed requests.old)) (stream (R.left requests.new) (R.failed requests.new))
+        → AnswersAsCluster reports OneImage c (stream (R.left requests.old) (R.failed requests.old)) (stream (R.left requests.new) (R.failed requests.new))
         (stream (W.taken answers.old) (W.failed answers.old)) (stream (W.taken answers.new) (W.failed answers.new)) result }
 {
-    answer_lines(keeper.alloc, keeper, keeper.max_line, requests, answers)?;
-    Ok(0)
+    let ended = answer_lines(keeper.alloc, keeper, keeper.max_line, requests, answers);
+    ending_of(reports, ended)
 }

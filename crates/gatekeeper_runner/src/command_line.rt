@@ -2,7 +2,7 @@
 ghost use Rattle.std.specs.Prelude.{◌≡◌, codes, map, IfOk, false};
 ghost use Rattle.clap.specs.Words.{app_of, fault_of, found_of, rows_of, rule_of};
 ghost use Rattle.cli.specs.Parsing.{TakesWords};
-ghost use Rattle.gatekeeper_runner.specs.Orders.{entered, files_rule, gatekeeper_app, max_line_rule, partial_rule, policies_app, verbose_rule};
+ghost use Rattle.gatekeeper_runner.specs.Orders.{entered, files_rule, gatekeeper_app, max_line_rule, partial_rule, policies_app, status_rule, verbose_rule};
 
 use crate::limits::LONGEST_LINE;
 use clap::{Arg, ArgAction, ArgMatches, Command, value_parser};
@@ -49,6 +49,15 @@ fn verbose_argument<'a>(alloc: Global) -> Arg<'a>
     option_argument(alloc, "verbose").action(ArgAction::SetTrue)
 }
 
+// --status, a switch
+#[tactic(auto, unfolding(crate::specs::Orders::status_rule))]
+fn status_argument<'a>(alloc: Global) -> Arg<'a>
+    ensures rule { rule_of result ≡ status_rule }
+    ensures local { result.global ≡ false }
+{
+    option_argument(alloc, "status").action(ArgAction::SetTrue)
+}
+
 fn policies_command<'a>(alloc: Global) -> Result<Command<'a>, AllocError>
     ensures { IfOk result (λ c. app_of c ≡ policies_app) }
 {
@@ -64,7 +73,8 @@ fn gatekeeper_command<'a>(alloc: Global) -> Result<Command<'a>, AllocError>
         .arg(partial_argument(alloc))?
         .arg(steps_argument(alloc))?;
     let command = command.arg(max_line_argument(alloc))?;
-    command.arg(verbose_argument(alloc))
+    let command = command.arg(verbose_argument(alloc))?;
+    command.arg(status_argument(alloc))
 }
 
 /// The arguments that `clap` finds in the words, or its error. The program's name comes first.

@@ -30,6 +30,7 @@ mod policy_order;
 mod program;
 mod refused;
 mod refusing;
+mod reports;
 mod start_ending;
 mod start_refusal;
 mod starting;

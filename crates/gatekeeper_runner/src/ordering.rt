@@ -1,7 +1,7 @@
 //! Reads the command line.
 ghost use Rattle.std.specs.Prelude.{◌≡◌, codes, map, string_bytes, IfOk};
 ghost use Rattle.clap.specs.Words.{found_of, rows_of};
-ghost use Rattle.gatekeeper_runner.specs.Orders.{cluster_from, cluster_order_view, go_together, is_named, is_partial, is_verbose, lines_order_view, max_line_from, order_from, order_view, policies_from, texts_of, GatekeeperOrderReturns};
+ghost use Rattle.gatekeeper_runner.specs.Orders.{cluster_from, cluster_order_view, go_together, has_status, is_named, is_partial, is_verbose, lines_order_view, max_line_from, order_from, order_view, policies_from, texts_of, GatekeeperOrderReturns};
 
 use crate::cluster_order::ClusterOrder;
 use crate::command_line::gatekeeper_matches;
@@ -69,6 +69,16 @@ fn is_verbose(matches: &ArgMatches) -> bool
     }
 }
 
+/// Whether the status reports answers that do not allow.
+fn has_status(matches: &ArgMatches) -> bool
+    ensures { result ≡ has_status (rows_of (found_of matches.now)) }
+{
+    match text_in(matches, "status") {
+        Some(text) => text == "true",
+        None => false,
+    }
+}
+
 fn order_from(alloc: Global, matches: &ArgMatches) -> Result<Order, AllocError>
     ensures { IfOk result (λ o. lines_order_view o ≡ order_from (rows_of (found_of matches.now))) }
 {
@@ -89,6 +99,7 @@ fn policies_from(alloc: Global, matches: &ArgMatches) -> Result<PolicyOrder, All
     let steps = steps_in(matches);
     let max_line = max_line_in(matches);
     let verbose = is_verbose(matches);
+    let status = has_status(matches);
     Ok(PolicyOrder {
         policies,
         namespace,
@@ -96,6 +107,7 @@ fn policies_from(alloc: Global, matches: &ArgMatches) -> Result<PolicyOrder, All
         steps,
         max_line,
         verbose,
+        status,
     })
 }
 
@@ -108,12 +120,14 @@ fn cluster_from(alloc: Global, matches: &ArgMatches) -> Result<ClusterOrder, All
     let steps = steps_in(matches);
     let max_line = max_line_in(matches);
     let verbose = is_verbose(matches);
+    let status = has_status(matches);
     Ok(ClusterOrder {
         files,
         partial,
         steps,
         max_line,
         verbose,
+        status,
     })
 }
 

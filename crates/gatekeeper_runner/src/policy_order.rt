@@ -13,4 +13,6 @@ pub struct PolicyOrder {
     pub max_line: u64,
     /// Whether refused lines are reported.
     pub verbose: bool,
+    /// Whether the status reports answers that do not allow.
+    pub status: bool,
 }

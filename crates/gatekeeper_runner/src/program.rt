@@ -11,9 +11,10 @@ use crate::answering::answer_lines;
 use crate::beginning::begin;
 use crate::cluster_program::answer_as_cluster;
 use crate::gatekeeper::Gatekeeper;
+use crate::reports::Reports;
 use crate::start_ending::end_start;
 use crate::task::Task;
-use crate::verbose::tell_under;
+use crate::verbose::{ending_of, tell_under};
 use cli::{Refusal, exit_with};
 use host::{Files, OrderError};
 use std::alloc::Global;
@@ -62,8 +63,8 @@ fn perform<R: LineSource, W: Sink, E: Sink>(
 {
     match task {
         Task::Text(text) => exit_with(alloc, tell(text, answers), refusals),
-        Task::Policies(keeper, verbose) => {
-            end_under(keeper, *verbose, requests, answers, refusals)
+        Task::Policies(keeper, reports) => {
+            end_under(keeper, *reports, requests, answers, refusals)
         }
         Task::Cluster(task) => answer_as_cluster(task, requests, answers, refusals),
     }
@@ -82,31 +83,31 @@ fn tell<W: Sink>(text: &str, answers: &mut W) -> Result<u8, Refusal>
 /// Answers the lines under policies, and reports refused ones if that is asked. Returns the code.
 fn end_under<R: LineSource, W: Sink, E: Sink>(
     keeper: &Gatekeeper,
-    verbose: bool,
+    reports: Reports,
     requests: &mut R,
     answers: &mut W,
     refusals: &mut E,
 ) -> ExitCode
-    ensures { UnderPolicies keeper.now (λ t. EndsUnder verbose OneImage t (stream (R.left requests.old) (R.failed requests.old)) (stream (R.left requests.new) (R.failed requests.new))
+    ensures { UnderPolicies keeper.now (λ t. EndsUnder reports.verbose reports.status OneImage t (stream (R.left requests.old) (R.failed requests.old)) (stream (R.left requests.new) (R.failed requests.new))
         (stream (W.taken answers.old) (W.failed answers.old)) (stream (W.taken answers.new) (W.failed answers.new))
         (stream (E.taken refusals.old) (E.failed refusals.old)) (stream (E.taken refusals.new) (E.failed refusals.new)) (exit_status result)) }
 {
-    if verbose {
-        return tell_under(keeper, requests, answers, refusals);
+    if reports.verbose {
+        return tell_under(keeper, reports.status, requests, answers, refusals);
     }
-    let ending = answer_under(keeper, requests, answers);
+    let ending = answer_under(keeper, reports.status, requests, answers);
     exit_with(keeper.alloc, ending, refusals)
 }
 
 /// Answers the lines under policies. Returns the status.
 fn answer_under<R: LineSource, W: Sink>(
     keeper: &Gatekeeper,
+    reports: bool,
     requests: &mut R,
     answers: &mut W,
 ) -> Result<u8, Refusal>
-    ensures { UnderPolicies keeper.now (λ t. AnswersUnder OneImage t (stream (R.left requests.old) (R.failed requests.old)) (stream (R.left requests.new) (R.failed requests.new))
+    ensures { UnderPolicies keeper.now (λ t. AnswersUnder reports OneImage t (stream (R.left requests.old) (R.failed requests.old)) (stream (R.left requests.new) (R.failed requests.new))
         (stream (W.taken answers.old) (W.failed answers.old)) (stream (W.taken answers.new) (W.failed answers.new)) result) }
 {
-    answer_lines(keeper, requests, answers)?;
-    Ok(0)
+    ending_of(reports, answer_lines(keeper, requests, answers))
 }

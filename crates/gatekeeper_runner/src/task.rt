@@ -2,14 +2,15 @@
 
 use crate::cluster_task::ClusterTask;
 use crate::gatekeeper::Gatekeeper;
+use crate::reports::Reports;
 
 /// What the words ask for, with what was read from files.
 #[derive(Drop)]
 pub enum Task {
     /// A text is written.
     Text(&'static str),
-    /// Lines are answered under policies, and refused ones are reported if this is true.
-    Policies(Gatekeeper, bool),
+    /// Lines are answered under policies.
+    Policies(Gatekeeper, Reports),
     /// Lines are answered as a cluster does.
     Cluster(ClusterTask),
 }

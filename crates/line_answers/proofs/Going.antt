@@ -1,5 +1,5 @@
 -- How the answers continue.
-use Rattle.line_answers.proofs.Prelude.{◌≡◌, ℕ, ◌<◌, ◌≤◌, true, false, List, [], ◌∷◌, ◌++◌, length, length-drop, take, drop, Option, Some, refl, sym, ap, subst, ◌∙◌, inl, inr, arith, append_assoc, append-nil, true≢false, Result, Ok, Err, ◌⊎◌, take-append-drop, AddsBytes, cut, input_lines, readable, with_rest, SessionError, ReadFailed, WriteFailed, Pieces, cut-none, cut-line, cut-part, input_lines-ended, readable-all, HasNoFeed, HeardByResult, AnswersInputLine, LineTexts, no_memory, passed_over, too_long, decided, is_blank, IsKeptOfLine, KeepsLine, Answered, AnsweredPart, AnswersEach, AnswersByResult, AnswersSoFar, AnswersToEnd, AnswersCut, AnswersEnd, AnswersBreak, AnsweredPartOfLines, AnsweredAllLines, AnsweredSomeLines, JoinedTexts}
+use Rattle.line_answers.proofs.Prelude.{◌≡◌, ℕ, ◌<◌, ◌≤◌, ◌&&◌, Bool, true, false, List, [], ◌∷◌, ◌++◌, length, length-drop, take, drop, Option, Some, refl, sym, ap, subst, ◌∙◌, inl, inr, arith, append_assoc, append-nil, true≢false, Result, Ok, Err, ◌⊎◌, take-append-drop, AddsBytes, cut, input_lines, readable, with_rest, SessionError, ReadFailed, WriteFailed, Pieces, cut-none, cut-line, cut-part, input_lines-ended, readable-all, HasNoFeed, HeardByResult, AnswersInputLine, FailsByResult, LineTexts, answered, ended, judged, passes, no_memory, passed_over, too_long, decided, is_blank, IsKeptOfLine, KeepsLine, AnsweredPart, AnswersEach, AnswersByResult, AnswersSoFar, AnswersToEnd, AnswersCut, AnswersEnd, AnswersBreak, AnsweredPartOfLines, AnsweredAllLines, AnsweredSomeLines, JoinedTexts}
 use Rattle.streams.specs.declared.session_error.SessionError.TheVariants.{Memory as SessionMemory}
 use Rattle.line_answers.specs.declared.line.Line.{Line}
 use Rattle.line_answers.specs.AnsweredLines as told
@@ -19,10 +19,18 @@ pub passes_none : (most : ℕ) (long : List ℕ) (decides : LineTexts) → Passe
 passes_none most long decides text answers = no_answer most long decides [] text refl answers
 
 -- the answers to ended lines and to the rest after them
-with_last : (texts : LineTexts) (none : PassesNone texts) (lines : List (List ℕ)) (rest text answer : List ℕ) → AnswersEach texts lines text → texts rest answer
-    → AnswersEach texts (with_rest lines rest) (text ++ answer)
-with_last texts none lines [] text answer each last = rw (none answer last, append-nil text) each
-with_last texts none lines (b ∷ bs) text answer each last = told.more each last
+and_true : (b : Bool) → (b && true) ≡ b
+and_true true = refl
+and_true false = refl
+
+-- whether all pass does not depend on a line without an answer
+pub and_none : (answer : List ℕ) (all : Bool) → answer ≡ [] → (all && passes answer) ≡ all
+and_none answer all none = ap (λ (a : List ℕ). all && passes a) none ∙ and_true all
+
+with_last : (texts : LineTexts) (none : PassesNone texts) (lines : List (List ℕ)) (rest text answer : List ℕ) (all : Bool) → AnswersEach texts lines text all → texts rest answer
+    → AnswersEach texts (with_rest lines rest) (text ++ answer) (all && passes answer)
+with_last texts none lines [] text answer all each last = rw (and_none answer all (none answer last), none answer last, append-nil text) each
+with_last texts none lines (b ∷ bs) text answer all each last = told.more each last
 
 -- a rest that has an answer is a line
 is_line : (texts : LineTexts) (none : PassesNone texts) (lines : List (List ℕ)) (rest answer : List ℕ) (n : ℕ) → texts rest answer → n < length answer → lines ++ rest ∷ [] ≡ with_rest lines rest
@@ -89,21 +97,24 @@ module _ (each : JoinedTexts) where
 
 -- likewise for the joined answers alone
 module _ (texts : LineTexts) where
-  pub going_start : (before : List ℕ) (written : Option (List ℕ)) → written ≡ Some before → AnswersSoFar (AnswersEach texts) before [] written
-  going_start before written w = starts (AnswersEach texts) told.none before written w
+  pub going_start : (before : List ℕ) (written : Option (List ℕ)) → written ≡ Some before → AnswersSoFar (answered texts true) before [] written
+  going_start before written w = starts (answered texts true) told.none before written w
 
-  module _ (before heard : List ℕ) (written : Option (List ℕ)) (g : AnswersSoFar (AnswersEach texts) before heard written) where
-    module _ (rest : List ℕ) (plain : HasNoFeed rest) (new : Option (List ℕ)) where
-      pub going_line : Answered texts ((cut heard).1 ++ rest) written new → AnswersSoFar (AnswersEach texts) before (heard ++ (rest ++ 10 ∷ [])) new
-      going_line a = goes_on (AnswersEach texts) before heard written g rest plain new (AnswersEach texts) a.text a.written (told.more g.lines a.answers)
+  module _ (all : Bool) (before heard : List ℕ) (written : Option (List ℕ)) (g : AnswersSoFar (answered texts all) before heard written) where
+    module _ (rest : List ℕ) (plain : HasNoFeed rest) (new : Option (List ℕ)) (answer : List ℕ) (pass : Bool) (is : pass ≡ (all && passes answer))
+        (written_is : AddsBytes written new answer) where
+      pub going_line : texts ((cut heard).1 ++ rest) answer → AnswersSoFar (answered texts pass) before (heard ++ (rest ++ 10 ∷ [])) new
+      going_line a = rw is (goes_on (answered texts all) before heard written g rest plain new (answered texts (all && passes answer)) answer written_is (told.more g.lines a))
 
-      pub going_whole : (cut heard).1 ≡ [] → Answered texts rest written new → AnswersSoFar (AnswersEach texts) before (heard ++ (rest ++ 10 ∷ [])) new
-      going_whole whole a = going_line (subst (λ (l : List ℕ). Answered texts (l ++ rest) written new) (sym whole) a)
+      pub going_whole : (cut heard).1 ≡ [] → texts rest answer → AnswersSoFar (answered texts pass) before (heard ++ (rest ++ 10 ∷ [])) new
+      going_whole whole a = going_line (subst (λ (l : List ℕ). texts (l ++ rest) answer) (sym whole) a)
 
-    pub end_whole : PassesNone texts → (new : Option (List ℕ)) → Answered texts (cut heard).1 written new → AnswersToEnd (AnswersEach texts) before heard new
-    end_whole none new a =
-        ends (AnswersEach texts) before heard written g (AnswersEach texts) a.text new a.written
-        (with_last texts none (cut heard).0 (cut heard).1 g.text a.text g.lines a.answers)
+    pub end_whole : PassesNone texts → (new : Option (List ℕ)) (answer : List ℕ) (pass : Bool) → pass ≡ (all && passes answer) → AddsBytes written new answer
+        → texts (cut heard).1 answer → AnswersToEnd (answered texts pass) before heard new
+    end_whole none new answer pass is written_is a =
+        rw is
+        (ends (answered texts all) before heard written g (answered texts (all && passes answer)) answer new written_is
+        (with_last texts none (cut heard).0 (cut heard).1 g.text answer all g.lines a))
 
 -- what is kept of a line before its first byte is heard
 pub kept_start : (most : ℕ) (line : Line) → KeepsLine most line [] → KeepsLine line.most line (cut []).1
@@ -165,13 +176,19 @@ module _ (texts : LineTexts) (each : JoinedTexts) (input before : List ℕ) (lef
 
 module _ (texts : LineTexts) (input before : List ℕ) (left written : Option (List ℕ)) where
   -- what a listener's state implies about the bytes that were heard
-  pub heard_told : (same : Type 0) (keeps : List ℕ → Type 0) (result : Result (Unit {0}) SessionError)
-      → HeardByResult (λ heard new. same × AnswersSoFar (AnswersEach texts) before heard new × keeps heard)
-      (λ last heard new. AnswersEnd last (AnswersEach texts) before heard new) (λ last heard new. AnswersBreak last texts (AnswersEach texts) before heard new) input left written result
-      → AnswersByResult texts (AnswersEach texts) input before left written result
-  heard_told same keeps (Ok u) (inl r) = absurd r.of_bytes
-  heard_told same keeps (Ok u) (inr r) = all_told texts (AnswersEach texts) input before left written r.left_is r.of_bytes
-  heard_told same keeps (Err ReadFailed) r = some_told texts (AnswersEach texts) input before left written r.read r.within r.left_is r.of_bytes.1
-  heard_told same keeps (Err WriteFailed) (inl r) = line_cut_told texts (AnswersEach texts) input before left written r.read r.within r.left_is r.of_bytes
-  heard_told same keeps (Err WriteFailed) (inr r) = end_cut_told texts (AnswersEach texts) input before left written r.left_is r.of_bytes
-  heard_told same keeps (Err SessionMemory) none = absurd none
+  pub heard_told : (all : Bool) (same : Type 0) (keeps : List ℕ → Type 0) (result : Result (Unit {0}) SessionError)
+      → HeardByResult (λ heard new. same × AnswersSoFar (answered texts all) before heard new × keeps heard)
+      (λ last heard new. AnswersEnd last (answered texts all) before heard new) (λ last heard new. AnswersBreak last texts (answered texts all) before heard new) input left written result
+      → AnswersByResult texts (answered texts) input before left written (judged all result)
+  heard_told all same keeps (Ok u) (inl r) = absurd r.of_bytes
+  heard_told all same keeps (Ok u) (inr r) = all_told texts (answered texts all) input before left written r.left_is r.of_bytes
+  heard_told all same keeps (Err ReadFailed) r = (all, some_told texts (answered texts all) input before left written r.read r.within r.left_is r.of_bytes.1)
+  heard_told all same keeps (Err WriteFailed) (inl r) = (all, line_cut_told texts (answered texts all) input before left written r.read r.within r.left_is r.of_bytes)
+  heard_told all same keeps (Err WriteFailed) (inr r) = (all, end_cut_told texts (answered texts all) input before left written r.left_is r.of_bytes)
+  heard_told all same keeps (Err SessionMemory) none = absurd none
+
+-- a result with a verdict fails as the one without
+pub fails_judged : (all : Bool) (result : Result (Unit {0}) SessionError) (reads reads_after writes writes_after : ℕ) → FailsByResult reads reads_after writes writes_after result
+    → FailsByResult reads reads_after writes writes_after (ended (judged all result))
+fails_judged all (Ok u) reads reads_after writes writes_after fails = fails
+fails_judged all (Err e) reads reads_after writes writes_after fails = fails

@@ -2,7 +2,7 @@
 use Rattle.std.proofs.Math.Seq.{take-add}
 use Rattle.std.proofs.lemmas.List.{drop_at, take_at}
 use Rattle.streams.proofs.Cut.{take-join}
-use Rattle.line_answers.proofs.Prelude.{◌≡◌, ◌++◌, ◌+◌, ◌-◌, ◌∙◌, refl, ℕ, suc, arith, length-take, ◌<◌, ◌≤◌, Bool, true, false, List, [], ◌∷◌, length, take, take_all, Option, Some, Result, Ok, Err, append-nil, sym, ap, subst, AddsBytes, AnswersInputLine, IsKeptOfLine, KeepsLine, LineTexts, Answered, AnsweredPart, is_blank, line_of, no_memory, passed_over, too_long, decided}
+use Rattle.line_answers.proofs.Prelude.{◌≡◌, ◌++◌, ◌+◌, ◌-◌, ◌∙◌, refl, ℕ, suc, arith, length-take, ◌<◌, ◌≤◌, Bool, true, false, List, [], ◌∷◌, length, take, take_all, Option, Some, Result, Ok, Err, append-nil, sym, ap, subst, AddsBytes, AnswersInputLine, IsKeptOfLine, KeepsLine, LineTexts, AnsweredPart, is_blank, line_of, no_memory, passed_over, too_long, decided}
 use Rattle.std.specs.Prelude.{IfOk, OnErr, Vec}
 use Rattle.std.specs.declared.alloc.AllocError.{AllocError}
 use Rattle.std.specs.declared.alloc.Global.{Global}
@@ -39,14 +39,6 @@ module _ (most : ℕ) (long : List ℕ) (decides : LineTexts) where
       → AnswersInputLine most long decides line answer
   is_decided line text answer short full is decides_it = subst (AnswersInputLine most long decides line) (sym is) (decided short full decides_it)
 
-  -- an empty line is blank
-  pub nothing_answered : (line : List ℕ) (old : Option (List ℕ)) → length line ≡ 0 → Answered (AnswersInputLine most long decides) line old old
-  nothing_answered line old none = record {
-    text = [];
-    answers = subst (λ (l : List ℕ). AnswersInputLine most long decides l []) (sym (empty line none)) (passed_over (omega arith) refl);
-    written = λ before is. is ∙ ap Some (sym (append-nil before));
-  }
-
   -- what is answered to what is kept of a line is answered to the line
   of_kept : (kept line text : List ℕ) → kept ≡ take (suc most) line → AnswersInputLine most long decides kept text → AnswersInputLine most long decides line text
   of_kept kept line text keeps (too_long above) =
@@ -74,16 +66,6 @@ module _ (most : ℕ) (long : List ℕ) (decides : LineTexts) where
       → AnswersInputLine most long decides line text
   kept_answer l line text held keeps =
       of_kept l.bytes.items line text (subst (λ (lacks : Bool). IsKeptOfLine lacks most l.bytes.items line) held keeps.kept)
-
-  module _ (l : Line) (line : List ℕ) (held : l.lacks ≡ false) (keeps : KeepsLine most l line) (old new : Option (List ℕ)) where
-    kept : l.bytes.items ≡ take (suc most) line
-    kept = subst (λ (lacks : Bool). IsKeptOfLine lacks most l.bytes.items line) held keeps.kept
-
-    pub kept_answered : Answered (AnswersInputLine most long decides) l.bytes.items old new → Answered (AnswersInputLine most long decides) line old new
-    kept_answered a = record { text = a.text; answers = of_kept l.bytes.items line a.text kept a.answers; written = a.written }
-
-    pub kept_answered_part : AnsweredPart (AnswersInputLine most long decides) l.bytes.items old new → AnsweredPart (AnswersInputLine most long decides) line old new
-    kept_answered_part a = record { text = a.text; answers = of_kept l.bytes.items line a.text kept a.answers; many = a.many; is_cut = a.is_cut; written = a.written }
 
 pub written_part : (texts : LineTexts) (line text : List ℕ) (old new : Option (List ℕ)) → texts line text
     → (n : ℕ) × (n < length text) × AddsBytes old new (take n text) → AnsweredPart texts line old new

@@ -1,9 +1,9 @@
 -- How the reports on refused lines continue.
-use Rattle.line_answers.proofs.Prelude.{◌≡◌, ℕ, suc, ◌+◌, ◌<◌, ◌≤◌, ◌^◌, Bool, true, false, List, [], ◌∷◌, ◌++◌, length, length-append, length-take, take, Option, Some, refl, sym, ap, subst, ◌∙◌, inl, inr, arith, append_assoc, append-nil, Result, Ok, Err, ◌⊎◌, AddsBytes, Stream, WritesBytes, WritesPart, cut, input_lines, readable, with_rest, one_more, SessionError, ReadFailed, WriteFailed, cut-none, cut-line, cut-part, take-append-le, HasNoFeed, HeardByResult, AnswersInputLine, LineTexts, AnsweredPart, AnswersByResult, JoinedTexts, TakesOf, TellsBreak, TellsEach, TellsEnd, TellsSoFar, told_of, true≢false}
+use Rattle.line_answers.proofs.Prelude.{◌≡◌, ℕ, suc, ◌+◌, ◌<◌, ◌≤◌, ◌^◌, Bool, true, false, List, [], ◌∷◌, ◌++◌, length, length-append, length-take, take, Option, Some, refl, sym, ap, subst, ◌∙◌, inl, inr, arith, append_assoc, append-nil, Result, Ok, Err, ◌⊎◌, AddsBytes, Stream, WritesBytes, WritesPart, cut, input_lines, readable, with_rest, one_more, SessionError, ReadFailed, WriteFailed, cut-none, cut-line, cut-part, take-append-le, HasNoFeed, HeardByResult, AnswersInputLine, LineTexts, AnsweredPart, AnswersByResult, JoinedTexts, TakesOf, TellsBreak, TellsEach, TellsEnd, TellsSoFar, judged, passes, told_of, true≢false, ◌&&◌}
 use Rattle.std.proofs.Common.{codes, decimal, if◌then◌else◌, suc-add, zero-add}
 use Rattle.line_answers.specs.Telling.{is_refusal}
 use Rattle.streams.specs.declared.session_error.SessionError.TheVariants.{Memory as SessionMemory}
-use Rattle.line_answers.proofs.Going.{PassesNone, all_told, end_cut_told, end_part, ends, goes_on, going_part, line_cut_told, some_told, starts, told_part, told_part_whole}
+use Rattle.line_answers.proofs.Going.{PassesNone, all_told, and_none, end_cut_told, end_part, ends, goes_on, going_part, line_cut_told, some_told, starts, told_part, told_part_whole}
 use Rattle.line_answers.specs.Telling as telling
 
 -- ---- bytes that a stream takes
@@ -88,30 +88,30 @@ either_of true start now text w = inr w
 -- ---- lines
 
 -- the answers to ended lines and to the rest after them, and the reports on them
-tells_last : (texts : LineTexts) (none : PassesNone texts) (lines : List (List ℕ)) (rest text said answer : List ℕ) → TellsEach texts lines text said → texts rest answer
-    → TellsEach texts (with_rest lines rest) (text ++ answer) (said ++ told_of (suc (length lines)) answer)
-tells_last texts none lines [] text said answer each last = rw (none answer last, append-nil text, append-nil said) each
-tells_last texts none lines (b ∷ bs) text said answer each last = telling.more each last
+tells_last : (texts : LineTexts) (none : PassesNone texts) (lines : List (List ℕ)) (rest text said answer : List ℕ) (all : Bool) → TellsEach texts lines text all said → texts rest answer
+    → TellsEach texts (with_rest lines rest) (text ++ answer) (all && passes answer) (said ++ told_of (suc (length lines)) answer)
+tells_last texts none lines [] text said answer all each last = rw (and_none answer all (none answer last), none answer last, append-nil text, append-nil said) each
+tells_last texts none lines (b ∷ bs) text said answer all each last = telling.more each last
 
 -- the relation for the reports
-abbrev pub telling_of : LineTexts → List ℕ → JoinedTexts
-telling_of texts said lines answers = TellsEach texts lines answers said
+abbrev pub telling_of : LineTexts → List ℕ → Bool → JoinedTexts
+telling_of texts said all lines answers = TellsEach texts lines answers all said
 
-pub tells_start : (texts : LineTexts) (e : Stream) (before : List ℕ) (written : Option (List ℕ)) → written ≡ Some before → TellsSoFar texts 0 false e e before [] written
+pub tells_start : (texts : LineTexts) (e : Stream) (before : List ℕ) (written : Option (List ℕ)) → written ≡ Some before → TellsSoFar texts true 0 false e e before [] written
 tells_start texts e before written w = record {
   text = [];
-  so_far = starts (telling_of texts []) telling.none before written w;
+  so_far = starts (telling_of texts [] true) telling.none before written w;
   count_is = rw cut-none refl;
   few = omega arith;
   tells = record { adds = λ bytes is. is ∙ ap Some (sym (append-nil bytes)); failed = refl };
 }
 
-module _ (texts : LineTexts) (count : ℕ) (failed : Bool) (e e_now : Stream) (before heard : List ℕ) (written : Option (List ℕ))
-    (t : TellsSoFar texts count failed e e_now before heard written) where
-  pub tells_part : (part : List ℕ) → HasNoFeed part → TellsSoFar texts count failed e e_now before (heard ++ part) written
+module _ (texts : LineTexts) (all : Bool) (count : ℕ) (failed : Bool) (e e_now : Stream) (before heard : List ℕ) (written : Option (List ℕ))
+    (t : TellsSoFar texts all count failed e e_now before heard written) where
+  pub tells_part : (part : List ℕ) → HasNoFeed part → TellsSoFar texts all count failed e e_now before (heard ++ part) written
   tells_part part plain = record {
     text = t.text;
-    so_far = going_part (telling_of texts t.text) before heard written t.so_far part plain;
+    so_far = going_part (telling_of texts t.text all) before heard written t.so_far part plain;
     count_is = rw (cut-part heard part plain) t.count_is;
     few = omega (arith, t.few, length-append heard part);
     tells = t.tells;
@@ -119,52 +119,52 @@ module _ (texts : LineTexts) (count : ℕ) (failed : Bool) (e e_now : Stream) (b
 
   module _ (rest : List ℕ) (plain : HasNoFeed rest) (new : Option (List ℕ)) where
     -- a line that is answered and reported
-    pub tells_line : (answer : List ℕ) (next : ℕ) (broken : Bool) (e_new : Stream) → texts ((cut heard).1 ++ rest) answer → AddsBytes written new answer
-        → next ≡ suc count → TakesOf broken e e_new (t.text ++ told_of (suc count) answer)
-        → TellsSoFar texts next broken e e_new before (heard ++ (rest ++ 10 ∷ [])) new
-    tells_line answer next broken e_new answers adds one takes =
-        let line : TellsEach texts ((cut heard).0 ++ ((cut heard).1 ++ rest) ∷ []) (t.so_far.text ++ answer) (t.text ++ told_of (suc count) answer) =
-        subst (λ (n : ℕ). TellsEach texts ((cut heard).0 ++ ((cut heard).1 ++ rest) ∷ []) (t.so_far.text ++ answer) (t.text ++ told_of (suc n) answer))
+    pub tells_line : (answer : List ℕ) (pass : Bool) (next : ℕ) (broken : Bool) (e_new : Stream) → texts ((cut heard).1 ++ rest) answer → AddsBytes written new answer
+        → pass ≡ (all && passes answer) → next ≡ suc count → TakesOf broken e e_new (t.text ++ told_of (suc count) answer)
+        → TellsSoFar texts pass next broken e e_new before (heard ++ (rest ++ 10 ∷ [])) new
+    tells_line answer pass next broken e_new answers adds is one takes =
+        let line : TellsEach texts ((cut heard).0 ++ ((cut heard).1 ++ rest) ∷ []) (t.so_far.text ++ answer) (all && passes answer) (t.text ++ told_of (suc count) answer) =
+        subst (λ (n : ℕ). TellsEach texts ((cut heard).0 ++ ((cut heard).1 ++ rest) ∷ []) (t.so_far.text ++ answer) (all && passes answer) (t.text ++ told_of (suc n) answer))
         (sym t.count_is) (telling.more t.so_far.lines answers) in
-        record {
+        rw is (record {
           text = t.text ++ told_of (suc count) answer;
-          so_far = goes_on (telling_of texts t.text) before heard written t.so_far rest plain new (telling_of texts (t.text ++ told_of (suc count) answer)) answer adds line;
+          so_far = goes_on (telling_of texts t.text all) before heard written t.so_far rest plain new (telling_of texts (t.text ++ told_of (suc count) answer) (all && passes answer)) answer adds line;
           count_is = rw (cut-line heard rest plain) (omega (arith, one, t.count_is, length-append (cut heard).0 (((cut heard).1 ++ rest) ∷ [])));
           few = omega (arith, one, t.few, length-append heard (rest ++ 10 ∷ []), length-append rest (10 ∷ []));
           tells = takes;
-        }
+        })
 
-    pub tells_break : AnsweredPart texts ((cut heard).1 ++ rest) written new → TellsBreak false texts e e_now before (heard ++ (rest ++ 10 ∷ [])) new
+    pub tells_break : AnsweredPart texts ((cut heard).1 ++ rest) written new → TellsBreak false texts all e e_now before (heard ++ (rest ++ 10 ∷ [])) new
     tells_break a =
-        (t.text, told_part (telling_of texts t.text) before heard written t.so_far texts rest plain new a, either_of failed e e_now t.text t.tells)
+        (t.text, told_part (telling_of texts t.text all) before heard written t.so_far texts rest plain new a, either_of failed e e_now t.text t.tells)
 
     -- a line of which nothing was kept
     module _ (whole : (cut heard).1 ≡ []) where
-      pub tells_whole : (answer : List ℕ) (next : ℕ) (broken : Bool) (e_new : Stream) → texts rest answer → AddsBytes written new answer
-          → next ≡ suc count → TakesOf broken e e_new (t.text ++ told_of (suc count) answer)
-          → TellsSoFar texts next broken e e_new before (heard ++ (rest ++ 10 ∷ [])) new
-      tells_whole answer next broken e_new answers =
-          tells_line answer next broken e_new (subst (λ (l : List ℕ). texts (l ++ rest) answer) (sym whole) answers)
+      pub tells_whole : (answer : List ℕ) (pass : Bool) (next : ℕ) (broken : Bool) (e_new : Stream) → texts rest answer → AddsBytes written new answer
+          → pass ≡ (all && passes answer) → next ≡ suc count → TakesOf broken e e_new (t.text ++ told_of (suc count) answer)
+          → TellsSoFar texts pass next broken e e_new before (heard ++ (rest ++ 10 ∷ [])) new
+      tells_whole answer pass next broken e_new answers =
+          tells_line answer pass next broken e_new (subst (λ (l : List ℕ). texts (l ++ rest) answer) (sym whole) answers)
 
-      pub tells_break_whole : AnsweredPart texts rest written new → TellsBreak false texts e e_now before (heard ++ (rest ++ 10 ∷ [])) new
+      pub tells_break_whole : AnsweredPart texts rest written new → TellsBreak false texts all e e_now before (heard ++ (rest ++ 10 ∷ [])) new
       tells_break_whole a =
-          (t.text, told_part_whole (telling_of texts t.text) before heard written t.so_far texts rest plain new whole a, either_of failed e e_now t.text t.tells)
+          (t.text, told_part_whole (telling_of texts t.text all) before heard written t.so_far texts rest plain new whole a, either_of failed e e_now t.text t.tells)
 
   -- the end of the input
-  pub tells_end : PassesNone texts → (new : Option (List ℕ)) (answer : List ℕ) (broken : Bool) (e_new : Stream) → texts (cut heard).1 answer → AddsBytes written new answer
-      → TakesOf broken e e_new (t.text ++ told_of (suc count) answer) → TellsEnd true texts e e_new before heard new
-  tells_end none new answer broken e_new answers adds takes =
-      let lines : TellsEach texts (input_lines heard) (t.so_far.text ++ answer) (t.text ++ told_of (suc count) answer) =
-      subst (λ (n : ℕ). TellsEach texts (input_lines heard) (t.so_far.text ++ answer) (t.text ++ told_of (suc n) answer)) (sym t.count_is)
-      (tells_last texts none (cut heard).0 (cut heard).1 t.so_far.text t.text answer t.so_far.lines answers) in (
+  pub tells_end : PassesNone texts → (new : Option (List ℕ)) (answer : List ℕ) (pass broken : Bool) (e_new : Stream) → texts (cut heard).1 answer → AddsBytes written new answer
+      → pass ≡ (all && passes answer) → TakesOf broken e e_new (t.text ++ told_of (suc count) answer) → TellsEnd true texts pass e e_new before heard new
+  tells_end none new answer pass broken e_new answers adds is takes =
+      let lines : TellsEach texts (input_lines heard) (t.so_far.text ++ answer) (all && passes answer) (t.text ++ told_of (suc count) answer) =
+      subst (λ (n : ℕ). TellsEach texts (input_lines heard) (t.so_far.text ++ answer) (all && passes answer) (t.text ++ told_of (suc n) answer)) (sym t.count_is)
+      (tells_last texts none (cut heard).0 (cut heard).1 t.so_far.text t.text answer all t.so_far.lines answers) in rw is (
         t.text ++ told_of (suc count) answer,
-        ends (telling_of texts t.text) before heard written t.so_far (telling_of texts (t.text ++ told_of (suc count) answer)) answer new adds lines,
+        ends (telling_of texts t.text all) before heard written t.so_far (telling_of texts (t.text ++ told_of (suc count) answer) (all && passes answer)) answer new adds lines,
         either_of broken e e_new (t.text ++ told_of (suc count) answer) takes,
       )
 
-  pub tells_end_break : PassesNone texts → (new : Option (List ℕ)) → AnsweredPart texts (cut heard).1 written new → TellsBreak true texts e e_now before heard new
+  pub tells_end_break : PassesNone texts → (new : Option (List ℕ)) → AnsweredPart texts (cut heard).1 written new → TellsBreak true texts all e e_now before heard new
   tells_end_break none new a =
-      (t.text, end_part (telling_of texts t.text) before heard written t.so_far texts none new a, either_of failed e e_now t.text t.tells)
+      (t.text, end_part (telling_of texts t.text all) before heard written t.so_far texts none new a, either_of failed e e_now t.text t.tells)
 
   -- there is a number for the next line
   pub counted : length heard ≤ 2 ^ 63 → suc count < 2 ^ 64
@@ -182,43 +182,43 @@ readable-fits input = omega (arith, length-take (2 ^ 63) input)
 taken-fits : (read : ℕ) (input : List ℕ) → read ≤ length (readable input) → length (take read input) ≤ 2 ^ 63
 taken-fits read input inside = omega (arith, inside, readable-fits input, length-take read input)
 
-module _ (texts : LineTexts) (count : ℕ) (failed : Bool) (e e_now : Stream) (input before : List ℕ) (left written : Option (List ℕ)) (same named : Type 0)
+module _ (texts : LineTexts) (all : Bool) (count : ℕ) (failed : Bool) (e e_now : Stream) (input before : List ℕ) (left written : Option (List ℕ)) (same named : Type 0)
     (keeps : List ℕ → Type 0) where
   -- what was read, written and reported once the input was heard
   pub tells_told : (result : Result (Unit {0}) SessionError)
-      → HeardByResult (λ heard new. same × named × keeps heard × (length heard ≤ 2 ^ 63 → TellsSoFar texts count failed e e_now before heard new))
-      (λ last heard new. named × (length heard ≤ 2 ^ 63 → TellsEnd last texts e e_now before heard new))
-      (λ last heard new. named × (length heard ≤ 2 ^ 63 → TellsBreak last texts e e_now before heard new)) input left written result
-      → named × (text : List ℕ) × AnswersByResult texts (telling_of texts text) input before left written result
+      → HeardByResult (λ heard new. same × named × keeps heard × (length heard ≤ 2 ^ 63 → TellsSoFar texts all count failed e e_now before heard new))
+      (λ last heard new. named × (length heard ≤ 2 ^ 63 → TellsEnd last texts all e e_now before heard new))
+      (λ last heard new. named × (length heard ≤ 2 ^ 63 → TellsBreak last texts all e e_now before heard new)) input left written result
+      → named × (text : List ℕ) × AnswersByResult texts (telling_of texts text) input before left written (judged all result)
       × (WritesBytes e e_now text ⊎ WritesPart e e_now text)
   tells_told (Ok u) (inl r) = absurd ((r.of_bytes.1 (taken-fits r.read input r.within)).1)
   tells_told (Ok u) (inr r) =
       let t = r.of_bytes.1 (readable-fits input) in
-      (r.of_bytes.0, t.0, all_told texts (telling_of texts t.0) input before left written r.left_is t.1, t.2)
+      (r.of_bytes.0, t.0, all_told texts (telling_of texts t.0 all) input before left written r.left_is t.1, t.2)
   tells_told (Err ReadFailed) r =
       let t = r.of_bytes.3 (taken-fits r.read input r.within) in
-      (r.of_bytes.1, t.text, some_told texts (telling_of texts t.text) input before left written r.read r.within r.left_is t.so_far, either_of failed e e_now t.text t.tells)
+      (r.of_bytes.1, t.text, (all, some_told texts (telling_of texts t.text all) input before left written r.read r.within r.left_is t.so_far), either_of failed e e_now t.text t.tells)
   tells_told (Err WriteFailed) (inl r) =
       let t = r.of_bytes.1 (taken-fits r.read input r.within) in
-      (r.of_bytes.0, t.0, line_cut_told texts (telling_of texts t.0) input before left written r.read r.within r.left_is t.1, t.2)
+      (r.of_bytes.0, t.0, (all, line_cut_told texts (telling_of texts t.0 all) input before left written r.read r.within r.left_is t.1), t.2)
   tells_told (Err WriteFailed) (inr r) =
       let t = r.of_bytes.1 (readable-fits input) in
-      (r.of_bytes.0, t.0, end_cut_told texts (telling_of texts t.0) input before left written r.left_is t.1, t.2)
+      (r.of_bytes.0, t.0, (all, end_cut_told texts (telling_of texts t.0 all) input before left written r.left_is t.1), t.2)
   tells_told (Err SessionMemory) none = absurd none
 
 -- likewise for the rules and the stream from which the listener was made
-pub tells_all : (most due : ℕ) (long : List ℕ) (decides : LineTexts) (count : ℕ) (failed : Bool) (e first e_now : Stream) (input before : List ℕ)
+pub tells_all : (most due : ℕ) (long : List ℕ) (decides : LineTexts) (all : Bool) (count : ℕ) (failed : Bool) (e first e_now : Stream) (input before : List ℕ)
     (left written : Option (List ℕ)) (same named : Type 0) (keeps : List ℕ → Type 0) → most ≡ due → e ≡ first → (result : Result (Unit {0}) SessionError)
-    → HeardByResult (λ heard new. same × named × keeps heard × (length heard ≤ 2 ^ 63 → TellsSoFar (AnswersInputLine most long decides) count failed e e_now before heard new))
-    (λ last heard new. named × (length heard ≤ 2 ^ 63 → TellsEnd last (AnswersInputLine most long decides) e e_now before heard new))
-    (λ last heard new. named × (length heard ≤ 2 ^ 63 → TellsBreak last (AnswersInputLine most long decides) e e_now before heard new)) input left written result
-    → named × (text : List ℕ) × AnswersByResult (AnswersInputLine due long decides) (telling_of (AnswersInputLine due long decides) text) input before left written result
+    → HeardByResult (λ heard new. same × named × keeps heard × (length heard ≤ 2 ^ 63 → TellsSoFar (AnswersInputLine most long decides) all count failed e e_now before heard new))
+    (λ last heard new. named × (length heard ≤ 2 ^ 63 → TellsEnd last (AnswersInputLine most long decides) all e e_now before heard new))
+    (λ last heard new. named × (length heard ≤ 2 ^ 63 → TellsBreak last (AnswersInputLine most long decides) all e e_now before heard new)) input left written result
+    → named × (text : List ℕ) × AnswersByResult (AnswersInputLine due long decides) (telling_of (AnswersInputLine due long decides) text) input before left written (judged all result)
     × (WritesBytes first e_now text ⊎ WritesPart first e_now text)
-tells_all most due long decides count failed e first e_now input before left written same named keeps is_due is_first result heard =
-    let t = tells_told (AnswersInputLine most long decides) count failed e e_now input before left written same named keeps result heard in (
+tells_all most due long decides all count failed e first e_now input before left written same named keeps is_due is_first result heard =
+    let t = tells_told (AnswersInputLine most long decides) all count failed e e_now input before left written same named keeps result heard in (
       t.0,
       t.1,
-      subst (λ (m : ℕ). AnswersByResult (AnswersInputLine m long decides) (telling_of (AnswersInputLine m long decides) t.1) input before left written result) is_due t.2,
+      subst (λ (m : ℕ). AnswersByResult (AnswersInputLine m long decides) (telling_of (AnswersInputLine m long decides) t.1) input before left written (judged all result)) is_due t.2,
       subst (λ (s : Stream). WritesBytes s e_now t.1 ⊎ WritesPart s e_now t.1) is_first t.3,
     )
 

@@ -1,22 +1,26 @@
 -- What is read and written when lines are answered. Each definition takes `texts`, what may be written for a line.
-use Rattle.std.specs.Prelude.{◌≡◌, ℕ, ◌<◌, ◌≤◌, ◌⊎◌, Bool, true, false, List, [], ◌∷◌, ◌++◌, length, take, drop, Option, Some, Result, Ok, Err}
+use Rattle.std.specs.Prelude.{◌≡◌, ℕ, ◌<◌, ◌≤◌, ◌⊎◌, ◌&&◌, Bool, true, false, List, [], ◌∷◌, ◌++◌, length, take, drop, Option, Some, Result, Ok, Err}
 use Rattle.streams.specs.Lines.{cut, input_lines, readable}
 use Rattle.streams.specs.Streams.{AddsBytes, Stream}
 use Rattle.streams.specs.Failures.{FailsByResult}
 use Rattle.streams.specs.declared.session_error.SessionError.{SessionError, TheVariants.ReadFailed, TheVariants.WriteFailed, TheVariants.Memory}
-use Rattle.line_answers.specs.Lines.{KeepsLine, LineTexts}
+use Rattle.line_answers.specs.Lines.{KeepsLine, LineTexts, passes}
 use Rattle.line_answers.specs.declared.line.Line.{Line}
 
 -- lines, and the joined answers that may be written for them
 abbrev pub JoinedTexts : Type 1
 JoinedTexts = List (List ℕ) → List ℕ → Type 0
 
--- the joined answers to lines
-pub data AnswersEach (texts : LineTexts) : List (List ℕ) → List ℕ → Type 0 where
-  none : AnswersEach texts [] []
-  more : {lines : List (List ℕ)} {text : List ℕ} {line answer : List ℕ} → AnswersEach texts lines text
+-- the joined answers to lines, and whether all of them pass
+pub data AnswersEach (texts : LineTexts) : List (List ℕ) → List ℕ → Bool → Type 0 where
+  none : AnswersEach texts [] [] true
+  more : {lines : List (List ℕ)} {text : List ℕ} {line answer : List ℕ} {all : Bool} → AnswersEach texts lines text all
       → texts line answer
-      → AnswersEach texts (lines ++ line ∷ []) (text ++ answer)
+      → AnswersEach texts (lines ++ line ∷ []) (text ++ answer) (all && passes answer)
+
+-- the joined answers to lines, if all pass or if not all do
+abbrev pub answered : LineTexts → Bool → JoinedTexts
+answered texts all lines text = AnswersEach texts lines text all
 
 -- all lines of the input were answered, with the joined answers that `each` gives
 pub record AnsweredAllLines (each : JoinedTexts) (input before : List ℕ) (left written : Option (List ℕ)) : Type 0 where
@@ -53,32 +57,38 @@ pub record AnsweredPartOfLines (texts : LineTexts) (each : JoinedTexts) (input b
   pub is_cut : 0 < length rest
   pub part_written : written ≡ Some (before ++ (text ++ part))
 
--- what was read and written, by the result: `ReadFailed` if a read failed, `WriteFailed` if a write failed
-abbrev pub AnswersByResult : LineTexts → JoinedTexts → List ℕ → List ℕ → Option (List ℕ) → Option (List ℕ)
-    → Result (Unit {0}) SessionError → Type 0
-AnswersByResult texts each input before left written (Ok u) = AnsweredAllLines each input before left written
-AnswersByResult texts each input before left written (Err ReadFailed) = AnsweredSomeLines each input before left written
-AnswersByResult texts each input before left written (Err WriteFailed) = AnsweredPartOfLines texts each input before left written
+-- what was read and written, by the result: whether all answers pass; `ReadFailed` if a read failed, `WriteFailed` if a
+-- write failed
+abbrev pub AnswersByResult : LineTexts → (Bool → JoinedTexts) → List ℕ → List ℕ → Option (List ℕ) → Option (List ℕ)
+    → Result Bool SessionError → Type 0
+AnswersByResult texts each input before left written (Ok all) = AnsweredAllLines (each all) input before left written
+AnswersByResult texts each input before left written (Err ReadFailed) =
+    (all : Bool) × AnsweredSomeLines (each all) input before left written
+AnswersByResult texts each input before left written (Err WriteFailed) =
+    (all : Bool) × AnsweredPartOfLines texts (each all) input before left written
 AnswersByResult texts each input before left written (Err Memory) = ⊥
 
+-- the result without whether all answers pass
+abbrev pub ended : Result Bool SessionError → Result (Unit {0}) SessionError
+ended (Ok all) = Ok tt
+ended (Err e) = Err e
+
 -- what answering does to a reader and a writer
-pub record AnswersInput (texts : LineTexts) (r r_after w w_after : Stream)
-    (result : Result (Unit {0}) SessionError) : Type 0 where
+pub record AnswersInput (texts : LineTexts) (r r_after w w_after : Stream) (result : Result Bool SessionError) : Type 0 where
   pub told : (input before : List ℕ) → r.bytes ≡ Some input → w.bytes ≡ Some before
-      → AnswersByResult texts (AnswersEach texts) input before r_after.bytes w_after.bytes result
-  pub fails : FailsByResult r.failed r_after.failed w.failed w_after.failed result
+      → AnswersByResult texts (answered texts) input before r_after.bytes w_after.bytes result
+  pub fails : FailsByResult r.failed r_after.failed w.failed w_after.failed (ended result)
 
 -- ---- parts
+
+-- the result of a loop that has answered all lines, by whether all answers pass
+abbrev pub judged : Bool → Result (Unit {0}) SessionError → Result Bool SessionError
+judged all (Ok u) = Ok all
+judged all (Err e) = Err e
 
 -- the property holds for the line of which this is kept, and for the most bytes of it that are read
 abbrev pub OfLine : Line → (ℕ → List ℕ → Type 0) → Type 0
 OfLine line Q = (most : ℕ) (bytes : List ℕ) → KeepsLine most line bytes → Q most bytes
-
--- the answer to a line was written
-pub record Answered (texts : LineTexts) (line : List ℕ) (old new : Option (List ℕ)) : Type 0 where
-  pub text : List ℕ
-  pub answers : texts line text
-  pub written : AddsBytes old new text
 
 -- the answer to a line was written except for a rest
 pub record AnsweredPart (texts : LineTexts) (line : List ℕ) (old new : Option (List ℕ)) : Type 0 where

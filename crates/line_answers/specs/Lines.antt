@@ -1,6 +1,6 @@
 -- What is answered to a line.
-use Rattle.std.specs.Prelude.{◌≡◌, ℕ, ◌<◌, ◌≤◌, Bool, true, false, List, [], ◌∷◌, ◌++◌, ◌||◌, codes, length, nat_eq, suc, take}
-use Rattle.std.specs.List.{list_all}
+use Rattle.std.specs.Prelude.{◌≡◌, ◌==◌, ℕ, ◌<◌, ◌≤◌, Bool, true, false, List, [], ◌∷◌, ◌++◌, ◌||◌, codes, length, nat_eq, suc, take}
+use Rattle.std.specs.List.{list_all, starts_with}
 use Rattle.line_answers.specs.declared.line.Line.{Line}
 
 -- a line, and a text that may be answered to it
@@ -35,6 +35,16 @@ pub data AnswersInputLine (most : ℕ) (too_long_text : List ℕ) (decides : Lin
       → AnswersInputLine most too_long_text decides line (line_of text)
   -- an allocation fails, which implies nothing about the line
   no_memory : 0 < length line → AnswersInputLine most too_long_text decides line no_memory_text
+
+-- ---- answers that allow
+
+-- the beginning of an answer that allows a request
+unfoldable pub allowing_text : List ℕ
+allowing_text = codes "{\"apiVersion\":\"admission.k8s.io/v1\",\"kind\":\"AdmissionReview\",\"response\":{\"allowed\":true"
+
+-- the answer to a line allows the request, or there is none
+abbrev pub passes : List ℕ → Bool
+passes answer = length answer == 0 || starts_with nat_eq answer allowing_text
 
 -- ---- the line that is read
 

@@ -1,8 +1,9 @@
 //! Answers one line after another.
-ghost use Rattle.std.specs.Prelude.{◌≡◌, ◌<◌, ◌≤◌, false, length, IfOk, OnErr, OnOk};
-ghost use Rattle.streams.specs.Streams.{one_more, stream};
-ghost use Rattle.line_answers.specs.Lines.{is_blank, line_of, AnswersInputLine};
-ghost use Rattle.line_answers.specs.AnsweredLines.{Answered, AnsweredPart, AnswersInput, OfLine};
+ghost use Rattle.std.specs.Prelude.{◌≡◌, ◌<◌, ◌&&◌, length, IfOk};
+ghost use Rattle.streams.specs.Streams.{stream};
+ghost use Rattle.line_answers.specs.Lines.{is_blank, line_of, passes, AnswersInputLine};
+ghost use Rattle.line_answers.specs.AnsweredLines.{judged, AnswersInput, OfLine};
+ghost use Rattle.line_answers.specs.Telling.{answer_bytes};
 
 use crate::decider::Decider;
 use crate::line::Line;
@@ -13,7 +14,8 @@ use streams::{Failed, LineSource, Listener, SessionError, Sink, write_all};
 pub const NO_MEMORY: &[u8] = b"{\"refused\":\"memory\"}\n";
 
 /// Answers each line before the next is read, until the end of the input. A line of more than
-/// `max_line` bytes is refused. At most the first 2^63 bytes of an input are read.
+/// `max_line` bytes is refused. At most the first 2^63 bytes of an input are read. Returns whether
+/// all answers pass: each line has an answer that allows its request, or none.
 ///
 /// # Errors
 ///
@@ -24,7 +26,7 @@ pub fn answer_lines<D: Decider, R: LineSource, W: Sink>(
     max_line: u64,
     r: &mut R,
     w: &mut W,
-) -> Result<(), SessionError>
+) -> Result<bool, SessionError>
     ensures { let written = stream (W.taken w.old) (W.failed w.old) in
         let written_after = stream (W.taken w.new) (W.failed w.new) in
         let read = stream (R.left r.old) (R.failed r.old) in
@@ -35,8 +37,10 @@ pub fn answer_lines<D: Decider, R: LineSource, W: Sink>(
         alloc,
         decider,
         line: Line::new(alloc, max_line),
+        pass: true,
     };
-    r.hear_lines(&mut answers, w)
+    let ended = r.hear_lines(&mut answers, w);
+    judged(answers.pass, ended)
 }
 
 /// What answers the lines.
@@ -46,20 +50,22 @@ pub struct Answers<'a, D> {
     decider: &'a D,
     /// What is kept of the next line.
     line: Line,
+    /// Whether all answers pass.
+    pass: bool,
 }
 
 impl<'a, D: Decider> Listener for Answers<'a, D> {
-    ghost use Rattle.line_answers.specs.AnsweredLines.{AnswersBreak, AnswersEach, AnswersEnd, AnswersSoFar};
+    ghost use Rattle.line_answers.specs.AnsweredLines.{AnswersBreak, AnswersEnd, AnswersSoFar, answered};
     ghost use Rattle.line_answers.specs.Lines.{KeepsLine};
     ghost use Rattle.streams.specs.Lines.{cut};
 
     ghost goes = { λ a start before heard written. (a.decider.now ≡ start.decider.now)
-        × AnswersSoFar (AnswersEach (AnswersInputLine start.line.most (D.refuses start.decider.now) (D.decides start.decider.now))) before heard written × KeepsLine start.line.most a.line (cut heard).1 };
+        × AnswersSoFar (answered (AnswersInputLine start.line.most (D.refuses start.decider.now) (D.decides start.decider.now)) a.pass) before heard written × KeepsLine start.line.most a.line (cut heard).1 };
 
-    ghost ended = { λ last a start before heard written. AnswersEnd last (AnswersEach (AnswersInputLine start.line.most (D.refuses start.decider.now) (D.decides start.decider.now))) before heard written };
+    ghost ended = { λ last a start before heard written. AnswersEnd last (answered (AnswersInputLine start.line.most (D.refuses start.decider.now) (D.decides start.decider.now)) a.pass) before heard written };
 
     ghost broke = { λ last a start before heard written. AnswersBreak last (AnswersInputLine start.line.most (D.refuses start.decider.now) (D.decides start.decider.now))
-        (AnswersEach (AnswersInputLine start.line.most (D.refuses start.decider.now) (D.decides start.decider.now))) before heard written };
+        (answered (AnswersInputLine start.line.most (D.refuses start.decider.now) (D.decides start.decider.now)) a.pass) before heard written };
 
     fn keep(&mut self, part: &[u8]) {
         self.line.extend(part);
@@ -67,66 +73,96 @@ impl<'a, D: Decider> Listener for Answers<'a, D> {
 
     fn hear<W: Sink>(&mut self, rest: &[u8], w: &mut W) -> Result<bool, Failed> {
         if self.line.is_empty() {
-            answer_line(self.alloc, self.decider, self.line.most, rest, w)?;
+            let answer = answer_to(self.alloc, self.decider, self.line.most, rest);
+            write_all(w, bytes_of(&answer))?;
+            self.pass = pass_with(self.pass, bytes_of(&answer));
             return Ok(false);
         }
         self.line.extend(rest);
-        match answer_kept(self.alloc, self.decider, &self.line, w) {
-            Ok(()) => {
-                self.line.clear();
-                Ok(false)
-            }
-            Err(failed) => Err(failed),
-        }
+        let answer = answer_to_kept(self.alloc, self.decider, &self.line);
+        write_all(w, bytes_of(&answer))?;
+        self.pass = pass_with(self.pass, bytes_of(&answer));
+        self.line.clear();
+        Ok(false)
     }
 
     fn hear_end<W: Sink>(&mut self, w: &mut W) -> Result<(), Failed> {
-        answer_kept(self.alloc, self.decider, &self.line, w)
+        let answer = answer_to_kept(self.alloc, self.decider, &self.line);
+        write_all(w, bytes_of(&answer))?;
+        self.pass = pass_with(self.pass, bytes_of(&answer));
+        Ok(())
     }
 }
 
-/// Answers the line that is kept.
-fn answer_kept<D: Decider, W: Sink>(
+/// The answer to the line that is kept.
+pub fn answer_to_kept<D: Decider>(
     alloc: Global,
     decider: &D,
     line: &Line,
-    w: &mut W,
-) -> Result<(), Failed>
-    ensures whole { OnOk result (OfLine line.now (λ most bytes. Answered (AnswersInputLine most (D.refuses decider.now) (D.decides decider.now)) bytes (W.taken w.old) (W.taken w.new))) }
-    ensures part { OnErr result (OfLine line.now (λ most bytes. AnsweredPart (AnswersInputLine most (D.refuses decider.now) (D.decides decider.now)) bytes (W.taken w.old) (W.taken w.new))) }
-    ensures ok { OnOk result (W.failed w.new ≡ W.failed w.old) }
-    ensures err { OnErr result (W.failed w.new ≡ one_more (W.failed w.old)) }
+) -> Result<Vec<u8>, AllocError>
+    ensures { OfLine line.now (λ most bytes. AnswersInputLine most (D.refuses decider.now) (D.decides decider.now) bytes (answer_bytes result)) }
 {
     if line.lacks {
-        return write_all(w, NO_MEMORY);
+        return Err(AllocError);
     }
-    answer_line(alloc, decider, line.most, line.bytes.as_slice(), w)
+    answer_to(alloc, decider, line.most, line.bytes.as_slice())
 }
 
-/// Answers a line, and writes nothing for one that is empty or blank.
-fn answer_line<D: Decider, W: Sink>(
+/// The answer to a line. It is empty if the line is empty or blank.
+pub fn answer_to<D: Decider>(
     alloc: Global,
     decider: &D,
     max_line: u64,
     line: &[u8],
-    w: &mut W,
-) -> Result<(), Failed>
-    ensures whole { OnOk result (Answered (AnswersInputLine max_line (D.refuses decider.now) (D.decides decider.now)) line.now (W.taken w.old) (W.taken w.new)) }
-    ensures part { OnErr result (AnsweredPart (AnswersInputLine max_line (D.refuses decider.now) (D.decides decider.now)) line.now (W.taken w.old) (W.taken w.new)) }
-    ensures ok { OnOk result (W.failed w.new ≡ W.failed w.old) }
-    ensures err { OnErr result (W.failed w.new ≡ one_more (W.failed w.old)) }
+) -> Result<Vec<u8>, AllocError>
+    ensures { AnswersInputLine max_line (D.refuses decider.now) (D.decides decider.now) line.now (answer_bytes result) }
 {
     if line.is_empty() {
-        return Ok(());
+        return Ok(Vec::new(alloc));
     }
-    match answer_of(alloc, decider, max_line, line) {
-        Ok(text) => write_all(w, text.as_slice()),
-        Err(_) => write_all(w, NO_MEMORY),
+    answer_of(alloc, decider, max_line, line)
+}
+
+/// The bytes of an answer, or of the text for a failed allocation.
+pub fn bytes_of(answer: &Result<Vec<u8>, AllocError>) -> &[u8]
+    ensures { result.now ≡ answer_bytes answer.now }
+{
+    match answer {
+        Ok(text) => text.as_slice(),
+        Err(_) => NO_MEMORY,
+    }
+}
+
+/// Whether all answers pass, after one more.
+pub fn pass_with(pass: bool, answer: &[u8]) -> bool
+    ensures { result ≡ (pass && passes answer.now) }
+{
+    pass && passes(answer)
+}
+
+/// Whether the answer allows its request, or the line has none.
+#[tactic(auto, unfolding(crate::specs::Lines::allowing_text))]
+fn passes(answer: &[u8]) -> bool
+    ensures { result ≡ passes answer.now }
+{
+    answer.is_empty()
+        || answer.starts_with(
+            b"{\"apiVersion\":\"admission.k8s.io/v1\",\"kind\":\"AdmissionReview\",\"response\":{\"allowed\":true",
+        )
+}
+
+/// The result of a loop that ended so, by whether all answers pass.
+pub fn judged(pass: bool, ended: Result<(), SessionError>) -> Result<bool, SessionError>
+    ensures { result ≡ judged pass ended }
+{
+    match ended {
+        Ok(()) => Ok(pass),
+        Err(error) => Err(error),
     }
 }
 
 /// The answer to a line that is not empty, with its line feed; nothing if the line is blank.
-pub fn answer_of<D: Decider>(
+fn answer_of<D: Decider>(
     alloc: Global,
     decider: &D,
     max_line: u64,

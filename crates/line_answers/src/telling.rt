@@ -2,19 +2,19 @@
 ghost use Rattle.std.specs.Prelude.{◌≡◌};
 ghost use Rattle.streams.specs.Streams.{stream};
 ghost use Rattle.line_answers.specs.Lines.{AnswersInputLine};
-ghost use Rattle.line_answers.specs.AnsweredLines.{OfLine};
-ghost use Rattle.line_answers.specs.Telling.{answer_bytes, TellsInput};
+ghost use Rattle.line_answers.specs.Telling.{TellsInput};
 
-use crate::answering::{NO_MEMORY, answer_of};
+use crate::answering::{answer_to, answer_to_kept, bytes_of, judged, pass_with};
 use crate::decider::Decider;
 use crate::line::Line;
 use crate::line_rules::LineRules;
 use crate::teller::Teller;
-use std::alloc::{AllocError, Global};
+use std::alloc::Global;
 use streams::{Failed, LineSource, Listener, SessionError, Sink, write_all};
 
 /// Answers the lines as `answer_lines` does, and reports each refused line on `e`. If a write to
-/// `e` fails, nothing more is reported, and the lines are answered as before.
+/// `e` fails, nothing more is reported, and the lines are answered as before. Returns whether all
+/// answers pass.
 ///
 /// # Errors
 ///
@@ -25,7 +25,7 @@ pub fn answer_and_tell<D: Decider, R: LineSource, W: Sink, E: Sink>(
     r: &mut R,
     w: &mut W,
     e: &mut E,
-) -> Result<(), SessionError>
+) -> Result<bool, SessionError>
     ensures { let written = stream (W.taken w.old) (W.failed w.old) in
         let written_after = stream (W.taken w.new) (W.failed w.new) in
         let read = stream (R.left r.old) (R.failed r.old) in
@@ -38,13 +38,15 @@ pub fn answer_and_tell<D: Decider, R: LineSource, W: Sink, E: Sink>(
         alloc: rules.alloc,
         decider: rules.decider,
         line: Line::new(rules.alloc, rules.max_line),
+        pass: true,
         teller: Teller::new(e),
     };
-    let result = r.hear_lines(&mut answers, w);
+    let ended = r.hear_lines(&mut answers, w);
     let TellingAnswers {
         alloc: _,
         decider: _,
         line,
+        pass,
         teller,
     } = answers;
     // What owns memory is dropped before `e` is read: it would keep `e` borrowed.
@@ -56,7 +58,7 @@ pub fn answer_and_tell<D: Decider, R: LineSource, W: Sink, E: Sink>(
     } = teller;
     // No effect at run time. The proof reads what `e` holds from this use of `errors`.
     let _ = &*errors;
-    result
+    judged(pass, ended)
 }
 
 /// Answers the lines and reports those that are refused.
@@ -66,6 +68,8 @@ pub struct TellingAnswers<'a, 'e, D, E> {
     decider: &'a D,
     /// What is kept of the next line.
     line: Line,
+    /// Whether all answers pass.
+    pass: bool,
     teller: Teller<'e, E>,
 }
 
@@ -77,15 +81,15 @@ impl<'a, 'e, D: Decider, E: Sink> Listener for TellingAnswers<'a, 'e, D, E> {
 
     ghost goes = { λ a start before heard written. (a.decider.now ≡ start.decider.now) × (a.teller.errors.ghost_name ≡ start.teller.errors.ghost_name)
         × KeepsLine start.line.most a.line (cut heard).1
-        × (length heard ≤ 2 ^ 63 → TellsSoFar (AnswersInputLine start.line.most (D.refuses start.decider.now) (D.decides start.decider.now)) a.teller.count a.teller.failed
+        × (length heard ≤ 2 ^ 63 → TellsSoFar (AnswersInputLine start.line.most (D.refuses start.decider.now) (D.decides start.decider.now)) a.pass a.teller.count a.teller.failed
         (stream (E.taken start.teller.errors.now) (E.failed start.teller.errors.now)) (stream (E.taken a.teller.errors.now) (E.failed a.teller.errors.now)) before heard written) };
 
     ghost ended = { λ last a start before heard written. (a.teller.errors.ghost_name ≡ start.teller.errors.ghost_name)
-        × (length heard ≤ 2 ^ 63 → TellsEnd last (AnswersInputLine start.line.most (D.refuses start.decider.now) (D.decides start.decider.now))
+        × (length heard ≤ 2 ^ 63 → TellsEnd last (AnswersInputLine start.line.most (D.refuses start.decider.now) (D.decides start.decider.now)) a.pass
         (stream (E.taken start.teller.errors.now) (E.failed start.teller.errors.now)) (stream (E.taken a.teller.errors.now) (E.failed a.teller.errors.now)) before heard written) };
 
     ghost broke = { λ last a start before heard written. (a.teller.errors.ghost_name ≡ start.teller.errors.ghost_name)
-        × (length heard ≤ 2 ^ 63 → TellsBreak last (AnswersInputLine start.line.most (D.refuses start.decider.now) (D.decides start.decider.now))
+        × (length heard ≤ 2 ^ 63 → TellsBreak last (AnswersInputLine start.line.most (D.refuses start.decider.now) (D.decides start.decider.now)) a.pass
         (stream (E.taken start.teller.errors.now) (E.failed start.teller.errors.now)) (stream (E.taken a.teller.errors.now) (E.failed a.teller.errors.now)) before heard written) };
 
     fn keep(&mut self, part: &[u8]) {
@@ -97,12 +101,14 @@ impl<'a, 'e, D: Decider, E: Sink> Listener for TellingAnswers<'a, 'e, D, E> {
             let answer = answer_to(self.alloc, self.decider, self.line.most, rest);
             write_all(w, bytes_of(&answer))?;
             self.teller.tell(bytes_of(&answer));
+            self.pass = pass_with(self.pass, bytes_of(&answer));
             return Ok(false);
         }
         self.line.extend(rest);
         let answer = answer_to_kept(self.alloc, self.decider, &self.line);
         write_all(w, bytes_of(&answer))?;
         self.teller.tell(bytes_of(&answer));
+        self.pass = pass_with(self.pass, bytes_of(&answer));
         self.line.clear();
         Ok(false)
     }
@@ -111,45 +117,7 @@ impl<'a, 'e, D: Decider, E: Sink> Listener for TellingAnswers<'a, 'e, D, E> {
         let answer = answer_to_kept(self.alloc, self.decider, &self.line);
         write_all(w, bytes_of(&answer))?;
         self.teller.tell(bytes_of(&answer));
+        self.pass = pass_with(self.pass, bytes_of(&answer));
         Ok(())
-    }
-}
-
-/// The answer to the line that is kept.
-fn answer_to_kept<D: Decider>(
-    alloc: Global,
-    decider: &D,
-    line: &Line,
-) -> Result<Vec<u8>, AllocError>
-    ensures { OfLine line.now (λ most bytes. AnswersInputLine most (D.refuses decider.now) (D.decides decider.now) bytes (answer_bytes result)) }
-{
-    if line.lacks {
-        return Err(AllocError);
-    }
-    answer_to(alloc, decider, line.most, line.bytes.as_slice())
-}
-
-/// The answer to a line. It is empty if the line is empty or blank.
-fn answer_to<D: Decider>(
-    alloc: Global,
-    decider: &D,
-    max_line: u64,
-    line: &[u8],
-) -> Result<Vec<u8>, AllocError>
-    ensures { AnswersInputLine max_line (D.refuses decider.now) (D.decides decider.now) line.now (answer_bytes result) }
-{
-    if line.is_empty() {
-        return Ok(Vec::new(alloc));
-    }
-    answer_of(alloc, decider, max_line, line)
-}
-
-/// The bytes of an answer, or of the text for a failed allocation.
-fn bytes_of(answer: &Result<Vec<u8>, AllocError>) -> &[u8]
-    ensures { result.now ≡ answer_bytes answer.now }
-{
-    match answer {
-        Ok(text) => text.as_slice(),
-        Err(_) => NO_MEMORY,
     }
 }

@@ -26,7 +26,7 @@ const THREE_ANSWERS: &str =
 
 /// The words, the status, standard output and standard error, on the lines above.
 #[rattlefmt::skip]
-const ROWS: [(&str, u8, &str, &str); 24] = [
+const ROWS: [(&str, u8, &str, &str); 26] = [
     (BOTH, 0, THREE_ANSWERS, "celbpf: policy p, bindings b\ncelbpf: policy q, bindings c\n"),
     ("gatekeeper --cluster policies", 0, NOTHING_BOUND, ""),
     ("gatekeeper --cluster none", 3, "", "celbpf: C1 none\n"),
@@ -44,6 +44,8 @@ const ROWS: [(&str, u8, &str, &str); 24] = [
     ("gatekeeper --partial --cluster no-kind", 0, C8_REFUSED, "celbpf: policy p, bindings b, params example.com/v1 Limit 0, blocked C8\n"),
     ("gatekeeper --cluster policies --cluster bindings --verbose", 0, THREE_ANSWERS, THREE_TOLD),
     ("gatekeeper --cluster no-validations --partial --verbose", 0, C7_REFUSED, C7_TOLD),
+    ("gatekeeper --cluster no-validations --partial --verbose --status", 1, C7_REFUSED, C7_TOLD),
+    ("gatekeeper --cluster no-namespace --status", 3, "", "celbpf: C4\n"),
     ("gatekeeper --cluster policies --policy few", 2, "", "celbpf: U1\n"),
     ("gatekeeper --cluster policies --namespace n", 2, "", "celbpf: U1\n"),
     ("gatekeeper --cluster policies --params n", 2, "", "celbpf: U1\n"),

@@ -12,6 +12,8 @@ use streams::{Buffered, LineSource};
 
 const FEW: &str = "gatekeeper --policy few";
 
+const FEW_WITH_STATUS: &str = "gatekeeper --policy few --status";
+
 const NO_POLICY: &str = "gatekeeper --policy missing --policy none";
 
 const NO_NAMESPACE: &str = "gatekeeper --policy few --namespace missing";
@@ -20,6 +22,11 @@ const NO_NAMESPACE: &str = "gatekeeper --policy few --namespace missing";
 const TWO: &str =
     r#"{"apiVersion":"admission.k8s.io/v1","kind":"AdmissionReview","request":{"uid":"u1","object":{"spec":{"replicas":3}}}}
 {"apiVersion":"admission.k8s.io/v1","kind":"AdmissionReview","request":{"uid":"u2","object":{"spec":{"replicas":5}}}}
+"#;
+
+/// The first of them.
+const ONE: &str =
+    r#"{"apiVersion":"admission.k8s.io/v1","kind":"AdmissionReview","request":{"uid":"u1","object":{"spec":{"replicas":3}}}}
 "#;
 
 /// The answers of `few` to the first of them, and to both.
@@ -61,7 +68,7 @@ no
 
 /// The words, the input, the status, standard output and the refusal.
 #[rattlefmt::skip]
-const ROWS: [(&str, &str, u8, &str, &str); 23] = [
+const ROWS: [(&str, &str, u8, &str, &str); 28] = [
     (FEW, TWO, 0, TWO_ANSWERS, ""),
     (
         FEW,
@@ -119,6 +126,11 @@ const ROWS: [(&str, &str, u8, &str, &str); 23] = [
     ("gatekeeper --policy few --max-line 1", " \n  \nab\n", 0, "{\"refused\":\"N2\"}\n{\"refused\":\"N2\"}\n", ""),
     ("gatekeeper --policy few --max-line 0", TWO, 2, "", "U1"),
     ("gatekeeper --policy few --max-line 16777217", TWO, 2, "", "U1"),
+    (FEW_WITH_STATUS, ONE, 0, ONE_ANSWER, ""),
+    (FEW_WITH_STATUS, TWO, 1, TWO_ANSWERS, ""),
+    (FEW_WITH_STATUS, " \t\r\n\r\n  \n\t", 0, "", ""),
+    ("gatekeeper --status --policy few --max-line 1", "ab\n", 1, "{\"refused\":\"N2\"}\n", ""),
+    ("gatekeeper --policy none --status", TWO, 3, "", "K1"),
     ("gatekeeper --version --policy missing", TWO, 0, "gatekeeper 0.20261127\n", ""),
 ];
 
@@ -170,6 +182,7 @@ fn answers_each_line(rt: HostRuntime) -> Result<(), Fail> {
 #[test]
 fn ends_where_a_read_fails(rt: HostRuntime) -> Result<(), Fail> {
     for end in 0..=TWO.len() {
+        let words = if end % 2 == 0 { FEW } else { FEW_WITH_STATUS };
         let left = &TWO.as_bytes()[..end];
         let lines = left.iter().filter(|&&b| b == b'\n').count();
         let said = match lines {
@@ -180,7 +193,7 @@ fn ends_where_a_read_fails(rt: HostRuntime) -> Result<(), Fail> {
         let mut input = Buffered::<_, 64>::new(Counting::new(CutShort { left }));
         let due = (3, said.as_bytes(), "celbpf: S1\n");
         assert!(rt;
-            ends(rt.alloc(), FEW, &mut input, 512, due)?,
+            ends(rt.alloc(), words, &mut input, 512, due)?,
             "at byte {end}"
         );
     }
@@ -191,10 +204,11 @@ fn ends_where_a_read_fails(rt: HostRuntime) -> Result<(), Fail> {
 fn ends_where_a_write_fails(rt: HostRuntime) -> Result<(), Fail> {
     let answers = TWO_ANSWERS.as_bytes();
     for room in 0..answers.len() {
+        let words = if room % 2 == 0 { FEW } else { FEW_WITH_STATUS };
         let mut input = Buffered::<_, 64>::new(Counting::new(TWO.as_bytes()));
         let due = (3, &answers[..room], "celbpf: S2\n");
         assert!(rt;
-            ends(rt.alloc(), FEW, &mut input, room, due)?,
+            ends(rt.alloc(), words, &mut input, room, due)?,
             "room for {room}"
         );
     }

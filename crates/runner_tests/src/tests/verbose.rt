@@ -45,11 +45,13 @@ celbpf: S2
 
 /// The words, the input, the status and both outputs.
 #[rattlefmt::skip]
-const ROWS: [(&str, &str, u8, &str, &str); 6] = [
+const ROWS: [(&str, &str, u8, &str, &str); 8] = [
     (TOLD, LINES, 0, ANSWERS, REFUSALS),
     ("gatekeeper --policy few", LINES, 0, ANSWERS, ""),
     ("gatekeeper --verbose --policy few --max-line 1", "\n\nabc\n\n", 0, "{\"refused\":\"N2\"}\n", "celbpf: line 3: {\"refused\":\"N2\"}\n"),
     (TOLD, "\n \n", 0, "", ""),
+    ("gatekeeper --verbose --policy few --status", LINES, 1, ANSWERS, REFUSALS),
+    ("gatekeeper --verbose --policy few --status", "\n \n", 0, "", ""),
     ("gatekeeper --policy few --verbose yes", LINES, 2, "", "celbpf: U1\n"),
     ("gatekeeper --policy missing --verbose", LINES, 3, "", "celbpf: file\n"),
 ];

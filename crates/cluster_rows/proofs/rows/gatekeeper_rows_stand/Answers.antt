@@ -24,7 +24,12 @@ returns-clause-lines c = record {
   no_review_in_a_cluster = refl;
   all_answered = refl;
   unread = refl;
+  some_denied = refl;
+  all_allowed = refl;
+  some_denied_with_status = refl;
   unwritten = refl;
+  unread_with_status = refl;
+  unwritten_with_status = refl;
 }
 
 pub returns-clause-together : goal.returns-clause-together

@@ -2,8 +2,8 @@
 use Rattle.gatekeeper_runner.proofs.ClusterOnce.{tells_as_cluster}
 use Rattle.gatekeeper_runner.proofs.cluster_program.end_cluster.Goals as goal
 
-pub returns-then-verbose : goal.returns-then-verbose
-returns-then-verbose g c k keeps = rw c.if-verbose.true
+pub returns-then-reports : goal.returns-then-reports
+returns-then-reports g c k keeps = rw c.if-reports.true
     (let ends = c.end_telling.ensures in record {
       result = ends.result;
       told = ends.told;
@@ -13,5 +13,5 @@ returns-then-verbose g c k keeps = rw c.if-verbose.true
     })
 
 pub returns : goal.returns
-returns g c k keeps = rw c.if-verbose.false
+returns g c k keeps = rw c.if-reports.false
     (record { ending = _; does = c.answer_by-ending.ensures k keeps; status_is = c.exit_with.ensures.status; says = c.exit_with.ensures.says })

@@ -14,9 +14,9 @@ returns-then-is_empty-clause-on g c same start before heard h =
       λ fits.
           let short = fits_before heard _ fits in
           let t = h.3 short in
-          let counts = counted _ _ _ _ _ _ heard _ t short in
-          tells_whole _ _ _ _ _ _ heard _ t _ c.requires _ whole _ _ _ _ (rw (h.0, h.2.most_is) at c.answer_to-answer.ensures)
-          (rw c.bytes_of.ensures at c.in_ok-write_all.ensures.whole) (c.tell.ensures.count counts)
+          let counts = counted _ _ _ _ _ _ _ heard _ t short in
+          tells_whole _ _ _ _ _ _ _ heard _ t _ c.requires _ whole _ _ _ _ _ (rw (h.0, h.2.most_is) at c.answer_to-answer.ensures)
+          (rw c.bytes_of.ensures at c.in_ok-write_all.ensures.whole) (rw c.bytes_of-then-is_empty-2.ensures at c.pass_with-self.ensures) (c.tell.ensures.count counts)
           (rw c.bytes_of-then-is_empty.ensures at (c.tell.ensures.tells _ t.text counts t.tells)),
     )
 
@@ -26,7 +26,7 @@ returns-in_err-write_all-clause-broken g c =
     (λ start before heard h. (
       h.1,
       λ fits.
-          tells_break_whole _ _ _ _ _ _ heard _ (h.3 (fits_before heard _ fits)) _ c.requires _ (c.is_empty.ensures.empty _ _ h.2 c.if-is_empty.true)
+          tells_break_whole _ _ _ _ _ _ _ heard _ (h.3 (fits_before heard _ fits)) _ c.requires _ (c.is_empty.ensures.empty _ _ h.2 c.if-is_empty.true)
           (written_part _ _ _ _ _ (rw (h.0, h.2.most_is) at c.answer_to-answer.ensures) (rw c.bytes_of.ensures at c.in_err-write_all.ensures.part)),
     ))
 
@@ -39,9 +39,9 @@ returns-clause-on g c same start before heard h =
       λ fits.
           let short = fits_before heard _ fits in
           let t = h.3 short in
-          let counts = counted _ _ _ _ _ _ heard _ t short in
-          tells_line _ _ _ _ _ _ heard _ t _ c.requires _ _ _ _ _ (rw h.0 at (c.answer_to_kept-answer.ensures _ _ line))
-          (rw c.bytes_of-2.ensures at c.in_ok-write_all-2.ensures.whole) (c.tell-2.ensures.count counts)
+          let counts = counted _ _ _ _ _ _ _ heard _ t short in
+          tells_line _ _ _ _ _ _ _ heard _ t _ c.requires _ _ _ _ _ _ (rw h.0 at (c.answer_to_kept-answer.ensures _ _ line))
+          (rw c.bytes_of-2.ensures at c.in_ok-write_all-2.ensures.whole) (rw c.bytes_of-4.ensures at c.pass_with-self-2.ensures) (c.tell-2.ensures.count counts)
           (rw c.bytes_of-3.ensures at (c.tell-2.ensures.tells _ t.text counts t.tells)),
     )
 
@@ -51,6 +51,6 @@ returns-in_err-write_all-2-clause-broken g c =
     (λ start before heard h. (
       h.1,
       λ fits.
-          tells_break _ _ _ _ _ _ heard _ (h.3 (fits_before heard _ fits)) _ c.requires _
+          tells_break _ _ _ _ _ _ _ heard _ (h.3 (fits_before heard _ fits)) _ c.requires _
           (written_part _ _ _ _ _ (rw h.0 at (c.answer_to_kept-answer.ensures _ _ (c.extend.ensures _ _ h.2))) (rw c.bytes_of-2.ensures at c.in_err-write_all-2.ensures.part)),
     ))

@@ -11,7 +11,7 @@ returns-in_err-write_all-clause-broken g c =
     (λ start before heard h. (
       h.1,
       λ fits.
-          tells_end_break _ _ _ _ _ _ heard _ (h.3 fits) (passes_none _ _ _) _
+          tells_end_break _ _ _ _ _ _ _ heard _ (h.3 fits) (passes_none _ _ _) _
           (written_part _ _ _ _ _ (rw h.0 at (c.answer_to_kept-answer.ensures _ _ h.2)) (rw c.bytes_of.ensures at c.in_err-write_all.ensures.part)),
     ))
 
@@ -20,8 +20,8 @@ returns-clause-over g c start before heard h = (
   c.tell.ensures.same_reference ∙ h.1,
   λ fits.
       let t = h.3 fits in
-      let counts = counted _ _ _ _ _ _ heard _ t fits in
-      tells_end _ _ _ _ _ _ heard _ t (passes_none _ _ _) _ _ _ _ (rw h.0 at (c.answer_to_kept-answer.ensures _ _ h.2))
-      (rw c.bytes_of.ensures at c.in_ok-write_all.ensures.whole)
+      let counts = counted _ _ _ _ _ _ _ heard _ t fits in
+      tells_end _ _ _ _ _ _ _ heard _ t (passes_none _ _ _) _ _ _ _ _ (rw h.0 at (c.answer_to_kept-answer.ensures _ _ h.2))
+      (rw c.bytes_of.ensures at c.in_ok-write_all.ensures.whole) (rw c.bytes_of-3.ensures at c.pass_with-self.ensures)
       (rw c.bytes_of-2.ensures at (c.tell.ensures.tells _ t.text counts t.tells)),
 )

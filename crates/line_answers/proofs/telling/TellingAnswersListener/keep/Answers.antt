@@ -8,5 +8,5 @@ returns g c written start before heard h = (
   h.0,
   h.1,
   kept_part _ c.extend.new.self _ _ c.requires (c.extend.ensures _ _ h.2),
-  λ fits. tells_part _ _ _ _ _ _ heard _ (h.3 (fits_before heard _ fits)) _ c.requires,
+  λ fits. tells_part _ _ _ _ _ _ _ heard _ (h.3 (fits_before heard _ fits)) _ c.requires,
 )

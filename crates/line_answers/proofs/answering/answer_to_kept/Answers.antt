@@ -1,7 +1,7 @@
--- Proof obligations of `telling::answer_to_kept`.
+-- Proof obligations of `answering::answer_to_kept`.
 use Rattle.line_answers.proofs.Prelude.{no_memory}
 use Rattle.line_answers.proofs.OneLine.{kept_answer, lacking}
-use Rattle.line_answers.proofs.telling.answer_to_kept.Goals as goal
+use Rattle.line_answers.proofs.answering.answer_to_kept.Goals as goal
 
 pub returns-then-line : goal.returns-then-line
 returns-then-line g c most bytes keeps = no_memory (lacking most c.args.line.now bytes c.if-line.true keeps)

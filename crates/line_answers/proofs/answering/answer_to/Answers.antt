@@ -1,7 +1,7 @@
--- Proof obligations of `telling::answer_to`.
+-- Proof obligations of `answering::answer_to`.
 use Rattle.line_answers.proofs.Prelude.{arith}
 use Rattle.line_answers.proofs.OneLine.{answer_or_none, is_nothing}
-use Rattle.line_answers.proofs.telling.answer_to.Goals as goal
+use Rattle.line_answers.proofs.answering.answer_to.Goals as goal
 
 pub returns-then-is_empty : goal.returns-then-is_empty
 returns-then-is_empty g c = is_nothing _ _ _ c.args.line.now _ (grind arith) c.new.ensures.items
