@@ -63,5 +63,5 @@ a line, with a line on standard output.
 fn version_text() -> &'static str
     ensures { result.now ≡ version_text }
 {
-    "gatekeeper 0.20261127\n"
+    "gatekeeper 0.20261129\n"
 }

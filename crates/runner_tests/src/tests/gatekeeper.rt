@@ -131,7 +131,7 @@ const ROWS: [(&str, &str, u8, &str, &str); 28] = [
     (FEW_WITH_STATUS, " \t\r\n\r\n  \n\t", 0, "", ""),
     ("gatekeeper --status --policy few --max-line 1", "ab\n", 1, "{\"refused\":\"N2\"}\n", ""),
     ("gatekeeper --policy none --status", TWO, 3, "", "K1"),
-    ("gatekeeper --version --policy missing", TWO, 0, "gatekeeper 0.20261127\n", ""),
+    ("gatekeeper --version --policy missing", TWO, 0, "gatekeeper 0.20261129\n", ""),
 ];
 
 /// Whether the program with these words and this input ends with this status and both
