@@ -34,8 +34,8 @@ pub fn one_answer()
     findings_once();
 }
 
-/// Whether a request is allowed does not depend on the order of policies and of bindings. Nor do
-/// the warnings and the end because its namespace is not found, if each policy decides.
+/// Whether a request is allowed, and whether its namespace is not found, does not depend on the
+/// order of policies and of bindings. Nor, if it is found, do the events.
 pub fn order_is_free()
     ensures { OrderIsFree }
 {

@@ -22,7 +22,8 @@ use std::alloc::{AllocError, Global};
 
 /// The text of the answer to a request with this uid, by the events of its dispatch: the response
 /// (AdmissionReview, `admission.k8s.io/v1`), or which policy does not decide and why. The end
-/// decides first, then the first denial, then the first policy that does not decide.
+/// decides first, then the first denial, then the first policy under `Fail` that does not decide,
+/// or else the first.
 #[tactic(auto, unfolding(crate::specs::Response::cluster_response))]
 pub fn response(
     alloc: Global,

@@ -16,6 +16,7 @@ pub record ToldRowsStand : Type 0 where
 -- an answer that allows passes, and so does a line without an answer
 pub record PassesRowsStand : Type 0 where
   pub allowed : passes (codes "{\"apiVersion\":\"admission.k8s.io/v1\",\"kind\":\"AdmissionReview\",\"response\":{\"allowed\":true,\"uid\":\"u\"}}\n") ≡ true
+  pub annotated : passes (codes "{\"apiVersion\":\"admission.k8s.io/v1\",\"kind\":\"AdmissionReview\",\"response\":{\"allowed\":true,\"auditAnnotations\":{\"a\":\"b\"},\"uid\":\"u\"}}\n") ≡ true
   pub denied :
       passes (codes "{\"apiVersion\":\"admission.k8s.io/v1\",\"kind\":\"AdmissionReview\",\"response\":{\"allowed\":false,\"status\":{\"code\":422,\"message\":\"\\\"allowed\\\":true\",\"reason\":\"Invalid\"},\"uid\":\"u\"}}\n")
       ≡ false
