@@ -6,8 +6,8 @@ The tables are the files of tools/data/run-scripts, worked by hand. A line `poli
 specification, `review REQUEST` review.json of a request beside a uid, and `file NAME TEXT` any other; in TEXT the
 two characters \\n are a line feed. A line `$ WORDS` runs a script with `--program PROGRAM`, and `% TEXT` has bash run
 a text in which $TOOLS is the folder of the scripts and $PROGRAM the program, which scripts run there by themselves too.
-Below stands what it prints on both outputs, up to a line `[STATUS]`. A line `adapts EXPRESSION` is a pair of
-tools/adapt: below it stand the variables that it adds, a line `= EXPRESSION`, and lines `? OBJECT VALUE` with what that
+Below is what it prints on both outputs, up to a line `[STATUS]`. A line `adapts EXPRESSION` is a pair of
+tools/adapt: below it are the variables that it adds, a line `= EXPRESSION`, and lines `? OBJECT VALUE` with what that
 is over an object. A line `needs MODULE` ends a table where Python has no such module.
 """
 
