@@ -1,0 +1,2 @@
+-- Definitions of wide_reader: the list of their modules.
+pub mod Tree
