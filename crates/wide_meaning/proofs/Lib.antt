@@ -1,0 +1,1 @@
+-- Proofs of wide_meaning: the list of their modules.
