@@ -1,0 +1,9 @@
+-- Proofs of wide_translation: the list of their modules.
+pub mod Environments
+pub mod Steps
+pub mod FieldsHold
+pub mod OperatorsHold
+pub mod CallsHold
+pub mod RangesHold
+pub mod Same
+pub mod Policies

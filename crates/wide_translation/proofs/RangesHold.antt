@@ -1,0 +1,197 @@
+-- Indices, and macros over ranges.
+use Rattle.std.specs.Prelude.{⊤}
+use Rattle.std.proofs.Common.{◌≡◌, ℕ, Bool, true, false, List, [], ◌∷◌, Option, Some, None, codes, pos, if◌then◌else◌, refl, ap, sym, ◌∙◌, subst}
+use Rattle.cel_reader.specs.Tree as tree
+use Rattle.cel_reader.specs.Tree.{Tree, no_trees, more_trees}
+use Rattle.value_store.specs.Value.{Value, ValueOrError, error, value, null, boolean, int, text, list, map, no_items, item}
+use Rattle.cel_macros.specs.Comparison.{equal_of}
+use Rattle.cel_macros.specs.Environment.{Environment, bind}
+use Rattle.cel_macros.specs.Functions.{function_name, size_of, string_of, test_name, text_test_of, holds_of}
+unfoldable use Rattle.cel_macros.specs.Functions.{function_named, test_named}
+use Rattle.std.specs.List.{list_any, list_all}
+use Rattle.std.specs.Prelude.{map as each, filter, count_by, nat_eq}
+use Rattle.cel_macros.specs.Logic.{Truth, truth, ternary_of}
+use Rattle.cel_macros.specs.Macros.{range_of, is_yes, is_no, is_other}
+unfoldable use Rattle.cel_macros.specs.Macros.{is_variables, is_has}
+use Rattle.cel_macros.specs.Literals.{list_literal, list_or_error, values_in}
+use Rattle.cel_macros.specs.declared.macros.Macro.{Macro as PlainMacro}
+use Rattle.cel_macros.specs.declared.macros.Macro.TheVariants as plain_macro
+use Rattle.cel_macros.specs.declared.text_test.TextTest.{TextTest, TheVariants.StartsWith, TheVariants.EndsWith, TheVariants.Contains}
+use Rattle.cel_macros.specs.Selection.{index_of}
+unfoldable use Rattle.cel_macros.specs.Meaning.{meaning, meanings, operand_meaning}
+use Rattle.wide_reader.specs.Tree.{Wide}
+use Rattle.wide_reader.specs.Tree as wide
+use Rattle.wide_reader.specs.declared.wide.Access.{Access, TheVariants.Plain, TheVariants.Optional}
+use Rattle.wide_reader.specs.declared.wide.Macro.{Macro}
+use Rattle.wide_reader.specs.declared.wide.Macro.TheVariants as macro
+use Rattle.wide_meaning.specs.declared.function.Function.{Function}
+use Rattle.wide_meaning.specs.declared.function.Function.TheVariants as function
+use Rattle.wide_meaning.specs.declared.function.Method.{Method}
+use Rattle.wide_meaning.specs.declared.function.Method.TheVariants as method
+use Rattle.wide_meaning.specs.declared.function.Qualified.{Qualified}
+use Rattle.wide_meaning.specs.Access.{field_in, index_in, sel, at}
+use Rattle.wide_meaning.specs.Functions.{text_of, function_in, method_in}
+use Rattle.wide_meaning.specs.Meaning.{called, method_called}
+use Rattle.wide_meaning.specs.Outcome.{Outcome, failed, plain as of_value, absent, present, outcome_of, plain_part, is_present, value_in, value_or}
+use Rattle.wide_meaning.specs.Ranges.{plain_macro_of, over_items, filter_map_over}
+use Rattle.wide_kinds.specs.declared.kind.ValueKind.{ValueKind}
+use Rattle.wide_kinds.specs.declared.kind.ValueKind.TheVariants as kind
+use Rattle.wide_kinds.specs.Kinds.{joined_kind}
+use Rattle.wide_kinds.specs.Fitting.{has_kind, FitsKind, IsOfKind, IsOptionalOf}
+use Rattle.wide_translation.specs.Carried.{Carried, plain, guarded, listed, Fault, Translation, taken, refused}
+use Rattle.wide_translation.specs.Forms.{call_tree, text_tree, first_tree, let_tree, held, is_empty_tree, is_simple, macro_tree, filter_map_tree}
+use Rattle.wide_translation.specs.Holds.{guard_part, value_part, list_part, IsPlain, IsGuarded, IsListed, Carries, Holds}
+use Rattle.wide_translation.specs.Names.{held_name}
+use Rattle.wide_translation.specs.Translated.{once, string_tree, function_carried, call_translation, value_carried, or_value_carried, test_translation, method_carried, method_translation, text_literal, plain_index, index_carried, macro_kind, fold_carried, field_carried, on_plain, with_plain}
+use Rattle.wide_translation.proofs.Environments.{this_name}
+use Rattle.wide_translation.proofs.FieldsHold.{part_again, part_fits, plain_holds, with_holds, on_plain_holds, with_plain_holds, field_holds, has_value_holds}
+use Rattle.wide_translation.proofs.OperatorsHold.{first_kind, second_kind}
+use Rattle.wide_translation.proofs.Steps.{MeansBy, once_means, on_value, let_means, held_is, macro_means, filter_map_means}
+
+any_kind : (x : ValueOrError) → FitsKind kind.Dyn x
+any_kind error = tt
+any_kind (value v) = refl
+
+-- ---- indices
+
+no_index : (v : Value) → index_of (value v) error ≡ error
+no_index (list is) = refl
+no_index (map es) = refl
+no_index null = refl
+no_index (boolean b) = refl
+no_index (int z) = refl
+no_index (text s) = refl
+
+index_same : (k j : ValueKind) (x y : Outcome) → IsOfKind k x → IsOfKind j y → outcome_of (index_of (plain_part x) (plain_part y)) ≡ index_in Plain x y
+index_same k j failed y f g = refl
+index_same k j (of_value v) (of_value w) f g = refl
+index_same k j (of_value v) failed f g = ap outcome_of (no_index v)
+index_same k j (of_value v) absent f g = absurd g
+index_same k j (of_value v) (present w) f g = absurd g
+index_same k j absent y f g = absurd f
+index_same k j (present v) y f g = absurd f
+
+one_index : (k j : ValueKind) (a b : Tree) (x y : Outcome) (env : Environment) → IsPlain k a x env → IsPlain j b y env → IsPlain kind.Dyn (tree.index a b) (index_in Plain x y) env
+unfolding meaning is_variables
+one_index k j a b x y env h i =
+    subst (λ (o : Outcome). IsPlain kind.Dyn (tree.index a b) o env) (index_same k j x y h.kind i.kind)
+    (plain_holds kind.Dyn (tree.index a b) (index_of (plain_part x) (plain_part y)) env (λ l. index_of (h.means l) (i.means l)) (any_kind (index_of (plain_part x) (plain_part y))) refl)
+
+index_by : (o : Access) (c d : Carried) (x y : Outcome) (env : Environment) → Carries c x env → Carries d y env → Holds (plain_index o c d) (index_in o x y) env
+index_by Optional c d x y env h i = tt
+index_by Plain c d x y env h i =
+    on_plain_holds c (λ k a. on_plain d (λ j b. taken (plain kind.Dyn (tree.index a b)))) x (index_in Plain x y) env h
+    (λ k a r. on_plain_holds d (λ j b. taken (plain kind.Dyn (tree.index a b))) y (index_in Plain x y) env i (λ j b q. one_index k j a b x y env r q))
+
+at_text : (v : Value) (f : List ℕ) → sel v f ≡ at v (text f)
+at_text null f = refl
+at_text (boolean b) f = refl
+at_text (int z) f = refl
+at_text (text s) f = refl
+at_text (list is) f = refl
+at_text (map es) f = refl
+
+optional_index : (x : Outcome) (f : List ℕ) → field_in Optional x f ≡ index_in Optional x (of_value (text f))
+optional_index failed f = refl
+optional_index absent f = refl
+optional_index (of_value v) f = at_text v f
+optional_index (present v) f = at_text v f
+
+index_of_optional : (o : Access) (k : ValueKind) (x : Outcome) (f : List ℕ) → IsOptionalOf k x → field_in o x f ≡ index_in o x (of_value (text f))
+index_of_optional o k failed f h = refl
+index_of_optional o k absent f h = refl
+index_of_optional o k (present v) f h = at_text v f
+index_of_optional o k (of_value v) f h = absurd h
+
+-- an index by a text literal
+text_index_holds : (f : List ℕ) (o : Access) (c d : Carried) (x : Outcome) (env : Environment) → Carries c x env → Carries d (of_value (text f)) env
+    → Holds (index_carried (Some f) o c d) (index_in o x (of_value (text f))) env
+text_index_holds f Plain (plain k t) d x env h i = index_by Plain (plain k t) d x (of_value (text f)) env h i
+text_index_holds f Optional (plain k t) d x env h i =
+    subst (λ (y : Outcome). Carries (field_carried Optional f (plain k t)) y env) (optional_index x f) (field_holds Optional f (plain k t) x env h)
+text_index_holds f Plain (guarded k g t) d x env h i =
+    subst (λ (y : Outcome). Carries (field_carried Plain f (guarded k g t)) y env) (index_of_optional Plain k x f h.kind) (field_holds Plain f (guarded k g t) x env h)
+text_index_holds f Optional (guarded k g t) d x env h i =
+    subst (λ (y : Outcome). Carries (field_carried Optional f (guarded k g t)) y env) (optional_index x f) (field_holds Optional f (guarded k g t) x env h)
+text_index_holds f Plain (listed k l) d x env h i =
+    subst (λ (y : Outcome). Carries (field_carried Plain f (listed k l)) y env) (index_of_optional Plain k x f h.kind) (field_holds Plain f (listed k l) x env h)
+text_index_holds f Optional (listed k l) d x env h i =
+    subst (λ (y : Outcome). Carries (field_carried Optional f (listed k l)) y env) (optional_index x f) (field_holds Optional f (listed k l) x env h)
+
+-- what the meaning of an index that is a text literal is
+abbrev pub IsText : Option (List ℕ) → Outcome → Type 0
+IsText (Some f) y = y ≡ of_value (text f)
+IsText None y = ⊤
+
+pub index_holds : (l : Option (List ℕ)) (o : Access) (c d : Carried) (x y : Outcome) (env : Environment) → IsText l y → Carries c x env → Carries d y env
+    → Holds (index_carried l o c d) (index_in o x y) env
+index_holds (Some f) o c d x y env e h i =
+    subst (λ (z : Outcome). Holds (index_carried (Some f) o c d) (index_in o x z) env) (sym e)
+    (text_index_holds f o c d x env h (subst (λ (z : Outcome). Carries d z env) e i))
+index_holds None o c d x y env e h i = index_by o c d x y env h i
+
+-- ---- macros
+
+two_by : (b c : Bool) → FitsKind kind.Bool (if b then value (boolean false) else (if c then value (boolean true) else error))
+two_by true c = refl
+two_by false true = refl
+two_by false false = tt
+
+two_other : (b c : Bool) → FitsKind kind.Bool (if b then value (boolean true) else (if c then value (boolean false) else error))
+two_other true c = refl
+two_other false true = refl
+two_other false false = tt
+
+one_by : (b c : Bool) → FitsKind kind.Bool (if b then error else value (boolean c))
+one_by true c = tt
+one_by false c = refl
+
+list_by : (b : Bool) (x : ValueOrError) → FitsKind kind.List x → FitsKind kind.List (if b then error else x)
+list_by true x h = tt
+list_by false x h = h
+
+literal_kind : (vs : Option (List Value)) → FitsKind kind.List (list_or_error vs)
+literal_kind (Some vs) = refl
+literal_kind None = tt
+
+over_kind : (m : Macro) (f : Value → ValueOrError) (r : Option (List Value)) → FitsKind (macro_kind m) (over_items (plain_macro_of m) f r)
+over_kind m f None = tt
+over_kind macro.All f (Some is) = let ts : List Truth = each (λ x. truth (f x)) is in two_by (list_any is_no ts) (list_all is_yes ts)
+over_kind macro.Exists f (Some is) = let ts : List Truth = each (λ x. truth (f x)) is in two_other (list_any is_yes ts) (list_all is_no ts)
+over_kind macro.ExistsOne f (Some is) = let ts : List Truth = each (λ x. truth (f x)) is in one_by (list_any is_other ts) (nat_eq (count_by is_yes ts) 1)
+over_kind macro.Filter f (Some is) =
+    list_by (list_any (λ x. is_other (truth (f x))) is) (list_or_error (Some (filter (λ x. is_yes (truth (f x))) is))) refl
+over_kind macro.Map f (Some is) = literal_kind (values_in (each f is))
+
+filter_kind : (p f : Value → ValueOrError) (r : Option (List Value)) → FitsKind kind.List (filter_map_over p f r)
+filter_kind p f None = tt
+filter_kind p f (Some is) =
+    let kept : List Value = filter (λ x. is_yes (truth (p x))) is in
+    list_by (list_any (λ x. is_other (truth (p x))) is) (list_or_error (values_in (each f kept))) (literal_kind (values_in (each f kept)))
+
+-- what follows from a body under a binding
+pub over_holds : (x : List ℕ) (t : Translation) (p : Value → Outcome) (f : ValueKind → Tree → Translation) (o : Outcome) (env : Environment)
+    → ((v : Value) → Holds t (p v) (bind x v env)) → ((j : ValueKind) (b : Tree) → ((v : Value) → IsPlain j b (p v) (bind x v env)) → Holds (f j b) o env)
+    → Holds (with_plain t f) o env
+over_holds x (refused e) p f o env h g = tt
+over_holds x (taken (plain j b)) p f o env h g = g j b h
+over_holds x (taken (guarded j a b)) p f o env h g = tt
+over_holds x (taken (listed j l)) p f o env h g = tt
+
+pub fold_holds : (m : Macro) (x : List ℕ) (k j : ValueKind) (a b : Tree) (r : Outcome) (p : Value → Outcome) (env : Environment) → IsPlain k a r env
+    → ((v : Value) → IsPlain j b (p v) (bind x v env))
+    → IsPlain (macro_kind m) (macro_tree (plain_macro_of m) x a b) (outcome_of (over_items (plain_macro_of m) (λ v. plain_part (p v)) (range_of (plain_part r)))) env
+unfolding is_variables
+fold_holds m x k j a b r p env h i =
+    plain_holds (macro_kind m) (macro_tree (plain_macro_of m) x a b) (over_items (plain_macro_of m) (λ v. plain_part (p v)) (range_of (plain_part r))) env
+    (macro_means (plain_macro_of m) x a b env ∙ (λ l. over_items (plain_macro_of m) (λ v. (i v).means l) (range_of (h.means l))))
+    (over_kind m (λ v. plain_part (p v)) (range_of (plain_part r))) refl
+
+pub filter_map_holds : (x : List ℕ) (k j i : ValueKind) (a b c : Tree) (r : Outcome) (p t : Value → Outcome) (env : Environment) → IsPlain k a r env
+    → ((v : Value) → IsPlain j b (p v) (bind x v env)) → ((v : Value) → IsPlain i c (t v) (bind x v env))
+    → IsPlain kind.List (filter_map_tree x a b c) (outcome_of (filter_map_over (λ v. plain_part (p v)) (λ v. plain_part (t v)) (range_of (plain_part r)))) env
+unfolding is_variables
+filter_map_holds x k j i a b c r p t env h g q =
+    plain_holds kind.List (filter_map_tree x a b c) (filter_map_over (λ v. plain_part (p v)) (λ v. plain_part (t v)) (range_of (plain_part r))) env
+    (filter_map_means x a b c env ∙ (λ l. filter_map_over (λ v. (g v).means l) (λ v. (q v).means l) (range_of (h.means l))))
+    (filter_kind (λ v. plain_part (p v)) (λ v. plain_part (t v)) (range_of (plain_part r))) refl

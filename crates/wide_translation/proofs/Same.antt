@@ -1,0 +1,163 @@
+-- A translation carries what the wide expression means.
+use Rattle.std.proofs.Common.{◌≡◌, ℕ, Bool, true, false, List, [], ◌∷◌, Option, Some, None, codes, if◌then◌else◌, refl, sym, subst}
+use Rattle.cel_reader.specs.Tree as tree
+use Rattle.cel_reader.specs.Tree.{Tree, Literal, no_trees, no_entries}
+use Rattle.value_store.specs.Value.{Value, text, no_entries as no_value_entries}
+use Rattle.cel_macros.specs.Environment.{Environment, bind, lookup}
+use Rattle.cel_macros.specs.Literals.{literal_of}
+use Rattle.cel_macros.specs.Macros.{range_of}
+unfoldable use Rattle.cel_macros.specs.Macros.{is_variables}
+unfoldable use Rattle.cel_macros.specs.Meaning.{meaning, meanings, entry_meanings}
+use Rattle.wide_reader.specs.Tree as wide
+use Rattle.wide_reader.specs.Tree.{Wide, Wides, Items, Entries}
+use Rattle.wide_reader.specs.declared.wide.Macro.{Macro}
+use Rattle.wide_meaning.specs.Access.{index_in, has_in}
+use Rattle.wide_meaning.specs.Environment.{WideEnvironment, bound}
+use Rattle.wide_meaning.specs.Functions.{function_named, method_named, qualified_named}
+unfoldable use Rattle.wide_meaning.specs.Meaning.{wide_meaning, wide_meanings, items_meaning, entries_meaning}
+use Rattle.wide_meaning.specs.Meaning.{is_empty_list, namespace_in}
+use Rattle.wide_meaning.specs.Operators.{unary_in, binary_in, ternary_in}
+use Rattle.wide_meaning.specs.Outcome.{Outcome, plain as of_value, outcome_of, plain_part}
+use Rattle.wide_meaning.specs.Ranges.{plain_macro_of, over_items, filter_map_over}
+use Rattle.wide_kinds.proofs.Fitting.{kinds_hold}
+use Rattle.wide_kinds.specs.declared.kind.ValueKind.{ValueKind}
+use Rattle.wide_kinds.specs.declared.kind.ValueKind.TheVariants as kind
+use Rattle.wide_kinds.specs.Kinds.{literal_kind, unary_kind}
+use Rattle.wide_translation.specs.Carried.{Carried, plain, TakenName, Translation, taken, refused}
+use Rattle.wide_translation.specs.Forms.{filter_map_tree}
+use Rattle.wide_translation.specs.Holds.{Carries, Holds, IsPlain, StandsFor}
+use Rattle.wide_translation.specs.Laws.{TranslationMeansTheSame}
+use Rattle.wide_translation.specs.Names.{held_name, is_taken}
+use Rattle.wide_translation.specs.Scope.{Scope, within}
+use Rattle.wide_translation.specs.Translated.{with_carried, with_plain, has_carried, binary_carried, ternary_carried, fold_carried, index_carried, text_literal, parts, pairs}
+unfoldable use Rattle.wide_translation.specs.Translated.{translated, all_translated, items_translated, entries_translated}
+use Rattle.wide_translation.proofs.Environments.{both_bound, held_bound}
+use Rattle.wide_translation.proofs.FieldsHold.{plain_holds, with_holds, with_plain_holds, root_holds, name_holds, selected_holds, has_holds}
+use Rattle.wide_translation.proofs.OperatorsHold.{unary_holds, binary_holds, ternary_holds, PartsHold, PairsHold, part_more, list_translated, entry_holds, map_translated}
+use Rattle.wide_translation.proofs.CallsHold.{AllHold, call_holds, method_called_holds}
+use Rattle.wide_translation.proofs.RangesHold.{IsText, index_holds, over_holds, fold_holds, filter_map_holds}
+
+module _ (others : Wide → WideEnvironment → Outcome) where
+  is_text : (k : Wide) (env : WideEnvironment) → IsText (text_literal k) (wide_meaning others k env)
+  unfolding wide_meaning
+  is_text (wide.literal (tree.text s)) env = refl
+  is_text (wide.literal (tree.int z)) env = tt
+  is_text (wide.literal (tree.truth b)) env = tt
+  is_text (wide.literal tree.null) env = tt
+  is_text _ env = tt
+
+  literal_free : (l : Literal) → is_variables (tree.literal l) ≡ false
+  unfolding is_variables
+  literal_free l = refl
+
+  literal_means : (l : Literal) (env : Environment) → meaning (tree.literal l) env ≡ literal_of l
+  unfolding meaning
+  literal_means l env = refl
+
+  no_parts_hold : (env : Environment) → PartsHold (parts no_trees) (Some []) env
+  unfolding meanings
+  no_parts_hold env = refl
+
+  no_pairs_hold : (env : Environment) → PairsHold (pairs no_entries) (Some no_value_entries) env
+  unfolding entry_meanings
+  no_pairs_hold env = refl
+
+  -- a macro, if its iteration name is one that may be bound
+  fold_by : (b : Bool) (m : Macro) (x : List ℕ) (t u : Translation) (r : Outcome) (p : Value → Outcome) (env : Environment) → is_taken x ≡ b
+      → Holds t r env → (is_taken x ≡ false → (v : Value) → Holds u (p v) (bind x v env))
+      → Holds (if b then refused (TakenName x) else with_plain t (λ k a. with_plain u (λ j c. taken (fold_carried m x a c))))
+      (outcome_of (over_items (plain_macro_of m) (λ v. plain_part (p v)) (range_of (plain_part r)))) env
+  fold_by true m x t u r p env e h i = tt
+  fold_by false m x t u r p env e h i =
+      let o : Outcome = outcome_of (over_items (plain_macro_of m) (λ v. plain_part (p v)) (range_of (plain_part r))) in
+      with_plain_holds t (λ k a. with_plain u (λ j c. taken (fold_carried m x a c))) r o env h
+      (λ k a g. over_holds x u p (λ j c. taken (fold_carried m x a c)) o env (i e) (λ j c q. fold_holds m x k j a c r p env g q))
+
+  filter_by : (b : Bool) (x : List ℕ) (t u w : Translation) (r : Outcome) (p q : Value → Outcome) (env : Environment) → is_taken x ≡ b
+      → Holds t r env → (is_taken x ≡ false → (v : Value) → Holds u (p v) (bind x v env)) → (is_taken x ≡ false → (v : Value) → Holds w (q v) (bind x v env))
+      → Holds (if b then refused (TakenName x) else with_plain t (λ k a. with_plain u (λ j c. with_plain w (λ i d. taken (plain kind.List (filter_map_tree x a c d))))))
+      (outcome_of (filter_map_over (λ v. plain_part (p v)) (λ v. plain_part (q v)) (range_of (plain_part r)))) env
+  filter_by true x t u w r p q env e h i l = tt
+  filter_by false x t u w r p q env e h i l =
+      let o : Outcome = outcome_of (filter_map_over (λ v. plain_part (p v)) (λ v. plain_part (q v)) (range_of (plain_part r))) in
+      with_plain_holds t (λ k a. with_plain u (λ j c. with_plain w (λ n d. taken (plain kind.List (filter_map_tree x a c d))))) r o env h
+      (λ k a g. over_holds x u p (λ j c. with_plain w (λ n d. taken (plain kind.List (filter_map_tree x a c d)))) o env (i e)
+      (λ j c y. over_holds x w q (λ n d. taken (plain kind.List (filter_map_tree x a c d))) o env (l e)
+      (λ n d z. filter_map_holds x k j n a c d r p q env g y z)))
+
+  mutual
+    unfolding translated wide_meaning
+
+    -- by the expression's cases
+    pub same : (e : Wide) (s : Scope) (env : WideEnvironment) (env' : Environment) → StandsFor s env env' → Holds (translated s e) (wide_meaning others e env) env'
+    same (wide.literal l) s env env' r = plain_holds (literal_kind l) (tree.literal l) (literal_of l) env' (literal_means l env') (kinds_hold.literal l) (literal_free l)
+    same (wide.uint n) s env env' r = tt
+    same (wide.name n) s env env' r = name_holds s n env env' r
+    same (wide.root n) s env env' r = root_holds s n env env' r
+    same (wide.select a o f) s env env' r = selected_holds a o f s (translated s a) (wide_meaning others a env) env env' (same a s env env' r) r
+    same (wide.index a o k) s env env' r =
+        let x : Outcome = wide_meaning others a env in
+        let y : Outcome = wide_meaning others k env in
+        with_holds (translated s a) (λ c. with_carried (translated s k) (λ d. index_carried (text_literal k) o c d)) x (index_in o x y) env' (same a s env env' r)
+        (λ c h. with_holds (translated s k) (λ d. index_carried (text_literal k) o c d) y (index_in o x y) env' (same k s env env' r)
+        (λ d i. index_holds (text_literal k) o c d x y env' (is_text k env) h i))
+    same (wide.has a f) s env env' r =
+        let x : Outcome = wide_meaning others a env in
+        with_holds (translated s a) (λ c. taken (plain kind.Bool (has_carried f c))) x (has_in x f) env' (same a s env env' r) (λ c h. has_holds f c x env' h)
+    same (wide.unary op a) s env env' r =
+        let x : Outcome = wide_meaning others a env in
+        with_plain_holds (translated s a) (λ k t. taken (plain (unary_kind op) (tree.unary op t))) x (unary_in op x) env' (same a s env env' r)
+        (λ k t h. unary_holds op k t x env' h)
+    same (wide.binary op a b) s env env' r =
+        let x : Outcome = wide_meaning others a env in
+        let y : Outcome = wide_meaning others b env in
+        let o : Outcome = binary_in (is_empty_list b) op x y in
+        with_holds (translated s a) (λ c. with_carried (translated s b) (λ d. binary_carried (is_empty_list b) op c d)) x o env' (same a s env env' r)
+        (λ c h. with_holds (translated s b) (λ d. binary_carried (is_empty_list b) op c d) y o env' (same b s env env' r)
+        (λ d i. binary_holds (is_empty_list b) op c d x y env' h i))
+    same (wide.ternary c a b) s env env' r =
+        let z : Outcome = wide_meaning others c env in
+        let x : Outcome = wide_meaning others a env in
+        let y : Outcome = wide_meaning others b env in
+        let o : Outcome = ternary_in z x y in
+        with_plain_holds (translated s c) (λ k t. with_carried (translated s a) (λ d. with_carried (translated s b) (λ e. ternary_carried t d e))) z o env' (same c s env env' r)
+        (λ k t g. with_holds (translated s a) (λ d. with_carried (translated s b) (λ e. ternary_carried t d e)) x o env' (same a s env env' r)
+        (λ d h. with_holds (translated s b) (λ e. ternary_carried t d e) y o env' (same b s env env' r)
+        (λ e i. ternary_holds k t d e z x y env' g h i)))
+    same (wide.list items) s env env' r = list_translated (items_translated s items) (items_meaning others items env) env' (items_same items s env env' r)
+    same (wide.map es) s env env' r = map_translated (entries_translated s es) (entries_meaning others es env) env' (entries_same es s env env' r)
+    same (wide.fold m a x p) s env env' r =
+        fold_by (is_taken x) m x (translated s a) (translated (within x kind.Dyn s) p) (wide_meaning others a env) (λ v. wide_meaning others p (bound x v env)) env' refl
+        (same a s env env' r) (λ e v. same p (within x kind.Dyn s) (bound x v env) (bind x v env') (both_bound s x kind.Dyn v env env' e refl r))
+    same (wide.filter_map a x p t) s env env' r =
+        filter_by (is_taken x) x (translated s a) (translated (within x kind.Dyn s) p) (translated (within x kind.Dyn s) t) (wide_meaning others a env)
+        (λ v. wide_meaning others p (bound x v env)) (λ v. wide_meaning others t (bound x v env)) env' refl
+        (same a s env env' r) (λ e v. same p (within x kind.Dyn s) (bound x v env) (bind x v env') (both_bound s x kind.Dyn v env env' e refl r))
+        (λ e v. same t (within x kind.Dyn s) (bound x v env) (bind x v env') (both_bound s x kind.Dyn v env env' e refl r))
+    same (wide.pair_fold m a k v p) s env env' r = tt
+    same (wide.pair_filter_map a k v p t) s env env' r = tt
+    same (wide.optional_fold m a x t) s env env' r = tt
+    same (wide.call n es) s env env' r =
+        call_holds (function_named n) n (all_translated s es) (wide_meanings others es env) (others (wide.call n es) env) env' (all_same es s env env' r)
+    same (wide.method a n es) s env env' r =
+        method_called_holds (qualified_named (namespace_in a) n) (method_named n) n (translated s a) (wide_meaning others a env) (all_translated s es) (wide_meanings others es env)
+        (others (wide.method a n es) env) env' (same a s env env' r) (all_same es s env env' r)
+        (λ v. all_same es s env (bind held_name v env') (held_bound s v env env' r))
+
+    all_same : (es : Wides) (s : Scope) (env : WideEnvironment) (env' : Environment) → StandsFor s env env' → AllHold (all_translated s es) (wide_meanings others es env) env'
+    all_same wide.no_wides s env env' r = tt
+    all_same (wide.more_wides a more) s env env' r = (same a s env env' r, all_same more s env env' r)
+
+    items_same : (es : Items) (s : Scope) (env : WideEnvironment) (env' : Environment) → StandsFor s env env' → PartsHold (items_translated s es) (items_meaning others es env) env'
+    items_same wide.no_items s env env' r = no_parts_hold env'
+    items_same (wide.more_items o a more) s env env' r =
+        part_more o (translated s a) (items_translated s more) (wide_meaning others a env) (items_meaning others more env) env' (same a s env env' r) (items_same more s env env' r)
+
+    entries_same : (es : Entries) (s : Scope) (env : WideEnvironment) (env' : Environment) → StandsFor s env env' → PairsHold (entries_translated s es) (entries_meaning others es env) env'
+    entries_same wide.no_entries s env env' r = no_pairs_hold env'
+    entries_same (wide.more_entries o k v more) s env env' r =
+        entry_holds o (translated s k) (translated s v) (entries_translated s more) (wide_meaning others k env) (wide_meaning others v env) (entries_meaning others more env) env'
+        (same k s env env' r) (same v s env env' r) (entries_same more s env env' r)
+
+pub translation_same : TranslationMeansTheSame
+translation_same others e s env env' r = same others e s env env' r

@@ -1,0 +1,114 @@
+-- Trees that the translation writes.
+use Rattle.std.specs.Prelude.{ℕ, pos, Bool, true, false, ◌&&◌, List, [], ◌∷◌, codes, if◌then◌else◌, bytes_eq}
+use Rattle.cel_reader.specs.Tree as tree
+use Rattle.cel_reader.specs.Tree.{Tree, Literal, Trees, no_trees, more_trees}
+use Rattle.cel_reader.specs.Words.{is_selector}
+use Rattle.cel_reader.specs.declared.operator.BinaryOperator.{BinaryOperator, TheVariants.And, TheVariants.Equal, TheVariants.NotEqual, TheVariants.In, TheVariants.Add}
+use Rattle.cel_macros.specs.Macros.{macro_name, variables_name}
+use Rattle.cel_macros.specs.declared.macros.Macro.{Macro, TheVariants.Map}
+use Rattle.wide_translation.specs.Names.{held_name, params_name, params_field}
+
+-- a list literal without items, with one, and with two
+abbrev pub empty_tree : Tree
+empty_tree = tree.list no_trees
+
+abbrev pub one_tree : Tree → Tree
+one_tree a = tree.list (more_trees a no_trees)
+
+-- a call of a function with one argument
+abbrev pub call_tree : List ℕ → Tree → Tree
+call_tree n a = tree.call n (more_trees a no_trees)
+
+-- a macro over a range
+abbrev pub macro_tree : Macro → List ℕ → Tree → Tree → Tree
+macro_tree m x a p = tree.method a (macro_name m) (more_trees (tree.name x) (more_trees p no_trees))
+
+-- `map` with a predicate
+abbrev pub filter_map_tree : List ℕ → Tree → Tree → Tree → Tree
+filter_map_tree x a p t = tree.method a (macro_name Map) (more_trees (tree.name x) (more_trees p (more_trees t no_trees)))
+
+-- the operator `in`
+abbrev pub membership : BinaryOperator
+membership = In
+
+-- a[0]
+abbrev pub first_tree : Tree → Tree
+first_tree a = tree.index a (tree.literal (tree.int (pos 0)))
+
+-- b with x for the value of a: [a].map(x, b)[0]
+abbrev pub let_tree : List ℕ → Tree → Tree → Tree
+let_tree x a b = first_tree (macro_tree Map x (one_tree a) b)
+
+-- the name that the translation binds
+abbrev pub held : Tree
+held = tree.name held_name
+
+-- has(a.f)
+abbrev pub has_tree : Tree → List ℕ → Tree
+has_tree a f = tree.call (codes "has") (more_trees (tree.select a f) no_trees)
+
+-- a.f, or a['f'] if f may not be written as a field
+abbrev pub access_tree : Tree → List ℕ → Tree
+access_tree a f = if is_selector f then tree.select a f else tree.index a (tree.literal (tree.text f))
+
+-- whether a, which is no null, has f. `has(a.a)` is the error if a is no map
+abbrev pub has_any_tree : Tree → List ℕ → Tree
+has_any_tree a f =
+    if is_selector f then has_tree a f
+    else tree.ternary (has_tree a (codes "a")) (tree.binary In (tree.literal (tree.text f)) a) (tree.binary In (tree.literal (tree.text f)) a)
+
+-- whether a has f: a != null && has(a.f)
+abbrev pub present_tree : Tree → List ℕ → Tree
+present_tree a f = tree.binary And (tree.binary NotEqual a (tree.literal tree.null)) (has_any_tree a f)
+
+-- [a.f], or [] if a does not have f
+abbrev pub field_list_tree : Tree → List ℕ → Tree
+field_list_tree a f = tree.ternary (present_tree a f) (one_tree (access_tree a f)) empty_tree
+
+-- the list of one item v if g holds, else the empty list
+abbrev pub guarded_tree : Tree → Tree → Tree
+guarded_tree g v = tree.ternary g (one_tree v) empty_tree
+
+-- the item of the first of the lists, or the empty list: (l.map(x, r) + [[]])[0]
+abbrev pub flat_tree : List ℕ → Tree → Tree → Tree
+flat_tree x l r = first_tree (tree.binary Add (macro_tree Map x l r) (one_tree empty_tree))
+
+-- whether a is []
+abbrev pub is_empty_tree : Tree → Tree
+is_empty_tree a = tree.binary Equal a empty_tree
+
+-- a == b for a bool b
+abbrev pub is_bool_tree : Tree → Bool → Tree
+is_bool_tree a b = tree.binary Equal a (tree.literal (tree.truth b))
+
+-- the bytes of `true`
+abbrev pub true_text : List ℕ
+true_text = codes "true"
+
+-- a as a text: a bool as `true` or `false`
+abbrev pub text_tree : Tree → Tree
+text_tree a =
+    tree.ternary (is_bool_tree a true) (tree.literal (tree.text true_text))
+    (tree.ternary (is_bool_tree a false) (tree.literal (tree.text (codes "false"))) (call_tree (codes "string") a))
+
+-- a root; `params` is a field of its root if that has tables too
+abbrev pub root_tree : Bool → List ℕ → Tree
+root_tree wrapped n = if wrapped && bytes_eq params_name n then tree.select (tree.name params_name) params_field else tree.name n
+
+-- variables.f
+abbrev pub variable_tree : List ℕ → Tree
+variable_tree f = tree.select (tree.name variables_name) f
+
+-- whether a literal or a name
+abbrev pub is_leaf : Tree → Bool
+is_leaf (tree.literal l) = true
+is_leaf (tree.name n) = true
+is_leaf _ = false
+
+-- whether a tree is cheap to write again: a name, a literal, or a field or an index by a literal or a name of such a tree
+abbrev pub is_simple : Tree → Bool
+is_simple (tree.literal l) = true
+is_simple (tree.name n) = true
+is_simple (tree.select a f) = is_simple a
+is_simple (tree.index a k) = is_simple a && is_leaf k
+is_simple _ = false

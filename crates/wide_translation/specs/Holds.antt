@@ -1,0 +1,90 @@
+-- When trees carry an outcome, and when an environment represents that of a wide expression.
+use Rattle.std.specs.Prelude.{◌≡◌, ℕ, Bool, true, false, List, Option, Some, None, ⊤, is_some}
+use Rattle.cel_reader.specs.Tree.{Tree}
+use Rattle.value_store.specs.Value.{Value, ValueOrError, error, value, boolean, list, no_items, item}
+use Rattle.cel_macros.specs.Environment.{Environment, lookup, is_root, name_value, variable_value}
+use Rattle.cel_macros.specs.Macros.{is_variables}
+use Rattle.cel_macros.specs.Meaning.{meaning}
+use Rattle.wide_meaning.specs.Outcome.{Outcome, failed, plain as of_value, absent, present, plain_part}
+use Rattle.wide_meaning.specs.Environment.{WideEnvironment, root_in}
+use Rattle.wide_kinds.specs.declared.kind.Kind.{Kind}
+use Rattle.wide_kinds.specs.declared.kind.Kind.TheVariants as kinds
+use Rattle.wide_kinds.specs.declared.kind.ValueKind.{ValueKind}
+use Rattle.wide_kinds.specs.Fitting.{has_kind, IsOfKind, IsOptionalOf}
+use Rattle.wide_translation.specs.Carried.{Carried, plain, guarded, listed, Translation, taken, refused}
+use Rattle.wide_translation.specs.Forms.{root_tree}
+use Rattle.wide_translation.specs.Names.{is_taken}
+use Rattle.wide_translation.specs.Scope.{Scope}
+
+-- ---- parts of an optional value
+
+-- whether it has a value
+abbrev pub guard_part : Outcome → ValueOrError
+guard_part absent = value (boolean false)
+guard_part (present v) = value (boolean true)
+guard_part _ = error
+
+-- its value
+abbrev pub value_part : Outcome → ValueOrError
+value_part (present v) = value v
+value_part _ = error
+
+-- the list of its value, or the empty list
+abbrev pub list_part : Outcome → ValueOrError
+list_part absent = value (list no_items)
+list_part (present v) = value (list (item v no_items))
+list_part _ = error
+
+-- ---- trees
+
+-- a tree means the value, or the error
+pub record IsPlain (k : ValueKind) (t : Tree) (o : Outcome) (env : Environment) : Type 0 where
+  pub means : meaning t env ≡ plain_part o
+  pub kind : IsOfKind k o
+  pub free : is_variables t ≡ false
+
+-- a guard tells whether there is a value. The value is the error if there is none
+pub record IsGuarded (k : ValueKind) (g v : Tree) (o : Outcome) (env : Environment) : Type 0 where
+  pub guard : meaning g env ≡ guard_part o
+  pub value : meaning v env ≡ value_part o
+  pub kind : IsOptionalOf k o
+  pub free : is_variables v ≡ false
+  pub guard_free : is_variables g ≡ false
+
+-- a tree means the list of the value, the empty list, or the error
+pub record IsListed (k : ValueKind) (l : Tree) (o : Outcome) (env : Environment) : Type 0 where
+  pub list : meaning l env ≡ list_part o
+  pub kind : IsOptionalOf k o
+
+-- the trees carry the outcome
+abbrev pub Carries : Carried → Outcome → Environment → Type 0
+Carries (plain k t) o env = IsPlain k t o env
+Carries (guarded k g v) o env = IsGuarded k g v o env
+Carries (listed k l) o env = IsListed k l o env
+
+-- a translation, if there is one, carries the outcome
+abbrev pub Holds : Translation → Outcome → Environment → Type 0
+Holds (taken c) o env = Carries c o env
+Holds (refused e) o env = ⊤
+
+-- ---- environments
+
+-- a name in scope has its value in the second environment
+abbrev pub Named : Option ValueKind → Option Value → ValueOrError → Type 0
+Named (Some k) (Some v) x = (x ≡ value v) × (has_kind k v ≡ true)
+Named None None x = ⊤
+Named _ _ x = ⊥
+
+-- a variable has its value in the second environment, an optional one as a list
+abbrev pub Declared : Option Kind → Option Outcome → ValueOrError → Type 0
+Declared (Some (kinds.Value k)) (Some o) x = (x ≡ plain_part o) × IsOfKind k o
+Declared (Some (kinds.Optional k)) (Some o) x = (x ≡ list_part o) × IsOptionalOf k o
+Declared (Some k) None x = ⊥
+Declared None o x = ⊤
+
+-- the second environment has the values of the names of the first
+pub record StandsFor (s : Scope) (env : WideEnvironment) (env' : Environment) : Type 0 where
+  pub named : (n : List ℕ) → Named (lookup n s.names) (lookup n env.items) (name_value n env')
+  pub rooted : (n : List ℕ) → is_root n ≡ true → meaning (root_tree s.wrapped n) env' ≡ plain_part (root_in n env.roots)
+  pub declared : (n : List ℕ) → Declared (lookup n s.variables) (lookup n env.variables) (variable_value n env'.variables)
+  pub apart : (n : List ℕ) → is_some (lookup n s.names) ≡ true → is_taken n ≡ false

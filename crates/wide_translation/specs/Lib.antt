@@ -1,0 +1,10 @@
+-- Definitions of wide_translation: the list of their modules.
+pub mod Names
+pub mod Forms
+pub mod Carried
+pub mod Scope
+pub mod Translated
+pub mod Holds
+pub mod Results
+pub mod Placed
+pub mod Laws

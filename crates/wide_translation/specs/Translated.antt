@@ -1,0 +1,323 @@
+-- The translation of a wide expression.
+use Rattle.std.specs.Prelude.{◌≡◌, ℕ, Bool, true, false, List, [], ◌∷◌, Option, Some, None, codes, if◌then◌else◌}
+use Rattle.cel_reader.specs.Tree as tree
+use Rattle.cel_reader.specs.Tree.{Tree, Literal, Trees, no_trees, more_trees, TreeEntries, no_entries, more_entries}
+use Rattle.cel_reader.specs.declared.operator.BinaryOperator.{BinaryOperator, TheVariants.And, TheVariants.Equal, TheVariants.NotEqual, TheVariants.In}
+use Rattle.cel_reader.specs.declared.operator.UnaryOperator.{UnaryOperator}
+use Rattle.cel_macros.specs.Environment.{lookup, is_root}
+use Rattle.cel_macros.specs.Functions.{function_name, test_name}
+use Rattle.cel_macros.specs.declared.function.Function.TheVariants as plain_function
+use Rattle.cel_macros.specs.declared.text_test.TextTest.{TextTest, TheVariants.StartsWith, TheVariants.EndsWith, TheVariants.Contains}
+use Rattle.wide_reader.specs.Tree.{Wide, Wides, Items, Entries}
+use Rattle.wide_reader.specs.Tree as wide
+use Rattle.wide_reader.specs.declared.wide.Access.{Access, TheVariants.Plain, TheVariants.Optional}
+use Rattle.wide_reader.specs.declared.wide.Macro.{Macro}
+use Rattle.wide_reader.specs.declared.wide.Macro.TheVariants as macro
+use Rattle.wide_meaning.specs.declared.function.Function.{Function}
+use Rattle.wide_meaning.specs.declared.function.Function.TheVariants as function
+use Rattle.wide_meaning.specs.declared.function.Method.{Method}
+use Rattle.wide_meaning.specs.declared.function.Method.TheVariants as method
+use Rattle.wide_meaning.specs.declared.function.Qualified.{Qualified}
+use Rattle.wide_meaning.specs.Environment.{denotes_variables}
+use Rattle.wide_meaning.specs.Functions.{function_named, method_named, method_name, qualified_named, function_name as function_name_of}
+use Rattle.wide_meaning.specs.Meaning.{is_empty_list, namespace_in}
+use Rattle.wide_meaning.specs.Ranges.{plain_macro_of}
+use Rattle.wide_kinds.specs.declared.kind.Kind.{Kind}
+use Rattle.wide_kinds.specs.declared.kind.Kind.TheVariants as of
+use Rattle.wide_kinds.specs.declared.kind.ValueKind.{ValueKind}
+use Rattle.wide_kinds.specs.declared.kind.ValueKind.TheVariants as kind
+use Rattle.wide_kinds.specs.Kinds.{literal_kind, unary_kind, binary_kind, joined_kind}
+use Rattle.wide_translation.specs.Carried.{Carried, plain, guarded, listed, Fault, UnknownName, OptionalValue, TakenName, UnsignedInt, Unsupported, Translation, taken, refused}
+use Rattle.wide_translation.specs.Forms.{empty_tree, one_tree, call_tree, macro_tree, filter_map_tree, first_tree, let_tree, held, access_tree, present_tree, field_list_tree, guarded_tree, flat_tree, is_empty_tree, text_tree, root_tree, variable_tree, is_simple}
+use Rattle.wide_translation.specs.Names.{held_name, is_taken}
+use Rattle.wide_translation.specs.Scope.{Scope, within, is_hidden}
+
+-- ---- translations of parts
+
+-- what follows from a translation; its fault if there is none
+abbrev pub with_carried : Translation → (Carried → Translation) → Translation
+with_carried (taken c) f = f c
+with_carried (refused e) f = refused e
+
+-- what follows from the tree of a value; an optional value is refused
+abbrev pub on_plain : Carried → (ValueKind → Tree → Translation) → Translation
+on_plain (plain k t) f = f k t
+on_plain _ f = refused OptionalValue
+
+abbrev pub with_plain : Translation → (ValueKind → Tree → Translation) → Translation
+with_plain t f = with_carried t (λ c. on_plain c f)
+
+-- what follows from the tree of an optional value as a list; for a value the fault e
+abbrev pub on_list : Fault → Carried → (ValueKind → Tree → Translation) → Translation
+on_list e (plain k t) f = refused e
+on_list e (guarded k g v) f = f k (guarded_tree g v)
+on_list e (listed k l) f = f k l
+
+-- the tree of an optional value as a list
+abbrev pub IsList : Carried → ValueKind → Tree → Type 0
+IsList (plain k t) j m = ⊥
+IsList (guarded k g v) j m = (j ≡ k) × (m ≡ guarded_tree g v)
+IsList (listed k l) j m = (j ≡ k) × (m ≡ l)
+
+-- the tree of a value, or that of an optional value as a list, with its kind
+abbrev pub IsFinished : Carried → Kind → Tree → Type 0
+IsFinished (plain k t) j m = (j ≡ of.Value k) × (m ≡ t)
+IsFinished (guarded k g v) j m = (j ≡ of.Optional k) × (m ≡ guarded_tree g v)
+IsFinished (listed k l) j m = (j ≡ of.Optional k) × (m ≡ l)
+
+-- a tree that is strict in a, written with a twice or more, if a is simple; otherwise with the name that the translation binds
+abbrev pub once : Tree → (Tree → Tree) → Tree
+once a b = if is_simple a then b a else let_tree held_name a (b held)
+
+-- ---- names
+
+-- the root of a name
+abbrev pub root_translation : Bool → List ℕ → Translation
+root_translation wrapped n = if is_root n then taken (plain kind.Dyn (root_tree wrapped n)) else refused (UnknownName n)
+
+-- an iteration name if it is in scope, else what the name denotes outside of macros
+abbrev pub name_translation : Option ValueKind → List ℕ → Translation → Translation
+name_translation (Some k) n outside = taken (plain k (tree.name n))
+name_translation None n outside = outside
+
+-- a variable of this kind
+abbrev pub variable_translation : Option Kind → List ℕ → Translation
+variable_translation (Some (of.Value k)) f = taken (plain k (variable_tree f))
+variable_translation (Some (of.Optional k)) f = taken (listed k (variable_tree f))
+variable_translation None f = refused (UnknownName f)
+
+-- ---- fields
+
+-- the field of a value as an optional value: written twice if the operand is simple
+abbrev pub optional_field : Bool → Tree → List ℕ → Carried
+optional_field true t f = guarded kind.Dyn (present_tree t f) (access_tree t f)
+optional_field false t f = listed kind.Dyn (let_tree held_name t (field_list_tree held f))
+
+-- the field of the value of an optional value
+abbrev pub field_of_list : Tree → List ℕ → Carried
+field_of_list l f = listed kind.Dyn (flat_tree held_name l (field_list_tree held f))
+
+abbrev pub field_of_guarded : Bool → Tree → Tree → List ℕ → Carried
+field_of_guarded true g v f = guarded kind.Dyn (tree.binary And g (present_tree v f)) (access_tree v f)
+field_of_guarded false g v f = field_of_list (guarded_tree g v) f
+
+-- `.f` or `.?f`
+abbrev pub field_carried : Access → List ℕ → Carried → Carried
+field_carried Plain f (plain k t) = plain kind.Dyn (access_tree t f)
+field_carried Optional f (plain k t) = optional_field (is_simple t) t f
+field_carried o f (guarded k g v) = field_of_guarded (is_simple v) g v f
+field_carried o f (listed k l) = field_of_list l f
+
+-- whether an optional value has a value
+abbrev pub has_value_carried : Carried → Tree
+has_value_carried (plain k t) = t
+has_value_carried (guarded k g v) = g
+has_value_carried (listed k l) = tree.binary NotEqual l empty_tree
+
+-- `has(e.f)`
+abbrev pub has_carried : List ℕ → Carried → Tree
+has_carried f (plain k t) = once t (λ a. present_tree a f)
+has_carried f c = has_value_carried (field_carried Optional f c)
+
+-- ---- operators
+
+abbrev pub equality : BinaryOperator → Carried → Carried → Translation
+equality op (plain k a) d = on_plain d (λ j b. taken (plain kind.Bool (tree.binary op a b)))
+equality op c d = on_list OptionalValue c (λ k l. on_list OptionalValue d (λ j m. taken (plain kind.Bool (tree.binary op l m))))
+
+-- an operator on values; nothing is in an empty list literal
+abbrev pub plain_binary : Bool → BinaryOperator → ValueKind → ValueKind → Tree → Tree → Translation
+plain_binary true In k j a b = taken (plain kind.Bool (tree.literal (tree.truth false)))
+plain_binary _ op k j a b = taken (plain (binary_kind op k j) (tree.binary op a b))
+
+abbrev pub binary_carried : Bool → BinaryOperator → Carried → Carried → Translation
+binary_carried empty Equal c d = equality Equal c d
+binary_carried empty NotEqual c d = equality NotEqual c d
+binary_carried empty op c d = on_plain c (λ k a. on_plain d (λ j b. plain_binary empty op k j a b))
+
+-- the branches are both values or both optional values
+abbrev pub ternary_carried : Tree → Carried → Carried → Translation
+ternary_carried t (plain k a) d = on_plain d (λ j b. taken (plain (joined_kind k j) (tree.ternary t a b)))
+ternary_carried t c d = on_list OptionalValue c (λ k l. on_list OptionalValue d (λ j m. taken (listed (joined_kind k j) (tree.ternary t l m))))
+
+-- ---- macros
+
+-- the kind of a macro's result
+abbrev pub macro_kind : Macro → ValueKind
+macro_kind macro.All = kind.Bool
+macro_kind macro.Exists = kind.Bool
+macro_kind macro.ExistsOne = kind.Bool
+macro_kind macro.Filter = kind.List
+macro_kind macro.Map = kind.List
+
+abbrev pub fold_carried : Macro → List ℕ → Tree → Tree → Carried
+fold_carried m x a p = plain (macro_kind m) (macro_tree (plain_macro_of m) x a p)
+
+-- ---- functions
+
+-- a value of this kind as a text
+abbrev pub string_tree : ValueKind → Tree → Tree
+string_tree kind.Int t = call_tree (codes "string") t
+string_tree kind.String t = call_tree (codes "string") t
+string_tree kind.Bool t = tree.ternary t (tree.literal (tree.text (codes "true"))) (tree.literal (tree.text (codes "false")))
+string_tree _ t = once t text_tree
+
+-- a function of a value of this kind; `bool` is not translated
+abbrev pub function_carried : Function → ValueKind → Tree → Translation
+function_carried function.Size k t = taken (plain kind.Int (call_tree (codes "size") t))
+function_carried function.String k t = taken (plain kind.String (string_tree k t))
+function_carried function.Dyn k t = taken (plain kind.Dyn (call_tree (codes "dyn") t))
+function_carried function.Bool k t = refused (UnknownName (function_name_of function.Bool))
+
+abbrev pub call_translation : Option Function → List ℕ → List Translation → Translation
+call_translation (Some f) n (t ∷ []) = with_plain t (function_carried f)
+call_translation _ n ts = refused (UnknownName n)
+
+-- ---- methods
+
+-- the value of an optional value
+abbrev pub value_carried : Carried → Translation
+value_carried (plain k t) = refused (UnknownName (method_name method.Value))
+value_carried (guarded k g v) = taken (plain k v)
+value_carried (listed k l) = taken (plain k (first_tree l))
+
+-- the value of an optional value, or d
+abbrev pub or_value_carried : Carried → ValueKind → Tree → Translation
+or_value_carried (plain k t) j d = refused (UnknownName (method_name method.OrValue))
+or_value_carried (guarded k g v) j d = taken (plain (joined_kind k j) (tree.ternary g v d))
+or_value_carried (listed k l) j d = taken (plain (joined_kind k j) (let_tree held_name l (tree.ternary (is_empty_tree held) d (first_tree held))))
+
+abbrev pub has_value_translation : Carried → Translation
+has_value_translation (plain k t) = refused (UnknownName (method_name method.HasValue))
+has_value_translation c = taken (plain kind.Bool (has_value_carried c))
+
+-- a test of two texts
+abbrev pub test_carried : TextTest → Tree → Tree → Carried
+test_carried t a b = plain kind.Bool (tree.method a (test_name t) (more_trees b no_trees))
+
+abbrev pub test_translation : TextTest → Carried → Translation → Translation
+test_translation t c d = on_plain c (λ k a. with_plain d (λ j b. taken (test_carried t a b)))
+
+-- a method of an operand
+abbrev pub method_carried : Method → Carried → List Translation → Translation
+method_carried method.Size c [] = on_plain c (λ k a. taken (plain kind.Int (tree.method a (function_name plain_function.Size) no_trees)))
+method_carried method.StartsWith c (d ∷ []) = test_translation StartsWith c d
+method_carried method.EndsWith c (d ∷ []) = test_translation EndsWith c d
+method_carried method.Contains c (d ∷ []) = test_translation Contains c d
+method_carried method.HasValue c [] = has_value_translation c
+method_carried method.Value c [] = value_carried c
+method_carried method.OrValue c (d ∷ []) = with_plain d (or_value_carried c)
+method_carried m c ds = refused (UnknownName (method_name m))
+
+-- functions with a namespace are not translated
+abbrev pub method_translation : Option Qualified → Option Method → List ℕ → Translation → List Translation → Translation
+method_translation (Some q) m n t ts = refused (UnknownName n)
+method_translation None (Some m) n t ts = with_carried t (λ c. method_carried m c ts)
+method_translation None None n t ts = refused (UnknownName n)
+
+-- ---- literals of lists and maps
+
+-- the trees of several parts, or the first fault
+pub data Parts : Type 0 where
+  parts : Trees → Parts
+  no_parts : Fault → Parts
+
+abbrev pub one_more : Access → Translation → Parts → Parts
+one_more Plain (taken (plain k t)) (parts ts) = parts (more_trees t ts)
+one_more Plain (taken (plain k t)) (no_parts e) = no_parts e
+one_more Plain (refused e) ts = no_parts e
+one_more Plain (taken _) ts = no_parts OptionalValue
+one_more Optional t ts = no_parts Unsupported
+
+pub data Pairs : Type 0 where
+  pairs : TreeEntries → Pairs
+  no_pairs : Fault → Pairs
+
+abbrev pub entry_more : Access → Translation → Translation → Pairs → Pairs
+entry_more Plain (taken (plain k t)) (taken (plain j u)) (pairs es) = pairs (more_entries t u es)
+entry_more Plain (taken (plain k t)) (taken (plain j u)) (no_pairs e) = no_pairs e
+entry_more Plain (taken (plain k t)) (refused e) es = no_pairs e
+entry_more Plain (taken (plain k t)) (taken _) es = no_pairs OptionalValue
+entry_more Plain (refused e) u es = no_pairs e
+entry_more Plain (taken _) u es = no_pairs OptionalValue
+entry_more Optional t u es = no_pairs Unsupported
+
+abbrev pub list_translation : Parts → Translation
+list_translation (parts ts) = taken (plain kind.List (tree.list ts))
+list_translation (no_parts e) = refused e
+
+abbrev pub map_translation : Pairs → Translation
+map_translation (pairs es) = taken (plain kind.Map (tree.map es))
+map_translation (no_pairs e) = refused e
+
+-- ---- indices
+
+-- an index by a text literal is a field
+abbrev pub text_literal : Wide → Option (List ℕ)
+text_literal (wide.literal (tree.text s)) = Some s
+text_literal _ = None
+
+-- an index of a value; an optional one is translated only if it is a text literal
+abbrev pub plain_index : Access → Carried → Carried → Translation
+plain_index Plain c d = on_plain c (λ k a. on_plain d (λ j b. taken (plain kind.Dyn (tree.index a b))))
+plain_index Optional c d = refused Unsupported
+
+-- an index by a text literal is a field, but for `e['f']` of a value
+abbrev pub text_index : List ℕ → Access → Carried → Carried → Translation
+text_index f Plain (plain k t) d = plain_index Plain (plain k t) d
+text_index f o c d = taken (field_carried o f c)
+
+abbrev pub index_carried : Option (List ℕ) → Access → Carried → Carried → Translation
+index_carried (Some f) o c d = text_index f o c d
+index_carried None o c d = plain_index o c d
+
+-- ---- expressions
+
+-- `variables.f`, or the field f of an operand
+abbrev pub selected_translation : Bool → Access → List ℕ → Scope → Translation → Translation
+selected_translation true Plain f s t = variable_translation (lookup f s.variables) f
+selected_translation _ o f s t = with_carried t (λ c. taken (field_carried o f c))
+
+unfoldable mutual
+  -- the translation of a wide expression
+  pub translated : Scope → Wide → Translation
+  translated s (wide.literal l) = taken (plain (literal_kind l) (tree.literal l))
+  translated s (wide.uint n) = refused UnsignedInt
+  translated s (wide.name n) = name_translation (lookup n s.names) n (root_translation s.wrapped n)
+  translated s (wide.root n) = root_translation s.wrapped n
+  translated s (wide.select a o f) = selected_translation (denotes_variables a (is_hidden s)) o f s (translated s a)
+  translated s (wide.index a o k) = with_carried (translated s a) (λ c. with_carried (translated s k) (λ d. index_carried (text_literal k) o c d))
+  translated s (wide.has a f) = with_carried (translated s a) (λ c. taken (plain kind.Bool (has_carried f c)))
+  translated s (wide.unary op a) = with_plain (translated s a) (λ k t. taken (plain (unary_kind op) (tree.unary op t)))
+  translated s (wide.binary op a b) = with_carried (translated s a) (λ c. with_carried (translated s b) (λ d. binary_carried (is_empty_list b) op c d))
+  translated s (wide.ternary c a b) =
+      with_plain (translated s c) (λ k t. with_carried (translated s a) (λ d. with_carried (translated s b) (λ e. ternary_carried t d e)))
+  translated s (wide.list items) = list_translation (items_translated s items)
+  translated s (wide.map es) = map_translation (entries_translated s es)
+  translated s (wide.fold m r x p) =
+      if is_taken x then refused (TakenName x)
+      else with_plain (translated s r) (λ k a. with_plain (translated (within x kind.Dyn s) p) (λ j b. taken (fold_carried m x a b)))
+  translated s (wide.filter_map r x p t) =
+      if is_taken x then refused (TakenName x)
+      else with_plain (translated s r) (λ k a. with_plain (translated (within x kind.Dyn s) p) (λ j b. with_plain (translated (within x kind.Dyn s) t)
+      (λ i c. taken (plain kind.List (filter_map_tree x a b c)))))
+  translated s (wide.call n es) = call_translation (function_named n) n (all_translated s es)
+  translated s (wide.method a n es) = method_translation (qualified_named (namespace_in a) n) (method_named n) n (translated s a) (all_translated s es)
+  translated s (wide.pair_fold m r k v p) = refused Unsupported
+  translated s (wide.pair_filter_map r k v p t) = refused Unsupported
+  translated s (wide.optional_fold m a x t) = refused Unsupported
+
+  -- the translation of each of the expressions
+  pub all_translated : Scope → Wides → List Translation
+  all_translated s wide.no_wides = []
+  all_translated s (wide.more_wides a more) = translated s a ∷ all_translated s more
+
+  -- the trees of the items of a list literal
+  pub items_translated : Scope → Items → Parts
+  items_translated s wide.no_items = parts no_trees
+  items_translated s (wide.more_items o a more) = one_more o (translated s a) (items_translated s more)
+
+  -- the trees of the entries of a map literal
+  pub entries_translated : Scope → Entries → Pairs
+  entries_translated s wide.no_entries = pairs no_entries
+  entries_translated s (wide.more_entries o k v more) = entry_more o (translated s k) (translated s v) (entries_translated s more)

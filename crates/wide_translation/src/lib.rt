@@ -1,0 +1,6 @@
+//! The translation of expressions as clusters store them into the expressions that are compiled.
+#![tactic(auto)]
+
+mod laws;
+
+pub use laws::{policy_means_the_same, translation_means_the_same};
