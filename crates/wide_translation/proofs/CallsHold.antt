@@ -1,5 +1,4 @@
 -- Functions and methods.
-use Rattle.std.specs.Prelude.{⊤}
 use Rattle.std.proofs.Common.{◌≡◌, ℕ, Bool, true, false, List, [], ◌∷◌, Option, Some, None, codes, pos, if◌then◌else◌, refl, ap, sym, ◌∙◌, subst}
 use Rattle.cel_reader.specs.Tree as tree
 use Rattle.cel_reader.specs.Tree.{Tree, no_trees, more_trees}
@@ -44,6 +43,7 @@ use Rattle.wide_translation.specs.Translated.{once, string_tree, function_carrie
 use Rattle.wide_translation.proofs.Environments.{this_name}
 use Rattle.wide_translation.proofs.FieldsHold.{part_again, part_fits, plain_holds, with_holds, on_plain_holds, with_plain_holds, field_holds, has_value_holds}
 use Rattle.wide_translation.proofs.OperatorsHold.{first_kind, second_kind}
+use Rattle.wide_translation.proofs.OptionalHold.{AllHold, or_holds, qualified_holds}
 use Rattle.wide_translation.proofs.Steps.{MeansBy, once_means, on_value, let_means, held_is, macro_means, filter_map_means}
 
 -- ---- functions
@@ -154,12 +154,6 @@ function_holds function.String k t x env h =
     plain_holds kind.String (string_tree k t) (text_of (plain_part x)) env (string_means k t (plain_part x) env h.means (part_fits k x h.kind) h.free) (text_kind (plain_part x)) (string_free k t)
 function_holds function.Dyn k t x env h = plain_holds kind.Dyn (call_tree (codes "dyn") t) (plain_part x) env h.means (any_kind (plain_part x)) refl
 function_holds function.Bool k t x env h = tt
-
--- the translations carry the outcomes one by one
-abbrev pub AllHold : List Translation → List Outcome → Environment → Type 0
-AllHold [] [] env = ⊤
-AllHold (t ∷ ts) (x ∷ xs) env = Holds t x env × AllHold ts xs env
-AllHold _ _ env = ⊥
 
 pub call_holds : (f : Option Function) (n : List ℕ) (ts : List Translation) (xs : List Outcome) (r : Outcome) (env : Environment) → AllHold ts xs env
     → Holds (call_translation f n ts) (called f xs r) env
@@ -305,13 +299,17 @@ method_holds method.OrValue c x (t ∷ []) (y ∷ []) r env h i s = or_value_of 
 method_holds method.OrValue c x (t ∷ []) [] r env h i s = absurd i
 method_holds method.OrValue c x (t ∷ []) (y ∷ z ∷ zs) r env h i s = absurd i.1
 method_holds method.OrValue c x (t ∷ u ∷ ts) ys r env h i s = tt
-method_holds method.Or c x ts ys r env h i s = tt
+method_holds method.Or c x [] ys r env h i s = tt
+method_holds method.Or c x (t ∷ []) (y ∷ []) r env h i s = or_holds c t x y env h i.0 (λ v. (s v).0)
+method_holds method.Or c x (t ∷ []) [] r env h i s = absurd i
+method_holds method.Or c x (t ∷ []) (y ∷ z ∷ zs) r env h i s = absurd i.1
+method_holds method.Or c x (t ∷ u ∷ ts) ys r env h i s = tt
 method_holds method.First c x ts ys r env h i s = tt
 method_holds method.Last c x ts ys r env h i s = tt
 
 pub method_called_holds : (q : Option Qualified) (m : Option Method) (n : List ℕ) (t : Translation) (x : Outcome) (ts : List Translation) (xs : List Outcome) (r : Outcome) (env : Environment)
     → Holds t x env → AllHold ts xs env → ((v : Value) → AllHold ts xs (bind held_name v env)) → Holds (method_translation q m n t ts) (method_called q m x xs r) env
-method_called_holds (Some q) m n t x ts xs r env h i s = tt
+method_called_holds (Some q) m n t x ts xs r env h i s = qualified_holds q n ts xs r env i
 method_called_holds None None n t x ts xs r env h i s = tt
 method_called_holds None (Some m) n t x ts xs r env h i s =
     with_holds t (λ c. method_carried m c ts) x (method_in m x xs r) env h (λ c g. method_holds m c x ts xs r env g i s)

@@ -3,7 +3,9 @@ pub mod Environments
 pub mod Steps
 pub mod FieldsHold
 pub mod OperatorsHold
+pub mod OptionalHold
 pub mod CallsHold
 pub mod RangesHold
 pub mod Same
 pub mod Policies
+pub mod Finished

@@ -6,7 +6,8 @@ use Rattle.cel_reader.specs.Tree.{Tree, Trees, TreeEntries, no_trees, more_trees
 use Rattle.cel_reader.specs.declared.operator.BinaryOperator.{BinaryOperator}
 use Rattle.cel_reader.specs.declared.operator.BinaryOperator.TheVariants as binary
 use Rattle.cel_reader.specs.declared.operator.UnaryOperator.{UnaryOperator}
-use Rattle.value_store.specs.Value.{Value, ValueOrError, error, value, boolean, list, no_items, item, Entries as ValueEntries}
+use Rattle.value_store.specs.Value.{Value, ValueOrError, error, value, null, boolean, int, text, list, map, no_items, item, Entries as ValueEntries}
+use Rattle.cel_macros.specs.Arithmetic.{sum_of}
 use Rattle.value_store.specs.Equality.{equal}
 use Rattle.cel_macros.specs.Comparison.{equal_of, unequal_of}
 use Rattle.cel_macros.specs.Environment.{Environment}
@@ -26,8 +27,9 @@ use Rattle.wide_kinds.specs.Fitting.{FitsKind, IsOfKind, IsOptionalOf}
 use Rattle.wide_translation.specs.Carried.{Carried, plain, guarded, listed, Fault, OptionalValue, Translation, taken, refused}
 use Rattle.wide_translation.specs.Forms.{guarded_tree}
 use Rattle.wide_translation.specs.Holds.{list_part, IsPlain, IsListed, Carries, Holds}
-use Rattle.wide_translation.specs.Translated.{on_plain, on_list, equality, plain_binary, binary_carried, ternary_carried, Parts, parts, no_parts, one_more, Pairs, pairs, no_pairs, entry_more, list_translation, map_translation}
+use Rattle.wide_translation.specs.Translated.{on_plain, on_list, equality, plain_binary, binary_carried, ternary_carried, Parts, parts, no_parts, joined_tree, one_more, Pairs, pairs, no_pairs, entry_more, list_translation, map_translation}
 use Rattle.wide_translation.proofs.FieldsHold.{part_again, part_fits, plain_holds, on_plain_holds, on_list_holds}
+use Rattle.wide_translation.proofs.Steps.{guarded_means}
 
 -- ---- unary operators
 
@@ -222,13 +224,13 @@ second_kind k j (of_value v) h = kinds_hold.joined_second k j (value v) h
 second_kind k j absent h = absurd h
 second_kind k j (present v) h = absurd h
 
-first_optional : (k j : ValueKind) (x : Outcome) → IsOptionalOf k x → IsOptionalOf (joined_kind k j) x
+pub first_optional : (k j : ValueKind) (x : Outcome) → IsOptionalOf k x → IsOptionalOf (joined_kind k j) x
 first_optional k j failed h = tt
 first_optional k j absent h = tt
 first_optional k j (present v) h = kinds_hold.joined k j (value v) h
 first_optional k j (of_value v) h = absurd h
 
-second_optional : (k j : ValueKind) (x : Outcome) → IsOptionalOf j x → IsOptionalOf (joined_kind k j) x
+pub second_optional : (k j : ValueKind) (x : Outcome) → IsOptionalOf j x → IsOptionalOf (joined_kind k j) x
 second_optional k j failed h = tt
 second_optional k j absent h = tt
 second_optional k j (present v) h = kinds_hold.joined_second k j (value v) h
@@ -285,28 +287,91 @@ map_kind : (es : Option ValueEntries) → FitsKind kind.Map (map_or_error es)
 map_kind (Some es) = refl
 map_kind None = tt
 
--- the trees mean these values
+-- the list of the trees is the list of these values
 abbrev pub PartsHold : Parts → Option (List Value) → Environment → Type 0
-PartsHold (parts ts) vs env = values_in (meanings ts env) ≡ vs
+PartsHold (parts ts u) vs env = meaning (joined_tree ts u) env ≡ list_or_error vs
 PartsHold (no_parts e) vs env = ⊤
 
 abbrev pub PairsHold : Pairs → Option ValueEntries → Environment → Type 0
 PairsHold (pairs ts) es env = entries_in (entry_meanings ts env) ≡ es
 PairsHold (no_pairs e) es env = ⊤
 
+-- a list with one more item
+abbrev cons_list : ValueOrError → ValueOrError → ValueOrError
+cons_list (value v) (value (list is)) = value (list (item v is))
+cons_list _ _ = error
+
+cons_values : (x : ValueOrError) (vs : Option (List Value)) → list_or_error (with_value x vs) ≡ cons_list x (list_or_error vs)
+cons_values error vs = refl
+cons_values (value v) None = refl
+cons_values (value v) (Some vs) = refl
+
+sum_one : (x y : ValueOrError) → sum_of (list_literal (x ∷ [])) y ≡ cons_list x y
+sum_one error y = refl
+sum_one (value v) error = refl
+sum_one (value v) (value (list is)) = refl
+sum_one (value v) (value null) = refl
+sum_one (value v) (value (boolean b)) = refl
+sum_one (value v) (value (int z)) = refl
+sum_one (value v) (value (text s)) = refl
+sum_one (value v) (value (map es)) = refl
+
+sum_more : (x : ValueOrError) (o : Option (List Value)) (y : ValueOrError) → sum_of (list_or_error (with_value x o)) y ≡ cons_list x (sum_of (list_or_error o) y)
+sum_more error o y = refl
+sum_more (value v) None y = refl
+sum_more (value v) (Some vs) error = refl
+sum_more (value v) (Some vs) (value (list is)) = refl
+sum_more (value v) (Some vs) (value null) = refl
+sum_more (value v) (Some vs) (value (boolean b)) = refl
+sum_more (value v) (Some vs) (value (int z)) = refl
+sum_more (value v) (Some vs) (value (text s)) = refl
+sum_more (value v) (Some vs) (value (map es)) = refl
+
+plain_step : (t : Tree) (ts : Trees) (u : Option (Tree × Tree)) (env : Environment)
+    → meaning (joined_tree (more_trees t ts) u) env ≡ cons_list (meaning t env) (meaning (joined_tree ts u) env)
+unfolding meaning meanings
+plain_step t no_trees None env = cons_values (meaning t env) (Some [])
+plain_step t (more_trees a ts) None env = cons_values (meaning t env) (values_in (meanings (more_trees a ts) env))
+plain_step t no_trees (Some p) env = sum_one (meaning t env) (sum_of (meaning p.0 env) (meaning p.1 env))
+plain_step t (more_trees a ts) (Some p) env = sum_more (meaning t env) (values_in (meanings (more_trees a ts) env)) (sum_of (meaning p.0 env) (meaning p.1 env))
+
+optional_values : (k : ValueKind) (x : Outcome) (vs : Option (List Value)) → IsOptionalOf k x → sum_of (list_part x) (list_or_error vs) ≡ list_or_error (item_in Optional x vs)
+optional_values k failed vs h = refl
+optional_values k absent None h = refl
+optional_values k absent (Some vs) h = refl
+optional_values k (present v) None h = refl
+optional_values k (present v) (Some vs) h = refl
+optional_values k (of_value v) vs h = absurd h
+
+list_step : (k : ValueKind) (l : Tree) (ts : Trees) (u : Option (Tree × Tree)) (x : Outcome) (vs : Option (List Value)) (env : Environment) → meaning l env ≡ list_part x → IsOptionalOf k x
+    → meaning (joined_tree ts u) env ≡ list_or_error vs → meaning (joined_tree no_trees (Some (l, joined_tree ts u))) env ≡ list_or_error (item_in Optional x vs)
+unfolding meaning
+list_step k l ts u x vs env h i p = (λ j. sum_of (h j) (p j)) ∙ optional_values k x vs i
+
 pub part_more : (o : Access) (t : Translation) (ps : Parts) (x : Outcome) (vs : Option (List Value)) (env : Environment) → Holds t x env → PartsHold ps vs env
     → PartsHold (one_more o t ps) (item_in o x vs) env
-unfolding meanings
-part_more Plain (taken (plain k t)) (parts ts) x vs env h p = λ j. with_value (h.means j) (p j)
+part_more Plain (taken (plain k t)) (parts ts u) x vs env h p =
+    plain_step t ts u env ∙ (λ j. cons_list (h.means j) (p j)) ∙ sym (cons_values (plain_part x) vs)
 part_more Plain (taken (plain k t)) (no_parts e) x vs env h p = tt
 part_more Plain (taken (guarded k g v)) ps x vs env h p = tt
 part_more Plain (taken (listed k l)) ps x vs env h p = tt
 part_more Plain (refused e) ps x vs env h p = tt
-part_more Optional t ps x vs env h p = tt
+part_more Optional (refused e) ps x vs env h p = tt
+part_more Optional (taken (plain k t)) ps x vs env h p = tt
+part_more Optional (taken (guarded k g v)) (parts ts u) x vs env h p = list_step k (guarded_tree g v) ts u x vs env (guarded_means g v x env h.guard h.value) h.kind p
+part_more Optional (taken (guarded k g v)) (no_parts e) x vs env h p = tt
+part_more Optional (taken (listed k l)) (parts ts u) x vs env h p = list_step k l ts u x vs env h.list h.kind p
+part_more Optional (taken (listed k l)) (no_parts e) x vs env h p = tt
+
+joined_free : (ts : Trees) (u : Option (Tree × Tree)) → is_variables (joined_tree ts u) ≡ false
+unfolding is_variables
+joined_free no_trees (Some p) = refl
+joined_free (more_trees t ts) (Some p) = refl
+joined_free no_trees None = refl
+joined_free (more_trees t ts) None = refl
 
 pub list_translated : (ps : Parts) (vs : Option (List Value)) (env : Environment) → PartsHold ps vs env → Holds (list_translation ps) (list_in vs) env
-unfolding meaning is_variables
-list_translated (parts ts) vs env p = plain_holds kind.List (tree.list ts) (list_or_error vs) env (ap list_or_error p) (list_kind vs) refl
+list_translated (parts ts u) vs env p = plain_holds kind.List (joined_tree ts u) (list_or_error vs) env p (list_kind vs) (joined_free ts u)
 list_translated (no_parts e) vs env p = tt
 
 pub entry_holds : (o : Access) (t u : Translation) (ps : Pairs) (x y : Outcome) (es : Option ValueEntries) (env : Environment) → Holds t x env → Holds u y env → PairsHold ps es env

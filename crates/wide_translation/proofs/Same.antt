@@ -11,6 +11,7 @@ unfoldable use Rattle.cel_macros.specs.Meaning.{meaning, meanings, entry_meaning
 use Rattle.wide_reader.specs.Tree as wide
 use Rattle.wide_reader.specs.Tree.{Wide, Wides, Items, Entries}
 use Rattle.wide_reader.specs.declared.wide.Macro.{Macro}
+use Rattle.wide_reader.specs.declared.wide.OptionalMacro.{OptionalMacro}
 use Rattle.wide_meaning.specs.Access.{index_in, has_in}
 use Rattle.wide_meaning.specs.Environment.{WideEnvironment, bound}
 use Rattle.wide_meaning.specs.Functions.{function_named, method_named, qualified_named}
@@ -18,23 +19,24 @@ unfoldable use Rattle.wide_meaning.specs.Meaning.{wide_meaning, wide_meanings, i
 use Rattle.wide_meaning.specs.Meaning.{is_empty_list, namespace_in}
 use Rattle.wide_meaning.specs.Operators.{unary_in, binary_in, ternary_in}
 use Rattle.wide_meaning.specs.Outcome.{Outcome, plain as of_value, outcome_of, plain_part}
-use Rattle.wide_meaning.specs.Ranges.{plain_macro_of, over_items, filter_map_over}
+use Rattle.wide_meaning.specs.Ranges.{plain_macro_of, over_items, filter_map_over, optional_over}
 use Rattle.wide_kinds.proofs.Fitting.{kinds_hold}
 use Rattle.wide_kinds.specs.declared.kind.ValueKind.{ValueKind}
 use Rattle.wide_kinds.specs.declared.kind.ValueKind.TheVariants as kind
 use Rattle.wide_kinds.specs.Kinds.{literal_kind, unary_kind}
-use Rattle.wide_translation.specs.Carried.{Carried, plain, TakenName, Translation, taken, refused}
+use Rattle.wide_translation.specs.Carried.{Carried, plain, OptionalValue, TakenName, Translation, taken, refused}
 use Rattle.wide_translation.specs.Forms.{filter_map_tree}
 use Rattle.wide_translation.specs.Holds.{Carries, Holds, IsPlain, StandsFor}
 use Rattle.wide_translation.specs.Laws.{TranslationMeansTheSame}
 use Rattle.wide_translation.specs.Names.{held_name, is_taken}
 use Rattle.wide_translation.specs.Scope.{Scope, within}
-use Rattle.wide_translation.specs.Translated.{with_carried, with_plain, has_carried, binary_carried, ternary_carried, fold_carried, index_carried, text_literal, parts, pairs}
+use Rattle.wide_translation.specs.Translated.{with_carried, with_plain, on_list, optional_carried, has_carried, binary_carried, ternary_carried, fold_carried, index_carried, text_literal, parts, pairs}
 unfoldable use Rattle.wide_translation.specs.Translated.{translated, all_translated, items_translated, entries_translated}
 use Rattle.wide_translation.proofs.Environments.{both_bound, held_bound}
-use Rattle.wide_translation.proofs.FieldsHold.{plain_holds, with_holds, with_plain_holds, root_holds, name_holds, selected_holds, has_holds}
+use Rattle.wide_translation.proofs.FieldsHold.{plain_holds, with_holds, with_plain_holds, on_list_holds, root_holds, name_holds, selected_holds, has_holds}
 use Rattle.wide_translation.proofs.OperatorsHold.{unary_holds, binary_holds, ternary_holds, PartsHold, PairsHold, part_more, list_translated, entry_holds, map_translated}
-use Rattle.wide_translation.proofs.CallsHold.{AllHold, call_holds, method_called_holds}
+use Rattle.wide_translation.proofs.CallsHold.{call_holds, method_called_holds}
+use Rattle.wide_translation.proofs.OptionalHold.{AllHold, optional_holds}
 use Rattle.wide_translation.proofs.RangesHold.{IsText, index_holds, over_holds, fold_holds, filter_map_holds}
 
 module _ (others : Wide → WideEnvironment → Outcome) where
@@ -54,8 +56,8 @@ module _ (others : Wide → WideEnvironment → Outcome) where
   unfolding meaning
   literal_means l env = refl
 
-  no_parts_hold : (env : Environment) → PartsHold (parts no_trees) (Some []) env
-  unfolding meanings
+  no_parts_hold : (env : Environment) → PartsHold (parts no_trees None) (Some []) env
+  unfolding meaning meanings
   no_parts_hold env = refl
 
   no_pairs_hold : (env : Environment) → PairsHold (pairs no_entries) (Some no_value_entries) env
@@ -84,6 +86,15 @@ module _ (others : Wide → WideEnvironment → Outcome) where
       (λ k a g. over_holds x u p (λ j c. with_plain w (λ n d. taken (plain kind.List (filter_map_tree x a c d)))) o env (i e)
       (λ j c y. over_holds x w q (λ n d. taken (plain kind.List (filter_map_tree x a c d))) o env (l e)
       (λ n d z. filter_map_holds x k j n a c d r p q env g y z)))
+
+  optional_by : (b : Bool) (m : OptionalMacro) (x : List ℕ) (t u : Translation) (o : Outcome) (p : Value → Outcome) (env : Environment) → is_taken x ≡ b
+      → Holds t o env → (is_taken x ≡ false → (v : Value) → Holds u (p v) (bind x v env))
+      → Holds (if b then refused (TakenName x) else with_carried t (λ c. on_list OptionalValue c (λ k l. with_carried u (optional_carried m x l)))) (optional_over m p o) env
+  optional_by true m x t u o p env e h i = tt
+  optional_by false m x t u o p env e h i =
+      with_holds t (λ c. on_list OptionalValue c (λ k l. with_carried u (optional_carried m x l))) o (optional_over m p o) env h
+      (λ c g. on_list_holds OptionalValue c (λ k l. with_carried u (optional_carried m x l)) o (optional_over m p o) env g
+      (λ k l q. optional_holds m x k l u o p env q (i e)))
 
   mutual
     unfolding translated wide_meaning
@@ -136,7 +147,9 @@ module _ (others : Wide → WideEnvironment → Outcome) where
         (λ e v. same t (within x kind.Dyn s) (bound x v env) (bind x v env') (both_bound s x kind.Dyn v env env' e refl r))
     same (wide.pair_fold m a k v p) s env env' r = tt
     same (wide.pair_filter_map a k v p t) s env env' r = tt
-    same (wide.optional_fold m a x t) s env env' r = tt
+    same (wide.optional_fold m a x t) s env env' r =
+        optional_by (is_taken x) m x (translated s a) (translated (within x kind.Dyn s) t) (wide_meaning others a env) (λ v. wide_meaning others t (bound x v env)) env' refl
+        (same a s env env' r) (λ e v. same t (within x kind.Dyn s) (bound x v env) (bind x v env') (both_bound s x kind.Dyn v env env' e refl r))
     same (wide.call n es) s env env' r =
         call_holds (function_named n) n (all_translated s es) (wide_meanings others es env) (others (wide.call n es) env) env' (all_same es s env env' r)
     same (wide.method a n es) s env env' r =

@@ -2,15 +2,17 @@
 use Rattle.std.specs.Prelude.{◌≡◌, ℕ, Bool, true, false, List, [], ◌∷◌, Option, Some, None, codes, if◌then◌else◌}
 use Rattle.cel_reader.specs.Tree as tree
 use Rattle.cel_reader.specs.Tree.{Tree, Literal, Trees, no_trees, more_trees, TreeEntries, no_entries, more_entries}
-use Rattle.cel_reader.specs.declared.operator.BinaryOperator.{BinaryOperator, TheVariants.And, TheVariants.Equal, TheVariants.NotEqual, TheVariants.In}
+use Rattle.cel_reader.specs.declared.operator.BinaryOperator.{BinaryOperator, TheVariants.Add, TheVariants.And, TheVariants.Equal, TheVariants.NotEqual, TheVariants.In}
 use Rattle.cel_reader.specs.declared.operator.UnaryOperator.{UnaryOperator}
 use Rattle.cel_macros.specs.Environment.{lookup, is_root}
 use Rattle.cel_macros.specs.Functions.{function_name, test_name}
 use Rattle.cel_macros.specs.declared.function.Function.TheVariants as plain_function
+use Rattle.cel_macros.specs.declared.macros.Macro.TheVariants as plain_macro
 use Rattle.cel_macros.specs.declared.text_test.TextTest.{TextTest, TheVariants.StartsWith, TheVariants.EndsWith, TheVariants.Contains}
 use Rattle.wide_reader.specs.Tree.{Wide, Wides, Items, Entries}
 use Rattle.wide_reader.specs.Tree as wide
 use Rattle.wide_reader.specs.declared.wide.Access.{Access, TheVariants.Plain, TheVariants.Optional}
+use Rattle.wide_reader.specs.declared.wide.OptionalMacro.{OptionalMacro, TheVariants.Map, TheVariants.FlatMap}
 use Rattle.wide_reader.specs.declared.wide.Macro.{Macro}
 use Rattle.wide_reader.specs.declared.wide.Macro.TheVariants as macro
 use Rattle.wide_meaning.specs.declared.function.Function.{Function}
@@ -18,6 +20,7 @@ use Rattle.wide_meaning.specs.declared.function.Function.TheVariants as function
 use Rattle.wide_meaning.specs.declared.function.Method.{Method}
 use Rattle.wide_meaning.specs.declared.function.Method.TheVariants as method
 use Rattle.wide_meaning.specs.declared.function.Qualified.{Qualified}
+use Rattle.wide_meaning.specs.declared.function.Qualified.TheVariants as qualified
 use Rattle.wide_meaning.specs.Environment.{denotes_variables}
 use Rattle.wide_meaning.specs.Functions.{function_named, method_named, method_name, qualified_named, function_name as function_name_of}
 use Rattle.wide_meaning.specs.Meaning.{is_empty_list, namespace_in}
@@ -47,17 +50,20 @@ on_plain _ f = refused OptionalValue
 abbrev pub with_plain : Translation → (ValueKind → Tree → Translation) → Translation
 with_plain t f = with_carried t (λ c. on_plain c f)
 
+-- an optional value as a list; a value as it is
+abbrev pub as_list : Carried → Carried
+as_list (plain k t) = plain k t
+as_list (guarded k g v) = listed k (guarded_tree g v)
+as_list (listed k l) = listed k l
+
+-- what follows from the tree of a list; otherwise the fault e
+abbrev pub from_list : Fault → Carried → (ValueKind → Tree → Translation) → Translation
+from_list e (listed k l) f = f k l
+from_list e _ f = refused e
+
 -- what follows from the tree of an optional value as a list; for a value the fault e
 abbrev pub on_list : Fault → Carried → (ValueKind → Tree → Translation) → Translation
-on_list e (plain k t) f = refused e
-on_list e (guarded k g v) f = f k (guarded_tree g v)
-on_list e (listed k l) f = f k l
-
--- the tree of an optional value as a list
-abbrev pub IsList : Carried → ValueKind → Tree → Type 0
-IsList (plain k t) j m = ⊥
-IsList (guarded k g v) j m = (j ≡ k) × (m ≡ guarded_tree g v)
-IsList (listed k l) j m = (j ≡ k) × (m ≡ l)
+on_list e c f = from_list e (as_list c) f
 
 -- the tree of a value, or that of an optional value as a list, with its kind
 abbrev pub IsFinished : Carried → Kind → Tree → Type 0
@@ -173,6 +179,26 @@ abbrev pub call_translation : Option Function → List ℕ → List Translation 
 call_translation (Some f) n (t ∷ []) = with_plain t (function_carried f)
 call_translation _ n ts = refused (UnknownName n)
 
+-- ---- optional values
+
+-- an optional value, or another if it has no value
+abbrev pub or_carried : Carried → Carried → Translation
+or_carried (plain k t) d = refused (UnknownName (method_name method.Or))
+or_carried (guarded k g v) d = on_list OptionalValue d (λ j m. taken (listed (joined_kind k j) (tree.ternary g (one_tree v) m)))
+or_carried (listed k l) d =
+    on_list OptionalValue d (λ j m. taken (listed (joined_kind k j) (let_tree held_name l (tree.ternary (is_empty_tree held) m held))))
+
+-- a function with a namespace; those of sets are not translated
+abbrev pub qualified_translation : Qualified → List ℕ → List Translation → Translation
+qualified_translation qualified.OptionalOf n (t ∷ []) = with_plain t (λ k a. taken (listed k (one_tree a)))
+qualified_translation qualified.OptionalNone n [] = taken (listed kind.Dyn empty_tree)
+qualified_translation _ n ts = refused (UnknownName n)
+
+-- a macro over an optional value as a list
+abbrev pub optional_carried : OptionalMacro → List ℕ → Tree → Carried → Translation
+optional_carried Map x l d = on_plain d (λ j b. taken (listed j (macro_tree plain_macro.Map x l b)))
+optional_carried FlatMap x l d = on_list OptionalValue d (λ j b. taken (listed j (flat_tree x l b)))
+
 -- ---- methods
 
 -- the value of an optional value
@@ -207,27 +233,41 @@ method_carried method.Contains c (d ∷ []) = test_translation Contains c d
 method_carried method.HasValue c [] = has_value_translation c
 method_carried method.Value c [] = value_carried c
 method_carried method.OrValue c (d ∷ []) = with_plain d (or_value_carried c)
+method_carried method.Or c (d ∷ []) = with_carried d (or_carried c)
 method_carried m c ds = refused (UnknownName (method_name m))
 
--- functions with a namespace are not translated
+-- a function with a namespace, or a method
 abbrev pub method_translation : Option Qualified → Option Method → List ℕ → Translation → List Translation → Translation
-method_translation (Some q) m n t ts = refused (UnknownName n)
+method_translation (Some q) m n t ts = qualified_translation q n ts
 method_translation None (Some m) n t ts = with_carried t (λ c. method_carried m c ts)
 method_translation None None n t ts = refused (UnknownName n)
 
 -- ---- literals of lists and maps
 
--- the trees of several parts, or the first fault
+-- The trees of items that follow each other, and what comes after them if an optional one does: its list and the list of the others. Or the first fault
 pub data Parts : Type 0 where
-  parts : Trees → Parts
+  parts : Trees → Option (Tree × Tree) → Parts
   no_parts : Fault → Parts
 
+-- the list of all of them
+abbrev pub joined_tree : Trees → Option (Tree × Tree) → Tree
+joined_tree no_trees (Some p) = tree.binary Add p.0 p.1
+joined_tree (more_trees t ts) (Some p) = tree.binary Add (tree.list (more_trees t ts)) (tree.binary Add p.0 p.1)
+joined_tree ts None = tree.list ts
+
+-- one more item before the others
+abbrev pub list_more : Carried → Parts → Parts
+list_more (listed k l) (parts ts u) = parts no_trees (Some (l, joined_tree ts u))
+list_more (listed k l) (no_parts e) = no_parts e
+list_more _ ps = no_parts OptionalValue
+
 abbrev pub one_more : Access → Translation → Parts → Parts
-one_more Plain (taken (plain k t)) (parts ts) = parts (more_trees t ts)
+one_more Plain (taken (plain k t)) (parts ts u) = parts (more_trees t ts) u
 one_more Plain (taken (plain k t)) (no_parts e) = no_parts e
-one_more Plain (refused e) ts = no_parts e
-one_more Plain (taken _) ts = no_parts OptionalValue
-one_more Optional t ts = no_parts Unsupported
+one_more Plain (refused e) ps = no_parts e
+one_more Plain (taken _) ps = no_parts OptionalValue
+one_more Optional (refused e) ps = no_parts e
+one_more Optional (taken c) ps = list_more (as_list c) ps
 
 pub data Pairs : Type 0 where
   pairs : TreeEntries → Pairs
@@ -243,7 +283,7 @@ entry_more Plain (taken _) u es = no_pairs OptionalValue
 entry_more Optional t u es = no_pairs Unsupported
 
 abbrev pub list_translation : Parts → Translation
-list_translation (parts ts) = taken (plain kind.List (tree.list ts))
+list_translation (parts ts u) = taken (plain kind.List (joined_tree ts u))
 list_translation (no_parts e) = refused e
 
 abbrev pub map_translation : Pairs → Translation
@@ -305,7 +345,9 @@ unfoldable mutual
   translated s (wide.method a n es) = method_translation (qualified_named (namespace_in a) n) (method_named n) n (translated s a) (all_translated s es)
   translated s (wide.pair_fold m r k v p) = refused Unsupported
   translated s (wide.pair_filter_map r k v p t) = refused Unsupported
-  translated s (wide.optional_fold m a x t) = refused Unsupported
+  translated s (wide.optional_fold m a x t) =
+      if is_taken x then refused (TakenName x)
+      else with_carried (translated s a) (λ c. on_list OptionalValue c (λ k l. with_carried (translated (within x kind.Dyn s) t) (optional_carried m x l)))
 
   -- the translation of each of the expressions
   pub all_translated : Scope → Wides → List Translation
@@ -314,7 +356,7 @@ unfoldable mutual
 
   -- the trees of the items of a list literal
   pub items_translated : Scope → Items → Parts
-  items_translated s wide.no_items = parts no_trees
+  items_translated s wide.no_items = parts no_trees None
   items_translated s (wide.more_items o a more) = one_more o (translated s a) (items_translated s more)
 
   -- the trees of the entries of a map literal
