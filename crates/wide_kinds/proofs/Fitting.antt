@@ -4,7 +4,7 @@ use Rattle.cel_reader.specs.Tree as tree
 use Rattle.cel_reader.specs.declared.operator.BinaryOperator.{BinaryOperator}
 use Rattle.cel_reader.specs.declared.operator.BinaryOperator.TheVariants as binary
 use Rattle.cel_reader.specs.declared.operator.UnaryOperator.{UnaryOperator, TheVariants.Not, TheVariants.Negate}
-use Rattle.value_store.specs.Value.{Value, ValueOrError, error, value, null, boolean, int, text, list, map, Items, items_join}
+use Rattle.value_store.specs.Value.{Value, ValueOrError, error, value, null, boolean, int, text, list, Items, items_join}
 use Rattle.value_store.specs.Equality.{equal}
 use Rattle.value_store.specs.Order.{less}
 use Rattle.value_store.specs.Lookup.{member}

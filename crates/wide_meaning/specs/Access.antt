@@ -1,6 +1,6 @@
 -- Fields, items and entries, of values and of optional values.
 use Rattle.std.specs.Prelude.{ℕ, pos, negsuc, List, slice_get}
-use Rattle.value_store.specs.Value.{Value, value, null, boolean, int, text, list, map, list_of}
+use Rattle.value_store.specs.Value.{Value, value, null, int, text, list, map, list_of}
 use Rattle.value_store.specs.Lookup.{find}
 use Rattle.cel_macros.specs.Selection.{field_of, index_of}
 use Rattle.wide_reader.specs.declared.wide.Access.{Access, TheVariants.Plain, TheVariants.Optional}
@@ -12,8 +12,8 @@ sel null f = absent
 sel (map es) f = optional_of (find f es)
 sel _ f = failed
 
--- the item or entry k of a value as an optional value: null has none; the error for all but null, a map and a list, and for
--- an index that does not fit
+-- the item or entry k of a value as an optional value: null has none; the error for all but null, a map and a list,
+-- and for an index that does not fit
 abbrev pub at : Value → Value → Outcome
 at null (int z) = absent
 at null (text s) = absent

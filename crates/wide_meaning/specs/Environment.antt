@@ -1,5 +1,5 @@
 -- The values of a wide expression's names.
-use Rattle.std.specs.Prelude.{ℕ, Bool, true, false, ◌&&◌, not, List, ◌∷◌, Option, Some, None, bytes_eq, is_some, unwrap_or}
+use Rattle.std.specs.Prelude.{ℕ, Bool, false, ◌&&◌, not, List, ◌∷◌, Option, Some, None, bytes_eq, is_some, unwrap_or}
 use Rattle.value_store.specs.Value.{Value}
 use Rattle.cel_macros.specs.Environment.{Roots, lookup, root_bindings}
 use Rattle.cel_macros.specs.Macros.{variables_name}
@@ -39,7 +39,8 @@ variable_in n variables = unwrap_or (lookup n variables) failed
 abbrev pub bound : List ℕ → Value → WideEnvironment → WideEnvironment
 bound n v env = record env { items = (n, v) ∷ env.items }
 
--- whether the expression is the name `variables`, which no iteration name hides: with a dot before it, or none is in scope
+-- whether the expression is the name `variables`, which no iteration name hides: with a dot before it, or none is in
+-- scope
 abbrev pub denotes_variables : Wide → Bool → Bool
 denotes_variables (wide.name n) hidden = bytes_eq variables_name n && not hidden
 denotes_variables (wide.root n) hidden = bytes_eq variables_name n

@@ -1,5 +1,5 @@
 -- Functions and methods that need no look-up.
-use Rattle.std.specs.Prelude.{ℕ, zero, pos, Bool, true, false, ◌&&◌, ◌||◌, List, [], ◌∷◌, Option, Some, None, find, bytes_eq, codes, if◌then◌else◌, slice_get}
+use Rattle.std.specs.Prelude.{ℕ, zero, pos, Bool, true, false, ◌&&◌, ◌||◌, List, [], ◌∷◌, Option, Some, None, find, bytes_eq, codes, if◌then◌else◌}
 use Rattle.std.specs.Option.{option_or}
 use Rattle.cel_reader.specs.Words.{is_one_of}
 use Rattle.value_store.specs.Value.{Value, ValueOrError, error, value, null, boolean, int, text, list, map, Items, no_items, item, no_entries, list_of}

@@ -1,15 +1,15 @@
 -- The meaning of a wide expression in an environment, by cases on its tree.
 use Rattle.std.specs.Prelude.{ℕ, pos, Bool, true, false, List, [], ◌∷◌, Option, Some, None}
-use Rattle.value_store.specs.Value.{Value, ValueOrError, int, Entries as ValueEntries, no_entries}
+use Rattle.value_store.specs.Value.{Value, int, Entries as ValueEntries, no_entries}
 use Rattle.cel_macros.specs.Literals.{literal_of}
 use Rattle.cel_macros.specs.Macros.{range_of}
 use Rattle.wide_reader.specs.Tree.{Wide, Wides, Items, Entries}
 use Rattle.wide_reader.specs.Tree as wide
-use Rattle.wide_reader.specs.declared.wide.Access.{Access, TheVariants.Plain, TheVariants.Optional}
+use Rattle.wide_reader.specs.declared.wide.Access.{Access, TheVariants.Plain}
 use Rattle.wide_meaning.specs.declared.function.Function.{Function}
 use Rattle.wide_meaning.specs.declared.function.Method.{Method}
 use Rattle.wide_meaning.specs.declared.function.Qualified.{Qualified}
-use Rattle.wide_meaning.specs.Outcome.{Outcome, failed, plain, outcome_of, plain_part}
+use Rattle.wide_meaning.specs.Outcome.{Outcome, plain, outcome_of, plain_part}
 use Rattle.wide_meaning.specs.Access.{field_in, index_in, has_in}
 use Rattle.wide_meaning.specs.Operators.{unary_in, binary_in, ternary_in, item_in, entry_in, list_in, map_in}
 use Rattle.wide_meaning.specs.Ranges.{plain_macro_of, over_items, filter_map_over, pairs_of, over_pairs, pair_filter_map_over, optional_over}
@@ -85,7 +85,8 @@ module _ (others : Wide → WideEnvironment → Outcome) where
     items_meaning wide.no_items env = Some []
     items_meaning (wide.more_items o a more) env = item_in o (wide_meaning a env) (items_meaning more env)
 
-    -- the entries, without the optional ones that have no value; None if a part is the error, or a key is no text or is repeated
+    -- the entries, without the optional ones that have no value; None if a part is the error, or a key is no text or
+    -- is repeated
     pub entries_meaning : Entries → WideEnvironment → Option ValueEntries
     entries_meaning wide.no_entries env = Some no_entries
     entries_meaning (wide.more_entries o k v more) env = entry_in o (wide_meaning k env) (wide_meaning v env) (entries_meaning more env)

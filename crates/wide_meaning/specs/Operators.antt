@@ -1,6 +1,6 @@
 -- Operators and literals.
-use Rattle.std.specs.Prelude.{ℕ, Bool, true, false, not, List, [], ◌∷◌, Option, Some, None, option_map}
-use Rattle.value_store.specs.Value.{Value, ValueOrError, value, boolean, Entries, no_entries}
+use Rattle.std.specs.Prelude.{ℕ, Bool, true, false, not, List, Option, Some, None, option_map}
+use Rattle.value_store.specs.Value.{Value, value, boolean, Entries}
 use Rattle.value_store.specs.Equality.{equal}
 use Rattle.cel_reader.specs.declared.operator.BinaryOperator.{BinaryOperator}
 use Rattle.cel_reader.specs.declared.operator.BinaryOperator.TheVariants.{Equal, NotEqual, In}
@@ -34,7 +34,8 @@ abbrev pub tested : Option Bool → Outcome
 tested (Some b) = plain (boolean b)
 tested None = failed
 
--- a binary operator; whether its right operand is written `[]` is the first argument: nothing is in it, not even the error
+-- a binary operator; whether its right operand is written `[]` is the first argument: nothing is in it, not even the
+-- error
 abbrev pub binary_in : Bool → BinaryOperator → Outcome → Outcome → Outcome
 binary_in true In x y = plain (boolean false)
 binary_in _ Equal x y = tested (same x y)

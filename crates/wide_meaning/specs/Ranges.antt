@@ -6,7 +6,7 @@ use Rattle.value_store.specs.Value.{Value, ValueOrError, error, value, int, text
 use Rattle.cel_macros.specs.declared.macros.Macro.{Macro as PlainMacro}
 use Rattle.cel_macros.specs.declared.macros.Macro.TheVariants as plain_macro
 use Rattle.cel_macros.specs.Literals.{list_literal}
-use Rattle.cel_macros.specs.Logic.{Truth, truth}
+use Rattle.cel_macros.specs.Logic.{truth}
 use Rattle.cel_macros.specs.Macros.{is_yes, is_other, all_of, exists_of, exists_one_of, macro_of, map_of, where_true}
 use Rattle.wide_reader.specs.declared.wide.Macro.{Macro}
 use Rattle.wide_reader.specs.declared.wide.Macro.TheVariants as macro
@@ -43,8 +43,8 @@ abbrev pub keyed : Entries → List (Value × Value)
 keyed no_entries = []
 keyed (entry k v more) = (text k, v) ∷ keyed more
 
--- the range of a macro with two names: the items of a list with their indices, or the values of a map with their keys in byte
--- order; None for all else
+-- the range of a macro with two names: the items of a list with their indices, or the values of a map with their keys
+-- in byte order; None for all else
 abbrev pub pairs_of : ValueOrError → Option (List (Value × Value))
 pairs_of (value (list is)) = Some (numbered 0 (list_of is))
 pairs_of (value (map es)) = Some (keyed es)

@@ -3,10 +3,10 @@ use Rattle.std.specs.Prelude.{◌≡◌, ℕ, ℤ, pos, neg_ℤ, List, [], ◌�
 use Prim.Native.String.{String}
 use Rattle.cel_reader.specs.Tree as tree
 use Rattle.cel_reader.specs.declared.operator.BinaryOperator.TheVariants.{Divide}
-use Rattle.value_store.specs.Value.{Value, null, boolean, int, text, list, map, items_of, value}
+use Rattle.value_store.specs.Value.{Value, null, boolean, int, text, list, map, items_of}
 use Rattle.cel_macros.specs.Written.{entries_of}
 use Rattle.wide_reader.specs.Tree as wide
-use Rattle.wide_reader.specs.Tree.{Wide, Wides, wides, Items, no_items, more_items, Entries, no_entries, more_entries}
+use Rattle.wide_reader.specs.Tree.{Wide, wides, Items, no_items, more_items, Entries, no_entries, more_entries}
 use Rattle.wide_reader.specs.declared.wide.Access.{TheVariants.Plain, TheVariants.Optional}
 use Rattle.wide_meaning.specs.Outcome.{Outcome, failed, plain, absent}
 use Rattle.wide_meaning.specs.Environment.{WideEnvironment}
@@ -114,10 +114,12 @@ spec = map (entries_of (
     (codes "args", list (items_of (text (codes "-v") ∷ text (codes "--x=1") ∷ []))) ∷
     (codes "image", text (codes "reg.io/app:1.2")) ∷
     (codes "note", null) ∷
-    (codes "paused", boolean false) ∷
-    (codes "ports", list (items_of (
-        map (entries_of ((codes "name", text (codes "http")) ∷ (codes "port", int (pos 80)) ∷ [])) ∷
-        map (entries_of ((codes "port", int (pos 443)) ∷ [])) ∷ []))) ∷
+    (codes "paused", boolean false) ∷ (
+      codes "ports",
+      list (items_of (
+          map (entries_of ((codes "name", text (codes "http")) ∷ (codes "port", int (pos 80)) ∷ [])) ∷
+          map (entries_of ((codes "port", int (pos 443)) ∷ [])) ∷ [])),
+    ) ∷
     (codes "replicas", int (pos 3)) ∷
     (codes "sel", map (entries_of [])) ∷ []))
 

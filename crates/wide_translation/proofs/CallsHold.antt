@@ -1,50 +1,38 @@
 -- Functions and methods.
-use Rattle.std.proofs.Common.{◌≡◌, ℕ, Bool, true, false, List, [], ◌∷◌, Option, Some, None, codes, pos, if◌then◌else◌, refl, ap, sym, ◌∙◌, subst}
+use Rattle.std.proofs.Common.{◌≡◌, ℕ, Bool, true, false, List, [], ◌∷◌, Option, Some, None, codes, pos, if◌then◌else◌, refl, ap, ◌∙◌}
 use Rattle.cel_reader.specs.Tree as tree
 use Rattle.cel_reader.specs.Tree.{Tree, no_trees, more_trees}
-use Rattle.value_store.specs.Value.{Value, ValueOrError, error, value, null, boolean, int, text, list, map, no_items, item}
+use Rattle.value_store.specs.Value.{Value, ValueOrError, error, value, null, boolean, int, text, list, map, no_items}
 use Rattle.cel_macros.specs.Comparison.{equal_of}
 use Rattle.cel_macros.specs.Environment.{Environment, bind}
-use Rattle.cel_macros.specs.Functions.{function_name, size_of, string_of, test_name, text_test_of, holds_of}
+use Rattle.cel_macros.specs.Functions.{size_of, string_of, test_name, text_test_of}
 unfoldable use Rattle.cel_macros.specs.Functions.{function_named, test_named}
 use Rattle.cel_macros.specs.Logic.{ternary_of}
-use Rattle.cel_macros.specs.Macros.{range_of, macro_of, all_of, exists_of, exists_one_of, where_true}
 unfoldable use Rattle.cel_macros.specs.Macros.{is_variables, is_has}
-use Rattle.cel_macros.specs.Literals.{list_literal, list_or_error, values_in}
-use Rattle.cel_macros.specs.declared.macros.Macro.{Macro as PlainMacro}
-use Rattle.cel_macros.specs.declared.macros.Macro.TheVariants as plain_macro
 use Rattle.cel_macros.specs.declared.text_test.TextTest.{TextTest, TheVariants.StartsWith, TheVariants.EndsWith, TheVariants.Contains}
 use Rattle.cel_macros.specs.Selection.{index_of}
-unfoldable use Rattle.cel_macros.specs.Meaning.{meaning, meanings, operand_meaning}
-use Rattle.wide_reader.specs.Tree.{Wide}
-use Rattle.wide_reader.specs.Tree as wide
-use Rattle.wide_reader.specs.declared.wide.Access.{Access, TheVariants.Plain, TheVariants.Optional}
-use Rattle.wide_reader.specs.declared.wide.Macro.{Macro}
-use Rattle.wide_reader.specs.declared.wide.Macro.TheVariants as macro
+unfoldable use Rattle.cel_macros.specs.Meaning.{meaning, meanings}
 use Rattle.wide_meaning.specs.declared.function.Function.{Function}
 use Rattle.wide_meaning.specs.declared.function.Function.TheVariants as function
 use Rattle.wide_meaning.specs.declared.function.Method.{Method}
 use Rattle.wide_meaning.specs.declared.function.Method.TheVariants as method
 use Rattle.wide_meaning.specs.declared.function.Qualified.{Qualified}
-use Rattle.wide_meaning.specs.Access.{field_in, index_in, sel, at}
 use Rattle.wide_meaning.specs.Functions.{text_of, function_in, method_in}
 use Rattle.wide_meaning.specs.Meaning.{called, method_called}
-use Rattle.wide_meaning.specs.Outcome.{Outcome, failed, plain as of_value, absent, present, outcome_of, plain_part, is_present, value_in, value_or}
-use Rattle.wide_meaning.specs.Ranges.{plain_macro_of, over_items, filter_map_over}
+use Rattle.wide_meaning.specs.Outcome.{Outcome, failed, plain as of_value, absent, present, outcome_of, plain_part, value_in, value_or}
 use Rattle.wide_kinds.specs.declared.kind.ValueKind.{ValueKind}
 use Rattle.wide_kinds.specs.declared.kind.ValueKind.TheVariants as kind
 use Rattle.wide_kinds.specs.Kinds.{joined_kind}
-use Rattle.wide_kinds.specs.Fitting.{has_kind, FitsKind, IsOfKind, IsOptionalOf}
-use Rattle.wide_translation.specs.Carried.{Carried, plain, guarded, listed, Fault, Translation, taken, refused}
-use Rattle.wide_translation.specs.Forms.{call_tree, text_tree, first_tree, let_tree, held, is_empty_tree, is_simple, macro_tree, filter_map_tree}
-use Rattle.wide_translation.specs.Holds.{guard_part, value_part, list_part, IsPlain, IsGuarded, IsListed, Carries, Holds}
+use Rattle.wide_kinds.specs.Fitting.{FitsKind, IsOfKind, IsOptionalOf}
+use Rattle.wide_translation.specs.Carried.{Carried, plain, guarded, listed, Translation, taken, refused}
+use Rattle.wide_translation.specs.Forms.{call_tree, text_tree, first_tree, let_tree, held, is_empty_tree, is_simple}
+use Rattle.wide_translation.specs.Holds.{guard_part, value_part, list_part, IsPlain, Carries, Holds}
 use Rattle.wide_translation.specs.Names.{held_name}
-use Rattle.wide_translation.specs.Translated.{once, string_tree, function_carried, call_translation, value_carried, or_value_carried, test_translation, method_carried, method_translation, text_literal, plain_index, index_carried, macro_kind, fold_carried, field_carried, on_plain, with_plain}
-use Rattle.wide_translation.proofs.Environments.{this_name}
-use Rattle.wide_translation.proofs.FieldsHold.{part_again, part_fits, plain_holds, with_holds, on_plain_holds, with_plain_holds, field_holds, has_value_holds}
+use Rattle.wide_translation.specs.Translated.{once, string_tree, function_carried, call_translation, value_carried, or_value_carried, test_translation, method_carried, method_translation, with_plain}
+use Rattle.wide_translation.proofs.FieldsHold.{part_fits, plain_holds, with_holds, on_plain_holds, with_plain_holds, has_value_holds}
 use Rattle.wide_translation.proofs.OperatorsHold.{first_kind, second_kind}
 use Rattle.wide_translation.proofs.OptionalHold.{AllHold, or_holds, qualified_holds}
-use Rattle.wide_translation.proofs.Steps.{MeansBy, once_means, on_value, let_means, held_is, macro_means, filter_map_means}
+use Rattle.wide_translation.proofs.Steps.{MeansBy, once_means, on_value, let_means, held_is}
 
 -- ---- functions
 

@@ -1,9 +1,8 @@
 -- Names in the environments of the translation.
-use Rattle.std.proofs.Common.{◌≡◌, ℕ, Bool, true, false, List, ◌∷◌, Option, Some, None, bytes_eq, if◌then◌else◌, is_some, refl, ap, sym, ◌∙◌, ◌||◌, ◌&&◌, subst}
+use Rattle.std.proofs.Common.{◌≡◌, ℕ, Bool, true, false, List, Option, Some, None, bytes_eq, if◌then◌else◌, is_some, refl, ap, sym, ◌∙◌, ◌||◌, ◌&&◌, subst}
 use lib.Pointwise.{bytes_decides}
 use Rattle.std.specs.Option.{option_or}
 use Rattle.cel_reader.specs.Tree as tree
-use Rattle.cel_reader.specs.Tree.{Tree}
 use Rattle.value_store.specs.Value.{Value, ValueOrError, value}
 use Rattle.cel_macros.specs.Environment.{Environment, bind, value_or_error, lookup, root_bindings}
 unfoldable use Rattle.cel_macros.specs.Environment.{name_value, is_root}

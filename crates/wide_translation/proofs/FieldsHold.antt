@@ -1,9 +1,9 @@
 -- Names, fields, and whether a field is there.
-use Rattle.std.proofs.Common.{◌≡◌, ℕ, Bool, true, false, List, [], ◌∷◌, Option, Some, None, if◌then◌else◌, is_some, unwrap_or, refl, ap, sym, ◌∙◌, subst, ◌&&◌, not, bytes_eq}
+use Rattle.std.proofs.Common.{◌≡◌, ℕ, Bool, true, false, List, Option, Some, None, if◌then◌else◌, is_some, unwrap_or, refl, ap, sym, ◌∙◌, subst}
 use Rattle.cel_reader.specs.Tree as tree
 use Rattle.cel_reader.specs.Tree.{Tree}
 use Rattle.cel_reader.specs.declared.operator.BinaryOperator.{TheVariants.And, TheVariants.NotEqual}
-use Rattle.value_store.specs.Value.{Value, ValueOrError, error, value, null, boolean, int, text, list, map, no_items, item}
+use Rattle.value_store.specs.Value.{Value, ValueOrError, error, value, null, boolean, int, text, list, map, no_items}
 use Rattle.value_store.specs.Lookup.{find}
 use Rattle.cel_macros.specs.Environment.{Environment, value_or_error, lookup, root_bindings, is_root, name_value, variable_value}
 use Rattle.cel_macros.specs.Comparison.{unequal_of}
@@ -15,20 +15,20 @@ unfoldable use Rattle.cel_macros.specs.Meaning.{meaning, meanings}
 use Rattle.wide_reader.specs.Tree.{Wide}
 use Rattle.wide_reader.specs.declared.wide.Access.{Access, TheVariants.Plain, TheVariants.Optional}
 use Rattle.wide_meaning.specs.Access.{sel, field_in, has_in}
-use Rattle.wide_meaning.specs.Environment.{WideEnvironment, root_in, item_or, name_in, plain_or_failed, variable_in, denotes_variables, hides_variables}
+use Rattle.wide_meaning.specs.Environment.{WideEnvironment, root_in, item_or, name_in, plain_or_failed, denotes_variables, hides_variables}
 use Rattle.wide_meaning.specs.Meaning.{selected}
 use Rattle.wide_meaning.specs.Outcome.{Outcome, failed, plain as of_value, absent, present, outcome_of, optional_of, plain_part, is_present}
 use Rattle.wide_kinds.specs.declared.kind.Kind.{Kind}
 use Rattle.wide_kinds.specs.declared.kind.Kind.TheVariants as kinds
 use Rattle.wide_kinds.specs.declared.kind.ValueKind.{ValueKind}
 use Rattle.wide_kinds.specs.declared.kind.ValueKind.TheVariants as kind
-use Rattle.wide_kinds.specs.Fitting.{has_kind, FitsKind, IsOfKind, IsOptionalOf}
+use Rattle.wide_kinds.specs.Fitting.{FitsKind, IsOfKind, IsOptionalOf}
 use Rattle.wide_translation.specs.Carried.{Carried, plain, guarded, listed, Fault, UnknownName, Translation, taken, refused}
-use Rattle.wide_translation.specs.Forms.{empty_tree, guarded_tree, present_tree, access_tree, field_list_tree, flat_tree, let_tree, held, is_simple, root_tree, variable_tree}
+use Rattle.wide_translation.specs.Forms.{empty_tree, guarded_tree, present_tree, access_tree, field_list_tree, flat_tree, let_tree, held, is_simple, root_tree}
 use Rattle.wide_translation.specs.Holds.{guard_part, value_part, list_part, IsPlain, IsGuarded, IsListed, Carries, Holds, Named, Declared, StandsFor}
 use Rattle.wide_translation.specs.Names.{held_name, is_taken}
 use Rattle.wide_translation.specs.Scope.{Scope, is_hidden}
-use Rattle.wide_translation.specs.Translated.{with_carried, on_plain, with_plain, on_list, root_translation, name_translation, variable_translation, optional_field, field_of_list, field_of_guarded, field_carried, has_value_carried, has_carried, has_value_translation, selected_translation, once}
+use Rattle.wide_translation.specs.Translated.{with_carried, on_plain, with_plain, on_list, root_translation, name_translation, variable_translation, optional_field, field_of_list, field_of_guarded, field_carried, has_value_carried, has_carried, has_value_translation, selected_translation}
 use Rattle.wide_translation.proofs.Environments.{variables_free, root_tree_free}
 use Rattle.wide_translation.proofs.Steps.{field_outcome, access_means, access_free, present_means, value_of_field, guarded_means, guard_again, field_list_means, let_held, once_means, after, flat_holds, field_list_held}
 

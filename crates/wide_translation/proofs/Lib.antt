@@ -5,6 +5,7 @@ pub mod FieldsHold
 pub mod OperatorsHold
 pub mod OptionalHold
 pub mod CallsHold
+pub mod ItemsHold
 pub mod RangesHold
 pub mod Same
 pub mod Policies

@@ -1,17 +1,17 @@
 -- Operators, conditionals, and literals of lists and maps.
 use Rattle.std.specs.Prelude.{⊤}
-use Rattle.std.proofs.Common.{◌≡◌, ℕ, Bool, true, false, not, List, [], ◌∷◌, Option, Some, None, option_map, ◌&&◌, refl, ap, sym, ◌∙◌, subst}
+use Rattle.std.proofs.Common.{◌≡◌, Bool, true, false, not, List, [], ◌∷◌, Option, Some, None, option_map, ◌&&◌, refl, ap, sym, ◌∙◌, subst}
 use Rattle.cel_reader.specs.Tree as tree
-use Rattle.cel_reader.specs.Tree.{Tree, Trees, TreeEntries, no_trees, more_trees, no_entries, more_entries}
+use Rattle.cel_reader.specs.Tree.{Tree, Trees, no_trees, more_trees}
 use Rattle.cel_reader.specs.declared.operator.BinaryOperator.{BinaryOperator}
 use Rattle.cel_reader.specs.declared.operator.BinaryOperator.TheVariants as binary
 use Rattle.cel_reader.specs.declared.operator.UnaryOperator.{UnaryOperator}
-use Rattle.value_store.specs.Value.{Value, ValueOrError, error, value, null, boolean, int, text, list, map, no_items, item, Entries as ValueEntries}
+use Rattle.value_store.specs.Value.{Value, ValueOrError, error, value, null, boolean, int, text, list, map, item, Entries as ValueEntries}
 use Rattle.cel_macros.specs.Arithmetic.{sum_of}
 use Rattle.value_store.specs.Equality.{equal}
 use Rattle.cel_macros.specs.Comparison.{equal_of, unequal_of}
 use Rattle.cel_macros.specs.Environment.{Environment}
-use Rattle.cel_macros.specs.Literals.{list_literal, list_or_error, map_or_error, map_literal, with_value, values_in, entries_in, with_entry, text_part}
+use Rattle.cel_macros.specs.Literals.{list_literal, list_or_error, map_or_error, with_value, values_in, entries_in, with_entry, text_part}
 use Rattle.cel_macros.specs.Logic.{Truth, Yes, No, Other, truth, chosen, ternary_of}
 unfoldable use Rattle.cel_macros.specs.Macros.{is_variables}
 use Rattle.cel_macros.specs.Meaning.{unary_of, binary_of}
@@ -24,11 +24,11 @@ use Rattle.wide_kinds.specs.declared.kind.ValueKind.{ValueKind}
 use Rattle.wide_kinds.specs.declared.kind.ValueKind.TheVariants as kind
 use Rattle.wide_kinds.specs.Kinds.{unary_kind, binary_kind, joined_kind}
 use Rattle.wide_kinds.specs.Fitting.{FitsKind, IsOfKind, IsOptionalOf}
-use Rattle.wide_translation.specs.Carried.{Carried, plain, guarded, listed, Fault, OptionalValue, Translation, taken, refused}
+use Rattle.wide_translation.specs.Carried.{Carried, plain, guarded, listed, OptionalValue, Translation, taken, refused}
 use Rattle.wide_translation.specs.Forms.{guarded_tree}
 use Rattle.wide_translation.specs.Holds.{list_part, IsPlain, IsListed, Carries, Holds}
-use Rattle.wide_translation.specs.Translated.{on_plain, on_list, equality, plain_binary, binary_carried, ternary_carried, Parts, parts, no_parts, joined_tree, one_more, Pairs, pairs, no_pairs, entry_more, list_translation, map_translation}
-use Rattle.wide_translation.proofs.FieldsHold.{part_again, part_fits, plain_holds, on_plain_holds, on_list_holds}
+use Rattle.wide_translation.specs.Translated.{on_plain, on_list, equality, binary_carried, ternary_carried, Parts, parts, no_parts, joined_tree, one_more, Pairs, pairs, no_pairs, entry_more, list_translation, map_translation}
+use Rattle.wide_translation.proofs.FieldsHold.{part_fits, plain_holds, on_plain_holds, on_list_holds}
 use Rattle.wide_translation.proofs.Steps.{guarded_means}
 
 -- ---- unary operators

@@ -1,32 +1,31 @@
 -- Optional values from values and from each other, and macros over them.
 use Rattle.std.specs.Prelude.{⊤}
-use Rattle.std.proofs.Common.{◌≡◌, ℕ, zero, suc, Bool, true, false, List, [], ◌∷◌, Option, Some, None, pos, negsuc, if◌then◌else◌, refl, ap, sym, ◌∙◌}
+use Rattle.std.proofs.Common.{◌≡◌, ℕ, List, [], ◌∷◌, refl, ◌∙◌}
 use Rattle.cel_reader.specs.Tree as tree
 use Rattle.cel_reader.specs.Tree.{Tree}
-use Rattle.value_store.specs.Value.{Value, ValueOrError, error, value, null, boolean, int, text, list, map, no_items, item, no_entries, entry}
-use Rattle.cel_macros.specs.Comparison.{equal_of, member_of}
+use Rattle.value_store.specs.Value.{Value, value, list, no_items}
+use Rattle.cel_macros.specs.Comparison.{equal_of}
 use Rattle.cel_macros.specs.Environment.{Environment, bind}
 use Rattle.cel_macros.specs.Literals.{list_literal}
 use Rattle.cel_macros.specs.Logic.{ternary_of}
 use Rattle.cel_macros.specs.Macros.{range_of}
-unfoldable use Rattle.cel_macros.specs.Macros.{is_variables}
 use Rattle.cel_macros.specs.declared.macros.Macro.TheVariants as plain_macro
 unfoldable use Rattle.cel_macros.specs.Meaning.{meaning, meanings}
 use Rattle.wide_reader.specs.declared.wide.OptionalMacro.{OptionalMacro, TheVariants.Map, TheVariants.FlatMap}
 use Rattle.wide_meaning.specs.declared.function.Qualified.{Qualified}
 use Rattle.wide_meaning.specs.declared.function.Qualified.TheVariants as qualified
-use Rattle.wide_meaning.specs.Functions.{is_zero, some_unless_zero, qualified_in}
-use Rattle.wide_meaning.specs.Outcome.{Outcome, failed, plain as of_value, absent, present, outcome_of, plain_part, some_of, first_of}
+use Rattle.wide_meaning.specs.Functions.{qualified_in}
+use Rattle.wide_meaning.specs.Outcome.{Outcome, failed, plain as of_value, absent, present, plain_part, some_of, first_of}
 use Rattle.wide_meaning.specs.Ranges.{over_items, optional_over}
 use Rattle.wide_kinds.specs.declared.kind.ValueKind.{ValueKind}
 use Rattle.wide_kinds.specs.declared.kind.ValueKind.TheVariants as kind
 use Rattle.wide_kinds.specs.Kinds.{joined_kind}
 use Rattle.wide_kinds.specs.Fitting.{IsOfKind, IsOptionalOf}
-use Rattle.wide_translation.specs.Carried.{Carried, plain, guarded, listed, OptionalValue, Translation, taken, refused}
-use Rattle.wide_translation.specs.Forms.{one_tree, empty_tree, is_empty_tree, held, let_tree, guarded_tree, flat_tree, macro_tree}
-use Rattle.wide_translation.specs.Holds.{guard_part, value_part, list_part, IsPlain, IsGuarded, IsListed, Carries, Holds}
+use Rattle.wide_translation.specs.Carried.{Carried, plain, guarded, listed, Translation, taken, refused}
+use Rattle.wide_translation.specs.Forms.{one_tree, empty_tree, is_empty_tree, held, guarded_tree, flat_tree, macro_tree}
+use Rattle.wide_translation.specs.Holds.{guard_part, value_part, list_part, IsPlain, IsListed, Carries, Holds}
 use Rattle.wide_translation.specs.Names.{held_name}
-use Rattle.wide_translation.specs.Translated.{on_plain, on_list, with_carried, with_plain, or_carried, qualified_translation, optional_carried}
+use Rattle.wide_translation.specs.Translated.{with_carried, or_carried, qualified_translation, optional_carried}
 use Rattle.wide_translation.proofs.FieldsHold.{with_plain_holds}
 use Rattle.wide_translation.proofs.OperatorsHold.{first_optional, second_optional}
 use Rattle.wide_translation.proofs.Steps.{on_value, let_means, held_is, macro_means, guarded_means, after, flat_holds}

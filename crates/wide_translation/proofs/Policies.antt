@@ -1,15 +1,14 @@
 -- A policy's translations carry what its expressions mean.
 use lib.Pointwise.{bytes_decides}
 use Rattle.std.specs.Prelude.{⊤}
-use Rattle.std.proofs.Common.{◌≡◌, ℕ, Bool, true, false, List, [], ◌∷◌, ◌++◌, fold, map, Option, Some, None, bytes_eq, codes, if◌then◌else◌, unwrap_or, is_some, refl, ap, sym, ◌∙◌, subst, arith, append_assoc, append-nil}
+use Rattle.std.proofs.Common.{◌≡◌, ℕ, Bool, true, false, List, [], ◌∷◌, ◌++◌, fold, map, Option, Some, None, bytes_eq, if◌then◌else◌, unwrap_or, refl, ap, sym, ◌∙◌, subst, arith, append_assoc, append-nil}
 use Rattle.cel_reader.specs.Tree.{Tree}
 use Rattle.cel_reader.specs.Tree as tree
-use Rattle.value_store.specs.Value.{Value, ValueOrError, error, value}
+use Rattle.value_store.specs.Value.{Value, ValueOrError, error}
 use Rattle.cel_macros.specs.Environment.{Environment, Roots, lookup, root_bindings, value_or_error}
-unfoldable use Rattle.cel_macros.specs.Environment.{name_value, is_root, variable_value}
+unfoldable use Rattle.cel_macros.specs.Environment.{name_value, variable_value}
 unfoldable use Rattle.cel_macros.specs.Macros.{is_variables}
 unfoldable use Rattle.cel_macros.specs.Meaning.{meaning}
-use Rattle.cel_macros.specs.Selection.{field_of}
 use Rattle.wide_reader.specs.Tree.{Wide}
 use Rattle.wide_meaning.specs.Environment.{WideEnvironment, root_in, plain_or_failed}
 use Rattle.wide_meaning.specs.Meaning.{wide_meaning}
@@ -19,9 +18,8 @@ use Rattle.wide_translation.specs.Scope.{scope_of}
 use Rattle.wide_translation.specs.Forms.{root_tree}
 use Rattle.wide_translation.specs.Holds.{Declared, StandsFor}
 use Rattle.wide_translation.specs.Names.{params_name, params_field}
-use Rattle.wide_translation.specs.Placed.{placed, with_tables, wide_environment, environment, Step, kind_of, AreTranslated, with_outcome, with_value, PolicyMeansTheSame}
+use Rattle.wide_translation.specs.Placed.{placed, wide_environment, environment, Step, kind_of, AreTranslated, with_outcome, with_value, PolicyMeansTheSame}
 use Rattle.wide_translation.specs.Results.{Means, IsCarried}
-use Rattle.wide_translation.proofs.Environments.{root_is_no_variables}
 
 -- ---- roots
 
@@ -128,11 +126,11 @@ module _ (others : Wide → WideEnvironment → Outcome) (w : Bool) (ts : Value)
       = subst (λ (x : List (List ℕ × Kind)). Means (scope_of w x) e k a) (sym (ap (λ y. y ++ map kind_of vs) ks ∙ whole)) m in
       let rest = after vs (ds ++ d ∷ []) e k a more later means in
       let moved : IsCarried k a (wide_meaning others e (wide_environment roots (fold (with_outcome others roots) (outcomes ds ++ (d.name, d.outcome) ∷ []) vs)))
-          (environment (placed w ts roots) (fold (with_value (placed w ts roots)) (results (ds ++ d ∷ [])) vs))
+      (environment (placed w ts roots) (fold (with_value (placed w ts roots)) (results (ds ++ d ∷ [])) vs))
       = subst (λ (x : List (List ℕ × Outcome)). IsCarried k a (wide_meaning others e (wide_environment roots (fold (with_outcome others roots) x vs)))
-          (environment (placed w ts roots) (fold (with_value (placed w ts roots)) (results (ds ++ d ∷ [])) vs))) os rest in
+      (environment (placed w ts roots) (fold (with_value (placed w ts roots)) (results (ds ++ d ∷ [])) vs))) os rest in
       subst (λ (x : List (List ℕ × ValueOrError)). IsCarried k a (wide_meaning others e (wide_environment roots (fold (with_outcome others roots) (outcomes ds ++ (d.name, d.outcome) ∷ []) vs)))
-          (environment (placed w ts roots) (fold (with_value (placed w ts roots)) x vs))) rs moved
+      (environment (placed w ts roots) (fold (with_value (placed w ts roots)) x vs))) rs moved
 
 pub policy_same : PolicyMeansTheSame
 policy_same others w ts roots vs e k a t m = after others w ts roots vs [] e k a tt t m

@@ -1,52 +1,36 @@
 -- Indices, and macros over ranges.
 use Rattle.std.specs.Prelude.{⊤}
-use Rattle.std.proofs.Common.{◌≡◌, ℕ, Bool, true, false, List, [], ◌∷◌, Option, Some, None, codes, pos, if◌then◌else◌, refl, ap, sym, ◌∙◌, subst}
+use Rattle.std.proofs.Common.{◌≡◌, ℕ, Bool, true, false, List, Option, Some, None, pos, if◌then◌else◌, refl, ap, sym, ◌∙◌, subst}
 use Rattle.cel_reader.specs.Tree as tree
-use Rattle.cel_reader.specs.Tree.{Tree, no_trees, more_trees}
-use Rattle.value_store.specs.Value.{Value, ValueOrError, error, value, null, boolean, int, text, list, map, no_items, item}
-use Rattle.cel_macros.specs.Comparison.{equal_of}
+use Rattle.cel_reader.specs.Tree.{Tree}
+use Rattle.value_store.specs.Value.{Value, ValueOrError, error, value, null, boolean, int, text, list, map}
 use Rattle.cel_macros.specs.Environment.{Environment, bind}
-use Rattle.cel_macros.specs.Functions.{function_name, size_of, string_of, test_name, text_test_of, holds_of}
-unfoldable use Rattle.cel_macros.specs.Functions.{function_named, test_named}
 use Rattle.std.specs.List.{list_any, list_all}
 use Rattle.std.specs.Prelude.{map as each, filter, count_by, nat_eq}
-use Rattle.cel_macros.specs.Logic.{Truth, truth, ternary_of}
+use Rattle.cel_macros.specs.Logic.{Truth, truth}
 use Rattle.cel_macros.specs.Macros.{range_of, is_yes, is_no, is_other}
-unfoldable use Rattle.cel_macros.specs.Macros.{is_variables, is_has}
-use Rattle.cel_macros.specs.Literals.{list_literal, list_or_error, values_in}
-use Rattle.cel_macros.specs.declared.macros.Macro.{Macro as PlainMacro}
-use Rattle.cel_macros.specs.declared.macros.Macro.TheVariants as plain_macro
-use Rattle.cel_macros.specs.declared.text_test.TextTest.{TextTest, TheVariants.StartsWith, TheVariants.EndsWith, TheVariants.Contains}
+unfoldable use Rattle.cel_macros.specs.Macros.{is_variables}
+use Rattle.cel_macros.specs.Literals.{list_or_error, values_in}
 use Rattle.cel_macros.specs.Selection.{index_of}
-unfoldable use Rattle.cel_macros.specs.Meaning.{meaning, meanings, operand_meaning}
-use Rattle.wide_reader.specs.Tree.{Wide}
-use Rattle.wide_reader.specs.Tree as wide
+unfoldable use Rattle.cel_macros.specs.Meaning.{meaning}
 use Rattle.wide_reader.specs.declared.wide.Access.{Access, TheVariants.Plain, TheVariants.Optional}
 use Rattle.wide_reader.specs.declared.wide.Macro.{Macro}
 use Rattle.wide_reader.specs.declared.wide.Macro.TheVariants as macro
-use Rattle.wide_meaning.specs.declared.function.Function.{Function}
-use Rattle.wide_meaning.specs.declared.function.Function.TheVariants as function
-use Rattle.wide_meaning.specs.declared.function.Method.{Method}
-use Rattle.wide_meaning.specs.declared.function.Method.TheVariants as method
-use Rattle.wide_meaning.specs.declared.function.Qualified.{Qualified}
 use Rattle.wide_meaning.specs.Access.{field_in, index_in, sel, at}
-use Rattle.wide_meaning.specs.Functions.{text_of, function_in, method_in}
-use Rattle.wide_meaning.specs.Meaning.{called, method_called}
-use Rattle.wide_meaning.specs.Outcome.{Outcome, failed, plain as of_value, absent, present, outcome_of, plain_part, is_present, value_in, value_or}
+use Rattle.wide_meaning.specs.Outcome.{Outcome, failed, plain as of_value, absent, present, outcome_of, plain_part}
 use Rattle.wide_meaning.specs.Ranges.{plain_macro_of, over_items, filter_map_over}
 use Rattle.wide_kinds.specs.declared.kind.ValueKind.{ValueKind}
 use Rattle.wide_kinds.specs.declared.kind.ValueKind.TheVariants as kind
-use Rattle.wide_kinds.specs.Kinds.{joined_kind}
-use Rattle.wide_kinds.specs.Fitting.{has_kind, FitsKind, IsOfKind, IsOptionalOf}
-use Rattle.wide_translation.specs.Carried.{Carried, plain, guarded, listed, Fault, Translation, taken, refused}
-use Rattle.wide_translation.specs.Forms.{call_tree, text_tree, first_tree, let_tree, held, is_empty_tree, is_simple, macro_tree, filter_map_tree}
-use Rattle.wide_translation.specs.Holds.{guard_part, value_part, list_part, IsPlain, IsGuarded, IsListed, Carries, Holds}
-use Rattle.wide_translation.specs.Names.{held_name}
-use Rattle.wide_translation.specs.Translated.{once, string_tree, function_carried, call_translation, value_carried, or_value_carried, test_translation, method_carried, method_translation, text_literal, plain_index, index_carried, macro_kind, fold_carried, field_carried, on_plain, with_plain}
-use Rattle.wide_translation.proofs.Environments.{this_name}
-use Rattle.wide_translation.proofs.FieldsHold.{part_again, part_fits, plain_holds, with_holds, on_plain_holds, with_plain_holds, field_holds, has_value_holds}
-use Rattle.wide_translation.proofs.OperatorsHold.{first_kind, second_kind}
-use Rattle.wide_translation.proofs.Steps.{MeansBy, once_means, on_value, let_means, held_is, macro_means, filter_map_means}
+use Rattle.wide_kinds.specs.Fitting.{FitsKind, IsOfKind, IsOptionalOf}
+use Rattle.wide_translation.specs.Carried.{Carried, plain, guarded, listed, Translation, taken, refused}
+use Rattle.wide_translation.specs.Forms.{macro_tree, filter_map_tree}
+use Rattle.wide_translation.specs.Holds.{IsPlain, Carries, Holds}
+use Rattle.wide_translation.specs.Translated.{plain_index, text_index, count_index, index_carried, macro_kind, field_carried, on_plain, with_plain}
+use Rattle.wide_translation.proofs.FieldsHold.{plain_holds, on_plain_holds, field_holds}
+use Rattle.wide_translation.specs.Forms.{guarded_tree}
+use Rattle.wide_translation.proofs.ItemsHold.{item_holds, item_of_optional}
+use Rattle.wide_translation.proofs.Steps.{guarded_means}
+use Rattle.wide_translation.proofs.Steps.{macro_means, filter_map_means}
 
 any_kind : (x : ValueOrError) → FitsKind kind.Dyn x
 any_kind error = tt
@@ -105,7 +89,7 @@ index_of_optional o k (of_value v) f h = absurd h
 
 -- an index by a text literal
 text_index_holds : (f : List ℕ) (o : Access) (c d : Carried) (x : Outcome) (env : Environment) → Carries c x env → Carries d (of_value (text f)) env
-    → Holds (index_carried (Some f) o c d) (index_in o x (of_value (text f))) env
+    → Holds (text_index f o c d) (index_in o x (of_value (text f))) env
 text_index_holds f Plain (plain k t) d x env h i = index_by Plain (plain k t) d x (of_value (text f)) env h i
 text_index_holds f Optional (plain k t) d x env h i =
     subst (λ (y : Outcome). Carries (field_carried Optional f (plain k t)) y env) (optional_index x f) (field_holds Optional f (plain k t) x env h)
@@ -123,12 +107,31 @@ abbrev pub IsText : Option (List ℕ) → Outcome → Type 0
 IsText (Some f) y = y ≡ of_value (text f)
 IsText None y = ⊤
 
-pub index_holds : (l : Option (List ℕ)) (o : Access) (c d : Carried) (x y : Outcome) (env : Environment) → IsText l y → Carries c x env → Carries d y env
-    → Holds (index_carried l o c d) (index_in o x y) env
-index_holds (Some f) o c d x y env e h i =
-    subst (λ (z : Outcome). Holds (index_carried (Some f) o c d) (index_in o x z) env) (sym e)
+-- an index by an int literal of at least 0
+count_holds : (n : ℕ) (o : Access) (c d : Carried) (x : Outcome) (env : Environment) → Carries c x env → Carries d (of_value (int (pos n))) env
+    → Holds (count_index n o c d) (index_in o x (of_value (int (pos n)))) env
+count_holds n Plain (plain k t) d x env h i = index_by Plain (plain k t) d x (of_value (int (pos n))) env h i
+count_holds n Plain (guarded k g t) d x env h i =
+    item_of_optional n k (guarded_tree g t) x env (record { list = guarded_means g t x env h.guard h.value; kind = h.kind })
+count_holds n Plain (listed k l) d x env h i = item_of_optional n k l x env h
+count_holds n Optional (plain k t) d x env h i = item_holds n (plain k t) x env h
+count_holds n Optional (guarded k g t) d x env h i = item_holds n (guarded k g t) x env h
+count_holds n Optional (listed k l) d x env h i = item_holds n (listed k l) x env h
+
+-- what the meaning of an index that is such a literal is
+abbrev pub IsCount : Option ℕ → Outcome → Type 0
+IsCount (Some n) y = y ≡ of_value (int (pos n))
+IsCount None y = ⊤
+
+pub index_holds : (l : Option (List ℕ)) (m : Option ℕ) (o : Access) (c d : Carried) (x y : Outcome) (env : Environment) → IsText l y → IsCount m y → Carries c x env → Carries d y env
+    → Holds (index_carried l m o c d) (index_in o x y) env
+index_holds (Some f) m o c d x y env e g h i =
+    subst (λ (z : Outcome). Holds (text_index f o c d) (index_in o x z) env) (sym e)
     (text_index_holds f o c d x env h (subst (λ (z : Outcome). Carries d z env) e i))
-index_holds None o c d x y env e h i = index_by o c d x y env h i
+index_holds None (Some n) o c d x y env e g h i =
+    subst (λ (z : Outcome). Holds (count_index n o c d) (index_in o x z) env) (sym g)
+    (count_holds n o c d x env h (subst (λ (z : Outcome). Carries d z env) g i))
+index_holds None None o c d x y env e g h i = index_by o c d x y env h i
 
 -- ---- macros
 

@@ -1,9 +1,9 @@
 -- A translation carries what the wide expression means.
-use Rattle.std.proofs.Common.{◌≡◌, ℕ, Bool, true, false, List, [], ◌∷◌, Option, Some, None, codes, if◌then◌else◌, refl, sym, subst}
+use Rattle.std.proofs.Common.{◌≡◌, ℕ, pos, negsuc, Bool, true, false, List, [], Some, None, if◌then◌else◌, refl}
 use Rattle.cel_reader.specs.Tree as tree
-use Rattle.cel_reader.specs.Tree.{Tree, Literal, no_trees, no_entries}
+use Rattle.cel_reader.specs.Tree.{Literal, no_trees, no_entries}
 use Rattle.value_store.specs.Value.{Value, text, no_entries as no_value_entries}
-use Rattle.cel_macros.specs.Environment.{Environment, bind, lookup}
+use Rattle.cel_macros.specs.Environment.{Environment, bind}
 use Rattle.cel_macros.specs.Literals.{literal_of}
 use Rattle.cel_macros.specs.Macros.{range_of}
 unfoldable use Rattle.cel_macros.specs.Macros.{is_variables}
@@ -18,26 +18,25 @@ use Rattle.wide_meaning.specs.Functions.{function_named, method_named, qualified
 unfoldable use Rattle.wide_meaning.specs.Meaning.{wide_meaning, wide_meanings, items_meaning, entries_meaning}
 use Rattle.wide_meaning.specs.Meaning.{is_empty_list, namespace_in}
 use Rattle.wide_meaning.specs.Operators.{unary_in, binary_in, ternary_in}
-use Rattle.wide_meaning.specs.Outcome.{Outcome, plain as of_value, outcome_of, plain_part}
+use Rattle.wide_meaning.specs.Outcome.{Outcome, outcome_of, plain_part}
 use Rattle.wide_meaning.specs.Ranges.{plain_macro_of, over_items, filter_map_over, optional_over}
 use Rattle.wide_kinds.proofs.Fitting.{kinds_hold}
-use Rattle.wide_kinds.specs.declared.kind.ValueKind.{ValueKind}
 use Rattle.wide_kinds.specs.declared.kind.ValueKind.TheVariants as kind
 use Rattle.wide_kinds.specs.Kinds.{literal_kind, unary_kind}
-use Rattle.wide_translation.specs.Carried.{Carried, plain, OptionalValue, TakenName, Translation, taken, refused}
+use Rattle.wide_translation.specs.Carried.{plain, OptionalValue, TakenName, Translation, taken, refused}
 use Rattle.wide_translation.specs.Forms.{filter_map_tree}
-use Rattle.wide_translation.specs.Holds.{Carries, Holds, IsPlain, StandsFor}
+use Rattle.wide_translation.specs.Holds.{Holds, StandsFor}
 use Rattle.wide_translation.specs.Laws.{TranslationMeansTheSame}
 use Rattle.wide_translation.specs.Names.{held_name, is_taken}
 use Rattle.wide_translation.specs.Scope.{Scope, within}
-use Rattle.wide_translation.specs.Translated.{with_carried, with_plain, on_list, optional_carried, has_carried, binary_carried, ternary_carried, fold_carried, index_carried, text_literal, parts, pairs}
+use Rattle.wide_translation.specs.Translated.{with_carried, with_plain, on_list, optional_carried, has_carried, binary_carried, ternary_carried, fold_carried, index_carried, text_literal, count_literal, parts, pairs}
 unfoldable use Rattle.wide_translation.specs.Translated.{translated, all_translated, items_translated, entries_translated}
 use Rattle.wide_translation.proofs.Environments.{both_bound, held_bound}
 use Rattle.wide_translation.proofs.FieldsHold.{plain_holds, with_holds, with_plain_holds, on_list_holds, root_holds, name_holds, selected_holds, has_holds}
 use Rattle.wide_translation.proofs.OperatorsHold.{unary_holds, binary_holds, ternary_holds, PartsHold, PairsHold, part_more, list_translated, entry_holds, map_translated}
 use Rattle.wide_translation.proofs.CallsHold.{call_holds, method_called_holds}
 use Rattle.wide_translation.proofs.OptionalHold.{AllHold, optional_holds}
-use Rattle.wide_translation.proofs.RangesHold.{IsText, index_holds, over_holds, fold_holds, filter_map_holds}
+use Rattle.wide_translation.proofs.RangesHold.{IsText, IsCount, index_holds, over_holds, fold_holds, filter_map_holds}
 
 module _ (others : Wide → WideEnvironment → Outcome) where
   is_text : (k : Wide) (env : WideEnvironment) → IsText (text_literal k) (wide_meaning others k env)
@@ -47,6 +46,15 @@ module _ (others : Wide → WideEnvironment → Outcome) where
   is_text (wide.literal (tree.truth b)) env = tt
   is_text (wide.literal tree.null) env = tt
   is_text _ env = tt
+
+  is_count : (k : Wide) (env : WideEnvironment) → IsCount (count_literal k) (wide_meaning others k env)
+  unfolding wide_meaning
+  is_count (wide.literal (tree.int (pos n))) env = refl
+  is_count (wide.literal (tree.int (negsuc n))) env = tt
+  is_count (wide.literal (tree.text s)) env = tt
+  is_count (wide.literal (tree.truth b)) env = tt
+  is_count (wide.literal tree.null) env = tt
+  is_count _ env = tt
 
   literal_free : (l : Literal) → is_variables (tree.literal l) ≡ false
   unfolding is_variables
@@ -109,9 +117,9 @@ module _ (others : Wide → WideEnvironment → Outcome) where
     same (wide.index a o k) s env env' r =
         let x : Outcome = wide_meaning others a env in
         let y : Outcome = wide_meaning others k env in
-        with_holds (translated s a) (λ c. with_carried (translated s k) (λ d. index_carried (text_literal k) o c d)) x (index_in o x y) env' (same a s env env' r)
-        (λ c h. with_holds (translated s k) (λ d. index_carried (text_literal k) o c d) y (index_in o x y) env' (same k s env env' r)
-        (λ d i. index_holds (text_literal k) o c d x y env' (is_text k env) h i))
+        with_holds (translated s a) (λ c. with_carried (translated s k) (λ d. index_carried (text_literal k) (count_literal k) o c d)) x (index_in o x y) env' (same a s env env' r)
+        (λ c h. with_holds (translated s k) (λ d. index_carried (text_literal k) (count_literal k) o c d) y (index_in o x y) env' (same k s env env' r)
+        (λ d i. index_holds (text_literal k) (count_literal k) o c d x y env' (is_text k env) (is_count k env) h i))
     same (wide.has a f) s env env' r =
         let x : Outcome = wide_meaning others a env in
         with_holds (translated s a) (λ c. taken (plain kind.Bool (has_carried f c))) x (has_in x f) env' (same a s env env' r) (λ c h. has_holds f c x env' h)

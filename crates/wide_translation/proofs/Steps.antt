@@ -1,19 +1,18 @@
 -- The meanings of the forms that the translation writes.
-use Rattle.std.proofs.Common.{◌≡◌, ℕ, Bool, true, false, List, [], ◌∷◌, Option, Some, None, bytes_eq, codes, if◌then◌else◌, pos, refl, ap, sym, ◌∙◌, is_some}
+use Rattle.std.proofs.Common.{◌≡◌, ℕ, Bool, true, false, List, [], ◌∷◌, Option, Some, None, codes, if◌then◌else◌, pos, refl, ap, sym, ◌∙◌, is_some}
 use Rattle.cel_reader.specs.Tree as tree
-use Rattle.cel_reader.specs.Tree.{Tree, no_trees, more_trees}
+use Rattle.cel_reader.specs.Tree.{Tree}
 use Rattle.cel_reader.specs.Words.{is_selector}
 use Rattle.cel_reader.specs.declared.operator.BinaryOperator.{TheVariants.In}
 use Rattle.value_store.specs.Value.{Value, ValueOrError, error, value, null, boolean, int, text, list, map, no_items, item, Entries}
 use Rattle.value_store.specs.Lookup.{find}
 use Rattle.cel_macros.specs.Environment.{Environment, bind, value_or_error}
-unfoldable use Rattle.cel_macros.specs.Environment.{name_value}
 use Rattle.cel_macros.specs.Arithmetic.{sum_of}
 use Rattle.cel_macros.specs.Comparison.{member_of, unequal_of}
-use Rattle.cel_macros.specs.Logic.{Truth, Yes, No, Other, truth, of_truth, conjunction, and_of, chosen, ternary_of}
+use Rattle.cel_macros.specs.Logic.{and_of, ternary_of}
 use Rattle.cel_macros.specs.Selection.{field_of, has_of, index_of}
 use Rattle.cel_macros.specs.Literals.{list_literal}
-use Rattle.cel_macros.specs.Macros.{macro_name, macro_of, over_range, range_of, map_over_range}
+use Rattle.cel_macros.specs.Macros.{macro_name, over_range, range_of, map_over_range}
 unfoldable use Rattle.cel_macros.specs.Macros.{macro_named, is_map, is_has, is_variables}
 use Rattle.cel_macros.specs.declared.macros.Macro.{Macro, TheVariants.All, TheVariants.Exists, TheVariants.ExistsOne, TheVariants.Filter, TheVariants.Map}
 use Rattle.cel_macros.specs.Meaning.{selected}
@@ -21,7 +20,7 @@ unfoldable use Rattle.cel_macros.specs.Meaning.{meaning, operand_meaning, meanin
 use Rattle.wide_meaning.specs.Outcome.{Outcome, failed, plain, absent, present, optional_of}
 use Rattle.wide_meaning.specs.Access.{sel}
 use Rattle.wide_meaning.specs.Ranges.{over_items, filter_map_over}
-use Rattle.wide_translation.specs.Forms.{one_tree, empty_tree, macro_tree, filter_map_tree, first_tree, let_tree, held, has_tree, access_tree, has_any_tree, present_tree, field_list_tree, guarded_tree, flat_tree, is_simple}
+use Rattle.wide_translation.specs.Forms.{one_tree, macro_tree, filter_map_tree, let_tree, held, has_tree, access_tree, present_tree, field_list_tree, guarded_tree, flat_tree, is_simple}
 use Rattle.wide_translation.specs.Holds.{guard_part, value_part, list_part}
 use Rattle.wide_translation.specs.Names.{held_name}
 use Rattle.wide_translation.specs.Translated.{once}

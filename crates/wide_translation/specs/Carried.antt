@@ -3,8 +3,8 @@ use Rattle.std.specs.Prelude.{ℕ, List}
 use Rattle.cel_reader.specs.Tree.{Tree}
 use Rattle.wide_kinds.specs.declared.kind.ValueKind.{ValueKind}
 
--- A value is carried by a tree. An optional value is carried by a guard, which tells whether it has a value, and the value; or
--- by a list of none or one.
+-- A value is carried by a tree. An optional value is carried by a guard, which tells whether it has a value, and the
+-- value; or by a list of none or one.
 pub data Carried : Type 0 where
   plain : ValueKind → Tree → Carried
   guarded : ValueKind → Tree → Tree → Carried

@@ -1,9 +1,9 @@
 -- Trees that the translation writes.
-use Rattle.std.specs.Prelude.{ℕ, pos, Bool, true, false, ◌&&◌, List, [], ◌∷◌, codes, if◌then◌else◌, bytes_eq}
+use Rattle.std.specs.Prelude.{ℕ, pos, Bool, true, false, ◌&&◌, List, codes, if◌then◌else◌, bytes_eq}
 use Rattle.cel_reader.specs.Tree as tree
-use Rattle.cel_reader.specs.Tree.{Tree, Literal, Trees, no_trees, more_trees}
+use Rattle.cel_reader.specs.Tree.{Tree, no_trees, more_trees}
 use Rattle.cel_reader.specs.Words.{is_selector}
-use Rattle.cel_reader.specs.declared.operator.BinaryOperator.{BinaryOperator, TheVariants.And, TheVariants.Equal, TheVariants.NotEqual, TheVariants.In, TheVariants.Add}
+use Rattle.cel_reader.specs.declared.operator.BinaryOperator.{BinaryOperator, TheVariants.And, TheVariants.Equal, TheVariants.NotEqual, TheVariants.In, TheVariants.Add, TheVariants.Less}
 use Rattle.cel_macros.specs.Macros.{macro_name, variables_name}
 use Rattle.cel_macros.specs.declared.macros.Macro.{Macro, TheVariants.Map}
 use Rattle.wide_translation.specs.Names.{held_name, params_name, params_field}
@@ -99,13 +99,28 @@ root_tree wrapped n = if wrapped && bytes_eq params_name n then tree.select (tre
 abbrev pub variable_tree : List ℕ → Tree
 variable_tree f = tree.select (tree.name variables_name) f
 
+-- whether a has an item n: a == null ? false : n < size(a + [])
+abbrev pub present_item_tree : Tree → ℕ → Tree
+present_item_tree a n =
+    tree.ternary (tree.binary Equal a (tree.literal tree.null)) (tree.literal (tree.truth false))
+    (tree.binary Less (tree.literal (tree.int (pos n))) (call_tree (codes "size") (tree.binary Add a empty_tree)))
+
+-- a[n]
+abbrev pub item_tree : Tree → ℕ → Tree
+item_tree a n = tree.index a (tree.literal (tree.int (pos n)))
+
+-- [a[n]], or [] if a has no item n
+abbrev pub item_list_tree : Tree → ℕ → Tree
+item_list_tree a n = guarded_tree (present_item_tree a n) (item_tree a n)
+
 -- whether a literal or a name
 abbrev pub is_leaf : Tree → Bool
 is_leaf (tree.literal l) = true
 is_leaf (tree.name n) = true
 is_leaf _ = false
 
--- whether a tree is cheap to write again: a name, a literal, or a field or an index by a literal or a name of such a tree
+-- whether a tree is cheap to write again: a name, a literal, or a field or an index by a literal or a name of such a
+-- tree
 abbrev pub is_simple : Tree → Bool
 is_simple (tree.literal l) = true
 is_simple (tree.name n) = true

@@ -1,11 +1,11 @@
 -- When trees carry an outcome, and when an environment represents that of a wide expression.
-use Rattle.std.specs.Prelude.{◌≡◌, ℕ, Bool, true, false, List, Option, Some, None, ⊤, is_some}
+use Rattle.std.specs.Prelude.{◌≡◌, ℕ, true, false, List, Option, Some, None, ⊤, is_some}
 use Rattle.cel_reader.specs.Tree.{Tree}
 use Rattle.value_store.specs.Value.{Value, ValueOrError, error, value, boolean, list, no_items, item}
 use Rattle.cel_macros.specs.Environment.{Environment, lookup, is_root, name_value, variable_value}
 use Rattle.cel_macros.specs.Macros.{is_variables}
 use Rattle.cel_macros.specs.Meaning.{meaning}
-use Rattle.wide_meaning.specs.Outcome.{Outcome, failed, plain as of_value, absent, present, plain_part}
+use Rattle.wide_meaning.specs.Outcome.{Outcome, absent, present, plain_part}
 use Rattle.wide_meaning.specs.Environment.{WideEnvironment, root_in}
 use Rattle.wide_kinds.specs.declared.kind.Kind.{Kind}
 use Rattle.wide_kinds.specs.declared.kind.Kind.TheVariants as kinds

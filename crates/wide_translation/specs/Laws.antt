@@ -8,8 +8,8 @@ use Rattle.wide_translation.specs.Holds.{Holds, StandsFor}
 use Rattle.wide_translation.specs.Scope.{Scope}
 use Rattle.wide_translation.specs.Translated.{translated}
 
--- A translation, if there is one, carries what the wide expression means, in each environment that has the values of the names of another; whatever the
--- calls mean that `wide_meaning` leaves open.
+-- A translation, if there is one, carries what the wide expression means, in each environment that has the values of
+-- the names of another; whatever the calls mean that `wide_meaning` leaves open.
 abbrev pub TranslationMeansTheSame : Type 0
 TranslationMeansTheSame = (others : Wide → WideEnvironment → Outcome) (e : Wide) (s : Scope) (env : WideEnvironment) (env' : Environment) → StandsFor s env env'
     → Holds (translated s e) (wide_meaning others e env) env'

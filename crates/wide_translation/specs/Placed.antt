@@ -45,15 +45,16 @@ abbrev pub AreTranslated : Bool → List (List ℕ × Kind) → List Step → Ty
 AreTranslated wrapped before [] = ⊤
 AreTranslated wrapped before (v ∷ vs) = Means (scope_of wrapped before) v.wide v.kind v.tree × AreTranslated wrapped (before ++ kind_of v ∷ []) vs
 
--- the values of the variables: of the wide expressions, and of the translations, each with the values of those before it
+-- the values of the variables: of the wide expressions, and of the translations, each with the values of those before
+-- it
 abbrev pub with_outcome : (Wide → WideEnvironment → Outcome) → Roots → List (List ℕ × Outcome) → Step → List (List ℕ × Outcome)
 with_outcome others roots before v = before ++ (v.name, wide_meaning others v.wide (wide_environment roots before)) ∷ []
 
 abbrev pub with_value : Roots → List (List ℕ × ValueOrError) → Step → List (List ℕ × ValueOrError)
 with_value roots before v = before ++ (v.name, meaning v.tree (environment roots before)) ∷ []
 
--- A translation in the scope of a policy's variables carries what the wide expression means with their values, whatever tables the root `params`
--- has. So do all conditions, validations and messages.
+-- A translation in the scope of a policy's variables carries what the wide expression means with their values,
+-- whatever tables the root `params` has. So do all conditions, validations and messages.
 abbrev pub PolicyMeansTheSame : Type 0
 PolicyMeansTheSame = (others : Wide → WideEnvironment → Outcome) (wrapped : Bool) (ts : Value) (roots : Roots) (vs : List Step) (e : Wide) (k : Kind) (a : Tree)
     → AreTranslated wrapped [] vs → Means (scope_of wrapped (each kind_of vs)) e k a

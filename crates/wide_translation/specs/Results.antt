@@ -14,8 +14,8 @@ abbrev pub IsCarried : Kind → Tree → Outcome → Environment → Type 0
 IsCarried (Value k) a o env = IsPlain k a o env
 IsCarried (Optional k) a o env = IsListed k a o env
 
--- In each environment that has the values of the names of another, the tree carries what the wide expression means in that other one, whatever
--- the calls mean that `wide_meaning` leaves open.
+-- In each environment that has the values of the names of another, the tree carries what the wide expression means in
+-- that other one, whatever the calls mean that `wide_meaning` leaves open.
 abbrev pub Means : Scope → Wide → Kind → Tree → Type 0
 Means s e k a = (others : Wide → WideEnvironment → Outcome) (env : WideEnvironment) (env' : Environment) → StandsFor s env env'
     → IsCarried k a (wide_meaning others e env) env'

@@ -5,7 +5,8 @@ use Rattle.cel_macros.specs.Macros.{variables_name}
 use Rattle.wide_kinds.specs.declared.kind.Kind.{Kind}
 use Rattle.wide_kinds.specs.declared.kind.ValueKind.{ValueKind}
 
--- whether the root `params` has tables beside the parameters, the variables in scope, and the iteration names in scope, innermost first
+-- whether the root `params` has tables beside the parameters, the variables in scope, and the iteration names in
+-- scope, innermost first
 pub record Scope : Type 0 where
   pub wrapped : Bool
   pub variables : List (List ℕ × Kind)

@@ -1,9 +1,8 @@
 -- The translation of a wide expression.
-use Rattle.std.specs.Prelude.{◌≡◌, ℕ, Bool, true, false, List, [], ◌∷◌, Option, Some, None, codes, if◌then◌else◌}
+use Rattle.std.specs.Prelude.{◌≡◌, ℕ, pos, Bool, true, false, List, [], ◌∷◌, Option, Some, None, codes, if◌then◌else◌}
 use Rattle.cel_reader.specs.Tree as tree
-use Rattle.cel_reader.specs.Tree.{Tree, Literal, Trees, no_trees, more_trees, TreeEntries, no_entries, more_entries}
+use Rattle.cel_reader.specs.Tree.{Tree, Trees, no_trees, more_trees, TreeEntries, no_entries, more_entries}
 use Rattle.cel_reader.specs.declared.operator.BinaryOperator.{BinaryOperator, TheVariants.Add, TheVariants.And, TheVariants.Equal, TheVariants.NotEqual, TheVariants.In}
-use Rattle.cel_reader.specs.declared.operator.UnaryOperator.{UnaryOperator}
 use Rattle.cel_macros.specs.Environment.{lookup, is_root}
 use Rattle.cel_macros.specs.Functions.{function_name, test_name}
 use Rattle.cel_macros.specs.declared.function.Function.TheVariants as plain_function
@@ -31,7 +30,7 @@ use Rattle.wide_kinds.specs.declared.kind.ValueKind.{ValueKind}
 use Rattle.wide_kinds.specs.declared.kind.ValueKind.TheVariants as kind
 use Rattle.wide_kinds.specs.Kinds.{literal_kind, unary_kind, binary_kind, joined_kind}
 use Rattle.wide_translation.specs.Carried.{Carried, plain, guarded, listed, Fault, UnknownName, OptionalValue, TakenName, UnsignedInt, Unsupported, Translation, taken, refused}
-use Rattle.wide_translation.specs.Forms.{empty_tree, one_tree, call_tree, macro_tree, filter_map_tree, first_tree, let_tree, held, access_tree, present_tree, field_list_tree, guarded_tree, flat_tree, is_empty_tree, text_tree, root_tree, variable_tree, is_simple}
+use Rattle.wide_translation.specs.Forms.{empty_tree, one_tree, call_tree, macro_tree, filter_map_tree, first_tree, let_tree, held, access_tree, present_tree, field_list_tree, guarded_tree, flat_tree, present_item_tree, item_tree, item_list_tree, is_empty_tree, text_tree, root_tree, variable_tree, is_simple}
 use Rattle.wide_translation.specs.Names.{held_name, is_taken}
 use Rattle.wide_translation.specs.Scope.{Scope, within, is_hidden}
 
@@ -71,7 +70,8 @@ IsFinished (plain k t) j m = (j ≡ of.Value k) × (m ≡ t)
 IsFinished (guarded k g v) j m = (j ≡ of.Optional k) × (m ≡ guarded_tree g v)
 IsFinished (listed k l) j m = (j ≡ of.Optional k) × (m ≡ l)
 
--- a tree that is strict in a, written with a twice or more, if a is simple; otherwise with the name that the translation binds
+-- a tree that is strict in a, written with a twice or more, if a is simple; otherwise with the name that the
+-- translation binds
 abbrev pub once : Tree → (Tree → Tree) → Tree
 once a b = if is_simple a then b a else let_tree held_name a (b held)
 
@@ -113,6 +113,25 @@ field_carried Plain f (plain k t) = plain kind.Dyn (access_tree t f)
 field_carried Optional f (plain k t) = optional_field (is_simple t) t f
 field_carried o f (guarded k g v) = field_of_guarded (is_simple v) g v f
 field_carried o f (listed k l) = field_of_list l f
+
+-- ---- items
+
+-- the item n of a value as an optional value: written twice if the operand is simple
+abbrev pub optional_item : Bool → Tree → ℕ → Carried
+optional_item true t n = guarded kind.Dyn (present_item_tree t n) (item_tree t n)
+optional_item false t n = listed kind.Dyn (let_tree held_name t (item_list_tree held n))
+
+-- the item n of the value of an optional value
+abbrev pub item_of_list : Tree → ℕ → Carried
+item_of_list l n = listed kind.Dyn (flat_tree held_name l (item_list_tree held n))
+
+-- `[?n]` of an operand
+abbrev pub item_carried : ℕ → Carried → Carried
+item_carried n (plain k t) = optional_item (is_simple t) t n
+item_carried n (guarded k g v) = item_of_list (guarded_tree g v) n
+item_carried n (listed k l) = item_of_list l n
+
+-- ---- whether there is a value
 
 -- whether an optional value has a value
 abbrev pub has_value_carried : Carried → Tree
@@ -244,7 +263,8 @@ method_translation None None n t ts = refused (UnknownName n)
 
 -- ---- literals of lists and maps
 
--- The trees of items that follow each other, and what comes after them if an optional one does: its list and the list of the others. Or the first fault
+-- The trees of items that follow each other, and what comes after them if an optional one does: its list and the list
+-- of the others. Or the first fault
 pub data Parts : Type 0 where
   parts : Trees → Option (Tree × Tree) → Parts
   no_parts : Fault → Parts
@@ -297,7 +317,7 @@ abbrev pub text_literal : Wide → Option (List ℕ)
 text_literal (wide.literal (tree.text s)) = Some s
 text_literal _ = None
 
--- an index of a value; an optional one is translated only if it is a text literal
+-- an index of a value; an optional one is translated only if it is a text or int literal
 abbrev pub plain_index : Access → Carried → Carried → Translation
 plain_index Plain c d = on_plain c (λ k a. on_plain d (λ j b. taken (plain kind.Dyn (tree.index a b))))
 plain_index Optional c d = refused Unsupported
@@ -307,9 +327,20 @@ abbrev pub text_index : List ℕ → Access → Carried → Carried → Translat
 text_index f Plain (plain k t) d = plain_index Plain (plain k t) d
 text_index f o c d = taken (field_carried o f c)
 
-abbrev pub index_carried : Option (List ℕ) → Access → Carried → Carried → Translation
-index_carried (Some f) o c d = text_index f o c d
-index_carried None o c d = plain_index o c d
+-- an index that is an int literal of at least 0
+abbrev pub count_literal : Wide → Option ℕ
+count_literal (wide.literal (tree.int (pos n))) = Some n
+count_literal _ = None
+
+-- an index by such a literal
+abbrev pub count_index : ℕ → Access → Carried → Carried → Translation
+count_index n Plain (plain k t) d = plain_index Plain (plain k t) d
+count_index n o c d = taken (item_carried n c)
+
+abbrev pub index_carried : Option (List ℕ) → Option ℕ → Access → Carried → Carried → Translation
+index_carried (Some f) m o c d = text_index f o c d
+index_carried None (Some n) o c d = count_index n o c d
+index_carried None None o c d = plain_index o c d
 
 -- ---- expressions
 
@@ -326,7 +357,7 @@ unfoldable mutual
   translated s (wide.name n) = name_translation (lookup n s.names) n (root_translation s.wrapped n)
   translated s (wide.root n) = root_translation s.wrapped n
   translated s (wide.select a o f) = selected_translation (denotes_variables a (is_hidden s)) o f s (translated s a)
-  translated s (wide.index a o k) = with_carried (translated s a) (λ c. with_carried (translated s k) (λ d. index_carried (text_literal k) o c d))
+  translated s (wide.index a o k) = with_carried (translated s a) (λ c. with_carried (translated s k) (λ d. index_carried (text_literal k) (count_literal k) o c d))
   translated s (wide.has a f) = with_carried (translated s a) (λ c. taken (plain kind.Bool (has_carried f c)))
   translated s (wide.unary op a) = with_plain (translated s a) (λ k t. taken (plain (unary_kind op) (tree.unary op t)))
   translated s (wide.binary op a b) = with_carried (translated s a) (λ c. with_carried (translated s b) (λ d. binary_carried (is_empty_list b) op c d))

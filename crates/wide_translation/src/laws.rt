@@ -9,7 +9,8 @@ pub fn translation_means_the_same()
     ensures { TranslationMeansTheSame }
 {}
 
-/// Each expression of a policy, translated in the scope of its variables, carries what the expression means with their values.
+/// Each expression of a policy, translated in the scope of its variables, carries what the expression means with
+/// their values.
 #[tactic(auto, using(crate::proofs::Policies::policy_same))]
 pub fn policy_means_the_same()
     ensures { PolicyMeansTheSame }

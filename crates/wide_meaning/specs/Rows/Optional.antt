@@ -1,13 +1,13 @@
 -- Optional values, worked out by hand.
 use Rattle.std.specs.Prelude.{pos, [], ◌∷◌, codes}
-use Rattle.cel_reader.specs.declared.operator.BinaryOperator.TheVariants.{Equal, NotEqual, Multiply, And}
+use Rattle.cel_reader.specs.declared.operator.BinaryOperator.TheVariants.{Equal, NotEqual, Multiply}
 use Rattle.value_store.specs.Value.{null, int, text, list, map, items_of}
 use Rattle.cel_macros.specs.Written.{entries_of}
 use Rattle.wide_reader.specs.Tree.{binary, ternary, root, select, optional_fold, list as list_of, map as map_of, no_items, more_items, no_entries, more_entries}
 use Rattle.wide_reader.specs.declared.wide.Access.{TheVariants.Plain, TheVariants.Optional}
 use Rattle.wide_reader.specs.declared.wide.OptionalMacro.TheVariants as optional
 use Rattle.wide_meaning.specs.Outcome.{failed, plain, absent, present}
-use Rattle.wide_meaning.specs.Written.{num, neg, str, yes, nothing, wrong, name, dot, maybe, item, maybe_item, has, method, some, none, or_value, has_value, list_literal, map_literal, Gives, is_true, is_false, number, word, object_spec, labels, missing}
+use Rattle.wide_meaning.specs.Written.{num, neg, str, yes, wrong, name, dot, maybe, item, maybe_item, has, method, some, none, or_value, has_value, Gives, is_true, is_false, number, word, object_spec, labels, missing}
 
 -- meanings in the environment of `Written`
 pub record OptionalRows : Type 0 where

@@ -8,7 +8,7 @@ use Rattle.wide_reader.specs.declared.wide.Access.{TheVariants.Plain}
 use Rattle.wide_reader.specs.declared.wide.Macro.TheVariants as macro
 use Rattle.wide_reader.specs.declared.wide.PairMacro.TheVariants as pair
 use Rattle.wide_meaning.specs.Outcome.{failed, plain}
-use Rattle.wide_meaning.specs.Written.{num, neg, str, yes, no, nothing, wrong, name, dot, maybe, item, has, call, method, or_value, list_literal, map_literal, Gives, is_true, is_false, number, word, object_spec, labels, missing}
+use Rattle.wide_meaning.specs.Written.{num, neg, str, yes, no, nothing, wrong, name, dot, maybe, item, has, call, method, or_value, list_literal, map_literal, Gives, is_true, is_false, number, word, object_spec, labels}
 
 -- meanings in the environment of `Written`
 pub record PlainRows : Type 0 where
