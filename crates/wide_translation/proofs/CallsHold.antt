@@ -31,6 +31,9 @@ use Rattle.wide_translation.specs.Names.{held_name}
 use Rattle.wide_translation.specs.Translated.{once, string_tree, function_carried, call_translation, value_carried, or_value_carried, test_translation, method_carried, method_translation, with_plain}
 use Rattle.wide_translation.proofs.FieldsHold.{part_fits, plain_holds, with_holds, on_plain_holds, with_plain_holds, has_value_holds}
 use Rattle.wide_translation.proofs.OperatorsHold.{first_kind, second_kind}
+use Rattle.wide_meaning.specs.Functions.{bool_of}
+use Rattle.wide_translation.specs.Translated.{bool_of_kind}
+use Rattle.wide_translation.proofs.FormsHold.{bool_means, bool_kind, bool_free}
 use Rattle.wide_translation.proofs.OptionalHold.{AllHold, or_holds, qualified_holds}
 use Rattle.wide_translation.proofs.Steps.{MeansBy, once_means, on_value, let_means, held_is}
 
@@ -141,7 +144,8 @@ function_holds function.Size k t x env h = plain_holds kind.Int (call_tree (code
 function_holds function.String k t x env h =
     plain_holds kind.String (string_tree k t) (text_of (plain_part x)) env (string_means k t (plain_part x) env h.means (part_fits k x h.kind) h.free) (text_kind (plain_part x)) (string_free k t)
 function_holds function.Dyn k t x env h = plain_holds kind.Dyn (call_tree (codes "dyn") t) (plain_part x) env h.means (any_kind (plain_part x)) refl
-function_holds function.Bool k t x env h = tt
+function_holds function.Bool k t x env h =
+    plain_holds kind.Bool (bool_of_kind k t) (bool_of (plain_part x)) env (bool_means k t (plain_part x) env h.means (part_fits k x h.kind) h.free) (bool_kind (plain_part x)) (bool_free k t)
 
 pub call_holds : (f : Option Function) (n : List ℕ) (ts : List Translation) (xs : List Outcome) (r : Outcome) (env : Environment) → AllHold ts xs env
     → Holds (call_translation f n ts) (called f xs r) env

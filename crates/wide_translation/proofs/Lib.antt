@@ -3,6 +3,7 @@ pub mod Environments
 pub mod Steps
 pub mod FieldsHold
 pub mod OperatorsHold
+pub mod FormsHold
 pub mod OptionalHold
 pub mod CallsHold
 pub mod ItemsHold

@@ -25,6 +25,10 @@ use Rattle.wide_translation.specs.Carried.{Carried, plain, guarded, listed, Tran
 use Rattle.wide_translation.specs.Forms.{one_tree, empty_tree, is_empty_tree, held, guarded_tree, flat_tree, macro_tree}
 use Rattle.wide_translation.specs.Holds.{guard_part, value_part, list_part, IsPlain, IsListed, Carries, Holds}
 use Rattle.wide_translation.specs.Names.{held_name}
+use Rattle.wide_meaning.specs.Functions.{some_unless_zero}
+use Rattle.wide_translation.specs.Forms.{non_zero_tree}
+use Rattle.wide_translation.proofs.FormsHold.{non_zero_holds}
+use Rattle.wide_translation.specs.Translated.{once}
 use Rattle.wide_translation.specs.Translated.{with_carried, or_carried, qualified_translation, optional_carried}
 use Rattle.wide_translation.proofs.FieldsHold.{with_plain_holds}
 use Rattle.wide_translation.proofs.OperatorsHold.{first_optional, second_optional}
@@ -127,7 +131,12 @@ qualified_holds qualified.OptionalOf n (t ∷ u ∷ ts) xs r env h = tt
 qualified_holds qualified.OptionalNone n [] [] r env h = none_holds env
 qualified_holds qualified.OptionalNone n [] (x ∷ xs) r env h = absurd h
 qualified_holds qualified.OptionalNone n (t ∷ ts) xs r env h = tt
-qualified_holds qualified.OptionalOfNonZeroValue n ts xs r env h = tt
+qualified_holds qualified.OptionalOfNonZeroValue n [] xs r env h = tt
+qualified_holds qualified.OptionalOfNonZeroValue n (t ∷ []) (x ∷ []) r env h =
+    with_plain_holds t (λ k a. taken (listed k (once a non_zero_tree))) x (some_unless_zero x) env h.0 (λ k a i. non_zero_holds k a x env i)
+qualified_holds qualified.OptionalOfNonZeroValue n (t ∷ []) [] r env h = absurd h
+qualified_holds qualified.OptionalOfNonZeroValue n (t ∷ []) (x ∷ y ∷ ys) r env h = absurd h.1
+qualified_holds qualified.OptionalOfNonZeroValue n (t ∷ u ∷ ts) xs r env h = tt
 qualified_holds qualified.SetsContains n ts xs r env h = tt
 qualified_holds qualified.SetsIntersects n ts xs r env h = tt
 qualified_holds qualified.SetsEquivalent n ts xs r env h = tt

@@ -1,8 +1,8 @@
 -- A translation carries what the wide expression means.
-use Rattle.std.proofs.Common.{◌≡◌, ℕ, pos, negsuc, Bool, true, false, List, [], Some, None, if◌then◌else◌, refl}
+use Rattle.std.proofs.Common.{◌≡◌, ℕ, pos, negsuc, nat_lt, Bool, true, false, List, [], Some, None, if◌then◌else◌, refl}
 use Rattle.cel_reader.specs.Tree as tree
 use Rattle.cel_reader.specs.Tree.{Literal, no_trees, no_entries}
-use Rattle.value_store.specs.Value.{Value, text, no_entries as no_value_entries}
+use Rattle.value_store.specs.Value.{Value, int, text, no_entries as no_value_entries}
 use Rattle.cel_macros.specs.Environment.{Environment, bind}
 use Rattle.cel_macros.specs.Literals.{literal_of}
 use Rattle.cel_macros.specs.Macros.{range_of}
@@ -18,18 +18,18 @@ use Rattle.wide_meaning.specs.Functions.{function_named, method_named, qualified
 unfoldable use Rattle.wide_meaning.specs.Meaning.{wide_meaning, wide_meanings, items_meaning, entries_meaning}
 use Rattle.wide_meaning.specs.Meaning.{is_empty_list, namespace_in}
 use Rattle.wide_meaning.specs.Operators.{unary_in, binary_in, ternary_in}
-use Rattle.wide_meaning.specs.Outcome.{Outcome, outcome_of, plain_part}
+use Rattle.wide_meaning.specs.Outcome.{Outcome, plain as of_value, outcome_of, plain_part}
 use Rattle.wide_meaning.specs.Ranges.{plain_macro_of, over_items, filter_map_over, optional_over}
 use Rattle.wide_kinds.proofs.Fitting.{kinds_hold}
 use Rattle.wide_kinds.specs.declared.kind.ValueKind.TheVariants as kind
 use Rattle.wide_kinds.specs.Kinds.{literal_kind, unary_kind}
-use Rattle.wide_translation.specs.Carried.{plain, OptionalValue, TakenName, Translation, taken, refused}
+use Rattle.wide_translation.specs.Carried.{plain, OptionalValue, TakenName, UnsignedInt, Translation, taken, refused}
 use Rattle.wide_translation.specs.Forms.{filter_map_tree}
 use Rattle.wide_translation.specs.Holds.{Holds, StandsFor}
 use Rattle.wide_translation.specs.Laws.{TranslationMeansTheSame}
 use Rattle.wide_translation.specs.Names.{held_name, is_taken}
 use Rattle.wide_translation.specs.Scope.{Scope, within}
-use Rattle.wide_translation.specs.Translated.{with_carried, with_plain, on_list, optional_carried, has_carried, binary_carried, ternary_carried, fold_carried, index_carried, text_literal, count_literal, parts, pairs}
+use Rattle.wide_translation.specs.Translated.{operand, compares, with_carried, with_plain, on_list, optional_carried, has_carried, binary_carried, ternary_carried, fold_carried, index_carried, text_literal, count_literal, parts, pairs}
 unfoldable use Rattle.wide_translation.specs.Translated.{translated, all_translated, items_translated, entries_translated}
 use Rattle.wide_translation.proofs.Environments.{both_bound, held_bound}
 use Rattle.wide_translation.proofs.FieldsHold.{plain_holds, with_holds, with_plain_holds, on_list_holds, root_holds, name_holds, selected_holds, has_holds}
@@ -71,6 +71,18 @@ module _ (others : Wide → WideEnvironment → Outcome) where
   no_pairs_hold : (env : Environment) → PairsHold (pairs no_entries) (Some no_value_entries) env
   unfolding entry_meanings
   no_pairs_hold env = refl
+
+  unsigned_by : (b : Bool) (n : ℕ) (env' : Environment)
+      → Holds (if b then taken (plain kind.Int (tree.literal (tree.int (pos n)))) else refused UnsignedInt) (of_value (int (pos n))) env'
+  unfolding meaning is_variables
+  unsigned_by true n env' = record { means = refl; kind = refl; free = refl }
+  unsigned_by false n env' = tt
+
+  operand_same : (b : Bool) (a : Wide) (t : Translation) (env : WideEnvironment) (env' : Environment) → Holds t (wide_meaning others a env) env' → Holds (operand b a t) (wide_meaning others a env) env'
+  unfolding wide_meaning
+  operand_same false a t env env' h = h
+  operand_same true (wide.uint n) t env env' h = unsigned_by (nat_lt n 9223372036854775808) n env'
+  operand_same true _ t env env' h = h
 
   -- a macro, if its iteration name is one that may be bound
   fold_by : (b : Bool) (m : Macro) (x : List ℕ) (t u : Translation) (r : Outcome) (p : Value → Outcome) (env : Environment) → is_taken x ≡ b
@@ -131,8 +143,10 @@ module _ (others : Wide → WideEnvironment → Outcome) where
         let x : Outcome = wide_meaning others a env in
         let y : Outcome = wide_meaning others b env in
         let o : Outcome = binary_in (is_empty_list b) op x y in
-        with_holds (translated s a) (λ c. with_carried (translated s b) (λ d. binary_carried (is_empty_list b) op c d)) x o env' (same a s env env' r)
-        (λ c h. with_holds (translated s b) (λ d. binary_carried (is_empty_list b) op c d) y o env' (same b s env env' r)
+        let t : Translation = operand (compares op) a (translated s a) in
+        let u : Translation = operand (compares op) b (translated s b) in
+        with_holds t (λ c. with_carried u (λ d. binary_carried (is_empty_list b) op c d)) x o env' (operand_same (compares op) a (translated s a) env env' (same a s env env' r))
+        (λ c h. with_holds u (λ d. binary_carried (is_empty_list b) op c d) y o env' (operand_same (compares op) b (translated s b) env env' (same b s env env' r))
         (λ d i. binary_holds (is_empty_list b) op c d x y env' h i))
     same (wide.ternary c a b) s env env' r =
         let z : Outcome = wide_meaning others c env in

@@ -1,11 +1,12 @@
 -- Trees that the translation writes.
-use Rattle.std.specs.Prelude.{ℕ, pos, Bool, true, false, ◌&&◌, List, codes, if◌then◌else◌, bytes_eq}
+use Rattle.std.specs.Prelude.{ℕ, pos, Bool, true, false, ◌&&◌, List, codes, if◌then◌else◌, bytes_eq, [], ◌∷◌}
 use Rattle.cel_reader.specs.Tree as tree
-use Rattle.cel_reader.specs.Tree.{Tree, no_trees, more_trees}
+use Rattle.cel_reader.specs.Tree.{Tree, Trees, no_trees, more_trees, no_entries}
 use Rattle.cel_reader.specs.Words.{is_selector}
-use Rattle.cel_reader.specs.declared.operator.BinaryOperator.{BinaryOperator, TheVariants.And, TheVariants.Equal, TheVariants.NotEqual, TheVariants.In, TheVariants.Add, TheVariants.Less}
+use Rattle.cel_reader.specs.declared.operator.BinaryOperator.{BinaryOperator, TheVariants.And, TheVariants.Equal, TheVariants.NotEqual, TheVariants.In, TheVariants.Add, TheVariants.Less, TheVariants.Or}
 use Rattle.cel_macros.specs.Macros.{macro_name, variables_name}
 use Rattle.cel_macros.specs.declared.macros.Macro.{Macro, TheVariants.Map}
+use Rattle.wide_meaning.specs.Functions.{true_texts, false_texts}
 use Rattle.wide_translation.specs.Names.{held_name, params_name, params_field}
 
 -- a list literal without items, with one, and with two
@@ -90,6 +91,40 @@ abbrev pub text_tree : Tree → Tree
 text_tree a =
     tree.ternary (is_bool_tree a true) (tree.literal (tree.text true_text))
     (tree.ternary (is_bool_tree a false) (tree.literal (tree.text (codes "false"))) (call_tree (codes "string") a))
+
+-- the values that are null, false, 0 or empty
+abbrev pub zero_trees : Trees
+zero_trees =
+    more_trees (tree.literal tree.null) (more_trees (tree.literal (tree.truth false)) (more_trees (tree.literal (tree.int (pos 0)))
+    (more_trees (tree.literal (tree.text [])) (more_trees empty_tree (more_trees (tree.map no_entries) no_trees)))))
+
+-- [a], or [] if a is null, false, 0 or empty
+abbrev pub non_zero_tree : Tree → Tree
+non_zero_tree a = tree.ternary (tree.binary In a (tree.list zero_trees)) empty_tree (one_tree a)
+
+-- text literals
+abbrev pub text_trees : List (List ℕ) → Trees
+text_trees [] = no_trees
+text_trees (w ∷ ws) = more_trees (tree.literal (tree.text w)) (text_trees ws)
+
+-- a is the bool b, or a text that denotes it; of a text only the second
+abbrev pub denotes_tree : Tree → Bool → List (List ℕ) → Tree
+denotes_tree a b ws = tree.binary Or (is_bool_tree a b) (tree.binary In a (tree.list (text_trees ws)))
+
+abbrev pub error_tree : Tree
+error_tree = first_tree empty_tree
+
+-- the bool that a value or a text denotes
+abbrev pub bool_tree : Tree → Tree
+bool_tree a =
+    tree.ternary (denotes_tree a true true_texts) (tree.literal (tree.truth true))
+    (tree.ternary (denotes_tree a false false_texts) (tree.literal (tree.truth false)) error_tree)
+
+-- the bool that a text denotes
+abbrev pub text_bool_tree : Tree → Tree
+text_bool_tree a =
+    tree.ternary (tree.binary In a (tree.list (text_trees true_texts))) (tree.literal (tree.truth true))
+    (tree.ternary (tree.binary In a (tree.list (text_trees false_texts))) (tree.literal (tree.truth false)) error_tree)
 
 -- a root; `params` is a field of its root if that has tables too
 abbrev pub root_tree : Bool → List ℕ → Tree

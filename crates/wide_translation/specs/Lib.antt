@@ -3,8 +3,10 @@ pub mod Names
 pub mod Forms
 pub mod Carried
 pub mod Scope
+pub mod Parts
 pub mod Translated
 pub mod Holds
 pub mod Results
 pub mod Placed
 pub mod Laws
+pub mod Rows

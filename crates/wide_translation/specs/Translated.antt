@@ -1,8 +1,9 @@
 -- The translation of a wide expression.
-use Rattle.std.specs.Prelude.{◌≡◌, ℕ, pos, Bool, true, false, List, [], ◌∷◌, Option, Some, None, codes, if◌then◌else◌}
+use Rattle.std.specs.Prelude.{ℕ, pos, nat_lt, Bool, true, false, List, [], ◌∷◌, Option, Some, None, codes, if◌then◌else◌}
 use Rattle.cel_reader.specs.Tree as tree
-use Rattle.cel_reader.specs.Tree.{Tree, Trees, no_trees, more_trees, TreeEntries, no_entries, more_entries}
-use Rattle.cel_reader.specs.declared.operator.BinaryOperator.{BinaryOperator, TheVariants.Add, TheVariants.And, TheVariants.Equal, TheVariants.NotEqual, TheVariants.In}
+use Rattle.cel_reader.specs.Tree.{Tree, no_trees, more_trees, no_entries, more_entries}
+use Rattle.cel_reader.specs.declared.operator.BinaryOperator.{BinaryOperator, TheVariants.And, TheVariants.Equal, TheVariants.NotEqual, TheVariants.In}
+use Rattle.cel_reader.specs.declared.operator.BinaryOperator.{TheVariants.Less, TheVariants.LessEqual, TheVariants.Greater, TheVariants.GreaterEqual}
 use Rattle.cel_macros.specs.Environment.{lookup, is_root}
 use Rattle.cel_macros.specs.Functions.{function_name, test_name}
 use Rattle.cel_macros.specs.declared.function.Function.TheVariants as plain_function
@@ -21,7 +22,7 @@ use Rattle.wide_meaning.specs.declared.function.Method.TheVariants as method
 use Rattle.wide_meaning.specs.declared.function.Qualified.{Qualified}
 use Rattle.wide_meaning.specs.declared.function.Qualified.TheVariants as qualified
 use Rattle.wide_meaning.specs.Environment.{denotes_variables}
-use Rattle.wide_meaning.specs.Functions.{function_named, method_named, method_name, qualified_named, function_name as function_name_of}
+use Rattle.wide_meaning.specs.Functions.{function_named, method_named, method_name, qualified_named}
 use Rattle.wide_meaning.specs.Meaning.{is_empty_list, namespace_in}
 use Rattle.wide_meaning.specs.Ranges.{plain_macro_of}
 use Rattle.wide_kinds.specs.declared.kind.Kind.{Kind}
@@ -29,51 +30,11 @@ use Rattle.wide_kinds.specs.declared.kind.Kind.TheVariants as of
 use Rattle.wide_kinds.specs.declared.kind.ValueKind.{ValueKind}
 use Rattle.wide_kinds.specs.declared.kind.ValueKind.TheVariants as kind
 use Rattle.wide_kinds.specs.Kinds.{literal_kind, unary_kind, binary_kind, joined_kind}
-use Rattle.wide_translation.specs.Carried.{Carried, plain, guarded, listed, Fault, UnknownName, OptionalValue, TakenName, UnsignedInt, Unsupported, Translation, taken, refused}
-use Rattle.wide_translation.specs.Forms.{empty_tree, one_tree, call_tree, macro_tree, filter_map_tree, first_tree, let_tree, held, access_tree, present_tree, field_list_tree, guarded_tree, flat_tree, present_item_tree, item_tree, item_list_tree, is_empty_tree, text_tree, root_tree, variable_tree, is_simple}
+use Rattle.wide_translation.specs.Carried.{Carried, plain, guarded, listed, UnknownName, OptionalValue, TakenName, UnsignedInt, Unsupported, Translation, taken, refused}
+use Rattle.wide_translation.specs.Forms.{empty_tree, one_tree, call_tree, macro_tree, filter_map_tree, first_tree, let_tree, held, access_tree, present_tree, field_list_tree, guarded_tree, flat_tree, present_item_tree, item_tree, item_list_tree, is_empty_tree, text_tree, non_zero_tree, bool_tree, text_bool_tree, root_tree, variable_tree, is_simple}
+pub use Rattle.wide_translation.specs.Parts.{with_carried, on_plain, with_plain, as_list, from_list, on_list, IsFinished, once, Parts, parts, no_parts, joined_tree, list_more, one_more, Pairs, pairs, no_pairs, entry_more, list_translation, map_translation}
 use Rattle.wide_translation.specs.Names.{held_name, is_taken}
 use Rattle.wide_translation.specs.Scope.{Scope, within, is_hidden}
-
--- ---- translations of parts
-
--- what follows from a translation; its fault if there is none
-abbrev pub with_carried : Translation → (Carried → Translation) → Translation
-with_carried (taken c) f = f c
-with_carried (refused e) f = refused e
-
--- what follows from the tree of a value; an optional value is refused
-abbrev pub on_plain : Carried → (ValueKind → Tree → Translation) → Translation
-on_plain (plain k t) f = f k t
-on_plain _ f = refused OptionalValue
-
-abbrev pub with_plain : Translation → (ValueKind → Tree → Translation) → Translation
-with_plain t f = with_carried t (λ c. on_plain c f)
-
--- an optional value as a list; a value as it is
-abbrev pub as_list : Carried → Carried
-as_list (plain k t) = plain k t
-as_list (guarded k g v) = listed k (guarded_tree g v)
-as_list (listed k l) = listed k l
-
--- what follows from the tree of a list; otherwise the fault e
-abbrev pub from_list : Fault → Carried → (ValueKind → Tree → Translation) → Translation
-from_list e (listed k l) f = f k l
-from_list e _ f = refused e
-
--- what follows from the tree of an optional value as a list; for a value the fault e
-abbrev pub on_list : Fault → Carried → (ValueKind → Tree → Translation) → Translation
-on_list e c f = from_list e (as_list c) f
-
--- the tree of a value, or that of an optional value as a list, with its kind
-abbrev pub IsFinished : Carried → Kind → Tree → Type 0
-IsFinished (plain k t) j m = (j ≡ of.Value k) × (m ≡ t)
-IsFinished (guarded k g v) j m = (j ≡ of.Optional k) × (m ≡ guarded_tree g v)
-IsFinished (listed k l) j m = (j ≡ of.Optional k) × (m ≡ l)
-
--- a tree that is strict in a, written with a twice or more, if a is simple; otherwise with the name that the
--- translation binds
-abbrev pub once : Tree → (Tree → Tree) → Tree
-once a b = if is_simple a then b a else let_tree held_name a (b held)
 
 -- ---- names
 
@@ -187,12 +148,17 @@ string_tree kind.String t = call_tree (codes "string") t
 string_tree kind.Bool t = tree.ternary t (tree.literal (tree.text (codes "true"))) (tree.literal (tree.text (codes "false")))
 string_tree _ t = once t text_tree
 
--- a function of a value of this kind; `bool` is not translated
+-- the bool that a value of this kind denotes
+abbrev pub bool_of_kind : ValueKind → Tree → Tree
+bool_of_kind kind.String t = once t text_bool_tree
+bool_of_kind _ t = once t bool_tree
+
+-- a function of a value of this kind
 abbrev pub function_carried : Function → ValueKind → Tree → Translation
 function_carried function.Size k t = taken (plain kind.Int (call_tree (codes "size") t))
 function_carried function.String k t = taken (plain kind.String (string_tree k t))
 function_carried function.Dyn k t = taken (plain kind.Dyn (call_tree (codes "dyn") t))
-function_carried function.Bool k t = refused (UnknownName (function_name_of function.Bool))
+function_carried function.Bool k t = taken (plain kind.Bool (bool_of_kind k t))
 
 abbrev pub call_translation : Option Function → List ℕ → List Translation → Translation
 call_translation (Some f) n (t ∷ []) = with_plain t (function_carried f)
@@ -211,6 +177,7 @@ or_carried (listed k l) d =
 abbrev pub qualified_translation : Qualified → List ℕ → List Translation → Translation
 qualified_translation qualified.OptionalOf n (t ∷ []) = with_plain t (λ k a. taken (listed k (one_tree a)))
 qualified_translation qualified.OptionalNone n [] = taken (listed kind.Dyn empty_tree)
+qualified_translation qualified.OptionalOfNonZeroValue n (t ∷ []) = with_plain t (λ k a. taken (listed k (once a non_zero_tree)))
 qualified_translation _ n ts = refused (UnknownName n)
 
 -- a macro over an optional value as a list
@@ -261,55 +228,6 @@ method_translation (Some q) m n t ts = qualified_translation q n ts
 method_translation None (Some m) n t ts = with_carried t (λ c. method_carried m c ts)
 method_translation None None n t ts = refused (UnknownName n)
 
--- ---- literals of lists and maps
-
--- The trees of items that follow each other, and what comes after them if an optional one does: its list and the list
--- of the others. Or the first fault
-pub data Parts : Type 0 where
-  parts : Trees → Option (Tree × Tree) → Parts
-  no_parts : Fault → Parts
-
--- the list of all of them
-abbrev pub joined_tree : Trees → Option (Tree × Tree) → Tree
-joined_tree no_trees (Some p) = tree.binary Add p.0 p.1
-joined_tree (more_trees t ts) (Some p) = tree.binary Add (tree.list (more_trees t ts)) (tree.binary Add p.0 p.1)
-joined_tree ts None = tree.list ts
-
--- one more item before the others
-abbrev pub list_more : Carried → Parts → Parts
-list_more (listed k l) (parts ts u) = parts no_trees (Some (l, joined_tree ts u))
-list_more (listed k l) (no_parts e) = no_parts e
-list_more _ ps = no_parts OptionalValue
-
-abbrev pub one_more : Access → Translation → Parts → Parts
-one_more Plain (taken (plain k t)) (parts ts u) = parts (more_trees t ts) u
-one_more Plain (taken (plain k t)) (no_parts e) = no_parts e
-one_more Plain (refused e) ps = no_parts e
-one_more Plain (taken _) ps = no_parts OptionalValue
-one_more Optional (refused e) ps = no_parts e
-one_more Optional (taken c) ps = list_more (as_list c) ps
-
-pub data Pairs : Type 0 where
-  pairs : TreeEntries → Pairs
-  no_pairs : Fault → Pairs
-
-abbrev pub entry_more : Access → Translation → Translation → Pairs → Pairs
-entry_more Plain (taken (plain k t)) (taken (plain j u)) (pairs es) = pairs (more_entries t u es)
-entry_more Plain (taken (plain k t)) (taken (plain j u)) (no_pairs e) = no_pairs e
-entry_more Plain (taken (plain k t)) (refused e) es = no_pairs e
-entry_more Plain (taken (plain k t)) (taken _) es = no_pairs OptionalValue
-entry_more Plain (refused e) u es = no_pairs e
-entry_more Plain (taken _) u es = no_pairs OptionalValue
-entry_more Optional t u es = no_pairs Unsupported
-
-abbrev pub list_translation : Parts → Translation
-list_translation (parts ts u) = taken (plain kind.List (joined_tree ts u))
-list_translation (no_parts e) = refused e
-
-abbrev pub map_translation : Pairs → Translation
-map_translation (pairs es) = taken (plain kind.Map (tree.map es))
-map_translation (no_pairs e) = refused e
-
 -- ---- indices
 
 -- an index by a text literal is a field
@@ -349,6 +267,21 @@ abbrev pub selected_translation : Bool → Access → List ℕ → Scope → Tra
 selected_translation true Plain f s t = variable_translation (lookup f s.variables) f
 selected_translation _ o f s t = with_carried t (λ c. taken (field_carried o f c))
 
+-- whether an unsigned int may be an operand
+abbrev pub compares : BinaryOperator → Bool
+compares Equal = true
+compares NotEqual = true
+compares Less = true
+compares LessEqual = true
+compares Greater = true
+compares GreaterEqual = true
+compares _ = false
+
+-- an operand of an operator: an unsigned int, if it may be one and fits 63 bits, is an int
+abbrev pub operand : Bool → Wide → Translation → Translation
+operand true (wide.uint n) t = if nat_lt n 9223372036854775808 then taken (plain kind.Int (tree.literal (tree.int (pos n)))) else refused UnsignedInt
+operand _ a t = t
+
 unfoldable mutual
   -- the translation of a wide expression
   pub translated : Scope → Wide → Translation
@@ -360,7 +293,8 @@ unfoldable mutual
   translated s (wide.index a o k) = with_carried (translated s a) (λ c. with_carried (translated s k) (λ d. index_carried (text_literal k) (count_literal k) o c d))
   translated s (wide.has a f) = with_carried (translated s a) (λ c. taken (plain kind.Bool (has_carried f c)))
   translated s (wide.unary op a) = with_plain (translated s a) (λ k t. taken (plain (unary_kind op) (tree.unary op t)))
-  translated s (wide.binary op a b) = with_carried (translated s a) (λ c. with_carried (translated s b) (λ d. binary_carried (is_empty_list b) op c d))
+  translated s (wide.binary op a b) =
+      with_carried (operand (compares op) a (translated s a)) (λ c. with_carried (operand (compares op) b (translated s b)) (λ d. binary_carried (is_empty_list b) op c d))
   translated s (wide.ternary c a b) =
       with_plain (translated s c) (λ k t. with_carried (translated s a) (λ d. with_carried (translated s b) (λ e. ternary_carried t d e)))
   translated s (wide.list items) = list_translation (items_translated s items)

@@ -2,6 +2,7 @@
 
 ghost use Rattle.wide_translation.specs.Laws.{TranslationMeansTheSame};
 ghost use Rattle.wide_translation.specs.Placed.{PolicyMeansTheSame};
+ghost use Rattle.wide_translation.specs.Rows.{TranslationRowsHold};
 
 /// A translation, if there is one, carries what the wide expression means.
 #[tactic(auto, using(crate::proofs::Same::translation_same))]
@@ -14,4 +15,9 @@ pub fn translation_means_the_same()
 #[tactic(auto, using(crate::proofs::Policies::policy_same))]
 pub fn policy_means_the_same()
     ensures { PolicyMeansTheSame }
+{}
+
+/// The translations and refusals that were worked out by hand.
+pub fn rows_stand()
+    ensures { TranslationRowsHold }
 {}

@@ -3,4 +3,4 @@
 
 mod laws;
 
-pub use laws::{policy_means_the_same, translation_means_the_same};
+pub use laws::{policy_means_the_same, rows_stand, translation_means_the_same};

@@ -1,0 +1,78 @@
+-- Translations worked out by hand.
+use Rattle.std.specs.Prelude.{◌≡◌, false, [], ◌∷◌, codes}
+use Prim.Native.String.{String}
+use Rattle.cel_reader.specs.Tree.{Tree, binary, ternary, index}
+use Rattle.cel_reader.specs.Written as plain
+use Rattle.cel_reader.specs.declared.operator.BinaryOperator.TheVariants.{And, Add, Equal, NotEqual, Less, LessEqual, In}
+use Rattle.wide_reader.specs.Tree.{Wide}
+use Rattle.wide_reader.specs.Tree as wide
+use Rattle.wide_reader.specs.declared.wide.Macro.TheVariants as macro
+use Rattle.wide_reader.specs.declared.wide.PairMacro.TheVariants as pair
+use Rattle.wide_kinds.specs.declared.kind.ValueKind.{ValueKind}
+use Rattle.wide_kinds.specs.declared.kind.ValueKind.TheVariants as kind
+use Rattle.wide_meaning.specs.Written.{num, str, name, dot, maybe, maybe_item, has, call, or_value, list_literal, object_spec}
+use Rattle.wide_translation.specs.Carried as carried
+use Rattle.wide_translation.specs.Carried.{Fault, UnknownName, OptionalValue, TakenName, UnsignedInt, Unsupported, taken, refused}
+use Rattle.wide_translation.specs.Scope.{scope_of}
+use Rattle.wide_translation.specs.Translated.{translated}
+
+-- without variables, the expression is translated to this tree of a value of this kind
+abbrev pub Becomes : Wide → ValueKind → Tree → Type 0
+Becomes e k a = translated (scope_of false []) e ≡ taken (carried.plain k a)
+
+-- without variables, the expression is refused
+abbrev pub IsRefused : Wide → Fault → Type 0
+IsRefused e f = translated (scope_of false []) e ≡ refused f
+
+-- object.spec and one of its fields, in the compiled language
+abbrev pub plain_spec : Tree
+plain_spec = plain.dot (plain.name "object") "spec"
+
+abbrev pub plain_field : String → Tree
+plain_field f = plain.dot plain_spec f
+
+-- object.spec != null && has(object.spec.f)
+abbrev pub is_there : String → Tree
+is_there f = binary And (binary NotEqual plain_spec plain.nothing) (plain.call "has" (plain_field f ∷ []))
+
+-- the list of that field, or []
+abbrev pub field_or_nothing : String → Tree
+field_or_nothing f = ternary (is_there f) (plain.list_literal (plain_field f ∷ [])) (plain.list_literal [])
+
+pub record TranslationRowsHold : Type 0 where
+  -- object.spec.?replicas.orValue(1) <= 5
+  pub value_or : Becomes (wide.binary LessEqual (or_value (maybe object_spec "replicas") (num 1)) (num 5)) kind.Bool
+      (binary LessEqual (ternary (is_there "replicas") (plain_field "replicas") (plain.num 1)) (plain.num 5))
+  -- object.spec.?a == object.spec.?b
+  pub equal : Becomes (wide.binary Equal (maybe object_spec "a") (maybe object_spec "b")) kind.Bool
+      (binary Equal (field_or_nothing "a") (field_or_nothing "b"))
+  -- object.spec[?0].orValue('')
+  pub item_or : Becomes (or_value (maybe_item object_spec (num 0)) (str "")) kind.Dyn
+      (ternary (ternary (binary Equal plain_spec plain.nothing) plain.no (binary Less (plain.num 0) (plain.call "size" (binary Add plain_spec (plain.list_literal []) ∷ []))))
+      (index plain_spec (plain.num 0)) (plain.str ""))
+  -- has(object.spec.`a-b`)
+  pub quoted : Becomes (has object_spec "a-b") kind.Bool
+      (binary And (binary NotEqual plain_spec plain.nothing)
+      (ternary (plain.call "has" (plain_field "a" ∷ [])) (binary In (plain.str "a-b") plain_spec) (binary In (plain.str "a-b") plain_spec)))
+  -- string(object.spec) + 'm'
+  pub as_text : Becomes (wide.binary Add (call "string" (object_spec ∷ [])) (str "m")) kind.String
+      (binary Add
+      (ternary (binary Equal plain_spec plain.yes) (plain.str "true") (ternary (binary Equal plain_spec plain.no) (plain.str "false") (plain.call "string" (plain_spec ∷ []))))
+      (plain.str "m"))
+  -- 1 in []
+  pub in_nothing : Becomes (wide.binary In (num 1) (list_literal [])) kind.Bool plain.no
+  -- 1 < 2u, and 1u + 1u
+  pub compared : Becomes (wide.binary Less (num 1) (wide.uint 2)) kind.Bool (binary Less (plain.num 1) (plain.num 2))
+  pub added : IsRefused (wide.binary Add (wide.uint 1) (wide.uint 1)) UnsignedInt
+  -- [object.?a], object.spec.map(x, object.?a) and object.?a == 1
+  pub optional_item : IsRefused (list_literal (maybe (name "object") "a" ∷ [])) OptionalValue
+  pub optional_result : IsRefused (wide.fold macro.Map object_spec (codes "x") (maybe (name "object") "a")) OptionalValue
+  pub optional_operand : IsRefused (wide.binary Equal (maybe (name "object") "a") (num 1)) OptionalValue
+  -- authorizer, url('a') and object.orValue(1)
+  pub unknown_name : IsRefused (name "authorizer") (UnknownName (codes "authorizer"))
+  pub unknown_function : IsRefused (call "url" (str "a" ∷ [])) (UnknownName (codes "url"))
+  pub no_optional_value : IsRefused (or_value (name "object") (num 1)) (UnknownName (codes "orValue"))
+  -- object.all(object, true)
+  pub taken_name : IsRefused (wide.fold macro.All (name "object") (codes "object") (num 1)) (TakenName (codes "object"))
+  -- object.all(k, v, true)
+  pub two_names : IsRefused (wide.pair_fold pair.All (name "object") (codes "k") (codes "v") (num 1)) Unsupported
