@@ -6,4 +6,4 @@ use Rattle.gatekeeper_runner.proofs.answering.GatekeeperDecider.answer.Goals as 
 pub returns : goal.returns
 returns c =
     IfOk-weaker c.outcome_text.result _ _
-    (λ text is policies are. line_decided (gatekeeper_of policies c.args.self.now) c.args.line.now text.items _ (c.in_ok-outcome.ensures policies are) is) c.outcome_text.ensures
+    (λ text is policies are. line_decided (gatekeeper_of policies c.args.self.now) c.args.line.now text.items _ (c.in_ok-outcome.ensures.decides policies are) is) c.outcome_text.ensures
