@@ -62,8 +62,8 @@ class Calling:
             return (first.number > 0) - (first.number < 0) if isinstance(first, Quantity) else ERROR
         if is_typed(first) or is_optional(first):
             return ERROR
-        if name == "string":
-            return operations.string(first) if kind(first) != "bool" else "true" if first else "false"
+        if name == "string" and kind(first) == "bool":
+            return self.seen("string of a bool", "true" if first else "false")
         if name in ("int", "bool"):
             read = texts.int_of if name == "int" else texts.bool_of
             return or_error(read(first)) if kind(first) == "text" else first if kind(first) == name else ERROR
@@ -103,7 +103,8 @@ class Calling:
         result = self.of_typed(tree, target, arguments) if is_typed(target) else self.of_plain(
             tree.method, target, arguments
         )
-        return self.seen(f"{tree.method} of {kind_of(target)}: {result is not ERROR}", result)
+        word = type(target).__name__ if is_typed(target) else kind_of(target)
+        return self.seen(f"{tree.method} of {word}: {result is not ERROR}", result)
 
     def qualified(self, name: str, arguments: list) -> Any:
         if name == "optional.none":
@@ -142,7 +143,7 @@ class Calling:
             return self.seen(f"{tree.method}: False", ERROR)
         found = quantities.integer_of(text)
         result = found is not None if tree.method == "isInteger" else or_error(found)
-        return self.seen(f"{tree.method}: True", result)
+        return self.seen(f"{tree.method}: {found is not None}", result)
 
     def formatted(self, tree: Method, items: dict) -> Any:
         values = iter([self.of(one, items) for _, one in tree.arguments[0].items])

@@ -52,7 +52,7 @@ class Calls:
 
     def call(self, tree: Call, names: dict) -> Any:
         if "." in tree.function or tree.function not in FUNCTIONS:
-            # the first refusal is the leftmost, but the arguments of an unknown function have no rules
+            # the arguments of an unknown function have no rules
             refuse("W5", tree.place, tree.function)
         if tree.function == "sign":
             return self.sign(tree, names)
@@ -103,6 +103,8 @@ class Calls:
         if tree.method == "format":
             return self.formatted(tree, names)
         target = self.of(tree.target, names)
+        if tree.method not in KNOWN_METHODS:
+            self.unknown(tree)
         given = [self.of(one, names) for one in tree.arguments]
         if isinstance(target, Opt):
             return self.of_optional(tree, target, given)
@@ -115,9 +117,9 @@ class Calls:
 
     def of_optional(self, tree: Method, target: Opt, given: list) -> Any:
         if len(given) != OF_OPTIONALS.get(tree.method, -1):
-            if tree.method in KNOWN_METHODS and tree.method not in OF_OPTIONALS:
-                refuse("W4", tree.target.place)
-            self.unknown(tree)
+            if tree.method in OF_OPTIONALS:
+                self.unknown(tree)
+            refuse("W4", tree.target.place)
         if tree.method == "hasValue":
             return "Bool"
         if tree.method == "value":
@@ -146,12 +148,8 @@ class Calls:
         return result
 
     def of_plain(self, tree: Method, target: Any, given: list) -> Any:
-        if tree.method not in METHODS:
-            if tree.method in KNOWN_METHODS:
-                refuse("Y2" if target in PLAIN else "W4", tree.target.place)
-            self.unknown(tree)
-        if target not in PLAIN:
-            refuse("W4", tree.target.place)
+        if target not in PLAIN or tree.method not in METHODS:
+            refuse("Y2" if target in PLAIN else "W4", tree.target.place)
         for receivers, wanted, least, result in METHODS[tree.method]:
             if target in receivers or target == "Dyn" and self.may_take(receivers, tree, given):
                 self.take(tree, tree.method, (wanted, least), given, tree.arguments)

@@ -2,6 +2,11 @@
 
 from collections import Counter
 
+from . import lists, texts
+from .signatures import FUNCTIONS, OF_TYPED
+
+# what depends on the text of a quantity
+HELD = ("isInteger", "asInteger")
 MACROS_OF_ONE = ("all", "exists", "exists_one", "filter", "map")
 MACROS_OF_TWO = ("all", "exists", "exists_one", "existsOne", "transformList")
 BINARY = ("&&", "||", "+", "-", "*", "/", "%", "<", "<=", ">", ">=", "in")
@@ -12,10 +17,11 @@ EXPECTED = [
     *(f"optional field: {one}" for one in ("some", "none", "error")),
     "index", "index of none", "index of some",
     *(f"optional index: {one}" for one in ("some", "none", "error")),
-    "has: True", "has: False", "has of none", "has of some: True", "has of some: False",
+    "has: True", "has: False", "has of null", "has of none", "has of some: True", "has of some: False",
     "! of 1", "- of 1", *(f"{sign} of 2" for sign in BINARY),
     "conditional", "conditional without a bool",
-    "equality", "equality of optional", "equality of typed", "equality of error", "in an empty list",
+    "equality", "equality of optional", "equality of typed", "equality of error",
+    "in an empty list", "in an empty list of the error",
     "order of typed", "+ of times", "- of times", "negative duration",
     "list", "item of some", "item of none", "item of the error",
     "map: True", "map: False", "entry of some", "entry of none",
@@ -24,7 +30,28 @@ EXPECTED = [
     *(f"{word} over neither" for word in {*MACROS_OF_ONE, *MACROS_OF_TWO}),
     *(f"{word} of {one}" for word in ("optMap", "optFlatMap") for one in ("some", "none", "error")),
     *(f"type {one}" for one in ("int", "string", "bool", "null_type", "list", "map")), "type of the error",
+    # optionals
+    "hasValue", "hasValue of error", "value of some", "value of none", "value of error",
+    *(f"{word} of {one}" for word in ("orValue", "or") for one in ("some", "none", "error")),
+    # functions and methods, with a value and without
+    *(f"{name}: True" for name in FUNCTIONS if name not in ("type", "dyn")),
+    *(f"{name}: False" for name in FUNCTIONS if name not in ("type", "dyn", "optional.none")),
+    "string of a bool", "format", *(f"format {name}: True" for name in texts.NAMED_FORMATS),
+    *(f"{name} of text: True" for name in (*texts.METHODS, "matches", "find", "findAll")),
+    *(f"{name} of text: False" for name in ("charAt", "substring", "indexOf", "lastIndexOf")),
+    *(f"{name} of the error" for name in (*texts.METHODS, "matches", "find", "findAll")),
+    *(f"{name} of list: True" for name in (*lists.METHODS, "first", "last")),
+    *(f"{name} of list: False" for name in ("min", "max", "sum", "join", "slice")),
+    *(f"{name} of the error" for name in (*lists.METHODS, "first", "last")),
+    *(f"{name} of {kind}: True" for kind, names in OF_TYPED.items() for name in names if name not in HELD),
+    *(f"{name} of the error" for kind, names in OF_TYPED.items() for name in names if name not in HELD),
+    "containsIP of CIDR: False",
+    *(f"{name}: {one}" for name in HELD for one in (True, False)),
 ]
+
+
+# what the profile defines otherwise
+APART = ("has of null", "in an empty list of the error", "string of a bool")
 
 
 class Clauses:
@@ -35,6 +62,10 @@ class Clauses:
 
     def add(self, clause: str) -> None:
         self.counts[clause] += 1
+
+    def apart(self) -> list:
+        """The clauses that were evaluated and that the profile defines otherwise."""
+        return [clause for clause in APART if self.counts[clause]]
 
     def never(self, expected: list) -> list:
         """The expected clauses that were never evaluated."""

@@ -110,8 +110,8 @@ class Meaning(Calling):
 
     def presence(self, tree: Has, items: dict) -> Any:
         operand = self.of(tree.operand, items)
-        if operand is NONE:
-            return self.seen("has of none", False)
+        if operand is NONE or operand is None:
+            return self.seen("has of null" if operand is None else "has of none", False)
         clause = "has of some" if isinstance(operand, Some) else "has"
         found = selected(operand.value if isinstance(operand, Some) else operand, tree.name)
         return self.seen(f"{clause}: {found is not ERROR}", ERROR if found is ERROR else found is not NONE)
@@ -120,7 +120,8 @@ class Meaning(Calling):
         if is_type_test(tree):
             return self.type_test(tree, items)
         if tree.sign == "in" and tree.operands[1] == ListLiteral(0, ()):
-            return self.seen("in an empty list", False)
+            of_error = self.of(tree.operands[0], items) is ERROR
+            return self.seen("in an empty list of the error" if of_error else "in an empty list", False)
         operands = [self.of(one, items) for one in tree.operands]
         if tree.sign in ("==", "!="):
             return self.equality(tree.sign, *operands)

@@ -1,0 +1,122 @@
+"""Compares a gatekeeper with an evaluator of the wide language, on expressions from a seed.
+
+usage: tools/wide-cases [--seed N] [--count N] [GATEKEEPER]
+       tools/wide-cases --profile-only [--seed N] [--count N] [GATEKEEPER]
+       tools/wide-cases --evaluator [--seed N] [--count N]
+
+The wide language is CEL as API servers store it, with optionals, quantities and more. The first form is for a
+gatekeeper that reads it; none does yet. It makes N expressions (by default 20,000) with variables, and for each of them
+three reviews whose documents have nulls, absent fields and values of other kinds. A gatekeeper under two policies has
+to tell the value that tools/celbpf_tools/wide gives each, or the error.
+
+--profile-only makes expressions until N (5,000) are in the profile of docs/CEL.md too and mean the same there, and
+compares the gatekeeper on these. Each form also compares the trees and results with those of the profile's evaluator,
+if an expression is in the profile.
+
+The first difference is printed with its documents, and ends it with status 1. It prints how often each kind of refusal
+was due. --evaluator asks no program: it prints how often each clause of the meaning was evaluated, and ends with status
+1 if one never was.
+"""
+
+import argparse
+import itertools
+import json
+from collections import Counter
+from typing import Any, Optional
+
+from ..entry import usage_of
+from ..home import built
+from ..seeded.numbers import Numbers
+from ..wide.cases import Case, cases, due
+from ..wide.clauses import EXPECTED, Clauses
+from ..wide.comparing import Compared
+from ..wide.profile import Beside, in_profile, is_apart
+
+SEED = 41
+REVIEWS = 3
+# of a hundred parts, how many have a form that the profile lacks
+WIDE_SHARE, PROFILE_SHARE = 60, 4
+
+
+def words() -> argparse.Namespace:
+    parser = argparse.ArgumentParser(usage=usage_of(__doc__))
+    parser.add_argument("gatekeeper", nargs="?", default=built("gatekeeper"))
+    parser.add_argument("--profile-only", action="store_true")
+    parser.add_argument("--evaluator", action="store_true")
+    parser.add_argument("--seed", type=int, default=SEED)
+    parser.add_argument("--count", type=int)
+    return parser.parse_args()
+
+
+class Run:
+    """Cases from a seed, and what came of them."""
+
+    def __init__(self, given: argparse.Namespace):
+        self.given = given
+        self.clauses = Clauses()
+        self.refusals: Counter = Counter()
+        self.beside = Beside()
+        self.compared = Compared()
+        self.most = given.count or (5_000 if given.profile_only else 20_000)
+
+    def is_done(self, place: int) -> bool:
+        return (self.compared.expressions if self.given.profile_only else place) >= self.most
+
+    def difference(self, case: Case) -> Optional[str]:
+        """The first difference over a case, or None."""
+        wanted = due(case, self.clauses)
+        profile = in_profile(case)
+        found = self.beside.difference(case, profile, wanted) if profile else None
+        if wanted.refusal:
+            self.refusals[wanted.refusal.split(" ")[0]] += 1
+        if found or self.given.evaluator:
+            return found
+        if self.given.profile_only and (wanted.refusal or not profile or is_apart(profile, wanted)):
+            return None
+        return self.compared.difference(self.given.gatekeeper, case, wanted)
+
+    def lines(self) -> list:
+        """What came of the cases."""
+        shown = [self.beside.line()]
+        if self.refusals:
+            shown.append("refused: " + ", ".join(f"{name} {count}" for name, count in sorted(self.refusals.items())))
+        return shown if self.given.evaluator else [*shown, f"the gatekeeper answered {self.compared.line()}"]
+
+
+def show(case: Case, difference: str) -> None:
+    """Prints a case that differs."""
+    print(f"expression {case.text}")
+    for name, text in case.variables.items():
+        print(f"variable {name}: {text}")
+    for roots in case.roots:
+        print(json.dumps(roots, ensure_ascii=False))
+    print(difference)
+
+
+def clauses_shown(clauses: Clauses) -> int:
+    """Prints how often each clause was evaluated; the status."""
+    for clause, count in sorted(clauses.counts.items()):
+        print(f"{count:9} {clause}")
+    never = clauses.never(EXPECTED)
+    print(f"never evaluated: {', '.join(never)}" if never else "each clause was evaluated")
+    return 1 if never else 0
+
+
+def main() -> int:
+    given = words()
+    run = Run(given)
+    made = cases(Numbers(given.seed), PROFILE_SHARE if given.profile_only else WIDE_SHARE, REVIEWS)
+    for place in itertools.count():
+        if run.is_done(place):
+            break
+        case: Any = next(made)
+        difference = run.difference(case)
+        if difference:
+            print(f"case {place} of seed {given.seed} differs")
+            show(case, difference)
+            return 1
+    print(*run.lines(), sep="\n")
+    if given.evaluator:
+        return clauses_shown(run.clauses)
+    print(f"the gatekeeper answered {run.compared.expressions} expressions as the evaluator")
+    return 0

@@ -1,0 +1,117 @@
+"""A wide expression with variables and documents, and its results."""
+
+from dataclasses import dataclass, field
+from typing import Any, Iterator, Optional
+
+from ..evaluator.macros import ROOTS
+from ..evaluator.refused import Refused
+from ..seeded import policies
+from ..seeded.expressions import KINDS
+from .calling import NotDecided
+from .clauses import Clauses
+from .documents import Pool
+from .expression import Scope, taken, variable
+from .expressions import WideExpressions
+from .meaning import Meaning
+
+VARIABLES = ["v", "w", "limit"]
+TYPED = ["quantity", "duration", "timestamp"]
+SPOILS = [
+    *policies.SPOILS, (".?", "?."), (".?", "."), ("[?", "["), ("'", "'''"), ("1", "1.5"), ("1", "1u"), ("'", "b'"),
+    (".orValue", ".orvalue"), ("optional.of", "optional.new"), ("(k, ", "(k, k, "),
+    (".transformList(", ".transformMap("),
+    ("has(", "has(object.?"), ("quantity(", "url("), ("object", "authorizer"), (".", ".`a b`."), ("'", "`"),
+    (".hasValue()", ""), (".orValue(", ".or("), ("[", "[?"), ("{", "{?"), ("variables.", "variables.?"), (".", ".?"),
+]
+
+
+@dataclass
+class Case:
+    """The text of an expression, variables by name, and the roots of several reviews."""
+
+    text: str
+    variables: dict
+    roots: list
+
+
+@dataclass
+class Due:
+    """The refusal of a case, or a result for each review, with the clauses that the profile defines otherwise."""
+
+    refusal: str = ""
+    results: list = field(default_factory=list)
+    apart: list = field(default_factory=list)
+
+
+def cases(numbers: Any, share: int, reviews: int) -> Iterator[Case]:
+    """Cases from a seed."""
+    pool = Pool(numbers)
+    while True:
+        kinds: dict = {}
+        variables = {}
+        for name in numbers.some(VARIABLES, 3):
+            others = [*(f"optional {one}" for one in KINDS), *TYPED]
+            kind = numbers.pick([*KINDS, *others] if numbers.below(100) < share else KINDS)
+            maker = WideExpressions(numbers, dict(kinds), ROOTS, share)
+            variables[name] = made(maker, kind, numbers.below(3))
+            kinds[name] = kind
+        maker = WideExpressions(numbers, kinds, ROOTS, share)
+        text = maker.text(numbers.pick(["bool", "bool", *KINDS]), 1 + numbers.below(4))
+        if numbers.one_in(20):
+            text = spoiled(numbers, text)
+        yield Case(text, variables, pool.several(reviews))
+
+
+def spoiled(numbers: Any, text: str) -> str:
+    """A text with one thing changed, which mostly is refused."""
+    old, new = numbers.pick(SPOILS)
+    return text.replace(old, new, 1)
+
+
+def made(maker: WideExpressions, kind: str, room: int) -> str:
+    """The text of a variable of a kind."""
+    if kind.startswith("optional "):
+        return maker.optional(kind.split()[1], room)
+    return maker.typed(kind, room) if kind in TYPED else maker.text(kind, room)
+
+
+class Variables(dict):
+    """The results of variables, each evaluated when it is first used."""
+
+    def __init__(self, trees: dict):
+        super().__init__()
+        self.trees = trees
+        self.meaning: Optional[Meaning] = None
+
+    def __missing__(self, name: str) -> Any:
+        assert self.meaning is not None
+        self[name] = self.meaning.of(self.trees[name])
+        return self[name]
+
+
+def result_of(tree: Any, variables: dict, roots: dict, clauses: Clauses) -> Any:
+    """The result of a tree over roots and the trees of variables; N8 if a review is not decided."""
+    lazy = Variables(variables)
+    lazy.meaning = Meaning(roots, lazy, clauses)
+    try:
+        return lazy.meaning.of(tree)
+    except NotDecided as why:
+        return why
+
+
+def due(case: Case, clauses: Clauses) -> Due:
+    """What the definition says of a case."""
+    scope, variables = Scope(), {}
+    try:
+        for place, (name, text) in enumerate(case.variables.items()):
+            variables[name] = variable(name, text, scope)
+        tree = taken(case.text, scope)
+    except Refused as why:
+        return Due(why.text)
+    found = Due()
+    for roots in case.roots:
+        own = Clauses()
+        found.results.append(result_of(tree, variables, roots, own))
+        found.apart.append(own.apart())
+        clauses.counts += own.counts
+    return found
