@@ -14,4 +14,6 @@ No program of this repository reads it yet. It holds the profile of docs/CEL.md,
     clauses                    how often each clause of the meaning is evaluated
     expressions, documents,
     cases, comparing           expressions with documents from a seed, and programs on them
+    profile                    the expressions that are in the profile too
+    expression, policies       an expression of a policy, and what a policy decides
 """

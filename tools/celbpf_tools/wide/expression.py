@@ -34,9 +34,9 @@ def taken(text: str, scope: Scope, part: str = "value") -> Any:
     return tree
 
 
-def variable(name: str, text: str, scope: Scope) -> Any:
+def variable(name: str, expression: str, scope: Scope) -> Any:
     """The tree of a variable, which the scope has from then on; it may be an optional or typed."""
-    tree = grammar.read(text)
+    tree = grammar.read(expression)
     given = kinds.kind_of(tree, scope.kinds)
     if given == "Type":
         refuse("W4", tree.place)
