@@ -35,6 +35,9 @@ ROWS: dict[str, list[tuple[str, str]]] = {
         ("duration('.5h').getMinutes()", "30"), ("duration('0').getHours()", "0"),
         ("duration('2562048h').getHours()", "error"), ("duration('1s') + duration('1ms') > duration('1s')", "true"),
         ("-duration('1h') < duration('0')", "true"),
+        # 2^63 nanoseconds
+        ("duration('2562047h47m16.854775808s').getHours()", "error"),
+        ("duration('-2562047h47m16.854775808s').getHours()", "-2562047"),
     ],
     "timestamps": [
         # the first day of March 2026 is a Sunday
@@ -74,6 +77,7 @@ ROWS: dict[str, list[tuple[str, str]]] = {
         (r"'\u2000 a\u001c\u0085'.trim()", r'"a\u001c"'), ("'abc'.charAt(3)", '""'), ("'abc'.charAt(4)", "error"),
         ("'aöb'.substring(1, 2)", '"ö"'), ("'abc'.substring(2, 1)", "error"), ("'abc'.indexOf('', 5)", "3"),
         ("'abc'.indexOf('c', 3)", "-1"), ("'abc'.indexOf('a', -1)", "error"), ("'abab'.lastIndexOf('ab', 1)", "0"),
+        ("'abab'.lastIndexOf('', 2)", "2"), ("'''a\nb'''", r'"a\nb"'), ("dyn(['a']).indexOf('a', 0)", "error"),
         ("'abab'.lastIndexOf('')", "4"), ("'abab'.lastIndexOf('b', 9)", "-1"), ("''.split(',')", '[""]'),
         ("'a,b,c'.split(',', 2)", '["a", "b,c"]'), ("'aöb'.split('')", '["a", "ö", "b"]'),
         ("'a,b'.split(',', 0)", "[]"),
@@ -83,6 +87,7 @@ ROWS: dict[str, list[tuple[str, str]]] = {
         ("'%d'.format([object.spec.image])", "error"),
     ],
     "patterns": [
+        (r"'é'.matches('\\b')", "false"), (r"'e'.matches('\\b')", "true"),
         ("'a1b22'.find('[0-9]+')", '"1"'), ("'ab'.find('[0-9]+')", '""'), ("'axb'.findAll('x*')", '["", "x", ""]'),
         ("'aaa'.findAll('a', 2)", '["a", "a"]'), (r"'\u212a'.matches('(?i)^k$')", "true"),
         (r"'\u0131'.matches('(?i)^i$')", "false"),
@@ -94,6 +99,8 @@ ROWS: dict[str, list[tuple[str, str]]] = {
         ("[3, 1, 2].max()", "3"), ("['b', 'a'].min()", '"a"'), ("[1, 'a'].min()", "error"), ("[].max()", "error"),
         ("[true, false].isSorted()", "false"), ("[].isSorted()", "true"), ("object.spec.none.isSorted()", "error"),
         ("[1, 2].sum()", "3"), ("[1, 'a'].sum()", "error"), ("[1, 1, 1, 1, 1, 1, 1, 1, 1].sum()", "error"),
+        ("['', '', '', '', '', '', '', '', ''].join('a')", "error"),
+        ("['', '', '', '', '', '', '', ''].join('')", '""'),
         ("[].sum()", "0"), ("[].join(',')", '""'), ("[1].join(',')", "error"), ("[1, 2, 3].reverse()", "[3, 2, 1]"),
         ("[1, 2, 3].slice(1, 3)", "[2, 3]"), ("[1].slice(1, 0)", "error"), ("[1, 2, 1].lastIndexOf(1)", "2"),
         ("[1].indexOf('a')", "-1"), ("[1, 2].last().value()", "2"), ("[].first().hasValue()", "false"),
@@ -142,6 +149,12 @@ REFUSED_WITH_VARIABLES: list[tuple[dict, str, str]] = [
     ({"q": "quantity('1')"}, "variables.q", "W4 at 0"),
     ({"x": "object.l.size()"}, "string(variables.x / 2).matches('a')", "W7 matches at 0"),
     ({}, "variables.x", "Y3 at 0"),
+    ({}, "[object.a % 2].exists(i, v, i == v)", "W7 exists at 0"),
+    ({}, "[object.a % 2].exists(i, v, v == 1)", "error"),
+    ({}, "[object.a % 2].indexOf(1)", "W7 indexOf at 0"),
+    ({}, "[object.a].indexOf(object.a % 2)", "error"),
+    ({}, "bool(string(object.a % 2))", "error"),
+    ({}, "[1].all(int, type(1) == int)", "W4 at 13"),
 ]
 
 

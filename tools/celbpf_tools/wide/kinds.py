@@ -30,13 +30,13 @@ def by_the_profile(place: int, rule: Callable, *given: Any) -> Any:
         refuse("Y2", place)
 
 
-def is_type_test(tree: Operation) -> bool:
-    """Whether a tree is `type(e) == T`."""
+def is_type_test(tree: Operation, names: Any) -> bool:
+    """Whether a tree is `type(e) == T`, T being no iteration name."""
     if tree.sign not in ("==", "!="):
         return False
     left, right = tree.operands
     is_call = isinstance(left, Call) and left.function == "type" and len(left.arguments) == 1
-    return is_call and isinstance(right, Name) and right.name in KINDS_TESTED
+    return is_call and isinstance(right, Name) and right.name in KINDS_TESTED and right.name not in names
 
 
 def is_variables(tree: Any, names: dict) -> bool:
@@ -122,7 +122,7 @@ class Kinds(Calls):
         return "Bool" if given in ("Map", "Dyn") else refuse("Y2", tree.place)
 
     def operation(self, tree: Operation, names: dict) -> Any:
-        if is_type_test(tree):
+        if is_type_test(tree, names):
             self.plain(tree.operands[0].arguments[0], names)
             return "Bool"
         given = [self.operand(tree.sign, one, names) for one in tree.operands]

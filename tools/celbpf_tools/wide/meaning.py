@@ -117,7 +117,7 @@ class Meaning(Calling):
         return self.seen(f"{clause}: {found is not ERROR}", ERROR if found is ERROR else found is not NONE)
 
     def operation(self, tree: Operation, items: dict) -> Any:
-        if is_type_test(tree):
+        if is_type_test(tree, items):
             return self.type_test(tree, items)
         if tree.sign == "in" and tree.operands[1] == ListLiteral(0, ()):
             of_error = self.of(tree.operands[0], items) is ERROR

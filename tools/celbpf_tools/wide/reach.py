@@ -7,11 +7,12 @@ from .kinds import is_type_test, is_variables
 from .refused import refuse
 from .texts import METHODS as OF_TEXTS
 from .trees import (
-    Call, Field, Has, Index, ListLiteral, Literal, Macro, MapLiteral, Method, Name, Operation, Ternary, Uint, parts,
+    Call, Field, Has, Index, ListLiteral, Literal, Macro, MapLiteral, Method, Name, Operation, Ternary, Uint,
+    bodies, parts,
 )
 
 FUNCTIONS = (
-    "int", "bool", "isQuantity", "quantity", "duration", "timestamp", "isSemver", "semver", "isIP", "ip", "isCIDR",
+    "int", "isQuantity", "quantity", "duration", "timestamp", "isSemver", "semver", "isIP", "ip", "isCIDR",
     "cidr",
 )
 METHODS = (*OF_TEXTS, "matches", "find", "findAll")
@@ -21,6 +22,25 @@ TYPED = ("quantity", "duration", "timestamp", "semver", "ip", "cidr")
 INDEXED = ("isSorted", "distinct", "reverse", "slice", "indexOf", "lastIndexOf", "join")
 OF_ITEMS = ("min", "max", "first", "last")
 KINDS_WITH_TEXTS = ("int", "string", "list", "map")
+
+
+LISTS = ("split", "findAll", "distinct", "reverse", "slice")
+
+
+def is_list(tree: Any) -> bool:
+    """Whether a tree is a list by its form."""
+    if isinstance(tree, Macro):
+        return tree.word in ("map", "filter", "transformList")
+    return isinstance(tree, ListLiteral) or isinstance(tree, Method) and tree.method in LISTS
+
+
+def uses(tree: Any, name: str) -> bool:
+    """Whether an iteration name is used in a tree."""
+    if isinstance(tree, Name):
+        return tree.name == name and not tree.dotted
+    if isinstance(tree, Macro) and name in tree.names:
+        return uses(tree.range, name)
+    return any(uses(part, name) for part in parts(tree))
 
 
 class Reach:
@@ -95,22 +115,26 @@ class Reach:
                 self.demand(argument, names, tree.function)
         if isinstance(tree, Method):
             self.check_method(tree, names)
-        if isinstance(tree, Operation) and is_type_test(tree) and tree.operands[1].name in KINDS_WITH_TEXTS:
-            self.demand(tree.operands[0].arguments[0], names, "type")
+        if isinstance(tree, Operation) and is_type_test(tree, names):
+            if tree.operands[1].name in KINDS_WITH_TEXTS:
+                self.demand(tree.operands[0].arguments[0], names, "type")
 
     def check_method(self, tree: Method, names: dict) -> None:
         tested = format_tested(tree)
         if tested:
             self.demand(tested[1], names, tested[0])
-        elif tree.method in METHODS and not qualified(tree):
+        elif tree.method in INDEXED and (tree.method not in METHODS or is_list(tree.target)):
+            self.demand(tree.target, names, tree.method)
+        elif tree.method in METHODS:
             for part in parts(tree):
                 self.demand(part, names, tree.method)
-        elif tree.method in INDEXED:
-            self.demand(tree.target, names, tree.method)
 
     def check_macro(self, tree: Macro, names: dict) -> None:
         self.check(tree.range, names)
-        for part in parts(tree)[1:]:
+        is_indexed = len(tree.names) == 2 and not isinstance(tree.range, MapLiteral)
+        if is_indexed and any(uses(part, tree.names[0]) for part in bodies(tree)):
+            self.demand(tree.range, names, tree.word)
+        for part in bodies(tree):
             self.check(part, self.inner(tree, names))
 
 
