@@ -4,10 +4,10 @@ usage: tools/wide-cases [--seed N] [--count N] [GATEKEEPER]
        tools/wide-cases --profile-only [--seed N] [--count N] [GATEKEEPER]
        tools/wide-cases --evaluator [--seed N] [--count N]
 
-The wide language is CEL as API servers store it, with optionals, quantities and more. The first form is for a
-gatekeeper that reads it; none does yet. It makes N expressions (by default 20,000) with variables, and for each of them
-three reviews whose documents have nulls, absent fields and values of other kinds. A gatekeeper under two policies has
-to tell the value that tools/celbpf_tools/wide gives each, or the error.
+The wide language is a wider part of CEL than the profile: it has optionals, macros of two names, and functions of
+Kubernetes such as quantity. The first form is for a gatekeeper that reads it; none does yet. It makes N expressions (by
+default 20,000) with variables, and for each of them three reviews whose documents have nulls, absent fields and values
+of other kinds. Two policies show whether the gatekeeper has the value that tools/celbpf_tools/wide gives, or the error.
 
 --profile-only makes expressions until N (5,000) are in the profile of docs/CEL.md too and mean the same there, and
 compares the gatekeeper on these. Each form also compares the trees and results with those of the profile's evaluator,

@@ -2,6 +2,7 @@
 
 import contextlib
 import io
+import json
 import sys
 import unittest
 from typing import Any
@@ -9,10 +10,16 @@ from unittest import mock
 
 from ..commands import wide_cases
 from ..entry import ended
-from ..evaluator import responses
+from ..evaluator import grammar, macros, responses, reviews
+from ..evaluator.costs import Costs
+from ..evaluator.meaning import Meaning as Profile
 from ..evaluator.refused import Refused
+from ..seeded.examples import examples
+from ..seeded.numbers import Numbers
 from ..wide import policies
 from ..wide.comparing import names
+from ..wide.expression import Scope, taken
+from ..wide.meaning import Meaning
 from ..wide.patterns import found_all
 from . import wide_stand_in
 from .test_documents import Files
@@ -58,6 +65,58 @@ REFUSED: list[tuple[dict, str]] = [
 ]
 
 
+# an expression, and one of the profile that means the same
+TRANSLATIONS = [
+    ("object.spec.?a.orValue(1) <= 5", "(object.spec != null && has(object.spec.a) ? object.spec.a : 1) <= 5"),
+    ("object.spec.?a == object.spec.?b",
+     "(object.spec != null && has(object.spec.a) ? [object.spec.a] : []) =="
+     " (object.spec != null && has(object.spec.b) ? [object.spec.b] : [])"),
+    ("object.spec.?a.optMap(x, x + 1).orValue(0)",
+     "object.spec != null && has(object.spec.a) ? [object.spec.a].map(x, x + 1)[0] : 0"),
+    ("object.spec.a[?0].orValue('')",
+     "(object.spec.a == null ? false : 0 < size(object.spec.a + [])) ? object.spec.a[0] : ''"),
+    ("object.m[?object.k].hasValue()",
+     "object.m == null ? string(object.k) != string(object.k) : object.m.map(w1, w1) == object.m"
+     " ? (object.k < size(object.m) ? 0 <= object.k : false) : object.k in object.m"),
+    ("object.m.exists(i, v, v == '')",
+     "(object.m.map(w1, w1) == object.m ? object.m : object.m.map(w3, object.m[w3])).exists(w2, w2 == '')"),
+    ("has(object.m.`a-b`)",
+     "object.m != null && (has(object.m.a) ? 'a-b' in object.m : 'a-b' in object.m)"),
+    ("string(object.k) + 'm'",
+     "(object.k == true ? 'true' : object.k == false ? 'false' : string(object.k)) + 'm'"),
+    ("object.m.first().orValue(object.k)",
+     "[[object.m + []].map(w1, w1 == [] ? [] : [w1[0]])[0]].map(w2, w2 == [] ? object.k : w2[0])[0]"),
+]
+PARTS: list = [
+    None, True, False, 0, 1, 2, -1, "", "a", "a-b", [], [1], ["a", ""], [None, 2], {}, {"a": 1}, {"a-b": ""},
+    {"a": None},
+]
+
+
+def partly(numbers: Numbers, names: str) -> dict:
+    """A map of some of these names to any of PARTS."""
+    return {name: numbers.pick(PARTS) for name in names if not numbers.one_in(6)}
+
+
+class Translations(unittest.TestCase):
+    def test_translations_mean_the_same(self) -> None:
+        numbers = Numbers(1)
+        for expression, translated in TRANSLATIONS:
+            with self.subTest(expression):
+                tree, other = taken(expression, Scope()), macros.expand(grammar.read(translated))
+                found = set()
+                for _ in range(400):
+                    whole = partly(numbers, "mk")
+                    whole["spec"] = numbers.pick([None, "a", partly(numbers, "ab"), partly(numbers, "ab")])
+                    roots = {**ROOTS, "object": whole}
+                    due, result = Profile(roots, {}, Costs()).of(other), Meaning(roots, {}).of(tree)
+                    self.assertEqual(repr(result), repr(due), whole)
+                    found.add(repr(result))
+                # both an error and values are tried
+                self.assertIn("error", found)
+                self.assertGreater(len(found), 1)
+
+
 class Policies(unittest.TestCase):
     def test_annotations(self) -> None:
         for expression, denials, published in ANNOTATIONS:
@@ -87,6 +146,15 @@ class Policies(unittest.TestCase):
         })
         response = responses.response(policy.compiled.policy, policies.verdict_of(policy, ROOTS), "u")
         self.assertIn("failed expression: object.?a.hasValue()", response)
+
+    def test_examples_are_decided_as_their_responses_say(self) -> None:
+        for name, case, stored in examples():
+            with self.subTest(name):
+                policy = policies.read(json.loads(case.policy))
+                review = reviews.read(case.review, case.namespace, case.params)
+                verdict = policies.verdict_of(policy, review.roots)
+                found = responses.response(policy.compiled.policy, verdict, review.uid)
+                self.assertEqual(found + "\n", stored)
 
     def test_conditions_have_no_namespace(self) -> None:
         conditions = [{"name": "a", "expression": "namespaceObject == null"}]

@@ -1,4 +1,4 @@
-"""The wide language: the expressions that API servers store, with what they mean, written apart from the crates.
+"""The wide language: a wider part of CEL, as API servers store it, written apart from the crates.
 
 No program of this repository reads it yet. It holds the profile of docs/CEL.md, and shares with
 `celbpf_tools.evaluator` the values, the meaning of operators and the profile's table of types:

@@ -22,6 +22,8 @@ SPOILS = [
     (".transformList(", ".transformMap("),
     ("has(", "has(object.?"), ("quantity(", "url("), ("object", "authorizer"), (".", ".`a b`."), ("'", "`"),
     (".hasValue()", ""), (".orValue(", ".or("), ("[", "[?"), ("{", "{?"), ("variables.", "variables.?"), (".", ".?"),
+    (".matches('", ".matches('a**"), ("{?", "{?object.kind: optional.none(), ?"),
+    ("quantity(", "variables.limit.add(quantity('1')).asInteger() + quantity("),
 ]
 
 

@@ -40,10 +40,12 @@ def validation(place: int, result: Any, word: str) -> dict:
 
 def policy(case: Case, due: Due, word: str) -> dict:
     named = {**case.variables, "it": case.text}
+    validations = [validation(place, result, word) for place, result in enumerate(due.results)]
     spec = {
         "failurePolicy": POLICIES[word],
         "variables": [{"name": name, "expression": text} for name, text in named.items()],
-        "validations": [validation(place, result, word) for place, result in enumerate(due.results)],
+        # a policy without validations is refused as such
+        "validations": validations or [{"expression": "true"}],
     }
     return {
         "apiVersion": "admissionregistration.k8s.io/v1", "kind": "ValidatingAdmissionPolicy",
