@@ -3,7 +3,7 @@ use Rattle.std.specs.Prelude.{ℕ, pos, Bool, true, false, List, [], ◌∷◌, 
 use Rattle.value_store.specs.Value.{Value, int, Entries as ValueEntries, no_entries}
 use Rattle.cel_macros.specs.Literals.{literal_of}
 use Rattle.cel_macros.specs.Macros.{range_of}
-use Rattle.wide_reader.specs.Tree.{Wide, Wides, Items, Entries}
+use Rattle.wide_reader.specs.Tree.{Wide, Wides, WideItems, WideEntries}
 use Rattle.wide_reader.specs.Tree as wide
 use Rattle.wide_reader.specs.declared.wide.Access.{Access, TheVariants.Plain}
 use Rattle.wide_meaning.specs.declared.function.Function.{Function}
@@ -81,12 +81,12 @@ module _ (others : Wide → WideEnvironment → Outcome) where
     wide_meanings (wide.more_wides a more) env = wide_meaning a env ∷ wide_meanings more env
 
     -- the values of the items, without the optional ones that have no value; None if an item is the error
-    pub items_meaning : Items → WideEnvironment → Option (List Value)
+    pub items_meaning : WideItems → WideEnvironment → Option (List Value)
     items_meaning wide.no_items env = Some []
     items_meaning (wide.more_items o a more) env = item_in o (wide_meaning a env) (items_meaning more env)
 
     -- the entries, without the optional ones that have no value; None if a part is the error, or a key is no text or
     -- is repeated
-    pub entries_meaning : Entries → WideEnvironment → Option ValueEntries
+    pub entries_meaning : WideEntries → WideEnvironment → Option ValueEntries
     entries_meaning wide.no_entries env = Some no_entries
     entries_meaning (wide.more_entries o k v more) env = entry_in o (wide_meaning k env) (wide_meaning v env) (entries_meaning more env)

@@ -6,7 +6,7 @@ use Rattle.cel_reader.specs.declared.operator.BinaryOperator.TheVariants.{Divide
 use Rattle.value_store.specs.Value.{Value, null, boolean, int, text, list, map, items_of}
 use Rattle.cel_macros.specs.Written.{entries_of}
 use Rattle.wide_reader.specs.Tree as wide
-use Rattle.wide_reader.specs.Tree.{Wide, wides, Items, no_items, more_items, Entries, no_entries, more_entries}
+use Rattle.wide_reader.specs.Tree.{Wide, wides, WideItems, no_items, more_items, WideEntries, no_entries, more_entries}
 use Rattle.wide_reader.specs.declared.wide.Access.{TheVariants.Plain, TheVariants.Optional}
 use Rattle.wide_meaning.specs.Outcome.{Outcome, failed, plain, absent}
 use Rattle.wide_meaning.specs.Environment.{WideEnvironment}
@@ -84,7 +84,7 @@ abbrev pub has_value : Wide → Wide
 has_value a = method a "hasValue" []
 
 -- a list literal of these expressions
-abbrev pub items : List Wide → Items
+abbrev pub items : List Wide → WideItems
 items [] = no_items
 items (a ∷ more) = more_items Plain a (items more)
 
@@ -92,7 +92,7 @@ abbrev pub list_literal : List Wide → Wide
 list_literal es = wide.list (items es)
 
 -- a map literal of these keys and values
-abbrev pub pairs : List (Wide × Wide) → Entries
+abbrev pub pairs : List (Wide × Wide) → WideEntries
 pairs [] = no_entries
 pairs (e ∷ more) = more_entries Plain e.0 e.1 (pairs more)
 
@@ -146,8 +146,8 @@ review = record {
 }
 
 -- the expression has this meaning in that environment, whatever the calls mean that the definitions leave open
-abbrev pub Gives : Wide → Outcome → Type 0
-Gives e x = (others : Wide → WideEnvironment → Outcome) → wide_meaning others e review ≡ x
+abbrev pub WideGives : Wide → Outcome → Type 0
+WideGives e x = (others : Wide → WideEnvironment → Outcome) → wide_meaning others e review ≡ x
 
 -- outcomes
 abbrev pub is_true : Outcome

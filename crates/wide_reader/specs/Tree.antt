@@ -27,8 +27,8 @@ mutual
     unary : UnaryOperator → Wide → Wide
     binary : BinaryOperator → Wide → Wide → Wide
     ternary : Wide → Wide → Wide → Wide
-    list : Items → Wide
-    map : Entries → Wide
+    list : WideItems → Wide
+    map : WideEntries → Wide
     fold : Macro → Wide → List ℕ → Wide → Wide
     filter_map : Wide → List ℕ → Wide → Wide → Wide
     pair_fold : PairMacro → Wide → List ℕ → List ℕ → Wide → Wide
@@ -43,14 +43,14 @@ mutual
     more_wides : Wide → Wides → Wides
 
   -- the items of a list literal, each with or without a question mark
-  pub data Items : Type 0 where
-    no_items : Items
-    more_items : Access → Wide → Items → Items
+  pub data WideItems : Type 0 where
+    no_items : WideItems
+    more_items : Access → Wide → WideItems → WideItems
 
   -- the entries of a map literal, each with or without a question mark, a key and its value
-  pub data Entries : Type 0 where
-    no_entries : Entries
-    more_entries : Access → Wide → Wide → Entries → Entries
+  pub data WideEntries : Type 0 where
+    no_entries : WideEntries
+    more_entries : Access → Wide → Wide → WideEntries → WideEntries
 
 -- the expressions of a list
 abbrev pub wides : List Wide → Wides
@@ -58,12 +58,12 @@ wides [] = no_wides
 wides (a ∷ more) = more_wides a (wides more)
 
 -- the items of a list
-abbrev pub items : List (Access × Wide) → Items
+abbrev pub items : List (Access × Wide) → WideItems
 items [] = no_items
 items (e ∷ es) = more_items e.0 e.1 (items es)
 
 -- the entries of a list
-abbrev pub entries : List (Access × Wide × Wide) → Entries
+abbrev pub entries : List (Access × Wide × Wide) → WideEntries
 entries [] = no_entries
 entries (e ∷ es) = more_entries e.0 e.1 e.2 (entries es)
 
@@ -73,12 +73,12 @@ wide_list no_wides = []
 wide_list (more_wides a more) = a ∷ wide_list more
 
 -- the items as a list
-abbrev pub item_list : Items → List (Access × Wide)
+abbrev pub item_list : WideItems → List (Access × Wide)
 item_list no_items = []
 item_list (more_items o a more) = (o, a) ∷ item_list more
 
 -- the entries as a list
-abbrev pub entry_list : Entries → List (Access × Wide × Wide)
+abbrev pub entry_list : WideEntries → List (Access × Wide × Wide)
 entry_list no_entries = []
 entry_list (more_entries o k v more) = (o, k, v) ∷ entry_list more
 

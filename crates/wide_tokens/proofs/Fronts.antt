@@ -1,5 +1,5 @@
 -- The definition of the front, without cases on the text.
-use Rattle.wide_tokens.proofs.Prelude.{◌≡◌, ℕ, suc, ◌+◌, ◌-◌, ◌<◌, ◌≤◌, List, [], ◌∷◌, length, get_or, refl, arith, Bool, true, false, if◌then◌else◌, nat_lt, ◌==◌, Result, OnErr, Option, Some, nat_tests, between, IsUtf8, drop, IsOpened, EndsText, Opening, opening, opening_len, quote_at, raw_at, is_quote, is_raw_prefix, is_bytes_prefix, front, front_word}
+use Rattle.wide_tokens.proofs.Prelude.{◌≡◌, ℕ, suc, ◌+◌, ◌-◌, ◌<◌, ◌≤◌, List, [], ◌∷◌, length, get_or, refl, arith, Bool, true, false, if◌then◌else◌, nat_lt, ◌==◌, Result, OnErr, Option, Some, nat_tests, between, IsUtf8, drop, IsOpened, WideEndsText, Opening, opening, opening_len, quote_at, raw_at, is_quote, is_raw_prefix, is_bytes_prefix, front, front_word}
 use Rattle.cel_tokens.proofs.Contents.{rest_utf8, quote_ascii}
 use Rattle.wide_tokens.specs.Lexed.{over, space}
 
@@ -83,7 +83,7 @@ opened_is [] o e = absurd cc
 opened_is (x ∷ rest) o e = opened_case (is_bytes_prefix x) x rest o e
 
 -- the bytes after the opening of a text literal are UTF-8
-pub opened : (bytes : List ℕ) (o : Opening) → IsOpened bytes o → EndsText bytes → IsUtf8 (drop (opening_len o) bytes)
+pub opened : (bytes : List ℕ) (o : Opening) → IsOpened bytes o → WideEndsText bytes → IsUtf8 (drop (opening_len o) bytes)
 opened bytes o q u =
     let some : 1 ≤ opening_len o = grind arith in
     let n : opening_len o - 1 + 1 ≡ opening_len o = omega (arith, some) in

@@ -24,25 +24,25 @@ pub use Rattle.std.specs.Str.{IsUtf8}
 pub use Rattle.cel_tokens.specs.Bytes.{is_between, is_blank, is_digit_of, is_letter, is_line_end, is_name_byte}
 pub use Rattle.cel_tokens.specs.Bytes.{opens_comment}
 pub use Rattle.cel_tokens.specs.Ints.{digit_begins, fits64, hex_begins, int_at, int_of, number, spelled}
-pub use Rattle.wide_tokens.specs.Lexis.{TokensReturns, TokenBegins, Cuts, IsTokens, Lexes, TakesMemory, Tokens, lexeme}
+pub use Rattle.wide_tokens.specs.Lexis.{WideTokensReturns, WideTokenBegins, WideCuts, WideIsTokens, WideLexes, WideTakesMemory, WideTokens, lexeme}
 pub use Rattle.wide_tokens.specs.Lexis.TokenBegins.{a_word}
 pub use Rattle.wide_tokens.specs.Lexis.Cuts.{nothing, over, space, token, too_many, wide_int, wrong_text}
 pub use Rattle.wide_tokens.specs.Lexis.Lexes.{read, too_long}
 pub use Rattle.wide_tokens.specs.Lexis.TakesMemory.{behind_space, for_text, for_word}
 pub use Rattle.cel_tokens.specs.Limits.{text_limit, token_limit}
 pub use Rattle.cel_tokens.specs.Marks.{mark_at, mark_of, of_one, of_two, one_byte, two_bytes}
-pub use Rattle.wide_tokens.specs.Shown.{EndsText}
-pub use Rattle.wide_tokens.specs.Steps.{CutsTo, EndsAs, IsTextRefused, refusal_of}
+pub use Rattle.wide_tokens.specs.Shown.{WideEndsText}
+pub use Rattle.wide_tokens.specs.Steps.{WideCutsTo, WideEndsAs, WideIsTextRefused, refusal_of}
 pub use Rattle.cel_tokens.specs.Texts.{code_point, is_code_point, is_quote, is_raw_prefix}
 pub use Rattle.wide_tokens.specs.Gap.{stays_in_comment}
-pub use Rattle.wide_tokens.specs.Lexed.{Lexed, before_digits, front_mark, front_number, front_other, front_plain}
+pub use Rattle.wide_tokens.specs.Lexed.{WideLexed, before_digits, front_mark, front_number, front_other, front_plain}
 pub use Rattle.wide_tokens.specs.Lexed.{front_text, front_word, int_front, literal_word, sign_may_follow, uint_front}
 pub use Rattle.wide_tokens.specs.Numbers.{number_at, uint_of}
 pub use Rattle.wide_tokens.specs.Quoted.{is_quoted_byte, quoted_at}
 pub use Rattle.wide_tokens.specs.Texts.{IsOpened, closes, closing_len, is_bytes_prefix, opening, opening_len, piece}
 pub use Rattle.wide_tokens.specs.Texts.{quote_at, raw_at, two_more}
 pub use Rattle.wide_tokens.specs.declared.opening.Opening.{Opening}
-pub use Rattle.wide_tokens.specs.Token.{Token, Word, bytes, int, mark, mark_word, name, quoted, token_view, text, uint, word_of}
+pub use Rattle.wide_tokens.specs.Token.{WideToken, WideWord, bytes, int, mark, mark_word, name, quoted, token_view, text, uint, word_of}
 pub use Rattle.wide_tokens.specs.declared.kind.Kind.{Kind}
 pub use Rattle.cel_tokens.specs.declared.mark.Mark.{Mark}
 pub use Rattle.cel_tokens.specs.declared.mark.Mark.TheVariants.{CloseBrace, CloseBracket, CloseParen, Minus}

@@ -7,7 +7,7 @@ use Rattle.wide_tokens.specs.Numbers.{number_at}
 use Rattle.wide_tokens.specs.Lexed.{front, over, space, word, wrong_text, wide_int, nothing}
 
 -- the number at the front of a text, with its length
-pub record NumberRowsStand : Type 0 where
+pub record WideNumberRowsStand : Type 0 where
   pub an_int : number_at (codes "12a") ≡ Some (Int, 2)
   pub hex : number_at (codes "0x1Fg") ≡ Some (Int, 4)
   pub hex_before_a_dot : number_at (codes "0x1.5") ≡ Some (Int, 3)
@@ -31,7 +31,7 @@ pub record NumberRowsStand : Type 0 where
   pub nothing_left : number_at [] ≡ None
 
 -- the front of a text; the first word tells whether a sign may be here
-pub record FrontRowsStand : Type 0 where
+pub record WideFrontRowsStand : Type 0 where
   pub end : front true [] ≡ over
   pub comment : front true (codes "// a\nb") ≡ space 5
   pub comment_with_a_return : front true (codes "// a\r b\nc") ≡ space 8

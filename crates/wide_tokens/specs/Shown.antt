@@ -16,14 +16,14 @@ lexed_view bytes (WideInt n) = front.wide_int n
 lexed_view bytes Nothing = front.nothing
 
 -- the finding is within a text of this length and consumes at least one byte
-abbrev pub IsWithin : ℕ → Lexed → Type 0
-IsWithin len Over = Unit {0}
-IsWithin len (Space n) = (1 ≤ n) × (n ≤ len)
-IsWithin len (Word n kind) = (1 ≤ n) × (n ≤ len)
-IsWithin len WrongText = Unit {0}
-IsWithin len (WideInt n) = n ≤ len
-IsWithin len Nothing = Unit {0}
+abbrev pub WideIsWithin : ℕ → Lexed → Type 0
+WideIsWithin len Over = Unit {0}
+WideIsWithin len (Space n) = (1 ≤ n) × (n ≤ len)
+WideIsWithin len (Word n kind) = (1 ≤ n) × (n ≤ len)
+WideIsWithin len WrongText = Unit {0}
+WideIsWithin len (WideInt n) = n ≤ len
+WideIsWithin len Nothing = Unit {0}
 
 -- the bytes are the end of a UTF-8 text
-abbrev pub EndsText : List ℕ → Type 0
-EndsText bytes = (before : List ℕ) × IsUtf8 (before ++ bytes)
+abbrev pub WideEndsText : List ℕ → Type 0
+WideEndsText bytes = (before : List ℕ) × IsUtf8 (before ++ bytes)

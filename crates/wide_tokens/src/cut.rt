@@ -4,9 +4,9 @@ ghost use Rattle.std.specs.Prelude.{◌≡◌, ◌≤◌, ◌<◌, length, List,
 ghost use Rattle.std.specs.Str.{IsUtf8};
 ghost use Rattle.wide_tokens.specs.Token.{word_of};
 ghost use Rattle.wide_tokens.specs.Lexed as fronts;
-ghost use Rattle.wide_tokens.specs.Lexis.{TokensReturns};
+ghost use Rattle.wide_tokens.specs.Lexis.{WideTokensReturns};
 ghost use Rattle.cel_tokens.specs.declared.read_error.ReadError.TheVariants.{TextTooLong};
-ghost use Rattle.wide_tokens.specs.Steps.{CutsOn, CutsTo, refusal_of};
+ghost use Rattle.wide_tokens.specs.Steps.{WideCutsOn, WideCutsTo, refusal_of};
 ghost use Rattle.cel_tokens.specs.Limits.{text_limit};
 
 use crate::bytes::tail;
@@ -77,7 +77,7 @@ fn step(
     requires text { IsUtf8 bytes.now }
     requires short { length bytes.now ≤ text_limit }
     requires place { at ≤ length bytes.now }
-    ensures { CutsOn bytes.now signed at out.old.items out.new.items result }
+    ensures { WideCutsOn bytes.now signed at out.old.items out.new.items result }
 {
     let alloc = *out.allocator();
     let rest = tail(bytes, at);
@@ -105,7 +105,7 @@ fn step(
 fn cut(alloc: Global, bytes: &[u8]) -> Result<Vec<Token>, ReadError>
     requires text { IsUtf8 bytes.now }
     requires short { length bytes.now ≤ text_limit }
-    ensures { CutsTo bytes.now result }
+    ensures { WideCutsTo bytes.now result }
 {
     let mut out = Vec::new(alloc);
     let mut at = 0;
@@ -126,7 +126,7 @@ fn cut(alloc: Global, bytes: &[u8]) -> Result<Vec<Token>, ReadError>
 /// `InvalidTextLiteral` or `IntOutOfRange` at its position, or `TextTooLong` at the 4,097th token. A text above
 /// 65,536 bytes is `TextTooLong` at byte 65,536 before it is read.
 pub fn tokens(alloc: Global, text: &str) -> Result<Vec<Token>, ReadError>
-    ensures answers { TokensReturns text.now result }
+    ensures answers { WideTokensReturns text.now result }
     ensures long { text_limit < length text.now → result ≡ Err (TextTooLong text_limit) }
 {
     let bytes = text.as_bytes();

@@ -9,8 +9,8 @@ ghost use Rattle.wide_tokens.specs.Texts as texts;
 ghost use Rattle.wide_tokens.specs.Numbers as numbers;
 ghost use Rattle.wide_tokens.specs.Quoted as quoted;
 ghost use Rattle.wide_tokens.specs.Lexed as fronts;
-ghost use Rattle.wide_tokens.specs.Lexis.{TakesMemory};
-ghost use Rattle.wide_tokens.specs.Shown.{lexed_view, IsWithin, EndsText};
+ghost use Rattle.wide_tokens.specs.Lexis.{WideTakesMemory};
+ghost use Rattle.wide_tokens.specs.Shown.{lexed_view, WideIsWithin, WideEndsText};
 
 use crate::bytes::{between, is_letter, name_len, quoted_len, tail};
 use crate::content::content;
@@ -40,10 +40,10 @@ pub enum Lexed {
 /// The text literal at the front.
 fn literal(alloc: Global, bytes: &[u8], opening: Opening) -> Result<Lexed, AllocError>
     requires opened { texts.IsOpened bytes.now opening }
-    requires text { EndsText bytes.now }
+    requires text { WideEndsText bytes.now }
     requires short { length bytes.now ≤ text_limit }
     ensures shown { IfOk result (λ f. lexed_view bytes.now f ≡ fronts.front_text opening (texts.content opening 0 0 [] (drop (texts.opening_len opening) bytes.now))) }
-    ensures within { IfOk result (λ f. IsWithin (length bytes.now) f) }
+    ensures within { IfOk result (λ f. WideIsWithin (length bytes.now) f) }
 {
     let before = opening.len();
     match content(alloc, tail(bytes, before), opening)? {
@@ -65,7 +65,7 @@ fn int_front(minus: bool, before: usize, len: usize, digits: &[u8]) -> Lexed
     requires short { before + len ≤ text_limit }
     requires some { 1 ≤ len }
     ensures shown { (bytes : List ℕ) → lexed_view bytes result ≡ fronts.int_front before len (ints.int_of minus (ints.int_at digits.now).1) }
-    ensures within { (most : ℕ) → before + len ≤ most → IsWithin most result }
+    ensures within { (most : ℕ) → before + len ≤ most → WideIsWithin most result }
 {
     match int_of(minus, int_value(digits)) {
         Some(int) => Lexed::Word(before + len, Kind::Int(int)),
@@ -78,7 +78,7 @@ fn int_front(minus: bool, before: usize, len: usize, digits: &[u8]) -> Lexed
 fn uint_front(len: usize, digits: &[u8]) -> Lexed
     requires some { 1 ≤ len }
     ensures shown { (bytes : List ℕ) → lexed_view bytes result ≡ fronts.uint_front len (numbers.uint_of (ints.int_at digits.now).1) }
-    ensures within { (most : ℕ) → len ≤ most → IsWithin most result }
+    ensures within { (most : ℕ) → len ≤ most → WideIsWithin most result }
 {
     match uint_of(int_value(digits)) {
         Some(value) => Lexed::Word(len, Kind::Uint(value)),
@@ -92,7 +92,7 @@ fn number_front(number: Number, len: usize, bytes: &[u8]) -> Lexed
     requires some { 1 ≤ len }
     requires within { len ≤ length bytes.now }
     ensures shown { lexed_view bytes.now result ≡ fronts.number_front number len bytes.now }
-    ensures within { IsWithin (length bytes.now) result }
+    ensures within { WideIsWithin (length bytes.now) result }
 {
     match number {
         Number::Int => int_front(false, 0, len, bytes),
@@ -130,7 +130,7 @@ fn other(bytes: &[u8]) -> Lexed
     requires some { 0 < length bytes.now }
     requires short { length bytes.now ≤ text_limit }
     ensures shown { lexed_view bytes.now result ≡ fronts.front_other bytes.now }
-    ensures within { IsWithin (length bytes.now) result }
+    ensures within { WideIsWithin (length bytes.now) result }
 {
     if let Some(len) = quoted_at(bytes) {
         return Lexed::Word(len + 2, Kind::Quoted);
@@ -164,7 +164,7 @@ fn plain(bytes: &[u8], signed: bool) -> Lexed
     requires some { 0 < length bytes.now }
     requires short { length bytes.now ≤ text_limit }
     ensures shown { lexed_view bytes.now result ≡ fronts.front_plain signed (get_or bytes.now 0 0) bytes.now }
-    ensures within { IsWithin (length bytes.now) result }
+    ensures within { WideIsWithin (length bytes.now) result }
 {
     if is_letter(bytes[0]) {
         return Lexed::Word(name_len(bytes), Kind::Name);
@@ -184,11 +184,11 @@ fn plain(bytes: &[u8], signed: bool) -> Lexed
 /// The front of the text. `signed`: a minus here may be the sign of an int.
 #[tactic(auto, using(crate::proofs::Fronts::front_nil, crate::proofs::Fronts::front_is))]
 pub fn front_of(alloc: Global, bytes: &[u8], signed: bool) -> Result<Lexed, AllocError>
-    requires text { EndsText bytes.now }
+    requires text { WideEndsText bytes.now }
     requires short { length bytes.now ≤ text_limit }
     ensures shown { IfOk result (λ f. lexed_view bytes.now f ≡ fronts.front signed bytes.now) }
-    ensures within { IfOk result (λ f. IsWithin (length bytes.now) f) }
-    ensures memory { OnErr result (TakesMemory signed bytes.now) }
+    ensures within { IfOk result (λ f. WideIsWithin (length bytes.now) f) }
+    ensures memory { OnErr result (WideTakesMemory signed bytes.now) }
 {
     if bytes.is_empty() {
         return Ok(Lexed::Over);

@@ -26,7 +26,7 @@ use Rattle.wide_kinds.specs.Kinds.{joined_kind}
 use Rattle.wide_kinds.specs.Fitting.{FitsKind, IsOfKind, IsOptionalOf}
 use Rattle.wide_translation.specs.Carried.{Carried, plain, guarded, listed, Translation, taken, refused}
 use Rattle.wide_translation.specs.Forms.{call_tree, text_tree, first_tree, let_tree, held, is_empty_tree, is_simple}
-use Rattle.wide_translation.specs.Holds.{guard_part, value_part, list_part, IsPlain, Carries, Holds}
+use Rattle.wide_translation.specs.Holds.{guard_part, value_part, list_part, IsPlain, Carries, WideHolds}
 use Rattle.wide_translation.specs.Names.{held_name}
 use Rattle.wide_translation.specs.Translated.{once, string_tree, function_carried, call_translation, value_carried, or_value_carried, test_translation, method_carried, method_translation, with_plain}
 use Rattle.wide_translation.proofs.FieldsHold.{part_fits, plain_holds, with_holds, on_plain_holds, with_plain_holds, has_value_holds}
@@ -138,7 +138,7 @@ string_free kind.Map t = once_free_by (is_simple t) t
 string_free kind.Dyn t = once_free_by (is_simple t) t
 
 function_holds : (f : Function) (k : ValueKind) (t : Tree) (x : Outcome) (env : Environment) → IsPlain k t x env
-    → Holds (function_carried f k t) (outcome_of (function_in f (plain_part x))) env
+    → WideHolds (function_carried f k t) (outcome_of (function_in f (plain_part x))) env
 unfolding meaning is_has function_named is_variables
 function_holds function.Size k t x env h = plain_holds kind.Int (call_tree (codes "size") t) (size_of (plain_part x)) env (ap size_of h.means) (size_kind (plain_part x)) refl
 function_holds function.String k t x env h =
@@ -148,7 +148,7 @@ function_holds function.Bool k t x env h =
     plain_holds kind.Bool (bool_of_kind k t) (bool_of (plain_part x)) env (bool_means k t (plain_part x) env h.means (part_fits k x h.kind) h.free) (bool_kind (plain_part x)) (bool_free k t)
 
 pub call_holds : (f : Option Function) (n : List ℕ) (ts : List Translation) (xs : List Outcome) (r : Outcome) (env : Environment) → AllHold ts xs env
-    → Holds (call_translation f n ts) (called f xs r) env
+    → WideHolds (call_translation f n ts) (called f xs r) env
 call_holds None n ts xs r env h = tt
 call_holds (Some f) n [] xs r env h = tt
 call_holds (Some f) n (t ∷ u ∷ ts) xs r env h = tt
@@ -177,7 +177,7 @@ first_is (of_value v) = refl
 first_is absent = refl
 first_is (present v) = refl
 
-value_holds : (c : Carried) (x : Outcome) (env : Environment) → Carries c x env → Holds (value_carried c) (value_in x) env
+value_holds : (c : Carried) (x : Outcome) (env : Environment) → Carries c x env → WideHolds (value_carried c) (value_in x) env
 unfolding meaning is_variables
 value_holds (plain k t) x env h = tt
 value_holds (guarded k g v) x env h = record { means = h.value ∙ value_is x; kind = value_kind k x h.kind; free = h.free }
@@ -204,7 +204,7 @@ or_kind k j (of_value v) y f g = absurd f
 
 -- The default is the same in each environment in which the name that the translation binds has a value.
 pub or_value_holds : (c : Carried) (j : ValueKind) (d : Tree) (x y : Outcome) (env : Environment) → Carries c x env → IsPlain j d y env
-    → ((v : Value) → meaning d (bind held_name v env) ≡ plain_part y) → Holds (or_value_carried c j d) (value_or x y) env
+    → ((v : Value) → meaning d (bind held_name v env) ≡ plain_part y) → WideHolds (or_value_carried c j d) (value_or x y) env
 unfolding meaning meanings is_variables
 or_value_holds (plain k t) j d x y env h i s = tt
 or_value_holds (guarded k g v) j d x y env h i s = record {
@@ -241,8 +241,8 @@ tests t k j a b x y env h i =
     plain_holds kind.Bool (tree.method a (test_name t) (more_trees b no_trees)) (text_test_of (Some t) (plain_part x) (plain_part y)) env
     (test_means t a b env ∙ (λ l. text_test_of (Some t) (h.means l) (i.means l))) (test_kind t (plain_part x) (plain_part y)) refl
 
-test_holds : (t : TextTest) (c : Carried) (d : Translation) (x y : Outcome) (env : Environment) → Carries c x env → Holds d y env
-    → Holds (test_translation t c d) (outcome_of (text_test_of (Some t) (plain_part x) (plain_part y))) env
+test_holds : (t : TextTest) (c : Carried) (d : Translation) (x y : Outcome) (env : Environment) → Carries c x env → WideHolds d y env
+    → WideHolds (test_translation t c d) (outcome_of (text_test_of (Some t) (plain_part x) (plain_part y))) env
 test_holds t c d x y env h i =
     let o : Outcome = outcome_of (text_test_of (Some t) (plain_part x) (plain_part y)) in
     on_plain_holds c (λ k a. with_plain d (λ j b. taken (plain kind.Bool (tree.method a (test_name t) (more_trees b no_trees))))) x o env h
@@ -253,15 +253,15 @@ size_holds : (k : ValueKind) (t : Tree) (x : Outcome) (env : Environment) → Is
 unfolding meaning function_named is_variables
 size_holds k t x env h = plain_holds kind.Int (tree.method t (codes "size") no_trees) (size_of (plain_part x)) env (ap size_of h.means) (size_kind (plain_part x)) refl
 
-or_value_of : (c : Carried) (t : Translation) (x y : Outcome) (env : Environment) → Carries c x env → Holds t y env
-    → ((v : Value) → Holds t y (bind held_name v env)) → Holds (with_plain t (or_value_carried c)) (value_or x y) env
+or_value_of : (c : Carried) (t : Translation) (x y : Outcome) (env : Environment) → Carries c x env → WideHolds t y env
+    → ((v : Value) → WideHolds t y (bind held_name v env)) → WideHolds (with_plain t (or_value_carried c)) (value_or x y) env
 or_value_of c (refused e) x y env h i s = tt
 or_value_of c (taken (plain j d)) x y env h i s = or_value_holds c j d x y env h i (λ v. (s v).means)
 or_value_of c (taken (guarded j g v)) x y env h i s = tt
 or_value_of c (taken (listed j l)) x y env h i s = tt
 
 pub method_holds : (m : Method) (c : Carried) (x : Outcome) (ts : List Translation) (xs : List Outcome) (r : Outcome) (env : Environment)
-    → Carries c x env → AllHold ts xs env → ((v : Value) → AllHold ts xs (bind held_name v env)) → Holds (method_carried m c ts) (method_in m x xs r) env
+    → Carries c x env → AllHold ts xs env → ((v : Value) → AllHold ts xs (bind held_name v env)) → WideHolds (method_carried m c ts) (method_in m x xs r) env
 method_holds method.Size c x [] [] r env h i s = on_plain_holds c (λ k a. taken (plain kind.Int (tree.method a (codes "size") no_trees))) x (outcome_of (size_of (plain_part x))) env h (λ k a q. size_holds k a x env q)
 method_holds method.Size c x [] (y ∷ ys) r env h i s = absurd i
 method_holds method.Size c x (t ∷ ts) ys r env h i s = tt
@@ -300,7 +300,7 @@ method_holds method.First c x ts ys r env h i s = tt
 method_holds method.Last c x ts ys r env h i s = tt
 
 pub method_called_holds : (q : Option Qualified) (m : Option Method) (n : List ℕ) (t : Translation) (x : Outcome) (ts : List Translation) (xs : List Outcome) (r : Outcome) (env : Environment)
-    → Holds t x env → AllHold ts xs env → ((v : Value) → AllHold ts xs (bind held_name v env)) → Holds (method_translation q m n t ts) (method_called q m x xs r) env
+    → WideHolds t x env → AllHold ts xs env → ((v : Value) → AllHold ts xs (bind held_name v env)) → WideHolds (method_translation q m n t ts) (method_called q m x xs r) env
 method_called_holds (Some q) m n t x ts xs r env h i s = qualified_holds q n ts xs r env i
 method_called_holds None None n t x ts xs r env h i s = tt
 method_called_holds None (Some m) n t x ts xs r env h i s =

@@ -14,9 +14,9 @@ use Rattle.wide_meaning.specs.Environment.{WideEnvironment, bound}
 use Rattle.wide_kinds.specs.declared.kind.ValueKind.{ValueKind}
 use Rattle.wide_kinds.specs.Fitting.{has_kind}
 use Rattle.wide_translation.specs.Forms.{root_tree}
-use Rattle.wide_translation.specs.Holds.{Named, StandsFor}
+use Rattle.wide_translation.specs.Holds.{WideNamed, WideStandsFor}
 use Rattle.wide_translation.specs.Names.{held_name, params_name, params_field, is_taken}
-use Rattle.wide_translation.specs.Scope.{Scope, within}
+use Rattle.wide_translation.specs.Scope.{WideScope, within}
 
 -- ---- bools
 
@@ -101,12 +101,12 @@ root_tree_free w n h = root_free_by (w && bytes_eq params_name n) n (root_is_no_
 
 -- ---- bindings on both sides, and on the second alone
 
-named_by : (b : Bool) (k : ValueKind) (v : Value) (o : Option ValueKind) (i : Option Value) (y : ValueOrError) → has_kind k v ≡ true → Named o i y
-    → Named (if b then Some k else o) (if b then Some v else i) (if b then value v else y)
+named_by : (b : Bool) (k : ValueKind) (v : Value) (o : Option ValueKind) (i : Option Value) (y : ValueOrError) → has_kind k v ≡ true → WideNamed o i y
+    → WideNamed (if b then Some k else o) (if b then Some v else i) (if b then value v else y)
 named_by true k v o i y h n = (refl, h)
 named_by false k v o i y h n = n
 
-named_same : (o : Option ValueKind) (i : Option Value) (y z : ValueOrError) → (is_some o ≡ true → z ≡ y) → Named o i y → Named o i z
+named_same : (o : Option ValueKind) (i : Option Value) (y z : ValueOrError) → (is_some o ≡ true → z ≡ y) → WideNamed o i y → WideNamed o i z
 named_same (Some k) (Some v) y z h n = (h refl ∙ n.0, n.1)
 named_same None None y z h n = tt
 named_same (Some k) None y z h n = n
@@ -117,10 +117,10 @@ apart_by : (b : Bool) (x n : List ℕ) (k : ValueKind) (o : Option ValueKind) �
 apart_by true x n k o e h g i = sym (ap is_taken ((bytes_decides x n).0 e)) ∙ h
 apart_by false x n k o e h g i = g i
 
-pub both_bound : (s : Scope) (x : List ℕ) (k : ValueKind) (v : Value) (env : WideEnvironment) (env' : Environment) → is_taken x ≡ false → has_kind k v ≡ true
-    → StandsFor s env env' → StandsFor (within x k s) (bound x v env) (bind x v env')
+pub both_bound : (s : WideScope) (x : List ℕ) (k : ValueKind) (v : Value) (env : WideEnvironment) (env' : Environment) → is_taken x ≡ false → has_kind k v ≡ true
+    → WideStandsFor s env env' → WideStandsFor (within x k s) (bound x v env) (bind x v env')
 both_bound s x k v env env' h hk r = record {
-  named = λ n. subst (λ (y : ValueOrError). Named (if bytes_eq x n then Some k else lookup n s.names) (if bytes_eq x n then Some v else lookup n env.items) y)
+  named = λ n. subst (λ (y : ValueOrError). WideNamed (if bytes_eq x n then Some k else lookup n s.names) (if bytes_eq x n then Some v else lookup n env.items) y)
       (sym (name_bound x n v env'))
       (named_by (bytes_eq x n) k v (lookup n s.names) (lookup n env.items) (name_value n env') hk (r.named n));
   rooted = λ n g. root_stays s.wrapped x n v env' (root_free x h) g ∙ r.rooted n g;
@@ -128,7 +128,7 @@ both_bound s x k v env env' h hk r = record {
   apart = λ n i. apart_by (bytes_eq x n) x n k (lookup n s.names) refl h (r.apart n) i;
 }
 
-pub held_bound : (s : Scope) (v : Value) (env : WideEnvironment) (env' : Environment) → StandsFor s env env' → StandsFor s env (bind held_name v env')
+pub held_bound : (s : WideScope) (v : Value) (env : WideEnvironment) (env' : Environment) → WideStandsFor s env env' → WideStandsFor s env (bind held_name v env')
 held_bound s v env env' r = record {
   named = λ n. named_same (lookup n s.names) (lookup n env.items) (name_value n env') (name_value n (bind held_name v env'))
       (λ i. other_name held_name n v env' (held_free n (r.apart n i))) (r.named n);

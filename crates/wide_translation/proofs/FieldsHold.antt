@@ -23,11 +23,11 @@ use Rattle.wide_kinds.specs.declared.kind.Kind.TheVariants as kinds
 use Rattle.wide_kinds.specs.declared.kind.ValueKind.{ValueKind}
 use Rattle.wide_kinds.specs.declared.kind.ValueKind.TheVariants as kind
 use Rattle.wide_kinds.specs.Fitting.{FitsKind, IsOfKind, IsOptionalOf}
-use Rattle.wide_translation.specs.Carried.{Carried, plain, guarded, listed, Fault, UnknownName, Translation, taken, refused}
+use Rattle.wide_translation.specs.Carried.{Carried, plain, guarded, listed, WideFault, UnknownName, Translation, taken, refused}
 use Rattle.wide_translation.specs.Forms.{empty_tree, guarded_tree, present_tree, access_tree, field_list_tree, flat_tree, let_tree, held, is_simple, root_tree}
-use Rattle.wide_translation.specs.Holds.{guard_part, value_part, list_part, IsPlain, IsGuarded, IsListed, Carries, Holds, Named, Declared, StandsFor}
+use Rattle.wide_translation.specs.Holds.{guard_part, value_part, list_part, IsPlain, IsGuarded, IsListed, Carries, WideHolds, WideNamed, Declared, WideStandsFor}
 use Rattle.wide_translation.specs.Names.{held_name, is_taken}
-use Rattle.wide_translation.specs.Scope.{Scope, is_hidden}
+use Rattle.wide_translation.specs.Scope.{WideScope, is_hidden}
 use Rattle.wide_translation.specs.Translated.{with_carried, on_plain, with_plain, on_list, root_translation, name_translation, variable_translation, optional_field, field_of_list, field_of_guarded, field_carried, has_value_carried, has_carried, has_value_translation, selected_translation}
 use Rattle.wide_translation.proofs.Environments.{variables_free, root_tree_free}
 use Rattle.wide_translation.proofs.Steps.{field_outcome, access_means, access_free, present_means, value_of_field, guarded_means, guard_again, field_list_means, let_held, once_means, after, flat_holds, field_list_held}
@@ -54,23 +54,23 @@ plain_holds k t y env m f v = record { means = m ∙ sym (part_again y); kind = 
 
 -- ---- what follows
 
-pub with_holds : (t : Translation) (f : Carried → Translation) (x o : Outcome) (env : Environment) → Holds t x env
-    → ((c : Carried) → Carries c x env → Holds (f c) o env) → Holds (with_carried t f) o env
+pub with_holds : (t : Translation) (f : Carried → Translation) (x o : Outcome) (env : Environment) → WideHolds t x env
+    → ((c : Carried) → Carries c x env → WideHolds (f c) o env) → WideHolds (with_carried t f) o env
 with_holds (taken c) f x o env h g = g c h
 with_holds (refused e) f x o env h g = tt
 
 pub on_plain_holds : (c : Carried) (f : ValueKind → Tree → Translation) (x o : Outcome) (env : Environment) → Carries c x env
-    → ((k : ValueKind) (t : Tree) → IsPlain k t x env → Holds (f k t) o env) → Holds (on_plain c f) o env
+    → ((k : ValueKind) (t : Tree) → IsPlain k t x env → WideHolds (f k t) o env) → WideHolds (on_plain c f) o env
 on_plain_holds (plain k t) f x o env h g = g k t h
 on_plain_holds (guarded k a v) f x o env h g = tt
 on_plain_holds (listed k l) f x o env h g = tt
 
-pub with_plain_holds : (t : Translation) (f : ValueKind → Tree → Translation) (x o : Outcome) (env : Environment) → Holds t x env
-    → ((k : ValueKind) (a : Tree) → IsPlain k a x env → Holds (f k a) o env) → Holds (with_plain t f) o env
+pub with_plain_holds : (t : Translation) (f : ValueKind → Tree → Translation) (x o : Outcome) (env : Environment) → WideHolds t x env
+    → ((k : ValueKind) (a : Tree) → IsPlain k a x env → WideHolds (f k a) o env) → WideHolds (with_plain t f) o env
 with_plain_holds t f x o env h g = with_holds t (λ c. on_plain c f) x o env h (λ c r. on_plain_holds c f x o env r g)
 
-pub on_list_holds : (e : Fault) (c : Carried) (f : ValueKind → Tree → Translation) (x o : Outcome) (env : Environment) → Carries c x env
-    → ((k : ValueKind) (l : Tree) → IsListed k l x env → Holds (f k l) o env) → Holds (on_list e c f) o env
+pub on_list_holds : (e : WideFault) (c : Carried) (f : ValueKind → Tree → Translation) (x o : Outcome) (env : Environment) → Carries c x env
+    → ((k : ValueKind) (l : Tree) → IsListed k l x env → WideHolds (f k l) o env) → WideHolds (on_list e c f) o env
 on_list_holds e (plain k t) f x o env h g = tt
 on_list_holds e (guarded k a v) f x o env h g = g k (guarded_tree a v) (record { list = guarded_means a v x env h.guard h.value; kind = h.kind })
 on_list_holds e (listed k l) f x o env h g = g k l h
@@ -81,41 +81,41 @@ root_kind : (o : Option Value) → IsOfKind kind.Dyn (plain_or_failed o)
 root_kind (Some v) = refl
 root_kind None = tt
 
-root_by : (b : Bool) (s : Scope) (n : List ℕ) (env : WideEnvironment) (env' : Environment) → is_root n ≡ b → StandsFor s env env'
-    → Holds (if b then taken (plain kind.Dyn (root_tree s.wrapped n)) else refused (UnknownName n)) (root_in n env.roots) env'
+root_by : (b : Bool) (s : WideScope) (n : List ℕ) (env : WideEnvironment) (env' : Environment) → is_root n ≡ b → WideStandsFor s env env'
+    → WideHolds (if b then taken (plain kind.Dyn (root_tree s.wrapped n)) else refused (UnknownName n)) (root_in n env.roots) env'
 root_by true s n env env' e r = record { means = r.rooted n e; kind = root_kind (lookup n (root_bindings env.roots)); free = root_tree_free s.wrapped n e }
 root_by false s n env env' e r = tt
 
-pub root_holds : (s : Scope) (n : List ℕ) (env : WideEnvironment) (env' : Environment) → StandsFor s env env'
-    → Holds (root_translation s.wrapped n) (root_in n env.roots) env'
+pub root_holds : (s : WideScope) (n : List ℕ) (env : WideEnvironment) (env' : Environment) → WideStandsFor s env env'
+    → WideHolds (root_translation s.wrapped n) (root_in n env.roots) env'
 root_holds s n env env' r = root_by (is_root n) s n env env' refl r
 
 name_by : (o : Option ValueKind) (i : Option Value) (n : List ℕ) (t : Translation) (x : Outcome) (env' : Environment)
-    → Named o i (name_value n env') → (is_some o ≡ true → is_taken n ≡ false) → Holds t x env' → Holds (name_translation o n t) (item_or i x) env'
+    → WideNamed o i (name_value n env') → (is_some o ≡ true → is_taken n ≡ false) → WideHolds t x env' → WideHolds (name_translation o n t) (item_or i x) env'
 unfolding meaning is_variables
 name_by (Some k) (Some v) n t x env' h g r = record { means = h.0; kind = h.1; free = variables_free n (g refl) }
 name_by None None n t x env' h g r = r
 name_by (Some k) None n t x env' h g r = absurd h
 name_by None (Some v) n t x env' h g r = absurd h
 
-pub name_holds : (s : Scope) (n : List ℕ) (env : WideEnvironment) (env' : Environment) → StandsFor s env env'
-    → Holds (name_translation (lookup n s.names) n (root_translation s.wrapped n)) (name_in n env) env'
+pub name_holds : (s : WideScope) (n : List ℕ) (env : WideEnvironment) (env' : Environment) → WideStandsFor s env env'
+    → WideHolds (name_translation (lookup n s.names) n (root_translation s.wrapped n)) (name_in n env) env'
 name_holds s n env env' r =
     name_by (lookup n s.names) (lookup n env.items) n (root_translation s.wrapped n) (root_in n env.roots) env' (r.named n) (r.apart n) (root_holds s n env env' r)
 
 -- ---- variables
 
-hidden_by : (o : Option ValueKind) (i : Option Value) (y : ValueOrError) → Named o i y → is_some o ≡ is_some i
+hidden_by : (o : Option ValueKind) (i : Option Value) (y : ValueOrError) → WideNamed o i y → is_some o ≡ is_some i
 hidden_by (Some k) (Some v) y h = refl
 hidden_by None None y h = refl
 hidden_by (Some k) None y h = absurd h
 hidden_by None (Some v) y h = absurd h
 
-pub hidden_same : (s : Scope) (env : WideEnvironment) (env' : Environment) → StandsFor s env env' → is_hidden s ≡ hides_variables env.items
+pub hidden_same : (s : WideScope) (env : WideEnvironment) (env' : Environment) → WideStandsFor s env env' → is_hidden s ≡ hides_variables env.items
 hidden_same s env env' r = hidden_by (lookup variables_name s.names) (lookup variables_name env.items) (name_value variables_name env') (r.named variables_name)
 
 variable_by : (o : Option Kind) (x : Option Outcome) (f : List ℕ) (env' : Environment) → Declared o x (variable_value f env'.variables)
-    → Holds (variable_translation o f) (unwrap_or x failed) env'
+    → WideHolds (variable_translation o f) (unwrap_or x failed) env'
 unfolding meaning is_variables
 variable_by (Some (kinds.Value k)) (Some o) f env' h = record { means = h.0; kind = h.1; free = refl }
 variable_by (Some (kinds.Optional k)) (Some o) f env' h = record { list = h.0; kind = h.1 }
@@ -248,8 +248,8 @@ field_holds Plain f (listed k l) x env h = list_field Plain k l x f env h
 field_holds Optional f (listed k l) x env h = list_field Optional k l x f env h
 
 -- `variables.f`, or a field of an operand
-selected_by : (b : Bool) (o : Access) (f : List ℕ) (s : Scope) (t : Translation) (x : Outcome) (env : WideEnvironment) (env' : Environment)
-    → Holds t x env' → StandsFor s env env' → Holds (selected_translation b o f s t) (selected b o f x env) env'
+selected_by : (b : Bool) (o : Access) (f : List ℕ) (s : WideScope) (t : Translation) (x : Outcome) (env : WideEnvironment) (env' : Environment)
+    → WideHolds t x env' → WideStandsFor s env env' → WideHolds (selected_translation b o f s t) (selected b o f x env) env'
 selected_by true Plain f s t x env env' h r = variable_by (lookup f s.variables) (lookup f env.variables) f env' (r.declared f)
 selected_by true Optional f s t x env env' h r =
     with_holds t (λ c. taken (field_carried Optional f c)) x (field_in Optional x f) env' h (λ c i. field_holds Optional f c x env' i)
@@ -258,11 +258,11 @@ selected_by false Plain f s t x env env' h r =
 selected_by false Optional f s t x env env' h r =
     with_holds t (λ c. taken (field_carried Optional f c)) x (field_in Optional x f) env' h (λ c i. field_holds Optional f c x env' i)
 
-pub selected_holds : (a : Wide) (o : Access) (f : List ℕ) (s : Scope) (t : Translation) (x : Outcome) (env : WideEnvironment) (env' : Environment)
-    → Holds t x env' → StandsFor s env env'
-    → Holds (selected_translation (denotes_variables a (is_hidden s)) o f s t) (selected (denotes_variables a (hides_variables env.items)) o f x env) env'
+pub selected_holds : (a : Wide) (o : Access) (f : List ℕ) (s : WideScope) (t : Translation) (x : Outcome) (env : WideEnvironment) (env' : Environment)
+    → WideHolds t x env' → WideStandsFor s env env'
+    → WideHolds (selected_translation (denotes_variables a (is_hidden s)) o f s t) (selected (denotes_variables a (hides_variables env.items)) o f x env) env'
 selected_holds a o f s t x env env' h r =
-    subst (λ (b : Bool). Holds (selected_translation (denotes_variables a (is_hidden s)) o f s t) (selected (denotes_variables a b) o f x env) env')
+    subst (λ (b : Bool). WideHolds (selected_translation (denotes_variables a (is_hidden s)) o f s t) (selected (denotes_variables a b) o f x env) env')
     (hidden_same s env env' r)
     (selected_by (denotes_variables a (is_hidden s)) o f s t x env env' h r)
 
@@ -294,7 +294,7 @@ unfolding meaning meanings is_variables
 list_holds k l x env h = record { means = ap (λ y. unequal_of y (value (list no_items))) h.list ∙ list_is x; kind = present_kind x; free = refl }
 
 -- whether an optional value has a value
-pub has_value_holds : (c : Carried) (x : Outcome) (env : Environment) → Carries c x env → Holds (has_value_translation c) (is_present x) env
+pub has_value_holds : (c : Carried) (x : Outcome) (env : Environment) → Carries c x env → WideHolds (has_value_translation c) (is_present x) env
 has_value_holds (plain k t) x env h = tt
 has_value_holds (guarded k g t) x env h = guard_holds k g t x env h
 has_value_holds (listed k l) x env h = list_holds k l x env h

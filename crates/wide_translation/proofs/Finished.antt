@@ -8,9 +8,9 @@ use Rattle.wide_meaning.specs.Outcome.{Outcome}
 use Rattle.wide_kinds.specs.declared.kind.Kind.{Kind}
 use Rattle.wide_translation.specs.Carried.{Carried, plain, guarded, listed, Translation, taken}
 use Rattle.wide_translation.specs.Forms.{guarded_tree}
-use Rattle.wide_translation.specs.Holds.{Carries, Holds, IsPlain, IsListed}
-use Rattle.wide_translation.specs.Results.{Means, IsCarried}
-use Rattle.wide_translation.specs.Scope.{Scope}
+use Rattle.wide_translation.specs.Holds.{Carries, WideHolds, IsPlain, IsListed}
+use Rattle.wide_translation.specs.Results.{WideMeans, IsCarried}
+use Rattle.wide_translation.specs.Scope.{WideScope}
 use Rattle.wide_translation.specs.Translated.{IsFinished}
 unfoldable use Rattle.wide_translation.specs.Translated.{translated}
 use Rattle.wide_translation.proofs.Same.{translation_same}
@@ -25,7 +25,7 @@ carried_is (guarded j g v) k a o env f h =
 carried_is (listed j m) k a o env f h =
     subst (λ (x : Kind). IsCarried x a o env) (sym f.0) (subst (λ (x : Tree). IsListed j x o env) (sym f.1) h)
 
-pub finished_means : (s : Scope) (e : Wide) (c : Carried) (k : Kind) (a : Tree) → taken c ≡ translated s e → IsFinished c k a → Means s e k a
+pub finished_means : (s : WideScope) (e : Wide) (c : Carried) (k : Kind) (a : Tree) → taken c ≡ translated s e → IsFinished c k a → WideMeans s e k a
 finished_means s e c k a p f others env env' r =
     carried_is c k a (wide_meaning others e env) env' f
-    (subst (λ (t : Translation). Holds t (wide_meaning others e env) env') (sym p) (translation_same others e s env env' r))
+    (subst (λ (t : Translation). WideHolds t (wide_meaning others e env) env') (sym p) (translation_same others e s env env' r))

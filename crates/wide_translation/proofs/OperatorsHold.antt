@@ -26,7 +26,7 @@ use Rattle.wide_kinds.specs.Kinds.{unary_kind, binary_kind, joined_kind}
 use Rattle.wide_kinds.specs.Fitting.{FitsKind, IsOfKind, IsOptionalOf}
 use Rattle.wide_translation.specs.Carried.{Carried, plain, guarded, listed, OptionalValue, Translation, taken, refused}
 use Rattle.wide_translation.specs.Forms.{guarded_tree}
-use Rattle.wide_translation.specs.Holds.{list_part, IsPlain, IsListed, Carries, Holds}
+use Rattle.wide_translation.specs.Holds.{list_part, IsPlain, IsListed, Carries, WideHolds}
 use Rattle.wide_translation.specs.Translated.{on_plain, on_list, equality, binary_carried, ternary_carried, Parts, parts, no_parts, joined_tree, one_more, Pairs, pairs, no_pairs, entry_more, list_translation, map_translation}
 use Rattle.wide_translation.proofs.FieldsHold.{part_fits, plain_holds, on_plain_holds, on_list_holds}
 use Rattle.wide_translation.proofs.Steps.{guarded_means}
@@ -108,7 +108,7 @@ compared op a b y z o env m n e f =
 two_lists : (op : BinaryOperator) (c d : Carried) (x y o : Outcome) (env : Environment) → Carries c x env → Carries d y env
     → ((k j : ValueKind) → IsOptionalOf k x → IsOptionalOf j y → outcome_of (binary_of op (list_part x) (list_part y)) ≡ o)
     → ((z w : ValueOrError) → FitsKind kind.Bool (binary_of op z w))
-    → Holds (on_list OptionalValue c (λ k l. on_list OptionalValue d (λ j m. taken (plain kind.Bool (tree.binary op l m))))) o env
+    → WideHolds (on_list OptionalValue c (λ k l. on_list OptionalValue d (λ j m. taken (plain kind.Bool (tree.binary op l m))))) o env
 two_lists op c d x y o env h i q f =
     on_list_holds OptionalValue c (λ k l. on_list OptionalValue d (λ j m. taken (plain kind.Bool (tree.binary op l m)))) x o env h
     (λ k l r. on_list_holds OptionalValue d (λ j m. taken (plain kind.Bool (tree.binary op l m))) y o env i
@@ -118,7 +118,7 @@ equality_holds : (op : BinaryOperator) (c d : Carried) (x y o : Outcome) (env : 
     → ((k j : ValueKind) → IsOfKind k x → IsOfKind j y → outcome_of (binary_of op (plain_part x) (plain_part y)) ≡ o)
     → ((k j : ValueKind) → IsOptionalOf k x → IsOptionalOf j y → outcome_of (binary_of op (list_part x) (list_part y)) ≡ o)
     → ((z w : ValueOrError) → FitsKind kind.Bool (binary_of op z w))
-    → Holds (equality op c d) o env
+    → WideHolds (equality op c d) o env
 equality_holds op (plain k a) d x y o env h i p q f =
     on_plain_holds d (λ j b. taken (plain kind.Bool (tree.binary op a b))) y o env i
     (λ j b r. compared op a b (plain_part x) (plain_part y) o env h.means r.means (p k j h.kind r.kind) (f (plain_part x) (plain_part y)))
@@ -139,7 +139,7 @@ plain_pair op k j a b x y env h i =
 
 -- an operator on two values
 on_values_holds : (op : BinaryOperator) (c d : Carried) (x y : Outcome) (env : Environment) → Carries c x env → Carries d y env
-    → Holds (on_plain c (λ k a. on_plain d (λ j b. taken (plain (binary_kind op k j) (tree.binary op a b))))) (outcome_of (binary_of op (plain_part x) (plain_part y))) env
+    → WideHolds (on_plain c (λ k a. on_plain d (λ j b. taken (plain (binary_kind op k j) (tree.binary op a b))))) (outcome_of (binary_of op (plain_part x) (plain_part y))) env
 on_values_holds op c d x y env h i =
     on_plain_holds c (λ k a. on_plain d (λ j b. taken (plain (binary_kind op k j) (tree.binary op a b)))) x (outcome_of (binary_of op (plain_part x) (plain_part y))) env h
     (λ k a r. on_plain_holds d (λ j b. taken (plain (binary_kind op k j) (tree.binary op a b))) y (outcome_of (binary_of op (plain_part x) (plain_part y))) env i
@@ -147,7 +147,7 @@ on_values_holds op c d x y env h i =
 
 -- nothing is in an empty list
 in_nothing : (c d : Carried) (x y : Outcome) (env : Environment) → Carries c x env → Carries d y env
-    → Holds (on_plain c (λ k a. on_plain d (λ j b. taken (plain kind.Bool (tree.literal (tree.truth false)))))) (of_value (boolean false)) env
+    → WideHolds (on_plain c (λ k a. on_plain d (λ j b. taken (plain kind.Bool (tree.literal (tree.truth false)))))) (of_value (boolean false)) env
 unfolding meaning is_variables
 in_nothing c d x y env h i =
     on_plain_holds c (λ k a. on_plain d (λ j b. taken (plain kind.Bool (tree.literal (tree.truth false))))) x (of_value (boolean false)) env h
@@ -165,7 +165,7 @@ unequal_bool : Bools binary.NotEqual
 unequal_bool z w = kinds_hold.binary binary.NotEqual kind.Dyn kind.Dyn z w (any_kind z) (any_kind w)
 
 pub binary_holds : (e : Bool) (op : BinaryOperator) (c d : Carried) (x y : Outcome) (env : Environment) → Carries c x env → Carries d y env
-    → Holds (binary_carried e op c d) (binary_in e op x y) env
+    → WideHolds (binary_carried e op c d) (binary_in e op x y) env
 binary_holds true binary.In c d x y env h i = in_nothing c d x y env h i
 binary_holds false binary.In c d x y env h i = on_values_holds binary.In c d x y env h i
 binary_holds true binary.Equal c d x y env h i =
@@ -264,14 +264,14 @@ list_branches i k j t a b z x y env c p q = record {
 }
 
 two_branches : (i : ValueKind) (t : Tree) (c d : Carried) (z x y : Outcome) (env : Environment) → IsPlain i t z env → Carries c x env → Carries d y env
-    → Holds (on_list OptionalValue c (λ k l. on_list OptionalValue d (λ j m. taken (listed (joined_kind k j) (tree.ternary t l m))))) (ternary_in z x y) env
+    → WideHolds (on_list OptionalValue c (λ k l. on_list OptionalValue d (λ j m. taken (listed (joined_kind k j) (tree.ternary t l m))))) (ternary_in z x y) env
 two_branches i t c d z x y env p q r =
     on_list_holds OptionalValue c (λ k l. on_list OptionalValue d (λ j m. taken (listed (joined_kind k j) (tree.ternary t l m)))) x (ternary_in z x y) env q
     (λ k l f. on_list_holds OptionalValue d (λ j m. taken (listed (joined_kind k j) (tree.ternary t l m))) y (ternary_in z x y) env r
     (λ j m g. list_branches i k j t l m z x y env p f g))
 
 pub ternary_holds : (i : ValueKind) (t : Tree) (c d : Carried) (z x y : Outcome) (env : Environment) → IsPlain i t z env → Carries c x env → Carries d y env
-    → Holds (ternary_carried t c d) (ternary_in z x y) env
+    → WideHolds (ternary_carried t c d) (ternary_in z x y) env
 ternary_holds i t (plain k a) d z x y env p q r =
     on_plain_holds d (λ j b. taken (plain (joined_kind k j) (tree.ternary t a b))) y (ternary_in z x y) env r (λ j b f. plain_branches i k j t a b z x y env p q f)
 ternary_holds i t (guarded k g v) d z x y env p q r = two_branches i t (guarded k g v) d z x y env p q r
@@ -348,7 +348,7 @@ list_step : (k : ValueKind) (l : Tree) (ts : Trees) (u : Option (Tree × Tree)) 
 unfolding meaning
 list_step k l ts u x vs env h i p = (λ j. sum_of (h j) (p j)) ∙ optional_values k x vs i
 
-pub part_more : (o : Access) (t : Translation) (ps : Parts) (x : Outcome) (vs : Option (List Value)) (env : Environment) → Holds t x env → PartsHold ps vs env
+pub part_more : (o : Access) (t : Translation) (ps : Parts) (x : Outcome) (vs : Option (List Value)) (env : Environment) → WideHolds t x env → PartsHold ps vs env
     → PartsHold (one_more o t ps) (item_in o x vs) env
 part_more Plain (taken (plain k t)) (parts ts u) x vs env h p =
     plain_step t ts u env ∙ (λ j. cons_list (h.means j) (p j)) ∙ sym (cons_values (plain_part x) vs)
@@ -370,11 +370,11 @@ joined_free (more_trees t ts) (Some p) = refl
 joined_free no_trees None = refl
 joined_free (more_trees t ts) None = refl
 
-pub list_translated : (ps : Parts) (vs : Option (List Value)) (env : Environment) → PartsHold ps vs env → Holds (list_translation ps) (list_in vs) env
+pub list_translated : (ps : Parts) (vs : Option (List Value)) (env : Environment) → PartsHold ps vs env → WideHolds (list_translation ps) (list_in vs) env
 list_translated (parts ts u) vs env p = plain_holds kind.List (joined_tree ts u) (list_or_error vs) env p (list_kind vs) (joined_free ts u)
 list_translated (no_parts e) vs env p = tt
 
-pub entry_holds : (o : Access) (t u : Translation) (ps : Pairs) (x y : Outcome) (es : Option ValueEntries) (env : Environment) → Holds t x env → Holds u y env → PairsHold ps es env
+pub entry_holds : (o : Access) (t u : Translation) (ps : Pairs) (x y : Outcome) (es : Option ValueEntries) (env : Environment) → WideHolds t x env → WideHolds u y env → PairsHold ps es env
     → PairsHold (entry_more o t u ps) (entry_in o x y es) env
 unfolding entry_meanings
 entry_holds Plain (taken (plain k t)) (taken (plain l u)) (pairs ts) x y es env h i p = λ j. with_entry (text_part (h.means j)) (i.means j) (p j)
@@ -387,7 +387,7 @@ entry_holds Plain (taken (listed k l)) u ps x y es env h i p = tt
 entry_holds Plain (refused e) u ps x y es env h i p = tt
 entry_holds Optional t u ps x y es env h i p = tt
 
-pub map_translated : (ps : Pairs) (es : Option ValueEntries) (env : Environment) → PairsHold ps es env → Holds (map_translation ps) (map_in es) env
+pub map_translated : (ps : Pairs) (es : Option ValueEntries) (env : Environment) → PairsHold ps es env → WideHolds (map_translation ps) (map_in es) env
 unfolding meaning is_variables
 map_translated (pairs ts) es env p = plain_holds kind.Map (tree.map ts) (map_or_error es) env (ap map_or_error p) (map_kind es) refl
 map_translated (no_pairs e) es env p = tt

@@ -23,7 +23,7 @@ use Rattle.wide_kinds.specs.Kinds.{joined_kind}
 use Rattle.wide_kinds.specs.Fitting.{IsOfKind, IsOptionalOf}
 use Rattle.wide_translation.specs.Carried.{Carried, plain, guarded, listed, Translation, taken, refused}
 use Rattle.wide_translation.specs.Forms.{one_tree, empty_tree, is_empty_tree, held, guarded_tree, flat_tree, macro_tree}
-use Rattle.wide_translation.specs.Holds.{guard_part, value_part, list_part, IsPlain, IsListed, Carries, Holds}
+use Rattle.wide_translation.specs.Holds.{guard_part, value_part, list_part, IsPlain, IsListed, Carries, WideHolds}
 use Rattle.wide_translation.specs.Names.{held_name}
 use Rattle.wide_meaning.specs.Functions.{some_unless_zero}
 use Rattle.wide_translation.specs.Forms.{non_zero_tree}
@@ -37,7 +37,7 @@ use Rattle.wide_translation.proofs.Steps.{on_value, let_means, held_is, macro_me
 -- the translations carry the outcomes one by one
 abbrev pub AllHold : List Translation → List Outcome → Environment → Type 0
 AllHold [] [] env = ⊤
-AllHold (t ∷ ts) (x ∷ xs) env = Holds t x env × AllHold ts xs env
+AllHold (t ∷ ts) (x ∷ xs) env = WideHolds t x env × AllHold ts xs env
 AllHold _ _ env = ⊥
 
 -- ---- `or`
@@ -63,7 +63,7 @@ first_kind_of k j (of_value v) p h g = absurd h
 -- The second operand is the same in each environment in which the name that the translation binds has a value.
 or_with : (c : Carried) (j : ValueKind) (m : Tree) (x y : Outcome) (env : Environment) → Carries c x env → IsListed j m y env
     → ((v : Value) → meaning m (bind held_name v env) ≡ list_part y)
-    → Holds (or_carried c (listed j m)) (first_of x y) env
+    → WideHolds (or_carried c (listed j m)) (first_of x y) env
 unfolding meaning meanings
 or_with (plain k t) j m x y env h i s = tt
 or_with (guarded k g t) j m x y env h i s = record {
@@ -79,18 +79,18 @@ or_with (listed k l) j m x y env h i s =
       kind = first_kind_of k j x y h.kind i.kind;
     }
 
-or_plain : (c : Carried) (j : ValueKind) (d : Tree) (o : Outcome) (env : Environment) → Holds (or_carried c (plain j d)) o env
+or_plain : (c : Carried) (j : ValueKind) (d : Tree) (o : Outcome) (env : Environment) → WideHolds (or_carried c (plain j d)) o env
 or_plain (plain k t) j d o env = tt
 or_plain (guarded k g t) j d o env = tt
 or_plain (listed k l) j d o env = tt
 
-or_of_guarded : (c : Carried) (j : ValueKind) (a b : Tree) (o : Outcome) (env : Environment) → Holds (or_carried c (listed j (guarded_tree a b))) o env → Holds (or_carried c (guarded j a b)) o env
+or_of_guarded : (c : Carried) (j : ValueKind) (a b : Tree) (o : Outcome) (env : Environment) → WideHolds (or_carried c (listed j (guarded_tree a b))) o env → WideHolds (or_carried c (guarded j a b)) o env
 or_of_guarded (plain k t) j a b o env h = h
 or_of_guarded (guarded k g t) j a b o env h = h
 or_of_guarded (listed k l) j a b o env h = h
 
-pub or_holds : (c : Carried) (t : Translation) (x y : Outcome) (env : Environment) → Carries c x env → Holds t y env → ((v : Value) → Holds t y (bind held_name v env))
-    → Holds (with_carried t (or_carried c)) (first_of x y) env
+pub or_holds : (c : Carried) (t : Translation) (x y : Outcome) (env : Environment) → Carries c x env → WideHolds t y env → ((v : Value) → WideHolds t y (bind held_name v env))
+    → WideHolds (with_carried t (or_carried c)) (first_of x y) env
 or_holds c (refused e) x y env h i s = tt
 or_holds c (taken (plain j d)) x y env h i s = or_plain c j d (first_of x y) env
 or_holds c (taken (guarded j a b)) x y env h i s =
@@ -121,7 +121,7 @@ unfolding meaning meanings
 none_holds env = record { list = refl; kind = tt }
 
 pub qualified_holds : (q : Qualified) (n : List ℕ) (ts : List Translation) (xs : List Outcome) (r : Outcome) (env : Environment) → AllHold ts xs env
-    → Holds (qualified_translation q n ts) (qualified_in q xs r) env
+    → WideHolds (qualified_translation q n ts) (qualified_in q xs r) env
 qualified_holds qualified.OptionalOf n [] xs r env h = tt
 qualified_holds qualified.OptionalOf n (t ∷ []) (x ∷ []) r env h =
     with_plain_holds t (λ k a. taken (listed k (one_tree a))) x (some_of x) env h.0 (λ k a i. one_holds k a x env i)
@@ -186,7 +186,7 @@ flat_map_holds x k j l b o f env h g = record {
 }
 
 pub optional_holds : (m : OptionalMacro) (x : List ℕ) (k : ValueKind) (l : Tree) (t : Translation) (o : Outcome) (f : Value → Outcome) (env : Environment) → IsListed k l o env
-    → ((v : Value) → Holds t (f v) (bind x v env)) → Holds (with_carried t (optional_carried m x l)) (optional_over m f o) env
+    → ((v : Value) → WideHolds t (f v) (bind x v env)) → WideHolds (with_carried t (optional_carried m x l)) (optional_over m f o) env
 optional_holds m x k l (refused e) o f env h g = tt
 optional_holds Map x k l (taken (plain j b)) o f env h g = map_holds x k j l b o f env h g
 optional_holds Map x k l (taken (guarded j a b)) o f env h g = tt

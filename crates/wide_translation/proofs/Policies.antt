@@ -16,10 +16,10 @@ use Rattle.wide_meaning.specs.Outcome.{Outcome, plain_part}
 use Rattle.wide_kinds.specs.declared.kind.Kind.{Kind, TheVariants.Value as OfValue, TheVariants.Optional as OfOptional}
 use Rattle.wide_translation.specs.Scope.{scope_of}
 use Rattle.wide_translation.specs.Forms.{root_tree}
-use Rattle.wide_translation.specs.Holds.{Declared, StandsFor}
+use Rattle.wide_translation.specs.Holds.{Declared, WideStandsFor}
 use Rattle.wide_translation.specs.Names.{params_name, params_field}
-use Rattle.wide_translation.specs.Placed.{placed, wide_environment, environment, Step, kind_of, AreTranslated, with_outcome, with_value, PolicyMeansTheSame}
-use Rattle.wide_translation.specs.Results.{Means, IsCarried}
+use Rattle.wide_translation.specs.Placed.{placed, wide_environment, environment, WideStep, kind_of, AreTranslated, with_outcome, with_value, PolicyMeansTheSame}
+use Rattle.wide_translation.specs.Results.{WideMeans, IsCarried}
 
 -- ---- roots
 
@@ -75,7 +75,7 @@ declared [] n h = tt
 declared (d ∷ ds) n h = declared_by (bytes_eq d.name n) d (lookup n (kinds ds)) (lookup n (outcomes ds)) (lookup n (results ds)) h.0 (declared ds n h.1)
 
 stands : (w : Bool) (ts : Value) (roots : Roots) (ds : List Defined) → AreCoded ds
-    → StandsFor (scope_of w (kinds ds)) (wide_environment roots (outcomes ds)) (environment (placed w ts roots) (results ds))
+    → WideStandsFor (scope_of w (kinds ds)) (wide_environment roots (outcomes ds)) (environment (placed w ts roots) (results ds))
 unfolding variable_value
 stands w ts roots ds h = record {
   named = λ n. tt;
@@ -97,7 +97,7 @@ map_more f [] d = refl
 map_more f (e ∷ ds) d = λ j. f e ∷ map_more f ds d j
 
 module _ (others : Wide → WideEnvironment → Outcome) (w : Bool) (ts : Value) (roots : Roots) where
-  abbrev next : List Defined → Step → Defined
+  abbrev next : List Defined → WideStep → Defined
   next ds v = record {
     name = v.name;
     kind = v.kind;
@@ -106,11 +106,11 @@ module _ (others : Wide → WideEnvironment → Outcome) (w : Bool) (ts : Value)
   }
 
   -- the remaining variables after those that are defined
-  after : (vs : List Step) (ds : List Defined) (e : Wide) (k : Kind) (a : Tree) → AreCoded ds → AreTranslated w (kinds ds) vs → Means (scope_of w (kinds ds ++ map kind_of vs)) e k a
+  after : (vs : List WideStep) (ds : List Defined) (e : Wide) (k : Kind) (a : Tree) → AreCoded ds → AreTranslated w (kinds ds) vs → WideMeans (scope_of w (kinds ds ++ map kind_of vs)) e k a
       → IsCarried k a (wide_meaning others e (wide_environment roots (fold (with_outcome others roots) (outcomes ds) vs)))
       (environment (placed w ts roots) (fold (with_value (placed w ts roots)) (results ds) vs))
   after [] ds e k a h t m =
-      (let n : Means (scope_of w (kinds ds)) e k a = subst (λ (ks : List (List ℕ × Kind)). Means (scope_of w ks) e k a) (append-nil (kinds ds)) m in
+      (let n : WideMeans (scope_of w (kinds ds)) e k a = subst (λ (ks : List (List ℕ × Kind)). WideMeans (scope_of w ks) e k a) (append-nil (kinds ds)) m in
       n others (wide_environment roots (outcomes ds)) (environment (placed w ts roots) (results ds)) (stands w ts roots ds h))
   after (v ∷ vs) ds e k a h t m =
       let d : Defined = next ds v in
@@ -122,8 +122,8 @@ module _ (others : Wide → WideEnvironment → Outcome) (w : Bool) (ts : Value)
       let rs : results (ds ++ d ∷ []) ≡ results ds ++ (d.name, d.result) ∷ [] = map_more (λ x. (x.name, x.result)) ds d in
       let later : AreTranslated w (kinds (ds ++ d ∷ [])) vs = subst (λ (x : List (List ℕ × Kind)). AreTranslated w x vs) (sym ks) t.1 in
       let whole : (kinds ds ++ kind_of v ∷ []) ++ map kind_of vs ≡ kinds ds ++ kind_of v ∷ map kind_of vs = append_assoc (kinds ds) (kind_of v ∷ []) (map kind_of vs) in
-      let means : Means (scope_of w (kinds (ds ++ d ∷ []) ++ map kind_of vs)) e k a
-      = subst (λ (x : List (List ℕ × Kind)). Means (scope_of w x) e k a) (sym (ap (λ y. y ++ map kind_of vs) ks ∙ whole)) m in
+      let means : WideMeans (scope_of w (kinds (ds ++ d ∷ []) ++ map kind_of vs)) e k a
+      = subst (λ (x : List (List ℕ × Kind)). WideMeans (scope_of w x) e k a) (sym (ap (λ y. y ++ map kind_of vs) ks ∙ whole)) m in
       let rest = after vs (ds ++ d ∷ []) e k a more later means in
       let moved : IsCarried k a (wide_meaning others e (wide_environment roots (fold (with_outcome others roots) (outcomes ds ++ (d.name, d.outcome) ∷ []) vs)))
       (environment (placed w ts roots) (fold (with_value (placed w ts roots)) (results (ds ++ d ∷ [])) vs))

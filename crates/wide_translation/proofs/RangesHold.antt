@@ -24,7 +24,7 @@ use Rattle.wide_kinds.specs.declared.kind.ValueKind.TheVariants as kind
 use Rattle.wide_kinds.specs.Fitting.{FitsKind, IsOfKind, IsOptionalOf}
 use Rattle.wide_translation.specs.Carried.{Carried, plain, guarded, listed, Translation, taken, refused}
 use Rattle.wide_translation.specs.Forms.{macro_tree, filter_map_tree}
-use Rattle.wide_translation.specs.Holds.{IsPlain, Carries, Holds}
+use Rattle.wide_translation.specs.Holds.{IsPlain, Carries, WideHolds}
 use Rattle.wide_translation.specs.Translated.{plain_index, text_index, count_index, index_carried, macro_kind, field_carried, on_plain, with_plain}
 use Rattle.wide_translation.proofs.FieldsHold.{plain_holds, on_plain_holds, field_holds}
 use Rattle.wide_translation.specs.Forms.{guarded_tree}
@@ -61,7 +61,7 @@ one_index k j a b x y env h i =
     subst (λ (o : Outcome). IsPlain kind.Dyn (tree.index a b) o env) (index_same k j x y h.kind i.kind)
     (plain_holds kind.Dyn (tree.index a b) (index_of (plain_part x) (plain_part y)) env (λ l. index_of (h.means l) (i.means l)) (any_kind (index_of (plain_part x) (plain_part y))) refl)
 
-index_by : (o : Access) (c d : Carried) (x y : Outcome) (env : Environment) → Carries c x env → Carries d y env → Holds (plain_index o c d) (index_in o x y) env
+index_by : (o : Access) (c d : Carried) (x y : Outcome) (env : Environment) → Carries c x env → Carries d y env → WideHolds (plain_index o c d) (index_in o x y) env
 index_by Optional c d x y env h i = tt
 index_by Plain c d x y env h i =
     on_plain_holds c (λ k a. on_plain d (λ j b. taken (plain kind.Dyn (tree.index a b)))) x (index_in Plain x y) env h
@@ -89,7 +89,7 @@ index_of_optional o k (of_value v) f h = absurd h
 
 -- an index by a text literal
 text_index_holds : (f : List ℕ) (o : Access) (c d : Carried) (x : Outcome) (env : Environment) → Carries c x env → Carries d (of_value (text f)) env
-    → Holds (text_index f o c d) (index_in o x (of_value (text f))) env
+    → WideHolds (text_index f o c d) (index_in o x (of_value (text f))) env
 text_index_holds f Plain (plain k t) d x env h i = index_by Plain (plain k t) d x (of_value (text f)) env h i
 text_index_holds f Optional (plain k t) d x env h i =
     subst (λ (y : Outcome). Carries (field_carried Optional f (plain k t)) y env) (optional_index x f) (field_holds Optional f (plain k t) x env h)
@@ -109,7 +109,7 @@ IsText None y = ⊤
 
 -- an index by an int literal of at least 0
 count_holds : (n : ℕ) (o : Access) (c d : Carried) (x : Outcome) (env : Environment) → Carries c x env → Carries d (of_value (int (pos n))) env
-    → Holds (count_index n o c d) (index_in o x (of_value (int (pos n)))) env
+    → WideHolds (count_index n o c d) (index_in o x (of_value (int (pos n)))) env
 count_holds n Plain (plain k t) d x env h i = index_by Plain (plain k t) d x (of_value (int (pos n))) env h i
 count_holds n Plain (guarded k g t) d x env h i =
     item_of_optional n k (guarded_tree g t) x env (record { list = guarded_means g t x env h.guard h.value; kind = h.kind })
@@ -124,12 +124,12 @@ IsCount (Some n) y = y ≡ of_value (int (pos n))
 IsCount None y = ⊤
 
 pub index_holds : (l : Option (List ℕ)) (m : Option ℕ) (o : Access) (c d : Carried) (x y : Outcome) (env : Environment) → IsText l y → IsCount m y → Carries c x env → Carries d y env
-    → Holds (index_carried l m o c d) (index_in o x y) env
+    → WideHolds (index_carried l m o c d) (index_in o x y) env
 index_holds (Some f) m o c d x y env e g h i =
-    subst (λ (z : Outcome). Holds (text_index f o c d) (index_in o x z) env) (sym e)
+    subst (λ (z : Outcome). WideHolds (text_index f o c d) (index_in o x z) env) (sym e)
     (text_index_holds f o c d x env h (subst (λ (z : Outcome). Carries d z env) e i))
 index_holds None (Some n) o c d x y env e g h i =
-    subst (λ (z : Outcome). Holds (count_index n o c d) (index_in o x z) env) (sym g)
+    subst (λ (z : Outcome). WideHolds (count_index n o c d) (index_in o x z) env) (sym g)
     (count_holds n o c d x env h (subst (λ (z : Outcome). Carries d z env) g i))
 index_holds None None o c d x y env e g h i = index_by o c d x y env h i
 
@@ -174,8 +174,8 @@ filter_kind p f (Some is) =
 
 -- what follows from a body under a binding
 pub over_holds : (x : List ℕ) (t : Translation) (p : Value → Outcome) (f : ValueKind → Tree → Translation) (o : Outcome) (env : Environment)
-    → ((v : Value) → Holds t (p v) (bind x v env)) → ((j : ValueKind) (b : Tree) → ((v : Value) → IsPlain j b (p v) (bind x v env)) → Holds (f j b) o env)
-    → Holds (with_plain t f) o env
+    → ((v : Value) → WideHolds t (p v) (bind x v env)) → ((j : ValueKind) (b : Tree) → ((v : Value) → IsPlain j b (p v) (bind x v env)) → WideHolds (f j b) o env)
+    → WideHolds (with_plain t f) o env
 over_holds x (refused e) p f o env h g = tt
 over_holds x (taken (plain j b)) p f o env h g = g j b h
 over_holds x (taken (guarded j a b)) p f o env h g = tt

@@ -9,7 +9,7 @@ use Rattle.cel_macros.specs.Macros.{range_of}
 unfoldable use Rattle.cel_macros.specs.Macros.{is_variables}
 unfoldable use Rattle.cel_macros.specs.Meaning.{meaning, meanings, entry_meanings}
 use Rattle.wide_reader.specs.Tree as wide
-use Rattle.wide_reader.specs.Tree.{Wide, Wides, Items, Entries}
+use Rattle.wide_reader.specs.Tree.{Wide, Wides, WideItems, WideEntries}
 use Rattle.wide_reader.specs.declared.wide.Macro.{Macro}
 use Rattle.wide_reader.specs.declared.wide.OptionalMacro.{OptionalMacro}
 use Rattle.wide_meaning.specs.Access.{index_in, has_in}
@@ -25,10 +25,10 @@ use Rattle.wide_kinds.specs.declared.kind.ValueKind.TheVariants as kind
 use Rattle.wide_kinds.specs.Kinds.{literal_kind, unary_kind}
 use Rattle.wide_translation.specs.Carried.{plain, OptionalValue, TakenName, UnsignedInt, Translation, taken, refused}
 use Rattle.wide_translation.specs.Forms.{filter_map_tree}
-use Rattle.wide_translation.specs.Holds.{Holds, StandsFor}
+use Rattle.wide_translation.specs.Holds.{WideHolds, WideStandsFor}
 use Rattle.wide_translation.specs.Laws.{TranslationMeansTheSame}
 use Rattle.wide_translation.specs.Names.{held_name, is_taken}
-use Rattle.wide_translation.specs.Scope.{Scope, within}
+use Rattle.wide_translation.specs.Scope.{WideScope, within}
 use Rattle.wide_translation.specs.Translated.{operand, compares, with_carried, with_plain, on_list, optional_carried, has_carried, binary_carried, ternary_carried, fold_carried, index_carried, text_literal, count_literal, parts, pairs}
 unfoldable use Rattle.wide_translation.specs.Translated.{translated, all_translated, items_translated, entries_translated}
 use Rattle.wide_translation.proofs.Environments.{both_bound, held_bound}
@@ -73,12 +73,12 @@ module _ (others : Wide → WideEnvironment → Outcome) where
   no_pairs_hold env = refl
 
   unsigned_by : (b : Bool) (n : ℕ) (env' : Environment)
-      → Holds (if b then taken (plain kind.Int (tree.literal (tree.int (pos n)))) else refused UnsignedInt) (of_value (int (pos n))) env'
+      → WideHolds (if b then taken (plain kind.Int (tree.literal (tree.int (pos n)))) else refused UnsignedInt) (of_value (int (pos n))) env'
   unfolding meaning is_variables
   unsigned_by true n env' = record { means = refl; kind = refl; free = refl }
   unsigned_by false n env' = tt
 
-  operand_same : (b : Bool) (a : Wide) (t : Translation) (env : WideEnvironment) (env' : Environment) → Holds t (wide_meaning others a env) env' → Holds (operand b a t) (wide_meaning others a env) env'
+  operand_same : (b : Bool) (a : Wide) (t : Translation) (env : WideEnvironment) (env' : Environment) → WideHolds t (wide_meaning others a env) env' → WideHolds (operand b a t) (wide_meaning others a env) env'
   unfolding wide_meaning
   operand_same false a t env env' h = h
   operand_same true (wide.uint n) t env env' h = unsigned_by (nat_lt n 9223372036854775808) n env'
@@ -86,8 +86,8 @@ module _ (others : Wide → WideEnvironment → Outcome) where
 
   -- a macro, if its iteration name is one that may be bound
   fold_by : (b : Bool) (m : Macro) (x : List ℕ) (t u : Translation) (r : Outcome) (p : Value → Outcome) (env : Environment) → is_taken x ≡ b
-      → Holds t r env → (is_taken x ≡ false → (v : Value) → Holds u (p v) (bind x v env))
-      → Holds (if b then refused (TakenName x) else with_plain t (λ k a. with_plain u (λ j c. taken (fold_carried m x a c))))
+      → WideHolds t r env → (is_taken x ≡ false → (v : Value) → WideHolds u (p v) (bind x v env))
+      → WideHolds (if b then refused (TakenName x) else with_plain t (λ k a. with_plain u (λ j c. taken (fold_carried m x a c))))
       (outcome_of (over_items (plain_macro_of m) (λ v. plain_part (p v)) (range_of (plain_part r)))) env
   fold_by true m x t u r p env e h i = tt
   fold_by false m x t u r p env e h i =
@@ -96,8 +96,8 @@ module _ (others : Wide → WideEnvironment → Outcome) where
       (λ k a g. over_holds x u p (λ j c. taken (fold_carried m x a c)) o env (i e) (λ j c q. fold_holds m x k j a c r p env g q))
 
   filter_by : (b : Bool) (x : List ℕ) (t u w : Translation) (r : Outcome) (p q : Value → Outcome) (env : Environment) → is_taken x ≡ b
-      → Holds t r env → (is_taken x ≡ false → (v : Value) → Holds u (p v) (bind x v env)) → (is_taken x ≡ false → (v : Value) → Holds w (q v) (bind x v env))
-      → Holds (if b then refused (TakenName x) else with_plain t (λ k a. with_plain u (λ j c. with_plain w (λ i d. taken (plain kind.List (filter_map_tree x a c d))))))
+      → WideHolds t r env → (is_taken x ≡ false → (v : Value) → WideHolds u (p v) (bind x v env)) → (is_taken x ≡ false → (v : Value) → WideHolds w (q v) (bind x v env))
+      → WideHolds (if b then refused (TakenName x) else with_plain t (λ k a. with_plain u (λ j c. with_plain w (λ i d. taken (plain kind.List (filter_map_tree x a c d))))))
       (outcome_of (filter_map_over (λ v. plain_part (p v)) (λ v. plain_part (q v)) (range_of (plain_part r)))) env
   filter_by true x t u w r p q env e h i l = tt
   filter_by false x t u w r p q env e h i l =
@@ -108,8 +108,8 @@ module _ (others : Wide → WideEnvironment → Outcome) where
       (λ n d z. filter_map_holds x k j n a c d r p q env g y z)))
 
   optional_by : (b : Bool) (m : OptionalMacro) (x : List ℕ) (t u : Translation) (o : Outcome) (p : Value → Outcome) (env : Environment) → is_taken x ≡ b
-      → Holds t o env → (is_taken x ≡ false → (v : Value) → Holds u (p v) (bind x v env))
-      → Holds (if b then refused (TakenName x) else with_carried t (λ c. on_list OptionalValue c (λ k l. with_carried u (optional_carried m x l)))) (optional_over m p o) env
+      → WideHolds t o env → (is_taken x ≡ false → (v : Value) → WideHolds u (p v) (bind x v env))
+      → WideHolds (if b then refused (TakenName x) else with_carried t (λ c. on_list OptionalValue c (λ k l. with_carried u (optional_carried m x l)))) (optional_over m p o) env
   optional_by true m x t u o p env e h i = tt
   optional_by false m x t u o p env e h i =
       with_holds t (λ c. on_list OptionalValue c (λ k l. with_carried u (optional_carried m x l))) o (optional_over m p o) env h
@@ -120,7 +120,7 @@ module _ (others : Wide → WideEnvironment → Outcome) where
     unfolding translated wide_meaning
 
     -- by the expression's cases
-    pub same : (e : Wide) (s : Scope) (env : WideEnvironment) (env' : Environment) → StandsFor s env env' → Holds (translated s e) (wide_meaning others e env) env'
+    pub same : (e : Wide) (s : WideScope) (env : WideEnvironment) (env' : Environment) → WideStandsFor s env env' → WideHolds (translated s e) (wide_meaning others e env) env'
     same (wide.literal l) s env env' r = plain_holds (literal_kind l) (tree.literal l) (literal_of l) env' (literal_means l env') (kinds_hold.literal l) (literal_free l)
     same (wide.uint n) s env env' r = tt
     same (wide.name n) s env env' r = name_holds s n env env' r
@@ -179,16 +179,16 @@ module _ (others : Wide → WideEnvironment → Outcome) where
         (others (wide.method a n es) env) env' (same a s env env' r) (all_same es s env env' r)
         (λ v. all_same es s env (bind held_name v env') (held_bound s v env env' r))
 
-    all_same : (es : Wides) (s : Scope) (env : WideEnvironment) (env' : Environment) → StandsFor s env env' → AllHold (all_translated s es) (wide_meanings others es env) env'
+    all_same : (es : Wides) (s : WideScope) (env : WideEnvironment) (env' : Environment) → WideStandsFor s env env' → AllHold (all_translated s es) (wide_meanings others es env) env'
     all_same wide.no_wides s env env' r = tt
     all_same (wide.more_wides a more) s env env' r = (same a s env env' r, all_same more s env env' r)
 
-    items_same : (es : Items) (s : Scope) (env : WideEnvironment) (env' : Environment) → StandsFor s env env' → PartsHold (items_translated s es) (items_meaning others es env) env'
+    items_same : (es : WideItems) (s : WideScope) (env : WideEnvironment) (env' : Environment) → WideStandsFor s env env' → PartsHold (items_translated s es) (items_meaning others es env) env'
     items_same wide.no_items s env env' r = no_parts_hold env'
     items_same (wide.more_items o a more) s env env' r =
         part_more o (translated s a) (items_translated s more) (wide_meaning others a env) (items_meaning others more env) env' (same a s env env' r) (items_same more s env env' r)
 
-    entries_same : (es : Entries) (s : Scope) (env : WideEnvironment) (env' : Environment) → StandsFor s env env' → PairsHold (entries_translated s es) (entries_meaning others es env) env'
+    entries_same : (es : WideEntries) (s : WideScope) (env : WideEnvironment) (env' : Environment) → WideStandsFor s env env' → PairsHold (entries_translated s es) (entries_meaning others es env) env'
     entries_same wide.no_entries s env env' r = no_pairs_hold env'
     entries_same (wide.more_entries o k v more) s env env' r =
         entry_holds o (translated s k) (translated s v) (entries_translated s more) (wide_meaning others k env) (wide_meaning others v env) (entries_meaning others more env) env'

@@ -12,14 +12,14 @@ pub data Carried : Type 0 where
 
 -- why an expression is not translated: a name that has no meaning here; an optional value in the place of a value;
 -- an iteration name that the translation needs; an unsigned int; a form that is not translated
-pub data Fault : Type 0 where
-  UnknownName : List ℕ → Fault
-  OptionalValue : Fault
-  TakenName : List ℕ → Fault
-  UnsignedInt : Fault
-  Unsupported : Fault
+pub data WideFault : Type 0 where
+  UnknownName : List ℕ → WideFault
+  OptionalValue : WideFault
+  TakenName : List ℕ → WideFault
+  UnsignedInt : WideFault
+  Unsupported : WideFault
 
 -- a translation, or why there is none
 pub data Translation : Type 0 where
   taken : Carried → Translation
-  refused : Fault → Translation
+  refused : WideFault → Translation

@@ -14,7 +14,7 @@ use Rattle.wide_kinds.specs.Fitting.{has_kind, IsOfKind, IsOptionalOf}
 use Rattle.wide_translation.specs.Carried.{Carried, plain, guarded, listed, Translation, taken, refused}
 use Rattle.wide_translation.specs.Forms.{root_tree}
 use Rattle.wide_translation.specs.Names.{is_taken}
-use Rattle.wide_translation.specs.Scope.{Scope}
+use Rattle.wide_translation.specs.Scope.{WideScope}
 
 -- ---- parts of an optional value
 
@@ -63,17 +63,17 @@ Carries (guarded k g v) o env = IsGuarded k g v o env
 Carries (listed k l) o env = IsListed k l o env
 
 -- a translation, if there is one, carries the outcome
-abbrev pub Holds : Translation → Outcome → Environment → Type 0
-Holds (taken c) o env = Carries c o env
-Holds (refused e) o env = ⊤
+abbrev pub WideHolds : Translation → Outcome → Environment → Type 0
+WideHolds (taken c) o env = Carries c o env
+WideHolds (refused e) o env = ⊤
 
 -- ---- environments
 
 -- a name in scope has its value in the second environment
-abbrev pub Named : Option ValueKind → Option Value → ValueOrError → Type 0
-Named (Some k) (Some v) x = (x ≡ value v) × (has_kind k v ≡ true)
-Named None None x = ⊤
-Named _ _ x = ⊥
+abbrev pub WideNamed : Option ValueKind → Option Value → ValueOrError → Type 0
+WideNamed (Some k) (Some v) x = (x ≡ value v) × (has_kind k v ≡ true)
+WideNamed None None x = ⊤
+WideNamed _ _ x = ⊥
 
 -- a variable has its value in the second environment, an optional one as a list
 abbrev pub Declared : Option Kind → Option Outcome → ValueOrError → Type 0
@@ -83,8 +83,8 @@ Declared (Some k) None x = ⊥
 Declared None o x = ⊤
 
 -- the second environment has the values of the names of the first
-pub record StandsFor (s : Scope) (env : WideEnvironment) (env' : Environment) : Type 0 where
-  pub named : (n : List ℕ) → Named (lookup n s.names) (lookup n env.items) (name_value n env')
+pub record WideStandsFor (s : WideScope) (env : WideEnvironment) (env' : Environment) : Type 0 where
+  pub named : (n : List ℕ) → WideNamed (lookup n s.names) (lookup n env.items) (name_value n env')
   pub rooted : (n : List ℕ) → is_root n ≡ true → meaning (root_tree s.wrapped n) env' ≡ plain_part (root_in n env.roots)
   pub declared : (n : List ℕ) → Declared (lookup n s.variables) (lookup n env.variables) (variable_value n env'.variables)
   pub apart : (n : List ℕ) → is_some (lookup n s.names) ≡ true → is_taken n ≡ false

@@ -4,12 +4,12 @@ use Rattle.wide_reader.specs.Tree.{Wide}
 use Rattle.wide_meaning.specs.Environment.{WideEnvironment}
 use Rattle.wide_meaning.specs.Meaning.{wide_meaning}
 use Rattle.wide_meaning.specs.Outcome.{Outcome}
-use Rattle.wide_translation.specs.Holds.{Holds, StandsFor}
-use Rattle.wide_translation.specs.Scope.{Scope}
+use Rattle.wide_translation.specs.Holds.{WideHolds, WideStandsFor}
+use Rattle.wide_translation.specs.Scope.{WideScope}
 use Rattle.wide_translation.specs.Translated.{translated}
 
 -- A translation, if there is one, carries what the wide expression means, in each environment that has the values of
 -- the names of another; whatever the calls mean that `wide_meaning` leaves open.
 abbrev pub TranslationMeansTheSame : Type 0
-TranslationMeansTheSame = (others : Wide → WideEnvironment → Outcome) (e : Wide) (s : Scope) (env : WideEnvironment) (env' : Environment) → StandsFor s env env'
-    → Holds (translated s e) (wide_meaning others e env) env'
+TranslationMeansTheSame = (others : Wide → WideEnvironment → Outcome) (e : Wide) (s : WideScope) (env : WideEnvironment) (env' : Environment) → WideStandsFor s env env'
+    → WideHolds (translated s e) (wide_meaning others e env) env'

@@ -8,7 +8,7 @@ use Rattle.wide_kinds.specs.declared.kind.Kind.{Kind}
 use Rattle.wide_kinds.specs.declared.kind.Kind.TheVariants as of
 use Rattle.wide_kinds.specs.declared.kind.ValueKind.{ValueKind}
 use Rattle.wide_kinds.specs.declared.kind.ValueKind.TheVariants as kind
-use Rattle.wide_translation.specs.Carried.{Carried, plain, guarded, listed, Fault, OptionalValue, Unsupported, Translation, taken, refused}
+use Rattle.wide_translation.specs.Carried.{Carried, plain, guarded, listed, WideFault, OptionalValue, Unsupported, Translation, taken, refused}
 use Rattle.wide_translation.specs.Forms.{guarded_tree, let_tree, held, is_simple}
 use Rattle.wide_translation.specs.Names.{held_name}
 
@@ -34,12 +34,12 @@ as_list (guarded k g v) = listed k (guarded_tree g v)
 as_list (listed k l) = listed k l
 
 -- what follows from the tree of a list; otherwise the fault e
-abbrev pub from_list : Fault → Carried → (ValueKind → Tree → Translation) → Translation
+abbrev pub from_list : WideFault → Carried → (ValueKind → Tree → Translation) → Translation
 from_list e (listed k l) f = f k l
 from_list e _ f = refused e
 
 -- what follows from the tree of an optional value as a list; for a value the fault e
-abbrev pub on_list : Fault → Carried → (ValueKind → Tree → Translation) → Translation
+abbrev pub on_list : WideFault → Carried → (ValueKind → Tree → Translation) → Translation
 on_list e c f = from_list e (as_list c) f
 
 -- the tree of a value, or that of an optional value as a list, with its kind
@@ -59,7 +59,7 @@ once a b = if is_simple a then b a else let_tree held_name a (b held)
 -- of the others. Or the first fault
 pub data Parts : Type 0 where
   parts : Trees → Option (Tree × Tree) → Parts
-  no_parts : Fault → Parts
+  no_parts : WideFault → Parts
 
 -- the list of all of them
 abbrev pub joined_tree : Trees → Option (Tree × Tree) → Tree
@@ -83,7 +83,7 @@ one_more Optional (taken c) ps = list_more (as_list c) ps
 
 pub data Pairs : Type 0 where
   pairs : TreeEntries → Pairs
-  no_pairs : Fault → Pairs
+  no_pairs : WideFault → Pairs
 
 abbrev pub entry_more : Access → Translation → Translation → Pairs → Pairs
 entry_more Plain (taken (plain k t)) (taken (plain j u)) (pairs es) = pairs (more_entries t u es)

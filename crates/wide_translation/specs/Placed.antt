@@ -11,7 +11,7 @@ use Rattle.wide_meaning.specs.Outcome.{Outcome}
 use Rattle.wide_kinds.specs.declared.kind.Kind.{Kind}
 use Rattle.wide_translation.specs.Scope.{scope_of}
 use Rattle.wide_translation.specs.Names.{params_field}
-use Rattle.wide_translation.specs.Results.{Means, IsCarried}
+use Rattle.wide_translation.specs.Results.{WideMeans, IsCarried}
 
 -- {"t": tables, "v": params}
 abbrev pub with_tables : Value → Value → Value
@@ -30,33 +30,33 @@ abbrev pub environment : Roots → List (List ℕ × ValueOrError) → Environme
 environment roots variables = record { roots = roots; items = []; variables = variables }
 
 -- a variable of a policy: its name, its expression, and the translation with its kind
-pub record Step : Type 0 where
+pub record WideStep : Type 0 where
   pub name : List ℕ
   pub wide : Wide
   pub kind : Kind
   pub tree : Tree
 
 -- a variable and its kind
-abbrev pub kind_of : Step → List ℕ × Kind
+abbrev pub kind_of : WideStep → List ℕ × Kind
 kind_of v = (v.name, v.kind)
 
 -- each variable is translated in the scope of the variables before it
-abbrev pub AreTranslated : Bool → List (List ℕ × Kind) → List Step → Type 0
+abbrev pub AreTranslated : Bool → List (List ℕ × Kind) → List WideStep → Type 0
 AreTranslated wrapped before [] = ⊤
-AreTranslated wrapped before (v ∷ vs) = Means (scope_of wrapped before) v.wide v.kind v.tree × AreTranslated wrapped (before ++ kind_of v ∷ []) vs
+AreTranslated wrapped before (v ∷ vs) = WideMeans (scope_of wrapped before) v.wide v.kind v.tree × AreTranslated wrapped (before ++ kind_of v ∷ []) vs
 
 -- the values of the variables: of the wide expressions, and of the translations, each with the values of those before
 -- it
-abbrev pub with_outcome : (Wide → WideEnvironment → Outcome) → Roots → List (List ℕ × Outcome) → Step → List (List ℕ × Outcome)
+abbrev pub with_outcome : (Wide → WideEnvironment → Outcome) → Roots → List (List ℕ × Outcome) → WideStep → List (List ℕ × Outcome)
 with_outcome others roots before v = before ++ (v.name, wide_meaning others v.wide (wide_environment roots before)) ∷ []
 
-abbrev pub with_value : Roots → List (List ℕ × ValueOrError) → Step → List (List ℕ × ValueOrError)
+abbrev pub with_value : Roots → List (List ℕ × ValueOrError) → WideStep → List (List ℕ × ValueOrError)
 with_value roots before v = before ++ (v.name, meaning v.tree (environment roots before)) ∷ []
 
 -- A translation in the scope of a policy's variables carries what the wide expression means with their values,
 -- whatever tables the root `params` has. So do all conditions, validations and messages.
 abbrev pub PolicyMeansTheSame : Type 0
-PolicyMeansTheSame = (others : Wide → WideEnvironment → Outcome) (wrapped : Bool) (ts : Value) (roots : Roots) (vs : List Step) (e : Wide) (k : Kind) (a : Tree)
-    → AreTranslated wrapped [] vs → Means (scope_of wrapped (each kind_of vs)) e k a
+PolicyMeansTheSame = (others : Wide → WideEnvironment → Outcome) (wrapped : Bool) (ts : Value) (roots : Roots) (vs : List WideStep) (e : Wide) (k : Kind) (a : Tree)
+    → AreTranslated wrapped [] vs → WideMeans (scope_of wrapped (each kind_of vs)) e k a
     → IsCarried k a (wide_meaning others e (wide_environment roots (fold (with_outcome others roots) [] vs)))
     (environment (placed wrapped ts roots) (fold (with_value (placed wrapped ts roots)) [] vs))

@@ -6,8 +6,8 @@ use Rattle.wide_meaning.specs.Environment.{WideEnvironment}
 use Rattle.wide_meaning.specs.Meaning.{wide_meaning}
 use Rattle.wide_meaning.specs.Outcome.{Outcome}
 use Rattle.wide_kinds.specs.declared.kind.Kind.{Kind, TheVariants.Value, TheVariants.Optional}
-use Rattle.wide_translation.specs.Holds.{IsPlain, IsListed, StandsFor}
-use Rattle.wide_translation.specs.Scope.{Scope}
+use Rattle.wide_translation.specs.Holds.{IsPlain, IsListed, WideStandsFor}
+use Rattle.wide_translation.specs.Scope.{WideScope}
 
 -- a tree carries an outcome of this kind: a value, or an optional value as a list of none or one
 abbrev pub IsCarried : Kind → Tree → Outcome → Environment → Type 0
@@ -16,6 +16,6 @@ IsCarried (Optional k) a o env = IsListed k a o env
 
 -- In each environment that has the values of the names of another, the tree carries what the wide expression means in
 -- that other one, whatever the calls mean that `wide_meaning` leaves open.
-abbrev pub Means : Scope → Wide → Kind → Tree → Type 0
-Means s e k a = (others : Wide → WideEnvironment → Outcome) (env : WideEnvironment) (env' : Environment) → StandsFor s env env'
+abbrev pub WideMeans : WideScope → Wide → Kind → Tree → Type 0
+WideMeans s e k a = (others : Wide → WideEnvironment → Outcome) (env : WideEnvironment) (env' : Environment) → WideStandsFor s env env'
     → IsCarried k a (wide_meaning others e env) env'

@@ -12,7 +12,7 @@ use Rattle.wide_kinds.specs.declared.kind.ValueKind.{ValueKind}
 use Rattle.wide_kinds.specs.declared.kind.ValueKind.TheVariants as kind
 use Rattle.wide_meaning.specs.Written.{num, str, name, dot, maybe, maybe_item, has, call, or_value, list_literal, object_spec}
 use Rattle.wide_translation.specs.Carried as carried
-use Rattle.wide_translation.specs.Carried.{Fault, UnknownName, OptionalValue, TakenName, UnsignedInt, Unsupported, taken, refused}
+use Rattle.wide_translation.specs.Carried.{WideFault, UnknownName, OptionalValue, TakenName, UnsignedInt, Unsupported, taken, refused}
 use Rattle.wide_translation.specs.Scope.{scope_of}
 use Rattle.wide_translation.specs.Translated.{translated}
 
@@ -21,8 +21,8 @@ abbrev pub Becomes : Wide → ValueKind → Tree → Type 0
 Becomes e k a = translated (scope_of false []) e ≡ taken (carried.plain k a)
 
 -- without variables, the expression is refused
-abbrev pub IsRefused : Wide → Fault → Type 0
-IsRefused e f = translated (scope_of false []) e ≡ refused f
+abbrev pub WideIsRefused : Wide → WideFault → Type 0
+WideIsRefused e f = translated (scope_of false []) e ≡ refused f
 
 -- object.spec and one of its fields, in the compiled language
 abbrev pub plain_spec : Tree
@@ -63,16 +63,16 @@ pub record TranslationRowsHold : Type 0 where
   pub in_nothing : Becomes (wide.binary In (num 1) (list_literal [])) kind.Bool plain.no
   -- 1 < 2u, and 1u + 1u
   pub compared : Becomes (wide.binary Less (num 1) (wide.uint 2)) kind.Bool (binary Less (plain.num 1) (plain.num 2))
-  pub added : IsRefused (wide.binary Add (wide.uint 1) (wide.uint 1)) UnsignedInt
+  pub added : WideIsRefused (wide.binary Add (wide.uint 1) (wide.uint 1)) UnsignedInt
   -- [object.?a], object.spec.map(x, object.?a) and object.?a == 1
-  pub optional_item : IsRefused (list_literal (maybe (name "object") "a" ∷ [])) OptionalValue
-  pub optional_result : IsRefused (wide.fold macro.Map object_spec (codes "x") (maybe (name "object") "a")) OptionalValue
-  pub optional_operand : IsRefused (wide.binary Equal (maybe (name "object") "a") (num 1)) OptionalValue
+  pub optional_item : WideIsRefused (list_literal (maybe (name "object") "a" ∷ [])) OptionalValue
+  pub optional_result : WideIsRefused (wide.fold macro.Map object_spec (codes "x") (maybe (name "object") "a")) OptionalValue
+  pub optional_operand : WideIsRefused (wide.binary Equal (maybe (name "object") "a") (num 1)) OptionalValue
   -- authorizer, url('a') and object.orValue(1)
-  pub unknown_name : IsRefused (name "authorizer") (UnknownName (codes "authorizer"))
-  pub unknown_function : IsRefused (call "url" (str "a" ∷ [])) (UnknownName (codes "url"))
-  pub no_optional_value : IsRefused (or_value (name "object") (num 1)) (UnknownName (codes "orValue"))
+  pub unknown_name : WideIsRefused (name "authorizer") (UnknownName (codes "authorizer"))
+  pub unknown_function : WideIsRefused (call "url" (str "a" ∷ [])) (UnknownName (codes "url"))
+  pub no_optional_value : WideIsRefused (or_value (name "object") (num 1)) (UnknownName (codes "orValue"))
   -- object.all(object, true)
-  pub taken_name : IsRefused (wide.fold macro.All (name "object") (codes "object") (num 1)) (TakenName (codes "object"))
+  pub taken_name : WideIsRefused (wide.fold macro.All (name "object") (codes "object") (num 1)) (TakenName (codes "object"))
   -- object.all(k, v, true)
-  pub two_names : IsRefused (wide.pair_fold pair.All (name "object") (codes "k") (codes "v") (num 1)) Unsupported
+  pub two_names : WideIsRefused (wide.pair_fold pair.All (name "object") (codes "k") (codes "v") (num 1)) Unsupported

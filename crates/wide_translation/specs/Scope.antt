@@ -7,19 +7,19 @@ use Rattle.wide_kinds.specs.declared.kind.ValueKind.{ValueKind}
 
 -- whether the root `params` has tables beside the parameters, the variables in scope, and the iteration names in
 -- scope, innermost first
-pub record Scope : Type 0 where
+pub record WideScope : Type 0 where
   pub wrapped : Bool
   pub variables : List (List ℕ × Kind)
   pub names : List (List ℕ × ValueKind)
 
 -- the scope inside a macro with the iteration name x
-abbrev pub within : List ℕ → ValueKind → Scope → Scope
+abbrev pub within : List ℕ → ValueKind → WideScope → WideScope
 within x k s = record s { names = (x, k) ∷ s.names }
 
 -- whether an iteration name hides `variables`
-abbrev pub is_hidden : Scope → Bool
+abbrev pub is_hidden : WideScope → Bool
 is_hidden s = is_some (lookup variables_name s.names)
 
 -- the scope outside of macros
-abbrev pub scope_of : Bool → List (List ℕ × Kind) → Scope
+abbrev pub scope_of : Bool → List (List ℕ × Kind) → WideScope
 scope_of wrapped variables = record { wrapped = wrapped; variables = variables; names = [] }

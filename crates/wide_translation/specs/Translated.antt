@@ -9,7 +9,7 @@ use Rattle.cel_macros.specs.Functions.{function_name, test_name}
 use Rattle.cel_macros.specs.declared.function.Function.TheVariants as plain_function
 use Rattle.cel_macros.specs.declared.macros.Macro.TheVariants as plain_macro
 use Rattle.cel_macros.specs.declared.text_test.TextTest.{TextTest, TheVariants.StartsWith, TheVariants.EndsWith, TheVariants.Contains}
-use Rattle.wide_reader.specs.Tree.{Wide, Wides, Items, Entries}
+use Rattle.wide_reader.specs.Tree.{Wide, Wides, WideItems, WideEntries}
 use Rattle.wide_reader.specs.Tree as wide
 use Rattle.wide_reader.specs.declared.wide.Access.{Access, TheVariants.Plain, TheVariants.Optional}
 use Rattle.wide_reader.specs.declared.wide.OptionalMacro.{OptionalMacro, TheVariants.Map, TheVariants.FlatMap}
@@ -34,7 +34,7 @@ use Rattle.wide_translation.specs.Carried.{Carried, plain, guarded, listed, Unkn
 use Rattle.wide_translation.specs.Forms.{empty_tree, one_tree, call_tree, macro_tree, filter_map_tree, first_tree, let_tree, held, access_tree, present_tree, field_list_tree, guarded_tree, flat_tree, present_item_tree, item_tree, item_list_tree, is_empty_tree, text_tree, non_zero_tree, bool_tree, text_bool_tree, root_tree, variable_tree, is_simple}
 pub use Rattle.wide_translation.specs.Parts.{with_carried, on_plain, with_plain, as_list, from_list, on_list, IsFinished, once, Parts, parts, no_parts, joined_tree, list_more, one_more, Pairs, pairs, no_pairs, entry_more, list_translation, map_translation}
 use Rattle.wide_translation.specs.Names.{held_name, is_taken}
-use Rattle.wide_translation.specs.Scope.{Scope, within, is_hidden}
+use Rattle.wide_translation.specs.Scope.{WideScope, within, is_hidden}
 
 -- ---- names
 
@@ -263,7 +263,7 @@ index_carried None None o c d = plain_index o c d
 -- ---- expressions
 
 -- `variables.f`, or the field f of an operand
-abbrev pub selected_translation : Bool → Access → List ℕ → Scope → Translation → Translation
+abbrev pub selected_translation : Bool → Access → List ℕ → WideScope → Translation → Translation
 selected_translation true Plain f s t = variable_translation (lookup f s.variables) f
 selected_translation _ o f s t = with_carried t (λ c. taken (field_carried o f c))
 
@@ -284,7 +284,7 @@ operand _ a t = t
 
 unfoldable mutual
   -- the translation of a wide expression
-  pub translated : Scope → Wide → Translation
+  pub translated : WideScope → Wide → Translation
   translated s (wide.literal l) = taken (plain (literal_kind l) (tree.literal l))
   translated s (wide.uint n) = refused UnsignedInt
   translated s (wide.name n) = name_translation (lookup n s.names) n (root_translation s.wrapped n)
@@ -315,16 +315,16 @@ unfoldable mutual
       else with_carried (translated s a) (λ c. on_list OptionalValue c (λ k l. with_carried (translated (within x kind.Dyn s) t) (optional_carried m x l)))
 
   -- the translation of each of the expressions
-  pub all_translated : Scope → Wides → List Translation
+  pub all_translated : WideScope → Wides → List Translation
   all_translated s wide.no_wides = []
   all_translated s (wide.more_wides a more) = translated s a ∷ all_translated s more
 
   -- the trees of the items of a list literal
-  pub items_translated : Scope → Items → Parts
+  pub items_translated : WideScope → WideItems → Parts
   items_translated s wide.no_items = parts no_trees None
   items_translated s (wide.more_items o a more) = one_more o (translated s a) (items_translated s more)
 
   -- the trees of the entries of a map literal
-  pub entries_translated : Scope → Entries → Pairs
+  pub entries_translated : WideScope → WideEntries → Pairs
   entries_translated s wide.no_entries = pairs no_entries
   entries_translated s (wide.more_entries o k v more) = entry_more o (translated s k) (translated s v) (entries_translated s more)

@@ -1,5 +1,5 @@
 -- Proof obligations of `step` (src/cut.rt).
-use Rattle.wide_tokens.proofs.Prelude.{ap, arith, ◌+◌, length, map, take, subst, err_from_is_err_and, token_view, word_of, sign_may_follow, EndsAs, over, nothing}
+use Rattle.wide_tokens.proofs.Prelude.{ap, arith, ◌+◌, length, map, take, subst, err_from_is_err_and, token_view, word_of, sign_may_follow, WideEndsAs, over, nothing}
 use Rattle.std.proofs.Common.{length-drop}
 use Rattle.wide_tokens.proofs.Cutting.{there, taken_behind, taken_for, ends_text, space_step, token_goes, too_many_words, text_refused, int_refused}
 use Rattle.wide_tokens.proofs.cut.step.Goals as goal
@@ -65,8 +65,8 @@ returns-in_ok-next-in-Word c =
       λ r k. token_goes c.args.bytes.now c.tail-rest.result.now c.args.signed c.args.at c.in-Word.len c.in-Word.kind c.args.out.now.items r
           (record { rest_is = c.tail-rest.ensures; front_is = s }) (omega (arith, c.if-len-ge-TOKEN_LIMIT.false, c.len-in-Word.ensures, c.args.out.now.ok.0))
           (let sign = sign_may_follow (word_of (take c.in-Word.len c.tail-rest.result.now) c.in-Word.kind) in
-          subst (λ ts. EndsAs c.args.bytes.now sign (c.args.at + c.in-Word.len) ts r) e.added
-          (subst (λ m. EndsAs c.args.bytes.now sign m c.add.new.out.items r) e.next
-          (subst (λ s. EndsAs c.args.bytes.now s c.in_ok-next-in-Word.next c.add.new.out.items r) e.sign k))),
+          subst (λ ts. WideEndsAs c.args.bytes.now sign (c.args.at + c.in-Word.len) ts r) e.added
+          (subst (λ m. WideEndsAs c.args.bytes.now sign m c.add.new.out.items r) e.next
+          (subst (λ s. WideEndsAs c.args.bytes.now s c.in_ok-next-in-Word.next c.add.new.out.items r) e.sign k))),
       λ t. taken_for c.args.bytes.now c.tail-rest.result.now c.args.signed c.args.at c.in-Word.len _ c.tail-rest.ensures s,
     )
