@@ -48,8 +48,11 @@ def located(given: Optional[str]) -> Path:
     return current("celbpf")
 
 
-def located_gatekeeper(given: Optional[str], celbpf: Optional[str]) -> Optional[Path]:
-    """The gatekeeper that was given, or the one beside the given program if there is one, or the repository's."""
+def located_gatekeeper(given: Optional[str], celbpf: Optional[str], builds: bool = True) -> Optional[Path]:
+    """The gatekeeper that was given, or the one beside the given program if there is one, or the repository's.
+
+    If there is none in the repository, it is built or, without `builds`, `None`.
+    """
     if given:
         return usable(given)
     celbpf = celbpf or os.environ.get(GIVEN)
@@ -60,7 +63,8 @@ def located_gatekeeper(given: Optional[str], celbpf: Optional[str]) -> Optional[
         return beside if os.access(beside, os.X_OK) else None
     if not is_checkout():
         return installed_one("gatekeeper")
-    return current("gatekeeper")
+    is_there = any(place("gatekeeper").is_file() for place in (built, unproved))
+    return current("gatekeeper") if builds or is_there else None
 
 
 def usable(given: str) -> Path:

@@ -17,6 +17,7 @@ cannot be read, 2 that the words are wrong.
 """
 
 import argparse
+import functools
 import sys
 import tempfile
 from pathlib import Path
@@ -120,10 +121,10 @@ def status_of(results: list) -> int:
 def main() -> int:
     given = words()
     celbpf = located(given.program)
-    gatekeeper = located_gatekeeper(given.gatekeeper, given.program)
+    find = functools.partial(located_gatekeeper, given.gatekeeper, given.program)
     with tempfile.TemporaryDirectory() as folder:
         asked = Asked(Path(folder))
-        results, files = results_of(given.places, Programs(celbpf, gatekeeper, asked))
+        results, files = results_of(given.places, Programs(celbpf, find, asked))
         notes = list(covered(files, celbpf, asked)) if given.coverage else []
     failed = sum(bool(result.failures) for result in results)
     notes.append(f"{len(results) - failed} of {len(results)} passed")

@@ -1,10 +1,11 @@
 """What the programs answer to cases: many by one gatekeeper, and by `celbpf review` what a line cannot say."""
 
+import functools
 import json
 import subprocess
 from dataclasses import dataclass
 from pathlib import Path
-from typing import Any, Optional
+from typing import Any, Callable, Optional
 
 from ..asking.files import Files
 from ..documents import Unreadable, json_fault, one_in
@@ -103,11 +104,11 @@ class Asked:
 
 
 class Programs:
-    """The programs; `gatekeeper` may be `None`, and then each case is a run of `celbpf review`."""
+    """The programs; `find` gives the gatekeeper, which a case with a cluster needs and others use if it is there."""
 
-    def __init__(self, celbpf: Path, gatekeeper: Optional[Path], asked: Asked):
+    def __init__(self, celbpf: Path, find: Callable[[bool], Optional[Path]], asked: Asked):
         self.celbpf = celbpf
-        self.gatekeeper = gatekeeper
+        self.gatekeeper = functools.cache(find)
         self.asked = asked
 
     def answers(self, cases: list) -> list:
@@ -133,7 +134,7 @@ class Programs:
     def is_line(self, text: str) -> bool:
         """Whether a gatekeeper can be asked: a line feed inside a text literal is no JSON, and a blank would be."""
         is_short = len(text.encode("utf-8", "surrogatepass")) < MOST_LINE
-        return self.gatekeeper is not None and is_short and bool(text.strip()) and json_fault(text) is None
+        return is_short and bool(text.strip()) and json_fault(text) is None and self.gatekeeper(False) is not None
 
     def review(self, words: tuple, text: str) -> Answer:
         """What `celbpf review` answers."""
@@ -144,10 +145,11 @@ class Programs:
 
     def stream(self, words: tuple, texts: list) -> list:
         """What one gatekeeper answers to reviews in a row."""
-        if self.gatekeeper is None:
+        gatekeeper = self.gatekeeper("--cluster" in words)
+        if gatekeeper is None:
             return [Unreadable("a case with a cluster needs the program gatekeeper")] * len(texts)
         lines = "".join(text.replace("\r", " ").replace("\n", " ") + "\n" for text in texts)
-        ran = run([self.gatekeeper, *words], lines)
+        ran = run([gatekeeper, *words], lines)
         answers = ran.stdout.splitlines()
         if ran.returncode == 0 and len(answers) == len(texts):
             return [answer_of(line) for line in answers]

@@ -8,7 +8,7 @@ from pathlib import Path
 
 from ..asking.policies import whole
 from ..testing import output
-from ..testing.answers import Answer, Asked, answer_of, failures
+from ..testing.answers import Answer, Asked, Programs, answer_of, failures
 from ..testing.cases import Broken, read
 from ..testing.coverage import items_of, states
 from ..testing.output import Result
@@ -89,6 +89,19 @@ class Wanted(Files):
     def test_lines_of_a_gatekeeper(self) -> None:
         self.assertEqual(answer_of('{"refused":"N4","uid":"u"}'), Answer(refusal="N4"))
         self.assertEqual(answer_of('{"response":{"allowed":true,"uid":"u"}}'), Answer(True))
+
+
+    def test_only_a_cluster_has_the_gatekeeper_built(self) -> None:
+        asked: list = []
+
+        def find(builds: bool) -> None:
+            asked.append(builds)
+
+        programs = Programs(Path("celbpf"), find, Asked(self.folder))
+        self.assertFalse(programs.is_line("{}"))
+        self.assertEqual(asked, [False])
+        programs.stream(("--cluster", "state.json"), ["{}"])
+        self.assertEqual(asked, [False, True])
 
 
 class Told(Files):
