@@ -90,7 +90,6 @@ class Wanted(Files):
         self.assertEqual(answer_of('{"refused":"N4","uid":"u"}'), Answer(refusal="N4"))
         self.assertEqual(answer_of('{"response":{"allowed":true,"uid":"u"}}'), Answer(True))
 
-
     def test_only_a_cluster_has_the_gatekeeper_built(self) -> None:
         asked: list = []
 
