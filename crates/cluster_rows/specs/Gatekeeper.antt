@@ -1,6 +1,6 @@
 -- What the program gatekeeper writes, as the pages on the gatekeeper and on clusters describe it: refusals of lines,
 -- joined decisions, and its lines on a cluster's policies.
-use Rattle.std.specs.Prelude.{◌≡◌, ℕ, List, [], ◌∷◌, ◌++◌, Option, Some, None, Result, Ok, Err, String, codes, string_bytes}
+use Rattle.std.specs.Prelude.{◌≡◌, ℕ, true, false, List, [], ◌∷◌, ◌++◌, Option, Some, None, Result, Ok, Err, String, codes, string_bytes}
 use Rattle.std.specs.declared.alloc.Global.{Global}
 use Rattle.serde_json.specs.Data as json
 use Rattle.serde_json.specs.Read.{read}
