@@ -2,10 +2,10 @@
 use Rattle.wide_tokens.proofs.Prelude.{◌≡◌, ℕ, ◌+◌, ◌-◌, ◌<◌, ◌≤◌, List, [], ◌∷◌, ◌++◌, length, drop, take, map, refl, sym, ◌∙◌, ap, arith, Bool, true, false, Option, Some, None, Result, Err, subst, nat_le, IsUtf8, drop-drop, take-append-drop, map-append, length-map, cases_lt, nat_tests, WideWord, WideToken, Opening, opening_len, literal_word, token_view, word_of, front, front_text, sign_may_follow, WideEndsText, Vec, Global, WideCuts, WideTokenBegins, WideTakesMemory, lexeme, WideTokensReturns, read, space as cut_space, token as cut_token, wrong_text as cut_text, wide_int as cut_int, too_many, for_word, for_text, behind_space, a_word, WideEndsAs, WideIsTextRefused, refusal_of, WideCutsTo, Kind, CodeToken, ReadError, InvalidTextLiteral, IntOutOfRange, UnexpectedToken, TooManyOpen, TextTooLong, Memory, token_limit, text_limit}
 use mathlib.Core.Logic.{inl, inr}
 use Rattle.wide_tokens.specs.Lexed as front
-use Rattle.wide_tokens.specs.Lexis.TokenBegins.{a_text, an_int}
+use Rattle.wide_tokens.specs.Lexis.WideTokenBegins.{a_text, an_int}
 
 -- the front of the rest is that of the text at this position
-pub there : (source rest : List ℕ) (signed : Bool) (at : ℕ) (found : front.Lexed) → rest ≡ drop at source → found ≡ front signed rest → front signed (drop at source) ≡ found
+pub there : (source rest : List ℕ) (signed : Bool) (at : ℕ) (found : front.WideLexed) → rest ≡ drop at source → found ≡ front signed rest → front signed (drop at source) ≡ found
 there source rest signed at found e s = ap (front signed) (sym e) ∙ sym s
 
 pub ends_text : (source rest : List ℕ) (at : ℕ) → IsUtf8 source → rest ≡ drop at source → WideEndsText rest

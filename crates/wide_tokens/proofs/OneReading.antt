@@ -2,14 +2,14 @@
 use Rattle.wide_tokens.proofs.Prelude.{◌≡◌, ℕ, ◌+◌, ◌<◌, ◌≤◌, List, [], ◌∷◌, ◌++◌, length, drop, refl, sym, ◌∙◌, ap, arith, Bool, true, Result, Ok, Err, subst, ◌⊎◌, ◌↔◌, WideToken, front, sign_may_follow, WideCuts, WideTokenBegins, WideTokens, WideIsTokens, WideLexes, lexeme, over, space, token, nothing, wrong_text, wide_int, too_many, too_long, read, ReadError, UnknownCharacter, InvalidTextLiteral, IntOutOfRange, TextTooLong, token_limit, text_limit}
 use Rattle.std.proofs.Common.{append_assoc, append-nil, length-append}
 use Rattle.wide_tokens.specs.Lexed as front
-use Rattle.wide_tokens.specs.Lexis.Tokens.{over as no_more, space as then_space, token as then_token}
+use Rattle.wide_tokens.specs.Lexis.WideTokens.{over as no_more, space as then_space, token as then_token}
 
 -- this outcome within the limit, else the error for the 4,097th token
 abbrev Within : List WideToken → ℕ → Result (List WideToken) ReadError → Type 0 → Type 0
 Within so_far place r P = ((length so_far < token_limit) × P) ⊎ ((token_limit ≤ length so_far) × (r ≡ Err (TextTooLong place)))
 
 -- the outcome of a text by its front
-abbrev Case : List WideToken → Bool → ℕ → List ℕ → Result (List WideToken) ReadError → front.Lexed → Type 0
+abbrev Case : List WideToken → Bool → ℕ → List ℕ → Result (List WideToken) ReadError → front.WideLexed → Type 0
 Case so_far signed place rest r front.over = r ≡ Ok so_far
 Case so_far signed place rest r (front.space n) = WideCuts signed so_far (place + n) (drop n rest) r
 Case so_far signed place rest r (front.word n w) =
@@ -25,11 +25,11 @@ case_of h0 = grind arith
 inside : (so_far : List WideToken) (place : ℕ) (r : Result (List WideToken) ReadError) (P : Type 0) → length so_far < token_limit → Within so_far place r P → P
 inside so_far place r P h0 h1 = grind arith
 
-only_full : (so_far : List WideToken) (signed : Bool) (place : ℕ) (rest : List ℕ) (r : Result (List WideToken) ReadError) (f : front.Lexed) → WideTokenBegins f
+only_full : (so_far : List WideToken) (signed : Bool) (place : ℕ) (rest : List ℕ) (r : Result (List WideToken) ReadError) (f : front.WideLexed) → WideTokenBegins f
     → token_limit ≤ length so_far → Case so_far signed place rest r f → r ≡ Err (TextTooLong place)
 only_full so_far signed place rest r f h0 h1 h2 = grind arith
 
-at_front : {so_far : List WideToken} {signed : Bool} {place : ℕ} {rest : List ℕ} {r : Result (List WideToken) ReadError} (found : front.Lexed)
+at_front : {so_far : List WideToken} {signed : Bool} {place : ℕ} {rest : List ℕ} {r : Result (List WideToken) ReadError} (found : front.WideLexed)
     → front signed rest ≡ found → WideCuts signed so_far place rest r → Case so_far signed place rest r found
 at_front {so_far} {signed} {place} {rest} {r} found f c = subst (Case so_far signed place rest r) f (case_of c)
 
@@ -48,14 +48,14 @@ one_end source r s h h2 = grind (arith, one_cut)
 
 -- ---- the tokens only
 
-abbrev Next : Bool → ℕ → List ℕ → List WideToken → front.Lexed → Type 0
+abbrev Next : Bool → ℕ → List ℕ → List WideToken → front.WideLexed → Type 0
 Next signed place rest ls front.over = ls ≡ []
 Next signed place rest ls (front.space n) = WideTokens signed (place + n) (drop n rest) ls
 Next signed place rest ls (front.word n w) =
     (more : List WideToken) × (ls ≡ lexeme place n w ∷ more) × WideTokens (sign_may_follow w) (place + n) (drop n rest) more
 Next signed place rest ls _ = ⊥
 
-next_at : {signed : Bool} {place : ℕ} {rest : List ℕ} {ls : List WideToken} (found : front.Lexed) → front signed rest ≡ found → WideTokens signed place rest ls → Next signed place rest ls found
+next_at : {signed : Bool} {place : ℕ} {rest : List ℕ} {ls : List WideToken} (found : front.WideLexed) → front signed rest ≡ found → WideTokens signed place rest ls → Next signed place rest ls found
 next_at {signed} {place} {rest} {ls} found f t = subst (Next signed place rest ls) f (grind arith)
 
 one_list : {signed : Bool} {place : ℕ} {rest : List ℕ} {xs ys : List WideToken} → WideTokens signed place rest xs → WideTokens signed place rest ys → xs ≡ ys

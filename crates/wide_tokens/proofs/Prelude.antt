@@ -25,10 +25,10 @@ pub use Rattle.cel_tokens.specs.Bytes.{is_between, is_blank, is_digit_of, is_let
 pub use Rattle.cel_tokens.specs.Bytes.{opens_comment}
 pub use Rattle.cel_tokens.specs.Ints.{digit_begins, fits64, hex_begins, int_at, int_of, number, spelled}
 pub use Rattle.wide_tokens.specs.Lexis.{WideTokensReturns, WideTokenBegins, WideCuts, WideIsTokens, WideLexes, WideTakesMemory, WideTokens, lexeme}
-pub use Rattle.wide_tokens.specs.Lexis.TokenBegins.{a_word}
-pub use Rattle.wide_tokens.specs.Lexis.Cuts.{nothing, over, space, token, too_many, wide_int, wrong_text}
-pub use Rattle.wide_tokens.specs.Lexis.Lexes.{read, too_long}
-pub use Rattle.wide_tokens.specs.Lexis.TakesMemory.{behind_space, for_text, for_word}
+pub use Rattle.wide_tokens.specs.Lexis.WideTokenBegins.{a_word}
+pub use Rattle.wide_tokens.specs.Lexis.WideCuts.{nothing, over, space, token, too_many, wide_int, wrong_text}
+pub use Rattle.wide_tokens.specs.Lexis.WideLexes.{read, too_long}
+pub use Rattle.wide_tokens.specs.Lexis.WideTakesMemory.{behind_space, for_text, for_word}
 pub use Rattle.cel_tokens.specs.Limits.{text_limit, token_limit}
 pub use Rattle.cel_tokens.specs.Marks.{mark_at, mark_of, of_one, of_two, one_byte, two_bytes}
 pub use Rattle.wide_tokens.specs.Shown.{WideEndsText}

@@ -17,9 +17,9 @@ behind signed n rest (Ok xs) f (inr t) = inr (behind_space n f t)
 behind signed n rest (Err e) f t = tt
 
 cut_takes : {signed : Bool} {so_far : List WideToken} {place : ℕ} {rest : List ℕ} {r : Result (List WideToken) ReadError} → WideCuts signed so_far place rest r → so_far ≡ [] → Taken signed rest r
-cut_takes (lexis.Cuts.over f) e = inl e
-cut_takes (lexis.Cuts.space {signed = signed} {rest = rest} {r = r} n f d) e = behind signed n rest r f (cut_takes d e)
-cut_takes (lexis.Cuts.token {signed = signed} {rest = rest} {r = r} n w f l d) e = takes signed rest r (for_word n w f)
+cut_takes (lexis.WideCuts.over f) e = inl e
+cut_takes (lexis.WideCuts.space {signed = signed} {rest = rest} {r = r} n f d) e = behind signed n rest r f (cut_takes d e)
+cut_takes (lexis.WideCuts.token {signed = signed} {rest = rest} {r = r} n w f l d) e = takes signed rest r (for_word n w f)
 cut_takes _ e = tt
 
 -- the text has no token, or it is short enough and reading it allocates

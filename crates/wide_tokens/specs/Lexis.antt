@@ -14,7 +14,7 @@ abbrev pub lexeme : ℕ → ℕ → WideWord → WideToken
 lexeme place n w = record { place = place; end = place + n; word = w }
 
 -- a token begins at the front, even if its text or its size is invalid
-pub data WideTokenBegins : front.Lexed → Type 0 where
+pub data WideTokenBegins : front.WideLexed → Type 0 where
   a_word : (n : ℕ) (w : WideWord) → WideTokenBegins (front.word n w)
   a_text : WideTokenBegins front.wrong_text
   an_int : (n : ℕ) → WideTokenBegins (front.wide_int n)

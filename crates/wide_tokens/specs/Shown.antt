@@ -7,7 +7,7 @@ use Rattle.wide_tokens.specs.declared.lexed.Lexed.{Lexed}
 use Rattle.wide_tokens.specs.declared.lexed.Lexed.TheVariants.{Over, Space, Word, WrongText, WideInt, Nothing}
 
 -- the code's finding as plain data: its words, with lengths in bytes
-abbrev pub lexed_view : List ℕ → Lexed → front.Lexed
+abbrev pub lexed_view : List ℕ → Lexed → front.WideLexed
 lexed_view bytes Over = front.over
 lexed_view bytes (Space n) = front.space n
 lexed_view bytes (Word n kind) = front.word n (word_of (take n bytes) kind)
