@@ -8,6 +8,7 @@ A script's status is what its command returns (`None` counts as 0). Beside these
     141    what reads the output has closed it, as with `| head -1`
 """
 
+import argparse
 import os
 import re
 import sys
@@ -32,10 +33,22 @@ class Stop(Exception):
         self.status = status
 
 
+def told_of(doc: Optional[str]) -> str:
+    """What a script says of itself, by the names that scripts are installed by."""
+    text = (doc or "").strip()
+    return text if is_checkout() else re.sub(r"\btools/", "celbpf-", text)
+
+
 def usage_of(doc: Optional[str]) -> str:
-    """The usage in what a script says of itself, by the name that it is installed by."""
-    usage = (doc or "").split("usage: ")[1].split("\n\n")[0]
-    return usage if is_checkout() else re.sub(r"\btools/", "celbpf-", usage)
+    """The usage in what a script says of itself."""
+    return told_of(doc).split("usage: ")[1].split("\n\n")[0]
+
+
+def parser_of(doc: Optional[str]) -> argparse.ArgumentParser:
+    """A parser of words, whose help is the usage, what a script says of itself, and its options."""
+    usage = usage_of(doc)
+    what = told_of(doc).replace(f"usage: {usage}", "").replace("\n\n\n\n", "\n\n").strip()
+    return argparse.ArgumentParser(usage=usage, description=what, formatter_class=argparse.RawDescriptionHelpFormatter)
 
 
 def called(script: str) -> str:
@@ -78,6 +91,10 @@ def drop_output() -> None:
 def run(name: str, main: Callable[[], Optional[int]]) -> NoReturn:
     """Runs a command as the script of this name, and ends the process."""
     sys.setrecursionlimit(DEEPEST)
+    command = sys.modules[main.__module__]
+    if sys.argv[1:] == ["--help"] and not hasattr(command, "parser_of"):
+        print(told_of(command.__doc__))
+        sys.exit(0)
     status = ended(name, main)
     try:
         sys.stdout.flush()

@@ -20,13 +20,13 @@ from ..adapting.report import Left
 from ..asking.program import Program, located
 from ..asking.texts import escaped
 from ..documents import all_in
-from ..entry import Stop, called, usage_of
+from ..entry import Stop, called, parser_of
 
 
 def words() -> argparse.Namespace:
-    parser = argparse.ArgumentParser(usage=usage_of(__doc__))
-    parser.add_argument("policy")
-    parser.add_argument("--program")
+    parser = parser_of(__doc__)
+    parser.add_argument("policy", metavar="POLICY", help="a policy, JSON or YAML")
+    parser.add_argument("--program", metavar="PROGRAM", help="run this program celbpf instead of the usual one")
     return parser.parse_args()
 
 

@@ -22,7 +22,7 @@ import json
 import sys
 from typing import Any, Iterator
 
-from ..entry import Stop, usage_of
+from ..entry import Stop, parser_of
 from ..manifests.kinds import Resources, kind_shown
 from ..manifests.objects import NoObject, objects_in
 from ..manifests.reviews import Converted, OldObjects, placed, request_of, review_of
@@ -32,14 +32,14 @@ NOT_MADE = 1
 
 
 def words() -> argparse.Namespace:
-    parser = argparse.ArgumentParser(usage=usage_of(__doc__))
-    parser.add_argument("files", nargs="+", metavar="FILE")
-    parser.add_argument("--cluster", action="append", default=[])
-    parser.add_argument("--old", action="append", default=[])
-    parser.add_argument("--namespace", default="default")
-    parser.add_argument("--user")
-    parser.add_argument("--group", action="append", default=[], dest="groups")
-    parser.add_argument("--skip-unknown", action="store_true")
+    parser = parser_of(__doc__)
+    parser.add_argument("files", nargs="+", metavar="FILE", help="manifests, JSON or YAML; - is standard input")
+    parser.add_argument("--cluster", metavar="STATE", action="append", default=[], help="CustomResourceDefinitions of a cluster")
+    parser.add_argument("--old", metavar="FILE", action="append", default=[], help="objects before an update")
+    parser.add_argument("--namespace", metavar="NAME", default="default", help="for objects without one (default)")
+    parser.add_argument("--user", metavar="NAME", help="who asks")
+    parser.add_argument("--group", metavar="NAME", action="append", default=[], dest="groups", help="a group of the user; several")
+    parser.add_argument("--skip-unknown", action="store_true", help="leave out objects of unknown kinds")
     given = parser.parse_args()
     if given.groups and given.user is None:
         parser.error("--group takes a --user")

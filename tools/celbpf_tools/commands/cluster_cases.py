@@ -18,7 +18,7 @@ from typing import Any
 
 from ..clusters.cases import Case, cases, difference, due, found, smallest
 from ..clusters.counts import Counts
-from ..entry import usage_of
+from ..entry import parser_of
 from ..home import built
 from ..seeded.numbers import Numbers
 
@@ -26,7 +26,7 @@ SEED = 36
 
 
 def words() -> argparse.Namespace:
-    parser = argparse.ArgumentParser(usage=usage_of(__doc__))
+    parser = parser_of(__doc__)
     parser.add_argument("gatekeeper", nargs="?", default=built("gatekeeper"))
     parser.add_argument("--evaluator", action="store_true")
     parser.add_argument("--seed", type=int, default=SEED)

@@ -17,7 +17,7 @@ from ..asking.program import located
 from ..conformance.cases import Case, cases_of
 from ..conformance.profile import IS_UNTYPED, reason
 from ..conformance.running import faults
-from ..entry import Stop, usage_of
+from ..entry import Stop, parser_of
 
 INSTALLED = [
     Path("/usr/share/gocode/src") / package / "tests/simple/testdata"
@@ -44,7 +44,7 @@ def summary(found: Counter) -> list[str]:
 
 
 def words() -> argparse.Namespace:
-    parser = argparse.ArgumentParser(usage=usage_of(__doc__))
+    parser = parser_of(__doc__)
     parser.add_argument("--data")
     parser.add_argument("--program")
     parser.add_argument("--list", action="store_true")

@@ -6,19 +6,18 @@ An editor starts it and speaks with it; docs/DEBUGGER.md has the settings of edi
 with status 0 when the client disconnects or closes the input, and with status 3 after input that is no message.
 """
 
-import argparse
 import signal
 import sys
 
 from ..dap.adapter import standard
-from ..entry import usage_of
+from ..entry import parser_of
 
 TERMINATED = 143
 
 
 def main() -> int:
-    parser = argparse.ArgumentParser(usage=usage_of(__doc__))
-    parser.add_argument("--program")
+    parser = parser_of(__doc__)
+    parser.add_argument("--program", metavar="PROGRAM", help="run this program celbpf instead of the usual one")
     # an editor may end it by a signal; the process and the files are to end with it
     signal.signal(signal.SIGTERM, lambda *_: sys.exit(TERMINATED))
     standard(parser.parse_args().program).serve()

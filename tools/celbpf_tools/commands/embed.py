@@ -19,18 +19,18 @@ from pathlib import Path
 from ..embedding.building import built_library, installed, made
 from ..embedding.callers import LANGUAGES
 from ..embedding.measuring import measured
-from ..entry import usage_of
+from ..entry import parser_of
 from ..home import ROOT
 
 
 def words() -> argparse.Namespace:
-    parser = argparse.ArgumentParser(usage=usage_of(__doc__))
-    parser.add_argument("--library", type=Path)
-    parser.add_argument("--to", type=Path, default=ROOT / "dist")
-    parser.add_argument("--program", type=Path)
-    parser.add_argument("--no-tests", action="store_true")
-    parser.add_argument("--measure", action="store_true")
-    parser.add_argument("--install", type=Path, metavar="PREFIX")
+    parser = parser_of(__doc__)
+    parser.add_argument("--library", metavar="FILE", type=Path, help="take this libcelbpf_c.a, and prove and build none")
+    parser.add_argument("--to", metavar="FOLDER", type=Path, default=ROOT / "dist", help="write there (dist)")
+    parser.add_argument("--program", metavar="PROGRAM", type=Path, help="compare images and refusals with this celbpf")
+    parser.add_argument("--no-tests", action="store_true", help="test nothing")
+    parser.add_argument("--measure", action="store_true", help="print how fast each language decides")
+    parser.add_argument("--install", type=Path, metavar="PREFIX", help="copy all below this folder")
     return parser.parse_args()
 
 

@@ -23,7 +23,7 @@ from itertools import chain
 from pathlib import Path
 from typing import Any, Iterator
 
-from ..entry import usage_of
+from ..entry import parser_of
 from ..home import built
 from ..hostile import loops
 from ..hostile.costs import Cost, cost_of, worst
@@ -45,7 +45,7 @@ LINES = 25
 
 
 def words() -> argparse.Namespace:
-    parser = argparse.ArgumentParser(usage=usage_of(__doc__))
+    parser = parser_of(__doc__)
     parser.add_argument("--seed", type=int, default=1)
     parser.add_argument("--count", type=int, default=5_000)
     parser.add_argument("--keep", type=Path)

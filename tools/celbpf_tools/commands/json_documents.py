@@ -17,7 +17,7 @@ from collections import Counter
 from pathlib import Path
 from typing import Any
 
-from ..entry import usage_of
+from ..entry import parser_of
 from ..home import built
 from ..json_texts.answers import POLICY, Answer, Case, answer
 from ..json_texts.documents import cases
@@ -30,7 +30,7 @@ LINES = "v 4\nv 5\nv 6\nv 7\nv 8\n"
 
 
 def words() -> argparse.Namespace:
-    parser = argparse.ArgumentParser(usage=usage_of(__doc__))
+    parser = parser_of(__doc__)
     parser.add_argument("--seed", type=int, default=SEED)
     parser.add_argument("--count", type=int, default=10_000)
     parser.add_argument("--program", default=built("celbpf"))

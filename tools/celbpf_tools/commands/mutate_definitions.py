@@ -29,7 +29,7 @@ from typing import Iterator
 
 from ..computing.rows import Rows
 from ..definitions import CRATES, Module
-from ..entry import Stop, usage_of
+from ..entry import Stop, parser_of
 from ..mutating import known
 from ..mutating.drawing import Drawn, again, believed, changes, drawn, read_all
 from ..mutating.pins import Pin, all_pins
@@ -38,7 +38,7 @@ from ..mutating.verdicts import MEANT, VERDICTS, Outcome, decided
 
 
 def words() -> argparse.Namespace:
-    parser = argparse.ArgumentParser(usage=usage_of(__doc__))
+    parser = parser_of(__doc__)
     parser.add_argument("--seed", type=int, action="append")
     parser.add_argument("--count", type=int, default=20)
     parser.add_argument("--crate", action="append", default=[])

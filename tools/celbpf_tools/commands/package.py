@@ -21,7 +21,7 @@ from typing import Optional
 
 from ..asking.program import proved, usable
 from ..embedding.building import NOT_BUILT
-from ..entry import Stop, usage_of
+from ..entry import Stop, parser_of
 from ..home import ROOT
 from ..packaging.archives import arch_of, checked_version, deb, tar
 from ..packaging.tree import plant
@@ -32,12 +32,12 @@ BUILT_LIBRARY = ROOT / "crates" / "celbpf_c" / "out" / "libcelbpf_c.a"
 
 
 def words() -> argparse.Namespace:
-    parser = argparse.ArgumentParser(usage=usage_of(__doc__))
-    parser.add_argument("--programs", type=Path)
-    parser.add_argument("--library", type=Path)
-    parser.add_argument("--no-library", action="store_true")
-    parser.add_argument("--to", type=Path, default=ROOT / "dist")
-    parser.add_argument("--tar", action="store_true")
+    parser = parser_of(__doc__)
+    parser.add_argument("--programs", metavar="FOLDER", type=Path, help="pack the programs, and the library, of this folder")
+    parser.add_argument("--library", metavar="FILE", type=Path, help="pack this libcelbpf_c.a")
+    parser.add_argument("--no-library", action="store_true", help="leave the library out")
+    parser.add_argument("--to", metavar="FOLDER", type=Path, default=ROOT / "dist", help="write there (dist)")
+    parser.add_argument("--tar", action="store_true", help="make the tar archive alone")
     return parser.parse_args()
 
 

@@ -8,7 +8,6 @@ program, for the pieces of an expression and the keys of the document by small p
 policy that is accepted, 3 one that is refused.
 """
 
-import argparse
 import sys
 import tempfile
 from typing import Any
@@ -19,7 +18,7 @@ from ..asking.keys import TRUE, Keys
 from ..asking.places import cause_of, of_function, smallest
 from ..asking.program import Program, located
 from ..asking.texts import on_one_line, pointed
-from ..entry import called, usage_of
+from ..entry import called, parser_of
 from ..documents import json_fault, text_of
 
 MEANINGS = {
@@ -145,9 +144,9 @@ def tell(program: Program, path: str, shown_path: str, refusal: str) -> None:
 
 
 def main() -> int:
-    parser = argparse.ArgumentParser(usage=usage_of(__doc__))
-    parser.add_argument("policy")
-    parser.add_argument("--program")
+    parser = parser_of(__doc__)
+    parser.add_argument("policy", metavar="POLICY", help="a policy")
+    parser.add_argument("--program", metavar="PROGRAM", help="run this program celbpf instead of the usual one")
     given = parser.parse_args()
     with tempfile.TemporaryDirectory() as folder:
         policy = Files(folder).named(given.policy)

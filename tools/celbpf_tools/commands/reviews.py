@@ -18,18 +18,18 @@ from ..asking.files import Files
 from ..asking.program import NotAnswered, Program, located
 from ..asking.texts import on_one_line
 from ..documents import Unreadable
-from ..entry import usage_of
+from ..entry import parser_of
 
 ALLOWED, DENIED, NOT_DECIDED = "allowed", "denied", "not decided"
 
 
 def words() -> argparse.Namespace:
-    parser = argparse.ArgumentParser(usage=usage_of(__doc__))
-    parser.add_argument("policy")
-    parser.add_argument("places", nargs="+", type=Path)
-    parser.add_argument("--namespace")
-    parser.add_argument("--params")
-    parser.add_argument("--program")
+    parser = parser_of(__doc__)
+    parser.add_argument("policy", metavar="POLICY", help="a policy, JSON")
+    parser.add_argument("places", metavar="FOLDER|FILE", nargs="+", type=Path, help="reviews, or folders with *.review.json")
+    parser.add_argument("--namespace", metavar="F", help="the Namespace object of the request")
+    parser.add_argument("--params", metavar="F", help="the params object")
+    parser.add_argument("--program", metavar="PROGRAM", help="run this program celbpf instead of the usual one")
     return parser.parse_args()
 
 

@@ -8,7 +8,6 @@ beside it, each a session; the head of client.go has their lines, and the values
 worked out by hand. Images are made of the texts *.asm there. Together the scripts send each request of the adapter.
 """
 
-import argparse
 import io
 import os
 import re
@@ -19,7 +18,7 @@ from pathlib import Path
 
 from ..asking.program import located
 from ..dap.adapter import Adapter
-from ..entry import Stop, usage_of
+from ..entry import Stop, parser_of
 from ..home import DATA, EXAMPLES, TOOLS
 
 SCRIPTS = DATA / "run-dap"
@@ -74,7 +73,7 @@ def not_sent(scripts: list[Path]) -> set[str]:
 
 
 def main() -> int:
-    parser = argparse.ArgumentParser(usage=usage_of(__doc__))
+    parser = parser_of(__doc__)
     parser.add_argument("--program")
     parser.add_argument("scripts", nargs="*")
     given = parser.parse_args()

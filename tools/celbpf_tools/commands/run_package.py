@@ -10,7 +10,6 @@ nothing, and the version is to be that of `gatekeeper --version`. Then nothing o
 archive is unpacked and run too. What is not on this machine, such as Go, is left out, and the last line says so.
 """
 
-import argparse
 import os
 import subprocess
 import tarfile
@@ -18,7 +17,7 @@ import tempfile
 from pathlib import Path
 from typing import Iterator
 
-from ..entry import usage_of
+from ..entry import parser_of
 from ..home import ROOT, TOOLS
 from ..packaging.checking import (
     Checks, Installed, check_library, check_manual, check_programs, check_texts,
@@ -72,10 +71,10 @@ def check_package(checks: Checks, deb: Path, root: Path, has_library: bool) -> I
 
 
 def main() -> int:
-    parser = argparse.ArgumentParser(usage=usage_of(__doc__))
-    parser.add_argument("--programs", type=Path)
-    parser.add_argument("--library", type=Path)
-    parser.add_argument("--no-library", action="store_true")
+    parser = parser_of(__doc__)
+    parser.add_argument("--programs", metavar="FOLDER", type=Path, help="pack the programs, and the library, of this folder")
+    parser.add_argument("--library", metavar="FILE", type=Path, help="pack this libcelbpf_c.a")
+    parser.add_argument("--no-library", action="store_true", help="leave the library out")
     given = parser.parse_args()
     words = ["--no-library"] if given.no_library else []
     for word, path in (("--programs", given.programs), ("--library", given.library)):

@@ -24,7 +24,7 @@ from ..browsing.browser import Browser, Page
 from ..browsing.browser import located as browser
 from ..browsing.hostile import POLICY, REVIEW, hostile_faults
 from ..browsing.positions import keys_faults, positions_faults
-from ..entry import Stop, usage_of
+from ..entry import Stop, parser_of
 from ..home import EXAMPLES, TOOLS
 from ..slots.mapping import parts_of
 from ..viewing.checking import Evaluator, count, map_faults
@@ -38,7 +38,7 @@ PICTURED = ("seccomp/unconfined", "replicas/five")
 
 
 def words() -> argparse.Namespace:
-    parser = argparse.ArgumentParser(usage=usage_of(__doc__))
+    parser = parser_of(__doc__)
     parser.add_argument("program", nargs="?")
     parser.add_argument("--count", type=int, default=10)
     parser.add_argument("--pictures")

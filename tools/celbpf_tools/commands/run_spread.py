@@ -21,7 +21,7 @@ from pathlib import Path
 from typing import Callable, Iterator
 
 from ..asking.program import located_gatekeeper
-from ..entry import Stop, usage_of
+from ..entry import Stop, parser_of
 from ..home import EXAMPLES
 from ..spreading.hosts import SSHD, Hosts
 from .gatekeeper_load import reviews
@@ -164,7 +164,7 @@ def needed() -> None:
 
 
 def main() -> int:
-    parser = argparse.ArgumentParser(usage=usage_of(__doc__))
+    parser = parser_of(__doc__)
     parser.add_argument("--count", type=int, default=1_000)
     parser.add_argument("--seed", type=int, default=1)
     parser.add_argument("--gatekeeper")

@@ -24,7 +24,7 @@ from pathlib import Path
 from typing import Iterator, Optional
 
 from ..asking.program import Program, located, located_gatekeeper
-from ..entry import usage_of
+from ..entry import parser_of
 from ..documents import Unreadable, one_in
 from ..testing import output
 from ..testing.answers import Asked, Programs, failures
@@ -34,13 +34,13 @@ from ..testing.output import Result
 
 
 def words() -> argparse.Namespace:
-    parser = argparse.ArgumentParser(usage=usage_of(__doc__))
-    parser.add_argument("places", nargs="+")
-    parser.add_argument("--junit")
-    parser.add_argument("--coverage", action="store_true")
-    parser.add_argument("--tap", action="store_true")
-    parser.add_argument("--program")
-    parser.add_argument("--gatekeeper")
+    parser = parser_of(__doc__)
+    parser.add_argument("places", metavar="FOLDER|FILE", nargs="+", help="test files, or folders with them")
+    parser.add_argument("--junit", metavar="F", help="also write JUnit's XML")
+    parser.add_argument("--coverage", action="store_true", help="report outcomes that no case reaches")
+    parser.add_argument("--tap", action="store_true", help="print the Test Anything Protocol, also on a terminal")
+    parser.add_argument("--program", metavar="PROGRAM", help="run this program celbpf instead of the usual one")
+    parser.add_argument("--gatekeeper", metavar="PROGRAM", help="run this program gatekeeper for cases with a cluster")
     return parser.parse_args()
 
 

@@ -29,7 +29,7 @@ from ..asking.files import Files
 from ..asking.program import NotAnswered, Program, located
 from ..asking.reasons import reasons
 from ..asking.texts import escaped, indented, on_one_line
-from ..entry import Stop, called, usage_of
+from ..entry import Stop, called, parser_of
 from ..slots.mapping import NotMapped
 from ..testing import cases
 from ..testing.answers import Asked
@@ -47,14 +47,14 @@ MARK = "the message"
 
 
 def words() -> argparse.Namespace:
-    parser = argparse.ArgumentParser(usage=usage_of(__doc__))
-    parser.add_argument("policy")
-    parser.add_argument("review", nargs="?")
-    parser.add_argument("--namespace")
-    parser.add_argument("--params")
-    parser.add_argument("--case")
-    parser.add_argument("--html")
-    parser.add_argument("--program")
+    parser = parser_of(__doc__)
+    parser.add_argument("policy", metavar="POLICY|TESTS", help="a policy, JSON; with --case a test file")
+    parser.add_argument("review", metavar="REVIEW", nargs="?", help="an admission review, JSON")
+    parser.add_argument("--namespace", metavar="F", help="the Namespace object of the request")
+    parser.add_argument("--params", metavar="F", help="the params object")
+    parser.add_argument("--case", metavar="NAME", help="explain this case of a test file")
+    parser.add_argument("--html", metavar="F", help="also write a page for a browser")
+    parser.add_argument("--program", metavar="PROGRAM", help="run this program celbpf instead of the usual one")
     given = parser.parse_args()
     if (given.case is None) == (given.review is None):
         parser.error("a policy and a review, or --case and a test file")
@@ -204,5 +204,7 @@ def main() -> int:
             print(f"celbpf: {why.line}", file=sys.stderr)
             if why.line.startswith("N1 "):
                 print(f"why: {called('place')} says where the policy is refused", file=sys.stderr)
+            if why.line == "N1 K1":
+                print(f"why: if it is YAML, {called('adapt')} writes it as JSON", file=sys.stderr)
             return why.status
     return 0 if response["allowed"] else 1

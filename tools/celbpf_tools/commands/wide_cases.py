@@ -24,7 +24,7 @@ import json
 from collections import Counter
 from typing import Any, Optional
 
-from ..entry import usage_of
+from ..entry import parser_of
 from ..home import built
 from ..seeded.numbers import Numbers
 from ..wide.cases import Case, cases, due
@@ -39,7 +39,7 @@ WIDE_SHARE, PROFILE_SHARE = 60, 4
 
 
 def words() -> argparse.Namespace:
-    parser = argparse.ArgumentParser(usage=usage_of(__doc__))
+    parser = parser_of(__doc__)
     parser.add_argument("gatekeeper", nargs="?", default=built("gatekeeper"))
     parser.add_argument("--profile-only", action="store_true")
     parser.add_argument("--evaluator", action="store_true")

@@ -2,10 +2,23 @@
 
 import contextlib
 import io
+import subprocess
 import unittest
+from pathlib import Path
 from typing import Callable
+from unittest.mock import patch
 
-from ..entry import CLOSED, INTERRUPTED, Stop, ended
+from .. import entry
+from ..entry import CLOSED, INTERRUPTED, Stop, ended, parser_of
+from ..home import TOOLS
+
+DOC = """Counts words.
+
+usage: tools/count FILE
+       tools/count --all
+
+`tools/other` shows them.
+"""
 
 
 def raising(error: BaseException) -> Callable[[], int]:
@@ -39,3 +52,27 @@ class Ends(unittest.TestCase):
     def test_a_closed_pipe_and_an_interrupt(self) -> None:
         self.assertEqual(self.told(raising(BrokenPipeError())), (CLOSED, ""))
         self.assertEqual(self.told(raising(KeyboardInterrupt())), (INTERRUPTED, ""))
+
+
+class Helps(unittest.TestCase):
+    def test_usage_text_and_options(self) -> None:
+        parser = parser_of(DOC)
+        parser.add_argument("--all", action="store_true", help="count all")
+        usage, what, options = parser.format_help().split("\n\n", 2)
+        self.assertEqual(usage, "usage: tools/count FILE\n       tools/count --all")
+        self.assertEqual((what, options.split("\n")[0]), ("Counts words.", "`tools/other` shows them."))
+        self.assertIn("--all       count all", options)
+
+    def test_installed_names(self) -> None:
+        with patch.object(entry, "is_checkout", lambda: False):
+            text = parser_of(DOC).format_help()
+        self.assertIn("usage: celbpf-count FILE\n       celbpf-count --all\n", text)
+        self.assertIn("`celbpf-other`", text)
+
+    def test_each_script_tells(self) -> None:
+        texts = (path for path in Path(TOOLS).iterdir() if path.is_file() and path.name != "launch")
+        for script in sorted(texts):
+            with self.subTest(script.name):
+                ran = subprocess.run([script, "--help"], capture_output=True, text=True, timeout=60, check=False)
+                self.assertEqual((ran.returncode, ran.stderr), (0, ""))
+                self.assertIn(f"tools/{script.name}", ran.stdout.split("usage: ")[1])
