@@ -53,7 +53,7 @@ fn main() {
 }
 """
 # what a page of a package must not have: files of the repository, and commands of the toolchain
-OF_REPOSITORY = re.compile(r"(?<!\w)tools/\w|(?<![\w.])\./|^ {4}rt\b")
+OF_REPOSITORY = re.compile(r"(?<!\w)tools/\w|(?<![\w.])\./|^ {4}rt\b|\b[Ii]n this repository\b|\bdist/|\bclone\b")
 LINK = re.compile(r"\]\(([^)#\s]*)(?:#([^)\s]*))?\)")
 
 

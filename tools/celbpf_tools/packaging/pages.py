@@ -21,8 +21,8 @@ LEFT_OUT = {
     "docs/EMBEDDING.md": ("Install",),
     "docs/INSTALL.md": ("Make the package",),
 }
-# what a paragraph has that says how the programs are built
-BUILDING = re.compile(r"`rt\b|^    rt\b|^passes all proofs\b|\btools/(?:quick|build)\b|\bcrates/\w+/out\b|`crates\.txt`")
+# what a paragraph has that says how the programs or the package are made
+BUILDING = re.compile(r"^A \[package\]|`rt\b|^    rt\b|^passes all proofs\b|\btools/(?:quick|build)\b|\bcrates/\w+/out\b|`crates\.txt`")
 LINK = re.compile(r"\[([^\]]*)\]\(([^)#\s]+)(#[^)\s]*)?\)")
 NAMES = [
     (re.compile(r"(?<![\w/.])tools/(" + "|".join(SCRIPTS) + r")\b"), r"celbpf-\1"),

@@ -104,6 +104,6 @@ class Package(unittest.TestCase):
 
     def test_links_that_lead_to_nothing(self) -> None:
         with tempfile.TemporaryDirectory() as folder:
-            Path(folder, "A.md").write_text("# A `b`\n[x](A.md#a-b) [y](#c) [z](B.md) [w](http://a)\nrun tools/x or ./y, ../z")
+            Path(folder, "A.md").write_text("# A `b`\n[x](A.md#a-b) [y](#c) [z](B.md) [w](http://a)\nrun tools/x or ./y, ../z\nin this repository")
             found = [line.removeprefix(f"{folder}/A.md: ") for line in text_faults(Path(folder))]
-            self.assertEqual(found, ["run tools/x or ./y, ../z", "#c leads to nothing", "B.md# leads to nothing"])
+            self.assertEqual(found, ["run tools/x or ./y, ../z", "in this repository", "#c leads to nothing", "B.md# leads to nothing"])
