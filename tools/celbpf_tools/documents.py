@@ -49,10 +49,10 @@ def json_fault(text: str) -> Optional[str]:
     return None
 
 
-def loader() -> Any:
-    """A loader of YAML that takes numbers as a cluster does, and dates as texts."""
+def loader(base: Any = None) -> Any:
+    """A loader of YAML that takes numbers as a cluster does, and dates as texts; `base` is a safe loader of the package."""
 
-    class Loader(yaml.SafeLoader):
+    class Loader(base or yaml.SafeLoader):
         """YAML 1.1 without dates and without numbers to the base of 60."""
 
     Loader.yaml_implicit_resolvers = {

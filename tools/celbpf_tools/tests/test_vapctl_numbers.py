@@ -1,0 +1,64 @@
+"""Numbers and quantities, as kubectl sends them and an API server stores them."""
+
+import math
+import unittest
+
+from ..vapctl.numbers import NotJson, sent, undecided_numbers
+from ..vapctl.quantities import quantity_of, write_quantities
+
+# a number, and the text that an API server stores: `kubectl create` and `get` of k8s.io/apimachinery's table
+QUANTITIES = [
+    (0, "0"), (1, "1"), (0.5, "500m"), (0.1, "100m"), (2.5, "2500m"), (1000, "1k"), (1024, "1024"), (1e9, "1G"),
+    (1.5e9, "1500M"), (128974848, "128974848"), (0.001, "1m"), (1e-9, "1e-9"), (1e-10, "1e-9"), (0.0001, "100u"),
+    (-0.25, "-250m"), (12e6, "12M"), (2**63, "9223372036854775807"), (1e21, "9223372036854775807"),
+]
+
+
+class Quantities(unittest.TestCase):
+    def test_canonical_texts(self) -> None:
+        for number, text in QUANTITIES:
+            self.assertEqual(quantity_of(number), text, number)
+
+    def test_paths_of_built_in_kinds(self) -> None:
+        container = {"name": "c", "resources": {"limits": {"cpu": 0.5, "memory": "1Gi"}, "requests": {"cpu": 1}}}
+        pod = {"apiVersion": "v1", "kind": "Pod", "spec": {"containers": [container, "no map"], "overhead": {"cpu": 0.25}}}
+        write_quantities(pod)
+        self.assertEqual(container["resources"], {"limits": {"cpu": "500m", "memory": "1Gi"}, "requests": {"cpu": "1"}})
+        self.assertEqual(pod["spec"]["overhead"], {"cpu": "250m"})
+        job = {"apiVersion": "batch/v1", "kind": "CronJob", "spec": {"jobTemplate": {"spec": {"template": {"spec": {
+            "volumes": [{"emptyDir": {"sizeLimit": 1e9}}]}}}}}}
+        write_quantities(job)
+        self.assertIn("'sizeLimit': '1G'", str(job))
+        quota = {"apiVersion": "v1", "kind": "ResourceQuota", "spec": {"hard": {"pods": 10, "cpu": True, "memory": None}}}
+        write_quantities(quota)
+        self.assertEqual(quota["spec"]["hard"], {"pods": "10", "cpu": True, "memory": None})
+
+    def test_other_kinds_and_forms_stay(self) -> None:
+        for thing in (
+            {"apiVersion": "x.io/v1", "kind": "Pod", "spec": {"overhead": {"cpu": 0.5}}},
+            {"apiVersion": "v1", "kind": "Pod", "spec": {"overhead": 0.5, "containers": {"a": 1}}},
+            {"apiVersion": "v1", "kind": "Pod", "spec": None},
+            {"apiVersion": "v1", "kind": "Pod", "spec": {"overhead": {"cpu": math.inf, "memory": math.nan, "x": 10**400}}},
+        ):
+            before = str(thing)
+            write_quantities(thing)
+            self.assertEqual(str(thing), before)
+
+
+class Numbers(unittest.TestCase):
+    def test_as_kubectl_sends_them(self) -> None:
+        value = {"a": 3.0, "b": [1e3, -0.0, 0.5], True: {None: 1, 2: 3, 1.5: 4}}
+        self.assertEqual(sent(value), {"a": 3, "b": [1000, 0, 0.5], "true": {"null": 1, "2": 3, "1.5": 4}})
+        self.assertIsInstance(sent(3.0), int)
+
+    def test_what_json_does_not_have(self) -> None:
+        for value, said in (({"a": [b"x"]}, "a[0] is a bytes"), ({"a b": {1, 2}}, "['a b'] is a set"), ({b"k": 1}, "a key is a bytes")):
+            with self.assertRaisesRegex(NotJson, said.replace("[", r"\[").replace("]", r"\]")):
+                sent(value)
+
+    def test_numbers_that_are_not_decided(self) -> None:
+        value = {"spec": {"ratio": 0.5, "list": [1, {"a.b": 2**63}], "ok": [True, None, -(2**63), 2**63 - 1, "0.5"]}, "big": 10**5000}
+        found = list(undecided_numbers(value))
+        self.assertEqual(found[:2], [("spec.ratio", "0.5"), ("spec.list[1]['a.b']", "9223372036854775808")])
+        self.assertEqual(found[2], ("big", "an int of more than 4,300 digits"))
+        self.assertEqual(len(found), 3)

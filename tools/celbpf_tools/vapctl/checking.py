@@ -1,0 +1,214 @@
+"""What `check` and `audit` share: objects against the policies of a cluster, or given ones."""
+
+import argparse
+import sys
+import tempfile
+from dataclasses import dataclass, field
+from pathlib import Path
+from typing import Callable
+
+from ..asking.program import located_gatekeeper
+from ..entry import Stop
+from ..manifests.kinds import Resources
+from .cluster import NoState, State, is_namespace, namespace_named, of_policies, saved, spec_of
+from .deciding import Deciding
+from .gate import Gate
+from .inputs import Inputs, Place, Thing, Trouble
+from .requests import Asked, NoReview, Reviews, UnknownKind
+from .results import ERROR, UNDECIDED, Finding, Report, Result
+from .statuses import REFUSED, WORDS
+
+MADE_HERE = Place("(made here)")
+
+
+@dataclass
+class Sources:
+    """The objects that the words of a command name."""
+
+    cluster: list = field(default_factory=list)
+    policies: list = field(default_factory=list)
+    params: list = field(default_factory=list)
+    old: list = field(default_factory=list)
+    new: list = field(default_factory=list)
+    troubles: list[Trouble] = field(default_factory=list)
+
+
+def tell(line: str) -> None:
+    """A line on standard error."""
+    print(f"vapctl: {line}", file=sys.stderr)
+
+
+def stop_at(troubles: list) -> None:
+    """Ends the command if there are troubles, with a line for each."""
+    if troubles:
+        for trouble in troubles[:-1]:
+            tell(str(trouble))
+        raise Stop(str(troubles[-1]), REFUSED)
+
+
+def read(given: argparse.Namespace) -> Sources:
+    """Reads all inputs. What cannot be read of a state, of policies or of params ends the command."""
+    inputs = Inputs()
+    found = Sources(inputs.things(given.cluster), inputs.things(given.policies), inputs.things(given.params))
+    stop_at(inputs.troubles)
+    found.old = inputs.things(given.old)
+    stop_at(inputs.troubles)
+    found.new = inputs.things(given.manifests)
+    found.troubles = inputs.troubles
+    return found
+
+
+def resources_of(things: list) -> Resources:
+    """The kinds that are built in, and those that are defined among objects."""
+    found = Resources()
+    found.define([thing.value for thing in things])
+    return found
+
+
+def state_of(given: argparse.Namespace, found: Sources, resources: Resources) -> State:
+    """The state of the cluster, or one in which the given policies are bound."""
+    if found.cluster:
+        state = saved(found.cluster)
+    else:
+        params = [in_namespace(thing, resources, given.namespace) for thing in found.params]
+        state = of_policies([in_namespace(thing, resources, given.namespace) for thing in found.policies], params)
+        if not state.policies:
+            raise NoState(["no ValidatingAdmissionPolicy is among the policies"])
+    # what a manifest creates is there when the objects in it are created
+    state.add(thing for thing in found.new if is_namespace(thing) and thing.metadata.get("name"))
+    if not found.cluster:
+        state.add(namespace_named(name, MADE_HERE) for name in sorted(namespaces_of(given, found) - state.namespaces()))
+    return state
+
+
+def in_namespace(thing: Thing, resources: Resources, namespace: str) -> Thing:
+    """An object of a kind with namespaces in one, by default this."""
+    resource = resources.of(thing.value)
+    if resource is None or not resource.namespaced or thing.namespace:
+        return thing
+    return Thing({**thing.value, "metadata": {**thing.metadata, "namespace": namespace}}, thing.place)
+
+
+def namespaces_of(given: argparse.Namespace, found: Sources) -> set:
+    """The namespaces that requests may have."""
+    return {given.namespace, *(thing.namespace for thing in (*found.new, *found.old) if thing.namespace)}
+
+
+@dataclass
+class Prepared:
+    """The objects of which there are reviews, with these, and the results of the others."""
+
+    lines: list = field(default_factory=list)
+    asked: list = field(default_factory=list)
+    results: list = field(default_factory=list)
+
+
+def prepared(given: argparse.Namespace, found: Sources, resources: Resources) -> Prepared:
+    """The review of each object. One that has none is not decided, or left out if its kind is not known."""
+    reviews = Reviews(resources, Asked(given.namespace, given.operation or "", given.user, given.groups))
+    for thing in found.old:
+        try:
+            reviews.add_old(thing)
+        except NoReview as why:
+            stop_at([Trouble(thing.place, f"{thing.title}: {why}")])
+    made = Prepared()
+    for thing in found.new:
+        try:
+            value, line = reviews.text(thing, str(len(made.results) + 1))
+        except UnknownKind as why:
+            if not given.skip_unknown:
+                hint = "its CustomResourceDefinition is not among the inputs; --skip-unknown leaves it out"
+                made.results.append(undecided(thing, f"{why}: {hint}"))
+            continue
+        except NoReview as why:
+            made.results.append(undecided(thing, str(why)))
+            continue
+        namespace = str(value["metadata"].get("namespace") or "")
+        made.results.append(Result(thing, namespace, ""))
+        made.asked.append(made.results[-1])
+        made.lines.append(line)
+    return made
+
+
+def undecided(thing: Thing, why: str) -> Result:
+    """The result of an object of which no review is made."""
+    return Result(thing, thing.namespace, UNDECIDED, "", [Finding("", "", ERROR, f"not decided: {why}")])
+
+
+def gate_of(given: argparse.Namespace, progress: Callable) -> Gate:
+    """The gatekeeper that is asked."""
+    program = located_gatekeeper(given.gatekeeper, None)
+    if program is None:
+        raise Stop("there is no program gatekeeper beside the one that CELBPF_PROGRAM names; --gatekeeper names it", REFUSED)
+    return Gate(program, given.jobs, progress)
+
+
+def report_of(given: argparse.Namespace, progress: Callable = lambda: None) -> Report:
+    """Checks all objects."""
+    found = read(given)
+    if not found.new and not found.troubles and not given.allow_empty:
+        raise Stop("there is no object to check; --allow-empty takes that for good", REFUSED)
+    resources = resources_of([*found.cluster, *found.policies, *found.params, *found.new])
+    made = prepared(given, found, resources)
+    gate = gate_of(given, progress)
+    with tempfile.TemporaryDirectory() as folder:
+        try:
+            deciding = Deciding(gate, state_of(given, found, resources), Path(folder))
+        except NoState as why:
+            for line in why.lines[:-1]:
+                tell(line)
+            raise Stop(why.lines[-1], REFUSED) from why
+        warn(given, deciding)
+        for result, answer in zip(made.asked, deciding.decide(made.lines)):
+            result.outcome, result.message, result.findings = answer
+    return Report(made.results, found.troubles, deciding.policies)
+
+
+def warn(given: argparse.Namespace, deciding: Deciding) -> None:
+    """Tells of policies that are refused, and of those that read the user if there is none."""
+    for name, why in deciding.blocked.items():
+        tell(f"policy {name} is not decided: {why}; `vapctl lint` shows where")
+    for policy in deciding.state.policies if given.user is None else ():
+        if policy.name in deciding.policies and "userInfo" in str(spec_of(policy)):
+            tell(f"policy {policy.name} reads request.userInfo, which no request has without --user")
+
+
+def add_words(parser: argparse.ArgumentParser) -> None:
+    """The options that both commands have."""
+    which = parser.add_argument_group("policies")
+    which.add_argument("--cluster", action="append", default=[], metavar="STATE",
+                       help="a saved state of a cluster, as `vapctl state` writes it; may be given several times")
+    which.add_argument("--policy", action="append", default=[], dest="policies", metavar="P",
+                       help="a policy, or a folder of policies, with their bindings if there are any: a policy without a "
+                            "binding denies; may be given several times")
+    which.add_argument("--params", action="append", default=[], metavar="F", help="params of the policies of --policy")
+    request = parser.add_argument_group("requests")
+    request.add_argument("-n", "--namespace", default="default", metavar="NAME",
+                         help="the namespace of objects that have none (default: default)")
+    request.add_argument("--user", metavar="NAME", help="who makes the requests, as `kubectl --as`")
+    request.add_argument("--group", action="append", default=[], dest="groups", metavar="NAME",
+                         help="a group of the user, as `kubectl --as-group`; may be given several times")
+    other = parser.add_argument_group("other")
+    other.add_argument("--skip-unknown", action="store_true", help="leave out objects whose kind is not known")
+    other.add_argument("--allow-empty", action="store_true", help="end with 0 if there is no object; without it with 3")
+    other.add_argument("-j", "--jobs", type=count, default=1, metavar="N", help="the number of gatekeepers (default: 1)")
+    other.add_argument("--gatekeeper", metavar="PROGRAM", help="the gatekeeper to ask, if not the one that is installed")
+
+
+def count(text: str) -> int:
+    """A number of processes, at least 1."""
+    if not text.isdecimal() or not 1 <= int(text) <= 256:
+        raise argparse.ArgumentTypeError(f"{text!r} is no number from 1 to 256")
+    return int(text)
+
+
+def refuse_words(given: argparse.Namespace) -> None:
+    """Refuses options that do not go together."""
+    if bool(given.cluster) == bool(given.policies):
+        raise Stop("one of --cluster and --policy is needed", WORDS)
+    if given.params and given.cluster:
+        raise Stop("--params goes with --policy: the state of --cluster has its params", WORDS)
+    if given.groups and given.user is None:
+        raise Stop("--group needs a --user", WORDS)
+    if given.user == "" or "" in given.groups:
+        raise Stop("a user or a group has no name", WORDS)

@@ -1,0 +1,175 @@
+"""The state of a cluster, as the gatekeeper reads it: one that was saved, or one of given policies."""
+
+import json
+from collections.abc import Iterable
+from dataclasses import dataclass, field
+from pathlib import Path
+from typing import Optional
+
+from .inputs import Place, Thing
+
+ADMISSION = "admissionregistration.k8s.io"
+POLICY, BINDING = "ValidatingAdmissionPolicy", "ValidatingAdmissionPolicyBinding"
+# an API server converts the others to it
+VERSION = f"{ADMISSION}/v1"
+NAME_LABEL = "kubernetes.io/metadata.name"
+EVERYTHING = {"apiGroups": ["*"], "apiVersions": ["*"], "operations": ["*"], "resources": ["*"]}
+
+
+class NoState(Exception):
+    """Objects that are no state of a cluster, with the lines that say why."""
+
+    def __init__(self, lines: list):
+        super().__init__("; ".join(lines))
+        self.lines = lines
+
+
+@dataclass
+class State:
+    """The objects of a cluster. `made` has the policies whose bindings are made here, since none was given."""
+
+    things: list = field(default_factory=list)
+    made: set = field(default_factory=set)
+
+    def of(self, kind: str) -> list:
+        """The policies or the bindings."""
+        return [thing for thing in self.things if is_of(thing, kind)]
+
+    @property
+    def policies(self) -> list:
+        return self.of(POLICY)
+
+    @property
+    def bindings(self) -> list:
+        return self.of(BINDING)
+
+    def namespaces(self) -> set:
+        """The names of the namespaces."""
+        return {thing.name for thing in self.things if is_namespace(thing)}
+
+    def add(self, things: Iterable) -> None:
+        """Adds objects that are not there yet."""
+        known = {key_of(thing) for thing in self.things}
+        self.things += [thing for thing in things if key_of(thing) not in known]
+
+    def actions(self) -> dict:
+        """By policy and binding the actions of the binding."""
+        return {(policy_of(one), one.name): list(spec_of(one).get("validationActions") or ()) for one in self.bindings}
+
+    def written(self, path: Path, actions: Optional[list] = None, only: Optional[Thing] = None) -> Path:
+        """Writes the state as a List. `actions` are those of all bindings, `only` is the one binding that is kept."""
+        kept = [thing for thing in self.things if only is None or thing is only or not is_of(thing, BINDING)]
+        items = [with_actions(thing, actions) for thing in kept]
+        text = json.dumps({"apiVersion": "v1", "kind": "List", "items": items}, separators=(",", ":"))
+        path.write_text(text, encoding="utf-8")
+        return path
+
+
+def is_of(thing: Thing, kind: str) -> bool:
+    """Whether an object is a policy, or a binding."""
+    return thing.group == ADMISSION and thing.kind == kind
+
+
+def with_actions(thing: Thing, actions: Optional[list]) -> dict:
+    """An object; a binding with these actions if they are given."""
+    if actions is None or not is_of(thing, BINDING):
+        return thing.value
+    return {**thing.value, "spec": {**spec_of(thing), "validationActions": actions}}
+
+
+def spec_of(thing: Thing) -> dict:
+    """The specification of an object, empty if it has none."""
+    spec = thing.value.get("spec")
+    return spec if isinstance(spec, dict) else {}
+
+
+def policy_of(binding: Thing) -> str:
+    return str(spec_of(binding).get("policyName", ""))
+
+
+def key_of(thing: Thing) -> tuple:
+    """What an object is found by."""
+    return thing.group, thing.kind, thing.namespace, thing.name
+
+
+def is_namespace(thing: Thing) -> bool:
+    return (thing.group, thing.kind) == ("", "Namespace")
+
+
+def namespace_named(name: str, place: Place) -> Thing:
+    """A Namespace without labels but that of its name."""
+    metadata = {"name": name, "labels": {NAME_LABEL: name}}
+    return Thing({"apiVersion": "v1", "kind": "Namespace", "metadata": metadata}, place)
+
+
+def as_stored(thing: Thing) -> Thing:
+    """A policy or a binding of an older version as one of v1, as an API server stores it; others are unchanged."""
+    if (is_of(thing, POLICY) or is_of(thing, BINDING)) and thing.api_version != VERSION:
+        return Thing({**thing.value, "apiVersion": VERSION}, thing.place)
+    return thing
+
+
+def duplicates(things: list) -> list:
+    """A line for each object that is there twice."""
+    first: dict = {}
+    told = []
+    for thing in things:
+        before = first.setdefault(key_of(thing), thing)
+        if before is not thing:
+            told.append(f"{thing.place}: {thing.title} is also at {before.place}")
+    return told
+
+
+def saved(things: list) -> State:
+    """The state of objects that a cluster holds."""
+    stored = [as_stored(thing) for thing in things]
+    if told := duplicates(stored):
+        raise NoState(told)
+    return State(stored)
+
+
+def of_policies(things: list, params: list) -> State:
+    """The state in which these policies are bound: by the bindings among them, or else by one that denies."""
+    stored = [as_stored(thing) for thing in [*things, *params]]
+    if told := duplicates(stored):
+        raise NoState(told)
+    state = State(stored)
+    bound = {policy_of(binding) for binding in state.bindings}
+    for policy in state.policies:
+        if policy.name not in bound:
+            state.made.add(policy.name)
+            state.things.append(binding_of(policy, params_of(policy, state.things)))
+    state.things = [with_rules(thing) for thing in state.things]
+    return state
+
+
+def with_rules(thing: Thing) -> Thing:
+    """A policy without constraints is asked about every object."""
+    spec = thing.value.get("spec")
+    if not is_of(thing, POLICY) or not isinstance(spec, dict) or spec.get("matchConstraints"):
+        return thing
+    return Thing({**thing.value, "spec": {**spec, "matchConstraints": {"resourceRules": [EVERYTHING]}}}, thing.place)
+
+
+def params_of(policy: Thing, things: list) -> Optional[list]:
+    """The objects of the kind of a policy's params; `None` if it has none."""
+    kind = spec_of(policy).get("paramKind")
+    if not isinstance(kind, dict):
+        return None
+    return [one for one in things if (one.api_version, one.kind) == (kind.get("apiVersion"), kind.get("kind"))]
+
+
+def binding_of(policy: Thing, params: Optional[list]) -> Thing:
+    """A binding by which a policy denies, with the params that are given."""
+    spec: dict = {"policyName": policy.name, "validationActions": ["Deny"]}
+    if params is not None:
+        spec["paramRef"] = {"parameterNotFoundAction": "Deny", **reference_to(params)}
+    value = {"apiVersion": VERSION, "kind": BINDING, "metadata": {"name": policy.name}, "spec": spec}
+    return Thing(value, policy.place)
+
+
+def reference_to(params: list) -> dict:
+    """What selects params: the name of one, or all of a namespace."""
+    namespaces = {one.namespace for one in params if one.namespace}
+    found: dict = {"namespace": namespaces.pop()} if len(namespaces) == 1 else {}
+    return {**found, "name": params[0].name} if len(params) == 1 else {**found, "selector": {}}

@@ -1,0 +1,138 @@
+"""The outcome of each object, with all findings.
+
+The outcome is what the gatekeeper answers under the state. Its answer to a denial has the first finding alone. All of
+them are the warnings of its answer under a state whose bindings warn instead. If an answer there still has no list of
+all findings, since a binding is not configured or a policy does not decide, each binding is asked alone.
+"""
+
+import re
+from pathlib import Path
+from typing import Iterator
+
+from .cluster import NoState, State, policy_of
+from .gate import Answer, Gate
+from .inputs import Thing
+from .results import ALLOWED, AUDIT, DENIED, DENY, ERROR, UNDECIDED, WARN, Finding
+
+WARNING = re.compile(r"Validation failed for ValidatingAdmissionPolicy '(.*?)' with binding '(.*?)': (.*)", re.DOTALL)
+DENIAL = re.compile(r"is forbidden: ValidatingAdmissionPolicy '(.*?)'(?: with binding '(.*?)')? denied request: (.*)", re.DOTALL)
+LISTED = re.compile(r"celbpf: policy (\S+), bindings.*?(?:, blocked (.*))?$")
+WARNS = ["Warn"]
+# why a state is refused, by the code at the start of the line
+CAUSES = {
+    "C2": "no name, another type of namespace or labels, or a namespace where the kind has none",
+    "C4": "the state has no Namespace",
+    "C5": "an API server does not store this binding: its policyName, paramRef, matchResources or validationActions",
+    "C6": "an API server does not store this policy: its matchConstraints or paramKind",
+}
+
+
+class Deciding:
+    """A gatekeeper and a state, with the files of the state and of its changes in a folder."""
+
+    def __init__(self, gate: Gate, state: State, folder: Path):
+        self.gate, self.state, self.folder = gate, state, folder
+        self.actions = state.actions()
+        self.policies: list = []
+        # by policy the refusal of one that is not decided
+        self.blocked: dict = {}
+        self.file = state.written(folder / "state.json")
+        self.start()
+
+    def start(self) -> None:
+        """Reads which policies are bound, and which of them are refused."""
+        ran = self.gate.started(self.file)
+        lines = ran.stderr.splitlines()
+        if ran.returncode:
+            raise NoState([self.fault(lines[-1] if lines else f"the gatekeeper ended with status {ran.returncode}")])
+        for found in filter(None, map(LISTED.match, lines)):
+            self.policies.append(found[1])
+            if found[2]:
+                self.blocked[found[1]] = found[2]
+
+    def fault(self, line: str) -> str:
+        """Why the state is refused, with the place of the object that the line names."""
+        code, _, name = line.removeprefix("celbpf: ").partition(" ")
+        why = CAUSES.get(code, line)
+        if code == "C2" and name.isdigit() and int(name) < len(self.state.things):
+            thing = self.state.things[int(name)]
+            return f"{thing.place}: {thing.title}: {why} ({code})"
+        for thing in {"C5": self.state.bindings, "C6": self.state.policies}.get(code, ()):
+            if thing.name == name:
+                return f"{thing.place}: {thing.title}: {why} ({code})"
+        return f"{why} ({code})" if code in CAUSES else line
+
+    def decide(self, lines: list) -> Iterator[tuple]:
+        """The outcome, the message and the findings of each review."""
+        answers = self.gate.answers(self.file, lines)
+        found = self.found([(place, lines[place]) for place, one in enumerate(answers) if has_more(one)])
+        for place, answer in enumerate(answers):
+            if answer.refused:
+                yield UNDECIDED, "", found.get(place) or [self.error(answer)]
+            elif answer.allowed:
+                yield ALLOWED, "", found.get(place, [])
+            else:
+                findings = found.get(place, [])
+                own = self.of_denial(answer)
+                known = any((one.policy, one.message) == (own.policy, own.message) for one in findings)
+                yield DENIED, answer.message, findings if known else [own, *findings]
+
+    def found(self, asked: list) -> dict:
+        """By the place of a review all findings."""
+        if not asked:
+            return {}
+        file = self.state.written(self.folder / "warning.json", WARNS)
+        answers = self.gate.answers(file, [line for _, line in asked])
+        found = {place: self.of_warnings(answer) for (place, _), answer in zip(asked, answers)}
+        unlisted = [one for one, answer in zip(asked, answers) if not answer.allowed]
+        for binding in self.state.bindings if unlisted else ():
+            if policy_of(binding) in self.policies:
+                self.add_of(binding, unlisted, found)
+        return found
+
+    def add_of(self, binding: Thing, asked: list, found: dict) -> None:
+        """Adds what is found by one binding alone."""
+        file = self.state.written(self.folder / "alone.json", WARNS, binding)
+        for (place, _), answer in zip(asked, self.gate.answers(file, [line for _, line in asked])):
+            new = self.of_warnings(answer)
+            if answer.refused:
+                new.append(self.error(answer, binding.name))
+            elif not answer.allowed:
+                new.append(self.of_denial(answer))
+            found[place] += [one for one in new if one not in found[place]]
+
+    def of_warnings(self, answer: Answer) -> list:
+        """The findings in the warnings of an answer."""
+        found = []
+        for text in answer.warnings:
+            match = WARNING.fullmatch(text)
+            policy, binding, message = match.groups() if match else ("", "", text)
+            found.append(Finding(policy, self.shown(policy, binding), self.action(policy, binding), message))
+        return found
+
+    def of_denial(self, answer: Answer) -> Finding:
+        """The finding in the message of a denial."""
+        match = DENIAL.search(answer.message)
+        policy, binding, message = match.groups() if match else ("", "", answer.message)
+        return Finding(policy, self.shown(policy, binding or ""), DENY, message)
+
+    def error(self, answer: Answer, binding: str = "") -> Finding:
+        """The policy that does not decide, and why."""
+        blocked = self.blocked.get(answer.policy, "").removeprefix("C7").strip()
+        told = f"not decided: {answer.why_refused}"
+        return Finding(answer.policy, self.shown(answer.policy, binding), ERROR, f"{told}: {blocked}" if blocked else told)
+
+    def shown(self, policy: str, binding: str) -> str:
+        """The name of a binding, empty if it was made here."""
+        return "" if policy in self.state.made else binding
+
+    def action(self, policy: str, binding: str) -> str:
+        """The most severe of a binding's actions."""
+        given = self.actions.get((policy, binding), [])
+        return DENY if "Deny" in given else WARN if "Warn" in given else AUDIT if "Audit" in given else DENY
+
+
+def has_more(answer: Answer) -> bool:
+    """Whether there may be more findings than an answer has."""
+    return bool(answer.policy) if answer.refused else not answer.is_plain
+

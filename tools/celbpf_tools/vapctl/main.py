@@ -1,0 +1,60 @@
+"""The words of `vapctl`, and how it ends."""
+
+import argparse
+import os
+import sys
+import traceback
+from types import ModuleType
+from typing import NoReturn, Optional
+
+from ..entry import Stop
+from .commands import check
+from .statuses import REFUSED, WORDS
+from .version import version
+
+COMMANDS: tuple[ModuleType, ...] = (check,)
+STATUSES = """Status 0: all is allowed, or passed; 1: something is denied, or failed; 2: wrong words; 3: something is refused, is not
+decided, or cannot be read."""
+# calls inside calls are few, but where an expression is taken apart
+DEEPEST = 2_000
+DEEP: tuple = ()
+# shows where an error in vapctl itself is
+DEBUG = "VAPCTL_DEBUG"
+
+
+class Parser(argparse.ArgumentParser):
+    """Words that are wrong end the command with a line, and not with the usage."""
+
+    def error(self, message: str) -> NoReturn:
+        self.exit(WORDS, f"{self.prog}: {message}; `{self.prog} --help` has the words\n")
+
+
+def parser() -> argparse.ArgumentParser:
+    """The words of all commands."""
+    made = Parser(prog="vapctl", description="Checks, tests and explains ValidatingAdmissionPolicies without a cluster.",
+                  epilog=STATUSES, formatter_class=argparse.RawDescriptionHelpFormatter, allow_abbrev=False)
+    made.add_argument("--version", action="version", version=f"vapctl {version()}", help="print the version, and end")
+    commands = made.add_subparsers(dest="command", metavar="COMMAND", required=True, parser_class=Parser)
+    for module in COMMANDS:
+        one = commands.add_parser(module.NAME, help=module.WHAT, description=f"{module.WHAT}\n\n{module.MORE}", epilog=STATUSES,
+                                  formatter_class=argparse.RawDescriptionHelpFormatter, allow_abbrev=False)
+        module.words(one)
+        one.set_defaults(run=module.run)
+    return made
+
+
+def main(words: Optional[list] = None) -> int:
+    """Runs the command; an error in vapctl itself is told on one line."""
+    given = parser().parse_args(words)
+    if given.run not in DEEP:
+        sys.setrecursionlimit(DEEPEST)
+    try:
+        return int(given.run(given))
+    except (Stop, OSError, KeyboardInterrupt):
+        raise
+    except Exception as why:  # pylint: disable=broad-except
+        if os.environ.get(DEBUG):
+            traceback.print_exc()
+        told = f"{type(why).__name__}: {why}".splitlines()[0]
+        print(f"vapctl: an error in vapctl itself, please report it: {told} ({DEBUG}=1 shows more)", file=sys.stderr)
+        return REFUSED

@@ -1,0 +1,114 @@
+"""Quantities that a manifest writes as numbers, in objects of built-in kinds, as an API server stores them.
+
+A chart may write `cpu: 0.5`. `kubectl` sends the number, an API server reads a quantity of it and stores its canonical
+text, `500m` (k8s.io/apimachinery/pkg/api/resource, `Quantity.UnmarshalJSON` and `CanonicalizeBytes`). Quantities that are
+written as texts stay as they are.
+"""
+
+import sys
+from decimal import ROUND_UP, Decimal
+from typing import Any, Iterator, Union
+
+SUFFIXES = {-9: "n", -6: "u", -3: "m", 0: "", 3: "k", 6: "M", 9: "G", 12: "T", 15: "P", 18: "E"}
+# a quantity has no digits beyond these, and is no larger
+NANO = Decimal("1e-9")
+LARGEST = Decimal(2**63 - 1)
+CLAIM = ("resources.requests.*", "resources.limits.*")
+DIVISORS = ("downwardAPI.items[].resourceFieldRef.divisor", "projected.sources[].downwardAPI.items[].resourceFieldRef.divisor")
+CONTAINER = (*CLAIM, "env[].valueFrom.resourceFieldRef.divisor")
+POD = (
+    *(f"{key}[].{path}" for key in ("containers", "initContainers", "ephemeralContainers") for path in CONTAINER),
+    *CLAIM, "overhead.*", "volumes[].emptyDir.sizeLimit",
+    *(f"volumes[].ephemeral.volumeClaimTemplate.spec.{path}" for path in CLAIM),
+    *(f"volumes[].{path}" for path in DIVISORS),
+)
+WORKLOAD = tuple(f"spec.template.spec.{path}" for path in POD)
+LIMITS = ("max", "min", "default", "defaultRequest", "maxLimitRequestRatio")
+METRICS = (
+    *(f"{kind}.target.averageValue" for kind in ("resource", "containerResource", "pods", "object", "external")),
+    *(f"{kind}.target.value" for kind in ("resource", "containerResource", "pods", "object", "external")),
+)
+DEVICES = ("spec.devices[].capacity.*.value", "spec.devices[].basic.capacity.*.value")
+# by group and kind the paths of quantities; `*` is any key, `[]` any item
+PATHS = {
+    ("", "Pod"): tuple(f"spec.{path}" for path in POD),
+    ("", "PodTemplate"): tuple(f"template.spec.{path}" for path in POD),
+    ("", "ReplicationController"): WORKLOAD,
+    ("apps", "Deployment"): WORKLOAD,
+    ("apps", "DaemonSet"): WORKLOAD,
+    ("apps", "ReplicaSet"): WORKLOAD,
+    ("apps", "StatefulSet"): (*WORKLOAD, *(f"spec.volumeClaimTemplates[].spec.{path}" for path in CLAIM)),
+    ("batch", "Job"): WORKLOAD,
+    ("batch", "CronJob"): tuple(f"spec.jobTemplate.{path}" for path in WORKLOAD),
+    ("", "PersistentVolumeClaim"): tuple(f"spec.{path}" for path in CLAIM),
+    ("", "PersistentVolume"): ("spec.capacity.*",),
+    ("", "ResourceQuota"): ("spec.hard.*",),
+    ("", "LimitRange"): tuple(f"spec.limits[].{key}.*" for key in LIMITS),
+    ("", "Node"): ("status.capacity.*", "status.allocatable.*"),
+    ("autoscaling", "HorizontalPodAutoscaler"): tuple(f"spec.metrics[].{path}" for path in METRICS),
+    ("node.k8s.io", "RuntimeClass"): ("overhead.podFixed.*",),
+    ("storage.k8s.io", "CSIStorageCapacity"): ("capacity", "maximumVolumeSize"),
+    ("resource.k8s.io", "ResourceSlice"): DEVICES,
+}
+
+
+def steps_of(path: str) -> list:
+    """A path as keys, `*` and `[]`."""
+    return [step for part in path.split(".") for step in (part.removesuffix("[]"), "[]" * part.endswith("[]")) if step]
+
+
+STEPS = {kind: [steps_of(path) for path in paths] for kind, paths in PATHS.items()}
+
+
+def text_of(value: Union[int, float]) -> str:
+    """A number as Go's JSON writes it: with an exponent below 1e-6 and from 1e21 on."""
+    number = Decimal(repr(value))
+    if isinstance(value, int) or value == 0 or Decimal("1e-6") <= abs(number) < Decimal("1e21"):
+        return f"{number:f}"
+    digits, _, exponent = f"{number.normalize():e}".partition("e")
+    return f"{digits}e{int(exponent):+d}"
+
+
+def quantity_of(value: Union[int, float]) -> str:
+    """The canonical text of the quantity that an API server reads of a number."""
+    text = text_of(value)
+    number = Decimal(text)
+    if abs(number) > LARGEST:
+        number = LARGEST.copy_sign(number)
+    number = number.quantize(NANO, rounding=ROUND_UP)
+    if number == 0:
+        return "0"
+    exponent = max(place for place in (*SUFFIXES, 0) if number % (Decimal(10) ** place) == 0)
+    digits = f"{number / (Decimal(10) ** exponent):.0f}"
+    if "e" in text:
+        return f"{digits}e{exponent}" if exponent else digits
+    return digits + SUFFIXES[exponent]
+
+
+def places(value: Any, steps: list) -> Iterator[tuple]:
+    """The map and the key of each value at a path."""
+    if not isinstance(value, dict) or not steps:
+        return
+    first, *rest = steps
+    for key in list(value) if first == "*" else [first] if first in value else []:
+        if not rest:
+            yield value, key
+        elif rest[0] != "[]":
+            yield from places(value[key], rest)
+        elif isinstance(value[key], list):
+            for item in value[key]:
+                yield from places(item, rest[1:])
+
+
+def is_number(value: Any) -> bool:
+    """Whether a value is a number that JSON has, and no larger than a double."""
+    return isinstance(value, (int, float)) and not isinstance(value, bool) and abs(value) <= sys.float_info.max
+
+
+def write_quantities(thing: dict) -> None:
+    """Replaces the quantities of an object that are numbers by what an API server stores."""
+    group = thing["apiVersion"].rpartition("/")[0]
+    for steps in STEPS.get((group, thing["kind"]), ()):
+        for holder, key in places(thing, steps):
+            if is_number(holder[key]):
+                holder[key] = quantity_of(holder[key])

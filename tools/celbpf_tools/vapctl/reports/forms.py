@@ -1,0 +1,59 @@
+"""The words of `-o`, and where a report is written."""
+
+import argparse
+import os
+import sys
+from typing import Callable, TextIO
+
+from ..results import Report
+from . import github, jsons, junit, policyreport, sarif, table
+
+FORMS: dict[str, Callable] = {
+    "json": jsons.write, "junit": junit.write, "sarif": sarif.write, "github": github.write,
+    "policyreport": policyreport.write,
+}
+NAMES = ("table", *FORMS)
+
+
+def form(text: str) -> tuple:
+    """A form and a file, which is empty for standard output: `FORM` or `FORM=FILE`."""
+    name, equals, file = text.partition("=")
+    if name not in NAMES or (equals and not file):
+        raise argparse.ArgumentTypeError(f"{text!r} is none of {', '.join(NAMES)}, nor one of these with =FILE")
+    return name, file
+
+
+def add_words(parser: argparse.ArgumentParser) -> None:
+    """The options of reports."""
+    group = parser.add_argument_group("report")
+    group.add_argument("-o", "--output", action="append", type=form, default=[], metavar="FORM[=FILE]",
+                       help=f"the form of the report, to standard output or to a file: {', '.join(NAMES)} (default: table); "
+                            "may be given several times")
+    group.add_argument("--color", choices=("auto", "always", "never"), default="auto",
+                       help="colour in a table (default: auto, which is on a terminal without NO_COLOR)")
+    group.add_argument("-v", "--verbose", action="store_true", help="also list the objects that are allowed")
+
+
+def has_colour(given: argparse.Namespace, out: TextIO) -> bool:
+    """Whether a table on a stream has colour."""
+    if given.color != "auto":
+        return bool(given.color == "always")
+    return out.isatty() and not os.environ.get("NO_COLOR") and os.environ.get("TERM") != "dumb"
+
+
+def write(report: Report, given: argparse.Namespace) -> None:
+    """Writes a report in each form that is asked for."""
+    for name, file in given.output or [("table", "")]:
+        if not file:
+            written(report, name, given, sys.stdout)
+            continue
+        with open(file, "w", encoding="utf-8") as out:
+            written(report, name, given, out)
+
+
+def written(report: Report, name: str, given: argparse.Namespace, out: TextIO) -> None:
+    """Writes a report in one form."""
+    if name == "table":
+        table.write(report, out, has_colour(given, out), given.verbose)
+    else:
+        FORMS[name](report, out)

@@ -1,0 +1,115 @@
+"""The review of each object, as an API server would send it."""
+
+import json
+import re
+from dataclasses import dataclass, field
+from typing import Optional
+
+from ..manifests.kinds import Resource, Resources
+from ..manifests.reviews import Converted, OldObjects, placed, request_of, review_of
+from .inputs import Thing
+from .numbers import undecided_numbers
+from .quantities import write_quantities
+
+OPERATIONS = ("CREATE", "UPDATE", "DELETE")
+# the most numbers of an object that are told
+MOST_NUMBERS = 3
+# what a line has if it has a number that is no 64-bit int; a text may look the same
+MAYBE_NO_INT = re.compile(r"[:\[,]-?(?:[0-9]{19,}|[0-9]+\.[0-9]+|[0-9]+(?:\.[0-9]+)?[eE][-+]?[0-9]+)[,\]}]")
+
+
+@dataclass
+class Asked:
+    """Who asks for what: the operation (by default by whether there is an old object), the user, and their groups."""
+
+    namespace: str = "default"
+    operation: str = ""
+    user: Optional[str] = None
+    groups: list = field(default_factory=list)
+
+
+class NoReview(Exception):
+    """An object of which no review is made, and why."""
+
+
+class UnknownKind(NoReview):
+    """An object of a kind that is neither built in nor defined."""
+
+
+class Reviews:
+    """Makes reviews of objects, as creations, or as changes of what was there before."""
+
+    def __init__(self, resources: Resources, asked: Asked):
+        self.resources = resources
+        self.asked = asked
+        self.old = OldObjects()
+
+    def put(self, thing: Thing) -> tuple:
+        """An object in its namespace with the values that are stored, and its resource."""
+        if not isinstance(thing.value.get("metadata"), dict):
+            raise NoReview("the object has no metadata")
+        resource = self.resources.of(thing.value)
+        if resource is None:
+            raise UnknownKind(f"the kind {thing.api_version} {thing.kind} is not known")
+        for key in ("name", "namespace", "generateName"):
+            if not isinstance(thing.metadata.get(key, ""), (str, type(None))):
+                raise NoReview(f"metadata.{key} is not a text")
+        value = placed(thing.value, resource, self.asked.namespace)
+        write_quantities(value)
+        return value, resource
+
+    def add_old(self, thing: Thing) -> None:
+        """Takes an object as one that was there before."""
+        self.old.add(*self.put(thing))
+
+    def text(self, thing: Thing, uid: str) -> tuple:
+        """The object as it is sent, and its review on one line."""
+        value, resource = self.put(thing)
+        request = self.request(value, resource, uid)
+        review = review_of(request, self.asked.user, self.asked.groups)
+        try:
+            line = line_of(review)
+        except ValueError as why:
+            raise NoReview(why_no_numbers(review["request"]) or f"the object is not JSON: {why}") from why
+        if MAYBE_NO_INT.search(line) and (told := why_no_numbers(review["request"])):
+            raise NoReview(told)
+        return value, line
+
+    def request(self, value: dict, resource: Resource, uid: str) -> dict:
+        """The request of an object."""
+        operation = self.asked.operation
+        try:
+            old = self.old.of(value, resource)
+        except Converted as why:
+            raise NoReview(f"{why}: an API server converts it") from why
+        if operation == "CREATE":
+            return request_of(value, resource, None, uid)
+        made = request_of(value, resource, value if old is None and operation else old, uid)
+        if operation == "DELETE":
+            options = {**made["options"], "kind": "DeleteOptions"}
+            made.update(operation=operation, object=None, oldObject=made["oldObject"], options=options)
+        return made
+
+
+def why_no_numbers(request: dict) -> str:
+    """The numbers of a request that are not decided; empty if there are none."""
+    found = [("", number) for number in undecided_numbers(request.get("object"))]
+    found += [("oldObject.", number) for number in undecided_numbers(request.get("oldObject"))]
+    if not found:
+        return ""
+    told = ", ".join(f"{of}{path} is {shown}" for of, (path, shown) in found[:MOST_NUMBERS])
+    more = f" and {len(found) - MOST_NUMBERS} more" if len(found) > MOST_NUMBERS else ""
+    return f"{told}{more}: only 64-bit ints are decided"
+
+
+def line_of(review: dict) -> str:
+    """A review on one line of JSON."""
+    try:
+        text = json.dumps(review, ensure_ascii=False, separators=(",", ":"), allow_nan=False)
+        text.encode()
+    except UnicodeEncodeError:
+        # a half of a pair of surrogates, which only an escape can spell
+        return json.dumps(review, separators=(",", ":"), allow_nan=False)
+    except RecursionError as why:
+        raise NoReview("the object is nested too deep") from why
+    return text

@@ -1,0 +1,124 @@
+"""Documents of YAML, with the line of each document and of each item of a list."""
+
+import re
+from typing import Any, Iterator, Optional
+
+from .. import documents
+from .located import Document, Located
+
+NAMES = documents.YAML_NAMES
+# the most lists and maps that are inside one another
+DEEPEST = 300
+# the most values of a document, each counted as often as it is repeated by an alias
+LARGEST = 5_000_000
+# a text may only be nested deep if it has so many brackets, or a line that begins with so many indentations
+MANY = re.compile(r"(?:[\[{][^\[{]*){300}|^[ \-?:]{300}", re.MULTILINE)
+OPENING = ("MappingStartEvent", "SequenceStartEvent")
+CLOSING = ("MappingEndEvent", "SequenceEndEvent")
+
+
+class NotRead(Exception):
+    """A text that is no YAML, or one that is not read: why, and the line and the column if they are known."""
+
+    def __init__(self, why: str, line: int = 0, column: int = 0):
+        super().__init__(why)
+        self.why, self.line, self.column = why, line, column
+
+
+def has_yaml() -> bool:
+    """Whether Python has a package for YAML."""
+    return documents.yaml is not None
+
+
+def loader() -> Any:
+    """A class that loads YAML, the faster one if the package has it."""
+    return documents.loader(getattr(documents.yaml, "CSafeLoader", documents.yaml.SafeLoader))
+
+
+def documents_of(text: str) -> Iterator[Document]:
+    """The documents of a text of YAML, without empty ones."""
+    yaml = documents.yaml
+    try:
+        if MANY.search(text):
+            refuse_deep(text)
+        load = loader()(text)
+        try:
+            while load.check_node():
+                document = document_of(load, load.get_node(), "*" in text)
+                if document is not None:
+                    yield document
+        finally:
+            load.dispose()
+    except yaml.YAMLError as why:
+        mark = getattr(why, "problem_mark", None)
+        told = str(getattr(why, "problem", None) or getattr(why, "reason", None) or why)
+        raise NotRead(told, mark.line + 1 if mark else 0, mark.column + 1 if mark else 0) from why
+    except RecursionError as why:
+        raise NotRead("it is nested too deep") from why
+    except (ValueError, TypeError, OverflowError) as why:
+        raise NotRead(str(why).split("\n", maxsplit=1)[0]) from why
+
+
+def document_of(load: Any, node: Any, has_aliases: bool) -> Optional[Document]:
+    """The document of a node, or `None` if it is empty."""
+    value = load.construct_document(node)
+    if value is None:
+        return None
+    if has_aliases:
+        refuse_large(value)
+    return Document(value, node.start_mark.line + 1, items_of(node, value), True)
+
+
+def items_of(node: Any, value: Any) -> Optional[list]:
+    """The items of a map's list `items`, with their lines."""
+    items = value.get("items") if isinstance(value, dict) else None
+    if not isinstance(items, list):
+        return None
+    lines = [node.start_mark.line + 1] * len(items)
+    for key, inner in node.value:
+        # the last one counts, and one that a merge brings has the document's line
+        if key.value == "items" and isinstance(inner.value, list) and len(inner.value) == len(items):
+            lines = [item.start_mark.line + 1 for item in inner.value]
+    return [Located(item, line) for item, line in zip(items, lines)]
+
+
+def refuse_deep(text: str) -> None:
+    """Refuses a text that is nested too deep, without nesting calls."""
+    depth = 0
+    for event in documents.yaml.parse(text, loader()):
+        name = type(event).__name__
+        depth += (name in OPENING) - (name in CLOSING)
+        if depth > DEEPEST:
+            raise NotRead("it is nested too deep", event.start_mark.line + 1, event.start_mark.column + 1)
+
+
+def parts_of(value: Any) -> list:
+    """The lists and maps that are parts of a list or a map."""
+    parts = value.values() if isinstance(value, dict) else value
+    return [part for part in parts if isinstance(part, (dict, list))]
+
+
+def refuse_large(value: Any) -> None:
+    """Refuses a value that has itself as a part, or that aliases make too large or too deep."""
+    # by the identity of a list or a map how many values it has, counted with repetitions, and how deep it is
+    measures: dict = {}
+    begun: set = set()
+    waiting = [value] if isinstance(value, (dict, list)) else []
+    while waiting:
+        one = waiting[-1]
+        parts = parts_of(one)
+        missing = [part for part in parts if id(part) not in measures]
+        if not missing:
+            inner = [measures[id(part)] for part in parts]
+            measures[id(one)] = (1 + len(one) + sum(size for size, _ in inner), 1 + max((deep for _, deep in inner), default=0))
+            waiting.pop()
+            continue
+        if id(one) in begun and any(id(part) in begun for part in missing):
+            raise NotRead("a value has itself as a part, by an alias")
+        begun.add(id(one))
+        waiting += missing
+    size, deep = measures.get(id(value), (1, 0))
+    if deep > DEEPEST:
+        raise NotRead("aliases nest it too deep")
+    if size > LARGEST:
+        raise NotRead(f"aliases make it larger than {LARGEST:,} values")
