@@ -8,6 +8,7 @@ with status 0 when the client disconnects or closes the input, and with status 3
 
 import signal
 import sys
+from typing import Optional
 
 from ..dap.adapter import standard
 from ..entry import parser_of
@@ -15,10 +16,15 @@ from ..entry import parser_of
 TERMINATED = 143
 
 
+def serve(program: Optional[str]) -> int:
+    """Serves a client until it disconnects."""
+    # an editor may end it by a signal; the process and the files are to end with it
+    signal.signal(signal.SIGTERM, lambda *_: sys.exit(TERMINATED))
+    standard(program).serve()
+    return 0
+
+
 def main() -> int:
     parser = parser_of(__doc__)
     parser.add_argument("--program", metavar="PROGRAM", help="run this program celbpf instead of the usual one")
-    # an editor may end it by a signal; the process and the files are to end with it
-    signal.signal(signal.SIGTERM, lambda *_: sys.exit(TERMINATED))
-    standard(parser.parse_args().program).serve()
-    return 0
+    return serve(parser.parse_args().program)

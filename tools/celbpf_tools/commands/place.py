@@ -10,7 +10,8 @@ policy that is accepted, 3 one that is refused.
 
 import sys
 import tempfile
-from typing import Any
+from dataclasses import dataclass
+from typing import Any, Iterator, Optional
 
 from ..asking import policies
 from ..asking.files import Files
@@ -49,35 +50,52 @@ MEANINGS = {
 }
 
 
-def show(part: policies.Part, begin: int, end: int) -> None:
-    """Prints a part with carets under a piece."""
-    print(f"{part.title}:")
-    print(pointed(part.text, begin, end))
+@dataclass
+class Refused:
+    """Where a policy is refused: what is meant, and the piece of a part, or the key with what it has, or why none is found."""
+
+    meaning: str
+    part: Optional[policies.Part] = None
+    begin: int = 0
+    end: int = 0
+    key: str = ""
+    value: Any = None
+    note: str = ""
+
+    def lines(self) -> Iterator[str]:
+        """What is printed: the part with carets under its piece, or the key."""
+        yield self.meaning
+        if self.part:
+            yield f"{self.part.title}:"
+            yield pointed(self.part.text, self.begin, self.end)
+        elif self.key:
+            yield f"{self.key}: {on_one_line(shown(self.value))}"
+        elif self.note:
+            yield self.note
 
 
-def show_whole(part: policies.Part) -> None:
-    show(part, 0, len(part.text))
-
-
-def of_part(program: Program, policy: dict, refusal: str) -> None:
+def of_part(program: Program, policy: dict, refusal: str) -> Refused:
     """The part that K6 names, with the place of P or the smallest piece."""
     _, kind, place, cause, *at = refusal.split()
     part = next(one for one in policies.parts(policy) if one.kind == kind and one.place == int(place))
     if at:
         begin = len(part.text.encode()[: int(at[1])].decode(errors="ignore"))
-        print(MEANINGS[cause])
-        return show(part, begin, begin + 1)
+        return Refused(MEANINGS[cause], part, begin, begin + 1)
     piece = smallest(program, part, cause)
-    print(cause == "Y2" and of_function(program, piece) or MEANINGS[cause])
-    show(part, piece.begin, piece.end)
+    return Refused(cause == "Y2" and of_function(program, piece) or MEANINGS[cause], part, piece.begin, piece.end)
 
 
-def of_type(program: Program, policy: dict, number: str) -> None:
+def whole_part(number: str, part: policies.Part) -> Refused:
+    """All of a part."""
+    return Refused(MEANINGS[number], part, 0, len(part.text))
+
+
+def of_type(program: Program, policy: dict, number: str) -> Refused:
     """The first part that is refused alone for its type."""
     for part in policies.parts(policy):
         if cause_of(program.refusal(made_for(part))) == number:
-            return show_whole(part)
-    print("no part alone is refused so")
+            return whole_part(number, part)
+    return Refused(MEANINGS[number], note="no part alone is refused so")
 
 
 def made_for(part: Any) -> dict:
@@ -92,15 +110,15 @@ def made_for(part: Any) -> dict:
     return policies.whole(spec)
 
 
-def of_size(program: Program, policy: dict, number: str) -> None:
+def of_size(program: Program, policy: dict, number: str) -> Refused:
     """The first part with which the policy up to it is too large."""
     spec = {"variables": [], "matchConditions": [], "validations": []}
     for part in policies.parts(policy):
         add(spec, part)
         whole = policies.whole({**spec, "validations": spec["validations"] or [TRUE]})
         if cause_of(program.refusal(whole)) == number:
-            return show_whole(part)
-    print("no part up to the end is refused so")
+            return whole_part(number, part)
+    return Refused(MEANINGS[number], note="no part up to the end is refused so")
 
 
 def add(spec: dict, part: Any) -> None:
@@ -114,33 +132,44 @@ def add(spec: dict, part: Any) -> None:
         spec[key].append({"name": part.name, "expression": part.text})
 
 
-def of_key(program: Program, policy: dict, number: str) -> None:
+def of_key(program: Program, policy: dict, number: str) -> Refused:
     """The key of the document that is refused alone."""
     found = Keys(program, number).of_policy(policy)
-    print(f"{found[0]}: {on_one_line(shown(found[1]))}" if found else "no key alone is refused so")
+    if not found:
+        return Refused(MEANINGS[number], note="no key alone is refused so")
+    return Refused(MEANINGS[number], key=found[0], value=found[1])
 
 
 def shown(value: Any) -> str:
     return value if isinstance(value, str) else policies.json.dumps(value, ensure_ascii=False)
 
 
+FINDERS = {"K3": of_key, "K5": of_key, "K8": of_key, "K7": of_type, "K9": of_type, "G3": of_size, "G4": of_size}
+
+
+def refused(program: Program, policy: Any, refusal: str) -> Refused:
+    """Where a policy of JSON is refused."""
+    number = cause_of(refusal)
+    if refusal.startswith("K6 "):
+        return of_part(program, policy, refusal)
+    if number in FINDERS:
+        return FINDERS[number](program, policy, number)
+    return Refused(MEANINGS.get(number, "the policy cannot be read or its image not be written"))
+
+
 def tell(program: Program, path: str, shown_path: str, refusal: str) -> None:
     """Prints where a policy is refused; errors call its file so."""
     number = cause_of(refusal)
     print(f"celbpf: {refusal}")
-    if not refusal.startswith("K6 "):
-        print(MEANINGS.get(number, "the policy cannot be read or its image not be written"))
-    finders = {"K3": of_key, "K5": of_key, "K8": of_key, "K7": of_type, "K9": of_type, "G3": of_size, "G4": of_size}
-    if refusal.startswith("K6 "):
-        of_part(program, policies.read(path), refusal)
-    elif number == "K1":
+    is_read = refusal.startswith("K6 ") or number in FINDERS
+    for line in refused(program, policies.read(path) if is_read else None, refusal).lines():
+        print(line)
+    if number == "K1":
         text = text_of(path, shown_path)
         if fault := json_fault(text):
             print(fault)
             if not text.lstrip().startswith(("{", "[")):
                 print(f"if it is YAML, {called('adapt')} writes it as JSON")
-    elif number in finders:
-        finders[number](program, policies.read(path), number)
 
 
 def main() -> int:

@@ -118,8 +118,8 @@ def status_of(results: list) -> int:
     return 1 if any(result.failures for result in results) else 0
 
 
-def main() -> int:
-    given = words()
+def outcome(given: argparse.Namespace) -> tuple:
+    """The results of all tests, and the lines about them: the coverage, and how many passed."""
     celbpf = located(given.program)
     find = functools.partial(located_gatekeeper, given.gatekeeper, given.program)
     with tempfile.TemporaryDirectory() as folder:
@@ -128,6 +128,12 @@ def main() -> int:
         notes = list(covered(files, celbpf, asked)) if given.coverage else []
     failed = sum(bool(result.failures) for result in results)
     notes.append(f"{len(results) - failed} of {len(results)} passed")
+    return results, notes
+
+
+def main() -> int:
+    given = words()
+    results, notes = outcome(given)
     shown = output.lines if sys.stdout.isatty() and not given.tap else output.tap
     shown(results, notes, sys.stdout)
     if given.junit:

@@ -173,6 +173,8 @@ def files(given: argparse.Namespace) -> list:
     """The files as a page names them; for a case its test file, since those of its documents are removed."""
     if given.case is not None:
         return [f"case {given.case} of {given.tests}"]
+    if "shown" in given:
+        return list(given.shown)
     beside = [f"{name} {file}" for name, file in (("namespace", given.namespace), ("params", given.params)) if file]
     return [given.policy, given.review, *beside]
 
@@ -186,25 +188,29 @@ def write_page(given: argparse.Namespace, program: Program, decision: Decision) 
         raise Stop(f"{given.html} is not written: {why}") from why
 
 
-def main() -> int:
-    given = words()
+def told(given: argparse.Namespace) -> int:
+    """Prints why a policy decides as it does, by these words; the status. `shown` among them names the files of a page."""
     with tempfile.TemporaryDirectory() as folder, tempfile.TemporaryDirectory() as documents_folder:
         if given.case is not None:
             given = of_case(given, Path(documents_folder))
         kept = Files(documents_folder)
         policy, beside = kept.named(given.policy), documents(given, kept)
         program = Program(located(given.program), folder, beside)
-        try:
-            response = program.response(policy)
-            decision = tell(program, policies.read(policy), program.verdict(policy))
-            decision.message = response.get("status", {}).get("message", "")
-            if given.html:
-                write_page(given, program, decision)
-        except NotAnswered as why:
-            print(f"celbpf: {why.line}", file=sys.stderr)
-            if why.line.startswith("N1 "):
-                print(f"why: {called('place')} says where the policy is refused", file=sys.stderr)
-            if why.line == "N1 K1":
-                print(f"why: if it is YAML, {called('adapt')} writes it as JSON", file=sys.stderr)
-            return why.status
+        response = program.response(policy)
+        decision = tell(program, policies.read(policy), program.verdict(policy))
+        decision.message = response.get("status", {}).get("message", "")
+        if given.html:
+            write_page(given, program, decision)
     return 0 if response["allowed"] else 1
+
+
+def main() -> int:
+    try:
+        return told(words())
+    except NotAnswered as why:
+        print(f"celbpf: {why.line}", file=sys.stderr)
+        if why.line.startswith("N1 "):
+            print(f"why: {called('place')} says where the policy is refused", file=sys.stderr)
+        if why.line == "N1 K1":
+            print(f"why: if it is YAML, {called('adapt')} writes it as JSON", file=sys.stderr)
+        return why.status

@@ -2,7 +2,7 @@
 
 import xml.etree.ElementTree as xml
 from dataclasses import dataclass, field
-from typing import TextIO
+from typing import BinaryIO, TextIO, Union
 
 GREEN, RED, PLAIN = "\x1b[32m", "\x1b[31m", "\x1b[0m"
 
@@ -57,8 +57,8 @@ def lines(results: list, notes: list, out: TextIO) -> None:
         print(one_line(line), file=out)
 
 
-def junit(results: list, path: str) -> None:
-    """JUnit's XML: a suite for each file."""
+def junit(results: list, target: Union[str, BinaryIO]) -> None:
+    """JUnit's XML, to a file or a stream: a suite for each file."""
     top = xml.Element("testsuites")
     for file in dict.fromkeys(result.file for result in results):
         of_file = [result for result in results if result.file == file]
@@ -72,7 +72,7 @@ def junit(results: list, path: str) -> None:
             for line in result.failures:
                 xml.SubElement(case, "error" if result.is_unread else "failure", message=xml_text(line))
     xml.indent(top)
-    xml.ElementTree(top).write(path, encoding="utf-8", xml_declaration=True)
+    xml.ElementTree(top).write(target, encoding="utf-8", xml_declaration=True)
 
 
 def xml_text(text: str) -> str:

@@ -65,15 +65,15 @@ class Forms(unittest.TestCase):
     def test_table(self) -> None:
         found = written(table.write, False, False, of=Report(report().results[:2]))
         wanted = (
-            "RESULT  OBJECT             POLICY  PLACE\n"
-            "denied  ConfigMap dev/bad  p       a.yaml:7\n    no\n"
-            "warns   ConfigMap dev/bad  q       a.yaml:7\n    hm\n"
-            "audits  ConfigMap dev/bad  q       a.yaml:7\n    so\n"
+            "a.yaml:7: ConfigMap dev/bad\n"
+            "  denied  p  no\n"
+            "  warns   q  hm\n"
+            "  audits  q  so\n"
             "2 objects: 1 allowed, 1 denied, 1 warning, 1 finding for the audit log\n"
         )
         self.assertEqual(found, wanted)
-        self.assertIn("allowed    ConfigMap dev/clean  ", written(table.write, False, True))
-        self.assertIn("\x1b[31mdenied\x1b[0m     ConfigMap dev/bad  ", written(table.write, True, False))
+        self.assertIn("a.yaml:1: ConfigMap dev/clean\n  allowed\n", written(table.write, False, True))
+        self.assertIn("\x1b[31mdenied\x1b[0m     p     no\n", written(table.write, True, False))
 
     def test_no_text_is_obeyed_by_a_terminal(self) -> None:
         found = written(table.write, False, True)

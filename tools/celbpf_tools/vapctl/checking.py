@@ -5,7 +5,7 @@ import sys
 import tempfile
 from dataclasses import dataclass, field
 from pathlib import Path
-from typing import Callable
+from typing import Any, Callable
 
 from ..asking.program import located_gatekeeper
 from ..entry import Stop
@@ -118,10 +118,10 @@ def prepared(given: argparse.Namespace, found: Sources, resources: Resources) ->
         except UnknownKind as why:
             if not given.skip_unknown:
                 hint = "its CustomResourceDefinition is not among the inputs; --skip-unknown leaves it out"
-                made.results.append(undecided(thing, f"{why}: {hint}"))
+                made.results.append(undecided(thing, thing.namespace, f"{why}: {hint}"))
             continue
         except NoReview as why:
-            made.results.append(undecided(thing, str(why)))
+            made.results.append(undecided(thing, in_namespace(thing, resources, given.namespace).namespace, str(why)))
             continue
         namespace = str(value["metadata"].get("namespace") or "")
         made.results.append(Result(thing, namespace, ""))
@@ -130,9 +130,9 @@ def prepared(given: argparse.Namespace, found: Sources, resources: Resources) ->
     return made
 
 
-def undecided(thing: Thing, why: str) -> Result:
+def undecided(thing: Thing, namespace: str, why: str) -> Result:
     """The result of an object of which no review is made."""
-    return Result(thing, thing.namespace, UNDECIDED, "", [Finding("", "", ERROR, f"not decided: {why}")])
+    return Result(thing, namespace, UNDECIDED, "", [Finding("", "", ERROR, why)])
 
 
 def gate_of(given: argparse.Namespace, progress: Callable) -> Gate:
@@ -167,10 +167,21 @@ def report_of(given: argparse.Namespace, progress: Callable = lambda: None) -> R
 def warn(given: argparse.Namespace, deciding: Deciding) -> None:
     """Tells of policies that are refused, and of those that read the user if there is none."""
     for name, why in deciding.blocked.items():
-        tell(f"policy {name} is not decided: {why}; `vapctl lint` shows where")
+        tell(f"policy {name} is not decided: {why}")
     for policy in deciding.state.policies if given.user is None else ():
         if policy.name in deciding.policies and "userInfo" in str(spec_of(policy)):
             tell(f"policy {policy.name} reads request.userInfo, which no request has without --user")
+
+
+def add_request_words(parser: argparse.ArgumentParser) -> Any:
+    """The options of requests."""
+    group = parser.add_argument_group("requests")
+    group.add_argument("-n", "--namespace", default="default", metavar="NAME",
+                       help="the namespace of objects that have none (default: default)")
+    group.add_argument("--user", metavar="NAME", help="who makes the requests, as `kubectl --as`")
+    group.add_argument("--group", action="append", default=[], dest="groups", metavar="NAME",
+                       help="a group of the user, as `kubectl --as-group`; may be given several times")
+    return group
 
 
 def add_words(parser: argparse.ArgumentParser) -> None:
@@ -182,12 +193,7 @@ def add_words(parser: argparse.ArgumentParser) -> None:
                        help="a policy, or a folder of policies, with their bindings if there are any: a policy without a "
                             "binding denies; may be given several times")
     which.add_argument("--params", action="append", default=[], metavar="F", help="params of the policies of --policy")
-    request = parser.add_argument_group("requests")
-    request.add_argument("-n", "--namespace", default="default", metavar="NAME",
-                         help="the namespace of objects that have none (default: default)")
-    request.add_argument("--user", metavar="NAME", help="who makes the requests, as `kubectl --as`")
-    request.add_argument("--group", action="append", default=[], dest="groups", metavar="NAME",
-                         help="a group of the user, as `kubectl --as-group`; may be given several times")
+    add_request_words(parser)
     other = parser.add_argument_group("other")
     other.add_argument("--skip-unknown", action="store_true", help="leave out objects whose kind is not known")
     other.add_argument("--allow-empty", action="store_true", help="end with 0 if there is no object; without it with 3")
@@ -202,13 +208,18 @@ def count(text: str) -> int:
     return int(text)
 
 
+def refuse_user(given: argparse.Namespace) -> None:
+    """Refuses groups without a user, and names that are empty."""
+    if given.groups and given.user is None:
+        raise Stop("--group needs a --user", WORDS)
+    if given.user == "" or "" in given.groups:
+        raise Stop("a user or a group has no name", WORDS)
+
+
 def refuse_words(given: argparse.Namespace) -> None:
     """Refuses options that do not go together."""
     if bool(given.cluster) == bool(given.policies):
         raise Stop("one of --cluster and --policy is needed", WORDS)
     if given.params and given.cluster:
         raise Stop("--params goes with --policy: the state of --cluster has its params", WORDS)
-    if given.groups and given.user is None:
-        raise Stop("--group needs a --user", WORDS)
-    if given.user == "" or "" in given.groups:
-        raise Stop("a user or a group has no name", WORDS)
+    refuse_user(given)

@@ -120,20 +120,23 @@ def duplicates(things: list) -> list:
     return told
 
 
+def of_other_groups(things: list) -> list:
+    """A line for each policy or binding whose `apiVersion` is that of something else."""
+    return [f"{thing.place}: {thing.title}: its apiVersion is {thing.api_version}, and not {VERSION}"
+            for thing in things if thing.kind in (POLICY, BINDING) and thing.group != ADMISSION]
+
+
 def saved(things: list) -> State:
     """The state of objects that a cluster holds."""
     stored = [as_stored(thing) for thing in things]
-    if told := duplicates(stored):
+    if told := of_other_groups(stored) + duplicates(stored):
         raise NoState(told)
     return State(stored)
 
 
 def of_policies(things: list, params: list) -> State:
     """The state in which these policies are bound: by the bindings among them, or else by one that denies."""
-    stored = [as_stored(thing) for thing in [*things, *params]]
-    if told := duplicates(stored):
-        raise NoState(told)
-    state = State(stored)
+    state = saved([*things, *params])
     bound = {policy_of(binding) for binding in state.bindings}
     for policy in state.policies:
         if policy.name not in bound:

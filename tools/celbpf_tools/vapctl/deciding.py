@@ -12,6 +12,7 @@ from typing import Iterator
 from .cluster import NoState, State, policy_of
 from .gate import Answer, Gate
 from .inputs import Thing
+from .refusals import why_blocked
 from .results import ALLOWED, AUDIT, DENIED, DENY, ERROR, UNDECIDED, WARN, Finding
 
 WARNING = re.compile(r"Validation failed for ValidatingAdmissionPolicy '(.*?)' with binding '(.*?)': (.*)", re.DOTALL)
@@ -34,7 +35,7 @@ class Deciding:
         self.gate, self.state, self.folder = gate, state, folder
         self.actions = state.actions()
         self.policies: list = []
-        # by policy the refusal of one that is not decided
+        # by policy why it is not decided
         self.blocked: dict = {}
         self.file = state.written(folder / "state.json")
         self.start()
@@ -48,7 +49,7 @@ class Deciding:
         for found in filter(None, map(LISTED.match, lines)):
             self.policies.append(found[1])
             if found[2]:
-                self.blocked[found[1]] = found[2]
+                self.blocked[found[1]] = why_blocked(found[2])
 
     def fault(self, line: str) -> str:
         """Why the state is refused, with the place of the object that the line names."""
@@ -118,9 +119,8 @@ class Deciding:
 
     def error(self, answer: Answer, binding: str = "") -> Finding:
         """The policy that does not decide, and why."""
-        blocked = self.blocked.get(answer.policy, "").removeprefix("C7").strip()
-        told = f"not decided: {answer.why_refused}"
-        return Finding(answer.policy, self.shown(answer.policy, binding), ERROR, f"{told}: {blocked}" if blocked else told)
+        why = self.blocked.get(answer.policy) if answer.refused in ("C7", "C8") else None
+        return Finding(answer.policy, self.shown(answer.policy, binding), ERROR, why or answer.why_refused)
 
     def shown(self, policy: str, binding: str) -> str:
         """The name of a binding, empty if it was made here."""

@@ -90,9 +90,12 @@ class Thing:
 class Inputs:
     """What the words of a command name; each file is read once, and standard input may be named once."""
 
-    def __init__(self) -> None:
+    def __init__(self, keeps_texts: bool = False) -> None:
         self.troubles: list = []
         self.has_stdin = False
+        # the text of each file, if they are kept
+        self.keeps_texts = keeps_texts
+        self.texts: dict = {}
 
     def things(self, words: Iterable[str]) -> list:
         """The objects of files and folders, in their order; what cannot be read is among the troubles."""
@@ -126,7 +129,10 @@ class Inputs:
         name = STDIN_NAME if file == STDIN else file
         found: list = []
         try:
-            for document in self.documents(name, self.text(file)):
+            text = self.text(file)
+            if self.keeps_texts:
+                self.texts[name] = text
+            for document in self.documents(name, text):
                 if not is_of_folder or names_kind(document.value):
                     found += self.of_document(name, document)
         except Unread as why:

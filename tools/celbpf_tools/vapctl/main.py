@@ -8,16 +8,16 @@ from types import ModuleType
 from typing import NoReturn, Optional
 
 from ..entry import Stop
-from .commands import check
+from .commands import check, debug, lint, test, why
 from .statuses import REFUSED, WORDS
 from .version import version
 
-COMMANDS: tuple[ModuleType, ...] = (check,)
+COMMANDS: tuple[ModuleType, ...] = (check, test, why, debug, lint)
 STATUSES = """Status 0: all is allowed, or passed; 1: something is denied, or failed; 2: wrong words; 3: something is refused, is not
 decided, or cannot be read."""
 # calls inside calls are few, but where an expression is taken apart
 DEEPEST = 2_000
-DEEP: tuple = ()
+DEEP = (debug.run, lint.run, test.run, why.run)
 # shows where an error in vapctl itself is
 DEBUG = "VAPCTL_DEBUG"
 

@@ -1,44 +1,58 @@
-"""A table for people, with colour on a terminal."""
+"""A table for people, with colour on a terminal: a line for each object, and below it one for each finding."""
 
+from collections.abc import Iterator
 from typing import TextIO
 
-from ..results import ALLOWED, AUDIT, DENY, ERROR, WARN, Report, Result
+from ..results import ALLOWED, AUDIT, DENY, ERROR, WARN, Finding, Report, Result
 from .texts import on_line
 
-COLOURS = {"denied": "31", "warns": "33", "audits": "36", "undecided": "35", ALLOWED: "32"}
 WORDS = {DENY: "denied", WARN: "warns", AUDIT: "audits", ERROR: "undecided"}
-HEAD = ("RESULT", "OBJECT", "POLICY", "PLACE")
-GAP = "  "
+COLOURS = {DENY: "31", WARN: "33", AUDIT: "36", ERROR: "35", ALLOWED: "32"}
+# the widest column of policies that others are aligned to
+WIDEST = 40
 
 
-def rows_of(result: Result, verbose: bool) -> list:
-    """The rows of an object, each with its message: one for each finding, or one that it is allowed."""
-    place, title = on_line(str(result.place)), on_line(result.title)
-    rows = [((WORDS[one.action], title, on_line(one.policy), place), on_line(one.message)) for one in result.findings]
-    is_clean = not result.findings and result.outcome == ALLOWED
-    return [((ALLOWED, title, "", place), "")] if is_clean and verbose else rows
+class Table:
+    """The table of a report, whose columns are as wide as what is in them."""
+
+    def __init__(self, report: Report, colour: bool, verbose: bool):
+        self.report, self.colour, self.verbose = report, colour, verbose
+        found = [one for result in report.results for one in result.findings]
+        self.words = max((len(WORDS[one.action]) for one in found), default=0)
+        self.policies = max((min(len(on_line(one.policy)), WIDEST) for one in found), default=0)
+
+    def painted(self, text: str, action: str) -> str:
+        """A text in the colour of an action."""
+        return f"\x1b[{COLOURS[action]}m{text}\x1b[0m" if self.colour else text
+
+    def of_finding(self, finding: Finding) -> str:
+        """The line of a finding."""
+        word = WORDS[finding.action]
+        policy = on_line(finding.policy).ljust(self.policies)
+        line = f"  {self.painted(word, finding.action)}{' ' * (self.words - len(word))}  {policy}"
+        return f"{line}  {on_line(finding.message)}" if self.policies else f"{line}{on_line(finding.message)}"
+
+    def of_result(self, result: Result) -> Iterator[str]:
+        """The lines of an object; none if nothing is found and objects that are allowed are not listed."""
+        title = on_line(f"{result.place}: {result.title}")
+        if result.findings:
+            yield title
+            yield from map(self.of_finding, result.findings)
+        elif self.verbose:
+            yield title
+            yield f"  {self.painted(ALLOWED, ALLOWED)}"
+
+    def lines(self) -> Iterator[str]:
+        """All lines: those of objects, of inputs that were not read, and the numbers."""
+        for result in self.report.results:
+            yield from self.of_result(result)
+        for trouble in self.report.troubles:
+            yield f"{on_line(str(trouble.place))}: not read"
+            yield f"  {on_line(trouble.why)}"
+        yield self.report.summary
 
 
 def write(report: Report, out: TextIO, colour: bool, verbose: bool) -> None:
-    """Writes the table, the inputs that were not read, and the numbers."""
-    rows = [row for result in report.results for row in rows_of(result, verbose)]
-    lines = [HEAD, *(cells for cells, _ in rows)]
-    widths = [max(len(line[column]) for line in lines) for column in range(len(HEAD))]
-    if rows:
-        print(line_of(HEAD, widths), file=out)
-    for cells, message in rows:
-        line = line_of(cells, widths)
-        word = cells[0]
-        if colour:
-            line = f"\x1b[{COLOURS[word]}m{word}\x1b[0m{line[len(word):]}"
+    """Writes the table of a report."""
+    for line in Table(report, colour, verbose).lines():
         print(line, file=out)
-        if message:
-            print(f"{GAP * 2}{message}", file=out)
-    for trouble in report.troubles:
-        print(f"not read: {on_line(str(trouble))}", file=out)
-    print(report.summary, file=out)
-
-
-def line_of(cells: tuple, widths: list) -> str:
-    """A row, in columns of these widths."""
-    return GAP.join(cell.ljust(width) for cell, width in zip(cells, widths)).rstrip()

@@ -1,0 +1,57 @@
+"""`vapctl test`: the tests of policies."""
+
+import argparse
+import sys
+
+from ...commands import test
+from ...testing import output
+from ..statuses import BAD, GOOD, REFUSED
+
+NAME = "test"
+WHAT = "run tests of policies"
+MORE = """In a folder it takes the files tests.yaml, tests.yml and tests.json, also in subfolders. docs/SCRIPTS.md has the keys of
+a test file."""
+FORMS = ("table", "tap", "junit")
+
+
+def form(text: str) -> tuple:
+    """A form and a file, which is empty for standard output: `FORM` or `FORM=FILE`."""
+    name, equals, file = text.partition("=")
+    if name not in FORMS or (equals and not file):
+        raise argparse.ArgumentTypeError(f"{text!r} is none of {', '.join(FORMS)}, nor one of these with =FILE")
+    return name, file
+
+
+def words(parser: argparse.ArgumentParser) -> None:
+    """The options of the command."""
+    parser.add_argument("places", nargs="+", metavar="TESTS", help="folders and test files")
+    parser.add_argument("--coverage", action="store_true",
+                        help="also tell which outcomes of conditions, validations and messages no case reaches")
+    parser.add_argument("-o", "--output", action="append", type=form, default=[], metavar="FORM[=FILE]",
+                        help=f"the form of the report, to standard output or to a file: {', '.join(FORMS)} (default: table on a "
+                             "terminal, else tap); may be given several times")
+    parser.add_argument("--program", metavar="PROGRAM", help="the program celbpf to ask, if not the one that is installed")
+    parser.add_argument("--gatekeeper", metavar="PROGRAM", help="the gatekeeper to ask, if not the one that is installed")
+
+
+def run(given: argparse.Namespace) -> int:
+    """Runs the tests, and writes the report."""
+    results, notes = test.outcome(given)
+    for name, file in given.output or [("table" if sys.stdout.isatty() else "tap", "")]:
+        write(name, file, results, notes)
+    status = test.status_of(results)
+    return {0: GOOD, 1: BAD}.get(status, REFUSED)
+
+
+def write(name: str, file: str, results: list, notes: list) -> None:
+    """Writes the report in a form."""
+    if name == "junit":
+        sys.stdout.flush()
+        output.junit(results, file or sys.stdout.buffer)
+        return
+    shown = output.lines if name == "table" else output.tap
+    if not file:
+        shown(results, notes, sys.stdout)
+        return
+    with open(file, "w", encoding="utf-8") as out:
+        shown(results, notes, out)

@@ -1,0 +1,94 @@
+"""All refusals of a policy, with their places in its file."""
+
+import copy
+import json
+from collections.abc import Iterator
+from dataclasses import dataclass
+from typing import Any, Optional
+
+from ..asking import policies
+from ..asking.program import Program
+from ..commands.place import Refused, refused
+from .cluster import VERSION
+from .inputs import Thing
+from .one_decision import policy_text
+from .positions import Marks, Position
+
+# what a part that is refused is replaced by, so that the parts after it are asked
+VALID = {"variable": "dyn(null)", "condition": "true", "validation": "true", "message": "'a'"}
+LISTS = {"variable": "variables", "condition": "matchConditions", "validation": "validations", "message": "validations"}
+KEYS = {"message": "messageExpression"}
+
+
+@dataclass
+class Fault:
+    """A refusal of a policy: its code, what is meant, and the place in the file."""
+
+    policy: Thing
+    refusal: str
+    refused: Refused
+    position: Position
+
+    @property
+    def place(self) -> str:
+        """File, line and column."""
+        column = f":{self.position.column}" if self.position.column else ""
+        return f"{self.policy.place.file}:{self.position.line}{column}"
+
+    @property
+    def part(self) -> str:
+        """How the part or the key is called."""
+        return self.refused.part.title if self.refused.part else self.refused.key
+
+    @property
+    def code(self) -> str:
+        words = self.refusal.split()
+        return words[3] if words[0] == "K6" else words[0]
+
+    @property
+    def meaning(self) -> str:
+        """What is meant, in the words of one who writes policies."""
+        part, at = self.refused.part, self.refused.begin
+        if part and self.code == "P4" and any(part.text[at - back :].startswith((".?", "[?")) for back in (0, 1) if at >= back):
+            return "optional fields, `.?` and `[?`, are outside the language"
+        if self.code == "K2":
+            return f"its apiVersion is {self.policy.api_version}, and not {VERSION}"
+        return self.refused.meaning
+
+    @property
+    def message(self) -> str:
+        """What is meant, after the part or the key."""
+        return f"{self.part}: {self.meaning} ({self.code})" if self.part else f"{self.meaning} ({self.code})"
+
+
+def path_of(part: policies.Part) -> tuple:
+    """The path of a part's text in the document."""
+    return "spec", LISTS[part.kind], part.place, KEYS.get(part.kind, "expression")
+
+
+def without(policy: dict, part: policies.Part) -> dict:
+    """A policy in which a part is replaced by one that is accepted."""
+    made = copy.deepcopy(policy)
+    made["spec"][LISTS[part.kind]][part.place][KEYS.get(part.kind, "expression")] = VALID[part.kind]
+    return made
+
+
+def faults(program: Program, thing: Thing, marks: Optional[Marks]) -> Iterator[Fault]:
+    """The refusals of a policy, in the order in which it is compiled. One of the whole document ends them."""
+    policy: Any = json.loads(policy_text(thing))
+    seen: set = set()
+    while refusal := program.refusal(policy):
+        found = refused(program, policy, refusal)
+        yield Fault(thing, refusal, found, position_of(thing, found, marks))
+        if found.part is None or path_of(found.part) in seen or refusal.split()[0] in ("G3", "G4"):
+            return
+        seen.add(path_of(found.part))
+        policy = without(policy, found.part)
+
+
+def position_of(thing: Thing, found: Refused, marks: Optional[Marks]) -> Position:
+    """The place of what is refused, or that of the policy."""
+    if marks is None or found.part is None:
+        return Position(max(1, thing.place.line))
+    return marks.position(thing.place.line, path_of(found.part), found.begin, found.part.text)
+

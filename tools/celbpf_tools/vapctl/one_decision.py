@@ -1,0 +1,114 @@
+"""One policy and one review, in files as `celbpf` reads them: what `why` and `debug` share."""
+
+import argparse
+import json
+from pathlib import Path
+from typing import Optional
+
+from ..entry import Stop
+from ..manifests.sending import object_sent
+from .checking import add_request_words, refuse_user, resources_of, stop_at
+from .cluster import POLICY, as_stored, is_of
+from .inputs import REVIEW, Inputs, Thing, Trouble
+from .requests import OPERATIONS, Asked, NoReview, Reviews
+from .statuses import REFUSED
+
+
+# the most names that a message lists
+MOST_NAMES = 10
+
+
+def without_nulls(value: dict) -> dict:
+    """A map without the keys that are null, which an API server takes for absent."""
+    return {key: one for key, one in value.items() if one is not None}
+
+
+def policy_text(thing: Thing) -> str:
+    """A policy as `celbpf` reads it: of v1, without what a cluster adds to it."""
+    stored = as_stored(thing).value
+    kept = without_nulls({key: value for key, value in stored.items() if key != "status"})
+    if isinstance(kept.get("spec"), dict):
+        kept["spec"] = without_nulls(kept["spec"])
+    return json.dumps(kept)
+
+
+def named(things: list, name: Optional[str], what: str, option: str) -> Thing:
+    """The one of these objects, or the one of this name, which may follow its kind and a slash."""
+    chosen = [one for one in things if name is None or name in (one.name, f"{one.kind}/{one.name}")]
+    if len(chosen) == 1:
+        return chosen[0]
+    if not things:
+        raise Stop(f"no {what} is among the inputs", REFUSED)
+    listed = ", ".join(f"{one.kind}/{one.name}" if option == "--object" else one.name for one in things[:MOST_NAMES])
+    found = f"{listed}{', ..' if len(things) > MOST_NAMES else ''}"
+    if name is None:
+        raise Stop(f"{len(things)} objects for one {what}: {found}{f'; {option} NAME chooses one' * bool(option)}", REFUSED)
+    raise Stop(f"no {what} is called {name}; there are {found}", REFUSED)
+
+
+class Decision:
+    """The files of a decision, in a folder, and how messages call them."""
+
+    def __init__(self, given: argparse.Namespace, folder: Path):
+        refuse_user(given)
+        self.given, self.folder, self.inputs = given, folder, Inputs()
+        policies = [one for one in self.read(given.policy) if is_of(one, POLICY)]
+        self.policy = named(policies, given.name, POLICY, "--name")
+        self.review = named(self.read(given.review), given.object, "object", "--object")
+        self.files = {"policy": self.write("policy.json", policy_text(self.policy)),
+                      "review": self.write("review.json", self.review_text())}
+        self.shown = [str(self.policy.place), f"{self.review.place} {self.review.title}"]
+        for key, file in (("namespace", given.namespace_object), ("params", given.params)):
+            self.files[key] = self.document(key, file) if file else None
+
+    def read(self, word: str) -> list:
+        """The objects of an input, which has to be read whole."""
+        found = self.inputs.things([word])
+        stop_at(self.inputs.troubles)
+        return found
+
+    def write(self, name: str, text: str) -> str:
+        path = self.folder / name
+        path.write_text(text, encoding="utf-8", errors="surrogatepass")
+        return str(path)
+
+    def document(self, key: str, file: str) -> str:
+        """The file of a namespace or of params."""
+        thing = named(self.read(file), None, key, "")
+        self.shown.append(f"{key} {thing.place}")
+        return self.write(f"{key}.json", json.dumps(object_sent(thing.value)))
+
+    def review_text(self) -> str:
+        """The review that is given, or the one of an object."""
+        if self.review.kind == REVIEW:
+            return json.dumps(self.review.value)
+        given = self.given
+        old = self.read(given.old) if given.old else []
+        defined = [thing for file in given.definitions for thing in self.read(file)]
+        reviews = Reviews(resources_of([self.review, *old, *defined]),
+                          Asked(given.namespace, given.operation or "", given.user, given.groups))
+        try:
+            for one in old:
+                reviews.add_old(one)
+            return str(reviews.text(self.review, "1")[1])
+        except NoReview as why:
+            stop_at([Trouble(self.review.place, f"{self.review.title}: {why}")])
+            raise
+
+
+def add_words(parser: argparse.ArgumentParser, is_optional: bool = False) -> None:
+    """The options of a decision."""
+    more = {"nargs": "?"} if is_optional else {}
+    parser.add_argument("policy", metavar="POLICY", help="a file, YAML or JSON, with the policy; - is standard input", **more)  # type: ignore[arg-type]
+    parser.add_argument("review", metavar="REVIEW", nargs="?",
+                        help="a file with an AdmissionReview, or with a manifest: then its object is created")
+    parser.add_argument("--name", metavar="NAME", help="the policy of this name, if POLICY has several")
+    parser.add_argument("--object", metavar="[KIND/]NAME", help="the object of this name, if REVIEW has several")
+    parser.add_argument("--params", metavar="F", help="the params of the policy")
+    parser.add_argument("--namespace-object", metavar="F", help="the Namespace that expressions see as namespaceObject")
+    group = add_request_words(parser)
+    group.add_argument("--old", metavar="F", help="the objects before: the manifest changes one of them")
+    group.add_argument("--operation", choices=OPERATIONS, help="of the manifest's request")
+    group.add_argument("--definitions", action="append", default=[], metavar="F",
+                       help="CustomResourceDefinitions of the manifest's kind; may be given several times")
+    parser.add_argument("--program", metavar="PROGRAM", help="the program celbpf to ask, if not the one that is installed")

@@ -1,0 +1,78 @@
+"""Where a text of a document is in its file, by the line and the column."""
+
+from dataclasses import dataclass
+from typing import Any, Optional
+
+from .. import documents
+from . import yaml_texts
+
+
+@dataclass(frozen=True)
+class Position:
+    """A line, and a column in it, both counted from 1; a column of 0 is not known."""
+
+    line: int
+    column: int = 0
+
+
+class Marks:
+    """The nodes of a file's documents, by the lines at which they begin."""
+
+    def __init__(self, text: str):
+        self.lines = text.split("\n")
+        self.roots = [node for root in composed(text) for node in [root, *items_of(root)]]
+
+    def position(self, line: int, path: tuple, offset: int, text: str) -> Position:
+        """The place of a character of the text at a path of the object that begins at a line."""
+        for root in self.roots:
+            node = scalar_at(root, path) if root.start_mark.line + 1 == line else None
+            if node is not None:
+                return self.within(node, offset, text)
+        return Position(line)
+
+    def within(self, node: Any, offset: int, text: str) -> Position:
+        """The place of a character of a scalar's text."""
+        line, column = node.start_mark.line, node.start_mark.column
+        if node.style == "|":
+            row = text.count("\n", 0, offset)
+            first = next((one for one in self.lines[line + 1 :] if one.strip()), "")
+            return Position(line + 2 + row, len(first) - len(first.lstrip(" ")) + offset - (text.rfind("\n", 0, offset) + 1) + 1)
+        begin = column + (node.style in ("'", '"'))
+        is_plain = self.lines[line][begin : begin + len(text)] == text
+        return Position(line + 1, (begin + offset if is_plain else column) + 1)
+
+
+def composed(text: str) -> list:
+    """The nodes of a text's documents; none if it is not read as YAML."""
+    if not yaml_texts.has_yaml():
+        return []
+    try:
+        return [node for node in documents.yaml.compose_all(text, yaml_texts.loader()) if node is not None]
+    except (documents.yaml.YAMLError, RecursionError, ValueError):
+        return []
+
+
+def value_at(node: Any, key: Any) -> Optional[Any]:
+    """The node of a key of a map, or of an item of a list."""
+    if isinstance(key, int):
+        is_item = isinstance(node, documents.yaml.SequenceNode) and key < len(node.value)
+        return node.value[key] if is_item else None
+    if not isinstance(node, documents.yaml.MappingNode):
+        return None
+    found = [value for name, value in node.value if name.value == key]
+    return found[-1] if found else None
+
+
+def items_of(root: Any) -> list:
+    """The nodes of the items of a list."""
+    items = value_at(root, "items")
+    return list(items.value) if isinstance(items, documents.yaml.SequenceNode) else []
+
+
+def scalar_at(node: Any, path: tuple) -> Optional[Any]:
+    """The node of the text at a path."""
+    for key in path:
+        node = value_at(node, key)
+        if node is None:
+            return None
+    return node if isinstance(node, documents.yaml.ScalarNode) else None

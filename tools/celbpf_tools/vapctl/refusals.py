@@ -1,0 +1,46 @@
+"""What the refusal of a policy means, in words."""
+
+from ..commands.place import MEANINGS
+
+BLOCKED = {"C8": "the kind of its params is not among the inputs: give a definition of it, or an object"}
+NO_NAMESPACE = "a match condition reads namespaceObject, which is null there in a cluster: write dyn(null)"
+# the number of words of a refusal of an expression before its place, as in `K6 validation 0 P4 at 7`
+EXPRESSION = 4
+
+
+def words_of(refusal: str) -> str:
+    """A refusal of `compile`, such as `K6 validation 0 P4 at 7`, in words, with its code."""
+    parts = refusal.split()
+    if parts[:1] == ["K6"] and len(parts) >= EXPRESSION:
+        _, kind, place, cause, *at = parts
+        where = f"{'message of validation' if kind == 'message' else kind} {place}"
+        after = f" at byte {at[1]}" if at else ""
+        return f"{where}: {MEANINGS.get(cause, 'it is refused')}{after} ({cause})"
+    return f"{MEANINGS[parts[0]]} ({refusal})" if parts and parts[0] in MEANINGS else refusal
+
+
+# what `celbpf` says of documents and runs
+OTHERS = {
+    "N2": "the review is refused: it is none, or has a number that is no 64-bit int, or is too large",
+    "N3": "the namespace or the params are refused: they are no object, or have a number that is no 64-bit int",
+    "N4": "the program takes more steps than are allowed",
+    "N5": "the program takes more memory than is allowed",
+    "memory": "memory ran out",
+}
+
+
+def words_of_refusal(line: str) -> str:
+    """What `celbpf` says on standard error, in words."""
+    if line.startswith("N1 "):
+        return f"the policy is refused: {words_of(line.removeprefix('N1 '))}; `vapctl lint` shows all refusals"
+    if line.startswith("K"):
+        return f"the policy is refused: {words_of(line)}; `vapctl lint` shows all refusals"
+    return f"{OTHERS[line]} ({line})" if line in OTHERS else line
+
+
+def why_blocked(blocked: str) -> str:
+    """Why the gatekeeper does not decide a policy of a cluster, by what it says of it at its start."""
+    code, _, refusal = blocked.partition(" ")
+    if code == "C7":
+        return NO_NAMESPACE if refusal == "namespaceObject" else words_of(refusal)
+    return f"{BLOCKED[code]} ({code})" if code in BLOCKED else blocked
