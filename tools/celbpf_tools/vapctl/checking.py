@@ -184,8 +184,8 @@ def add_request_words(parser: argparse.ArgumentParser) -> Any:
     return group
 
 
-def add_words(parser: argparse.ArgumentParser) -> None:
-    """The options that both commands have."""
+def add_words(parser: argparse.ArgumentParser, jobs: int = 1) -> None:
+    """The options that both commands have; `jobs` is the default number of gatekeepers."""
     which = parser.add_argument_group("policies")
     which.add_argument("--cluster", action="append", default=[], metavar="STATE",
                        help="a saved state of a cluster, as `vapctl state` writes it; may be given several times")
@@ -197,7 +197,8 @@ def add_words(parser: argparse.ArgumentParser) -> None:
     other = parser.add_argument_group("other")
     other.add_argument("--skip-unknown", action="store_true", help="leave out objects whose kind is not known")
     other.add_argument("--allow-empty", action="store_true", help="end with 0 if there is no object; without it with 3")
-    other.add_argument("-j", "--jobs", type=count, default=1, metavar="N", help="the number of gatekeepers (default: 1)")
+    other.add_argument("-j", "--jobs", type=count, default=jobs, metavar="N",
+                       help=f"the number of gatekeepers (default: {'1' if jobs == 1 else 'that of processors'})")
     other.add_argument("--gatekeeper", metavar="PROGRAM", help="the gatekeeper to ask, if not the one that is installed")
 
 

@@ -132,6 +132,15 @@ class Inputs:
             text = self.text(file)
             if self.keeps_texts:
                 self.texts[name] = text
+            found = self.of_text(name, text, is_of_folder)
+        except Unread as why:
+            self.trouble(name, why.line, why.why)
+        return found
+
+    def of_text(self, name: str, text: str, is_of_folder: bool = False) -> list:
+        """The objects of a text, up to where it cannot be read."""
+        found: list = []
+        try:
             for document in self.documents(name, text):
                 if not is_of_folder or names_kind(document.value):
                     found += self.of_document(name, document)

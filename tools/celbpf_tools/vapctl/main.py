@@ -8,11 +8,11 @@ from types import ModuleType
 from typing import NoReturn, Optional
 
 from ..entry import Stop
-from .commands import check, debug, lint, test, why
+from .commands import audit, check, debug, lint, state, test, why
 from .statuses import REFUSED, WORDS
 from .version import version
 
-COMMANDS: tuple[ModuleType, ...] = (check, test, why, debug, lint)
+COMMANDS: tuple[ModuleType, ...] = (check, audit, state, test, why, debug, lint)
 STATUSES = """Status 0: all is allowed, or passed; 1: something is denied, or failed; 2: wrong words; 3: something is refused, is not
 decided, or cannot be read."""
 # calls inside calls are few, but where an expression is taken apart

@@ -23,15 +23,15 @@ def form(text: str) -> tuple:
     return name, file
 
 
-def add_words(parser: argparse.ArgumentParser) -> None:
-    """The options of reports."""
+def add_words(parser: argparse.ArgumentParser, listed: str = "also list the objects that are allowed") -> None:
+    """The options of reports; `listed` is what --verbose does."""
     group = parser.add_argument_group("report")
     group.add_argument("-o", "--output", action="append", type=form, default=[], metavar="FORM[=FILE]",
                        help=f"the form of the report, to standard output or to a file: {', '.join(NAMES)} (default: table); "
                             "may be given several times")
     group.add_argument("--color", choices=("auto", "always", "never"), default="auto",
                        help="colour in a table (default: auto, which is on a terminal without NO_COLOR)")
-    group.add_argument("-v", "--verbose", action="store_true", help="also list the objects that are allowed")
+    group.add_argument("-v", "--verbose", action="store_true", help=listed)
 
 
 def has_colour(given: argparse.Namespace, out: TextIO) -> bool:
@@ -41,19 +41,18 @@ def has_colour(given: argparse.Namespace, out: TextIO) -> bool:
     return out.isatty() and not os.environ.get("NO_COLOR") and os.environ.get("TERM") != "dumb"
 
 
-def write(report: Report, given: argparse.Namespace) -> None:
-    """Writes a report in each form that is asked for."""
+def write(report: Report, given: argparse.Namespace, shown: Callable[..., None] = table.write) -> None:
+    """Writes a report in each form that is asked for; `shown` writes the table."""
+
+    def written(name: str, out: TextIO) -> None:
+        if name == "table":
+            shown(report, out, has_colour(given, out), given.verbose)
+        else:
+            FORMS[name](report, out)
+
     for name, file in given.output or [("table", "")]:
         if not file:
-            written(report, name, given, sys.stdout)
+            written(name, sys.stdout)
             continue
         with open(file, "w", encoding="utf-8") as out:
-            written(report, name, given, out)
-
-
-def written(report: Report, name: str, given: argparse.Namespace, out: TextIO) -> None:
-    """Writes a report in one form."""
-    if name == "table":
-        table.write(report, out, has_colour(given, out), given.verbose)
-    else:
-        FORMS[name](report, out)
+            written(name, out)

@@ -3,6 +3,7 @@
 import json
 from typing import TextIO
 
+from ..counts import by_kind, by_namespace, by_policy
 from ..results import ALLOWED, AUDIT, DENIED, ERROR, UNDECIDED, WARN, Report, Result
 
 
@@ -32,7 +33,8 @@ def document_of(report: Report) -> dict:
     """A whole report."""
     troubles = [{"file": one.place.file, "line": one.place.line, "message": one.why} for one in report.troubles]
     return {
-        "summary": summary_of(report), "policies": report.policies, "results": list(map(result_of, report.results)),
+        "summary": summary_of(report), "byPolicy": by_policy(report), "byNamespace": by_namespace(report),
+        "byKind": by_kind(report), "policies": report.policies, "results": list(map(result_of, report.results)),
         "notRead": troubles, "status": report.status,
     }
 
