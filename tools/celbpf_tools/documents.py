@@ -15,6 +15,10 @@ except ImportError:
 YAML_NAMES = (".yaml", ".yml")
 # PyYAML takes more texts for numbers and dates than a cluster does: 1:30 is a text there, and so is 2026-11-26
 NOT_RESOLVED = ("tag:yaml.org,2002:timestamp", "tag:yaml.org,2002:int", "tag:yaml.org,2002:float")
+# the most lists and maps that are inside one another; only texts with so many brackets, or a line that begins with so
+# many indentations, may have more
+DEEPEST = 300
+MAYBE_DEEP = re.compile(r"(?:[\[{][^\[{]*){300}|^[ \-?:]{300}", re.MULTILINE)
 INT = re.compile(r"[-+]?(?:0|[1-9][0-9_]*|0x[0-9a-fA-F_]+|0o?[0-7_]+|0b[01_]+)$")
 FLOAT = re.compile(r"[-+]?(?:\.[0-9]+|[0-9]+(?:\.[0-9]*)?)(?:[eE][-+]?[0-9]+)?$|[-+]?\.(?:inf|Inf|INF)$|\.(?:nan|NaN|NAN)$")
 
@@ -46,6 +50,9 @@ def json_fault(text: str) -> Optional[str]:
         return f"{why.msg[:1].lower()}{why.msg[1:]} at {place_of(text, why.pos)}"
     except RecursionError:
         return "it is nested too deep"
+    except ValueError:
+        # Python converts no text of more digits
+        return "a number has more than 4,300 digits"
     return None
 
 
@@ -64,11 +71,23 @@ def loader(base: Any = None) -> Any:
     return Loader
 
 
+def too_deep(text: str) -> Any:
+    """Where a text in YAML has too many lists and maps inside one another, as a mark; `None` if it has not."""
+    depth = 0
+    for event in yaml.parse(text, loader(getattr(yaml, "CSafeLoader", None))) if MAYBE_DEEP.search(text) else ():
+        depth += isinstance(event, yaml.CollectionStartEvent) - isinstance(event, yaml.CollectionEndEvent)
+        if depth > DEEPEST:
+            return event.start_mark
+    return None
+
+
 def yaml_of(text: str, path: Path) -> list:
     """The documents of a text in YAML, without empty ones."""
     if yaml is None:
         raise Unreadable(f"{path}: reading YAML needs PyYAML (Debian's python3-yaml); JSON is read without it")
     try:
+        if deep := too_deep(text):
+            raise Unreadable(f"{path}: it is nested too deep at line {deep.line + 1} column {deep.column + 1}")
         return [one for one in yaml.load_all(text, loader()) if one is not None]
     except yaml.YAMLError as why:
         mark = getattr(why, "problem_mark", None)
@@ -76,6 +95,8 @@ def yaml_of(text: str, path: Path) -> list:
         raise Unreadable(f"{path}: {getattr(why, 'problem', None) or why}{where}") from why
     except ValueError as why:
         raise Unreadable(f"{path}: {why}") from why
+    except RecursionError as why:
+        raise Unreadable(f"{path}: it is nested too deep") from why
 
 
 def all_in(path: Path) -> list:

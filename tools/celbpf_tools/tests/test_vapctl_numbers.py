@@ -4,9 +4,9 @@ import math
 import unittest
 
 from ..vapctl.numbers import NotJson, sent, undecided_numbers
-from ..vapctl.quantities import quantity_of, write_quantities
+from ..vapctl.quantities import canonical, quantity_of, write_quantities
 
-# a number, and the text that an API server stores: `kubectl create` and `get` of k8s.io/apimachinery's table
+# a number, and the text that an API server stores, by the rules of Quantity in the reference of its API
 QUANTITIES = [
     (0, "0"), (1, "1"), (0.5, "500m"), (0.1, "100m"), (2.5, "2500m"), (1000, "1k"), (1024, "1024"), (1e9, "1G"),
     (1.5e9, "1500M"), (128974848, "128974848"), (0.001, "1m"), (1e-9, "1e-9"), (1e-10, "1e-9"), (0.0001, "100u"),
@@ -14,13 +14,29 @@ QUANTITIES = [
 ]
 
 
+# the first two are the examples of that reference; the others follow its rules: no fraction, the largest suffix
+TEXTS = [
+    ("1.5", "1500m"), ("1.5Gi", "1536Mi"), ("1024Mi", "1Gi"), ("1000m", "1"), ("1.0", "1"), ("0.5Gi", "512Mi"), ("0.1Ki", "102400m"),
+    ("1.1Ki", "1126400m"), ("128974848", "128974848"), ("129e6", "129e6"), ("129M", "129M"), ("123Mi", "123Mi"), ("+1", "1"),
+    ("-0.5", "-500m"), ("1E3", "1e3"), ("1E", "1E"), ("12e-3", "12e-3"), ("0Gi", "0"), ("1e-10", "1e-9"), ("1n", "1n"), (" 1 ", "1"),
+    ("10000000000000000000000", "9223372036854775807"), ("1e999", "9223372036854775807"), ("1500k", "1500k"), ("1000k", "1M"),
+]
+# what no quantity is
+OTHERS = ["", ".", "a", "1 Gi", "1_0", "\u0663", "1e", "1KI", "1mi", "0x10", "--1", "1e1.5", "Infinity", "nan", "1" * 5000]
+
+
 class Quantities(unittest.TestCase):
     def test_canonical_texts(self) -> None:
         for number, text in QUANTITIES:
             self.assertEqual(quantity_of(number), text, number)
+        for given, text in TEXTS:
+            self.assertEqual(canonical(given), text, given)
+            self.assertEqual(canonical(text), text)
+        for given in OTHERS:
+            self.assertEqual(canonical(given), given)
 
     def test_paths_of_built_in_kinds(self) -> None:
-        container = {"name": "c", "resources": {"limits": {"cpu": 0.5, "memory": "1Gi"}, "requests": {"cpu": 1}}}
+        container = {"name": "c", "resources": {"limits": {"cpu": 0.5, "memory": "1024Mi"}, "requests": {"cpu": 1}}}
         pod = {"apiVersion": "v1", "kind": "Pod", "spec": {"containers": [container, "no map"], "overhead": {"cpu": 0.25}}}
         write_quantities(pod)
         self.assertEqual(container["resources"], {"limits": {"cpu": "500m", "memory": "1Gi"}, "requests": {"cpu": "1"}})

@@ -67,7 +67,7 @@ def resources_of(things: list) -> Resources:
 
 def state_of(given: argparse.Namespace, found: Sources, resources: Resources) -> State:
     """The state of the cluster, or one in which the given policies are bound."""
-    if found.cluster:
+    if given.cluster:
         state = saved(found.cluster)
     else:
         params = [in_namespace(thing, resources, given.namespace) for thing in found.params]
@@ -76,7 +76,7 @@ def state_of(given: argparse.Namespace, found: Sources, resources: Resources) ->
             raise NoState(["no ValidatingAdmissionPolicy is among the policies"])
     # what a manifest creates is there when the objects in it are created
     state.add(thing for thing in found.new if is_namespace(thing) and thing.metadata.get("name"))
-    if not found.cluster:
+    if not given.cluster:
         state.add(namespace_named(name, MADE_HERE) for name in sorted(namespaces_of(given, found) - state.namespaces()))
     return state
 

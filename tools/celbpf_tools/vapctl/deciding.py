@@ -5,6 +5,7 @@ them are the warnings of its answer under a state whose bindings warn instead. I
 all findings, since a binding is not configured or a policy does not decide, each binding is asked alone.
 """
 
+import json
 import re
 from pathlib import Path
 from typing import Iterator
@@ -13,6 +14,7 @@ from .cluster import NoState, State, policy_of
 from .gate import Answer, Gate
 from .inputs import Thing
 from .refusals import why_blocked
+from .requests import why_no_ints
 from .results import ALLOWED, AUDIT, DENIED, DENY, ERROR, UNDECIDED, WARN, Finding
 
 WARNING = re.compile(r"Validation failed for ValidatingAdmissionPolicy '(.*?)' with binding '(.*?)': (.*)", re.DOTALL)
@@ -69,7 +71,7 @@ class Deciding:
         found = self.found([(place, lines[place]) for place, one in enumerate(answers) if has_more(one)])
         for place, answer in enumerate(answers):
             if answer.refused:
-                yield UNDECIDED, "", found.get(place) or [self.error(answer)]
+                yield UNDECIDED, "", found.get(place) or [self.error(answer, lines[place])]
             elif answer.allowed:
                 yield ALLOWED, "", found.get(place, [])
             else:
@@ -84,20 +86,29 @@ class Deciding:
             return {}
         file = self.state.written(self.folder / "warning.json", WARNS)
         answers = self.gate.answers(file, [line for _, line in asked])
-        found = {place: self.of_warnings(answer) for (place, _), answer in zip(asked, answers)}
-        unlisted = [one for one, answer in zip(asked, answers) if not answer.allowed]
-        for binding in self.state.bindings if unlisted else ():
+        found = {place: self.of_warnings(answer) for (place, _), answer in zip(asked, answers) if answer.allowed}
+        unlisted = {place: (line, self.of_warnings(answer)) for (place, line), answer in zip(asked, answers) if not answer.allowed}
+        return {**found, **self.one_by_one(unlisted)}
+
+    def one_by_one(self, asked: dict) -> dict:
+        """By the place of a review what each binding finds alone, and then what else was found."""
+        found: dict = {place: [] for place in asked}
+        bindings = sorted(self.state.bindings, key=lambda one: (policy_of(one), one.name))
+        for binding in bindings if asked else ():
             if policy_of(binding) in self.policies:
-                self.add_of(binding, unlisted, found)
+                self.add_of(binding, asked, found)
+        for place, (_, known) in asked.items():
+            found[place] += [one for one in known if one not in found[place]]
         return found
 
-    def add_of(self, binding: Thing, asked: list, found: dict) -> None:
+    def add_of(self, binding: Thing, asked: dict, found: dict) -> None:
         """Adds what is found by one binding alone."""
         file = self.state.written(self.folder / "alone.json", WARNS, binding)
-        for (place, _), answer in zip(asked, self.gate.answers(file, [line for _, line in asked])):
+        answers = self.gate.answers(file, [line for line, _ in asked.values()])
+        for (place, (line, _)), answer in zip(asked.items(), answers):
             new = self.of_warnings(answer)
             if answer.refused:
-                new.append(self.error(answer, binding.name))
+                new.append(self.error(answer, line, binding.name))
             elif not answer.allowed:
                 new.append(self.of_denial(answer))
             found[place] += [one for one in new if one not in found[place]]
@@ -117,9 +128,11 @@ class Deciding:
         policy, binding, message = match.groups() if match else ("", "", answer.message)
         return Finding(policy, self.shown(policy, binding or ""), DENY, message)
 
-    def error(self, answer: Answer, binding: str = "") -> Finding:
+    def error(self, answer: Answer, line: str, binding: str = "") -> Finding:
         """The policy that does not decide, and why."""
         why = self.blocked.get(answer.policy) if answer.refused in ("C7", "C8") else None
+        if answer.refused == "N2":
+            why = why_no_ints(json.loads(line)["request"])
         return Finding(answer.policy, self.shown(answer.policy, binding), ERROR, why or answer.why_refused)
 
     def shown(self, policy: str, binding: str) -> str:

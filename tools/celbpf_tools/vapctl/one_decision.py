@@ -39,7 +39,7 @@ def named(things: list, name: Optional[str], what: str, option: str) -> Thing:
         return chosen[0]
     if not things:
         raise Stop(f"no {what} is among the inputs", REFUSED)
-    listed = ", ".join(f"{one.kind}/{one.name}" if option == "--object" else one.name for one in things[:MOST_NAMES])
+    listed = ", ".join(f"{one.kind}/{one.name}" if option != "--name" else one.name for one in things[:MOST_NAMES])
     found = f"{listed}{', ..' if len(things) > MOST_NAMES else ''}"
     if name is None:
         raise Stop(f"{len(things)} objects for one {what}: {found}{f'; {option} NAME chooses one' * bool(option)}", REFUSED)

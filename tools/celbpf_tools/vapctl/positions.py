@@ -47,8 +47,9 @@ def composed(text: str) -> list:
     if not yaml_texts.has_yaml():
         return []
     try:
+        yaml_texts.refuse_deep(text)
         return [node for node in documents.yaml.compose_all(text, yaml_texts.loader()) if node is not None]
-    except (documents.yaml.YAMLError, RecursionError, ValueError):
+    except (documents.yaml.YAMLError, yaml_texts.NotRead, ValueError):
         return []
 
 

@@ -1,18 +1,25 @@
-"""Quantities that a manifest writes as numbers, in objects of built-in kinds, as an API server stores them.
+"""Quantities of objects of built-in kinds, as an API server stores them.
 
-A chart may write `cpu: 0.5`. `kubectl` sends the number, an API server reads a quantity of it and stores its canonical
-text, `500m` (k8s.io/apimachinery/pkg/api/resource, `Quantity.UnmarshalJSON` and `CanonicalizeBytes`). Quantities that are
-written as texts stay as they are.
+A chart may write `cpu: 0.5`. An API server reads a quantity of a number as of a text, and stores its canonical form,
+here `500m`: no fraction, and the largest suffix (k8s.io/apimachinery/pkg/api/resource, `Quantity`).
 """
 
+import re
 import sys
-from decimal import ROUND_UP, Decimal
+from decimal import ROUND_UP, Context, Decimal, localcontext
 from typing import Any, Iterator, Union
 
 SUFFIXES = {-9: "n", -6: "u", -3: "m", 0: "", 3: "k", 6: "M", 9: "G", 12: "T", 15: "P", 18: "E"}
+DECIMAL = {suffix: place for place, suffix in SUFFIXES.items()}
+BINARY = ("", "Ki", "Mi", "Gi", "Ti", "Pi", "Ei")
+QUANTITY = re.compile(r"([+-]?(?:[0-9]+\.?[0-9]*|\.[0-9]+))(?:[eE]([+-]?[0-9]{1,3})|([numkMGTPE]|[KMGTPE]i))?", re.ASCII)
+# the most characters of a text that is read exactly
+MOST_DIGITS = 40
 # a quantity has no digits beyond these, and is no larger
 NANO = Decimal("1e-9")
 LARGEST = Decimal(2**63 - 1)
+# no sum or product of what is read has more digits
+EXACT = Context(prec=2_000)
 CLAIM = ("resources.requests.*", "resources.limits.*")
 DIVISORS = ("downwardAPI.items[].resourceFieldRef.divisor", "projected.sources[].downwardAPI.items[].resourceFieldRef.divisor")
 CONTAINER = (*CLAIM, "env[].valueFrom.resourceFieldRef.divisor")
@@ -69,20 +76,50 @@ def text_of(value: Union[int, float]) -> str:
     return f"{digits}e{int(exponent):+d}"
 
 
+def bounded(number: Decimal) -> Decimal:
+    """A quantity as it is read: no larger than 2^63 - 1, and rounded up to billionths."""
+    return min(abs(number), LARGEST).copy_sign(number).quantize(NANO, rounding=ROUND_UP)
+
+
+def decimal_text(number: Decimal, has_exponent: bool) -> str:
+    """The canonical text with a decimal suffix or an exponent."""
+    if number == 0:
+        return "0"
+    exponent = max(place for place in SUFFIXES if number % (Decimal(10) ** place) == 0)
+    digits = f"{number / (Decimal(10) ** exponent):.0f}"
+    if has_exponent:
+        return f"{digits}e{exponent}" if exponent else digits
+    return digits + SUFFIXES[exponent]
+
+
+def binary_text(number: Decimal) -> str:
+    """The canonical text with a binary suffix; one below 1,024, or with a fraction, has a decimal suffix."""
+    if abs(number) < 1024 or number % 1 != 0:
+        return decimal_text(number, False)
+    power = max(place for place in range(len(BINARY)) if number % (1 << (10 * place)) == 0)
+    return f"{int(number) >> (10 * power)}{BINARY[power]}"
+
+
 def quantity_of(value: Union[int, float]) -> str:
     """The canonical text of the quantity that an API server reads of a number."""
     text = text_of(value)
-    number = Decimal(text)
-    if abs(number) > LARGEST:
-        number = LARGEST.copy_sign(number)
-    number = number.quantize(NANO, rounding=ROUND_UP)
-    if number == 0:
-        return "0"
-    exponent = max(place for place in (*SUFFIXES, 0) if number % (Decimal(10) ** place) == 0)
-    digits = f"{number / (Decimal(10) ** exponent):.0f}"
-    if "e" in text:
-        return f"{digits}e{exponent}" if exponent else digits
-    return digits + SUFFIXES[exponent]
+    with localcontext(EXACT):
+        return decimal_text(bounded(Decimal(text)), "e" in text)
+
+
+def canonical(text: str) -> str:
+    """The canonical text of a quantity; a text that is none is unchanged, and so is one of too many digits."""
+    found = QUANTITY.fullmatch(text.strip())
+    if not found or len(text) > MOST_DIGITS:
+        return text
+    exponent, suffix = found[2], found[3] or ""
+    with localcontext(EXACT):
+        digits = Decimal(found[1])
+        if exponent is not None:
+            return decimal_text(bounded(digits.scaleb(int(exponent))), True)
+        if suffix in BINARY[1:]:
+            return binary_text(bounded(digits * (1 << (10 * BINARY.index(suffix)))))
+        return decimal_text(bounded(digits.scaleb(DECIMAL[suffix])), False)
 
 
 def places(value: Any, steps: list) -> Iterator[tuple]:
@@ -106,9 +143,12 @@ def is_number(value: Any) -> bool:
 
 
 def write_quantities(thing: dict) -> None:
-    """Replaces the quantities of an object that are numbers by what an API server stores."""
+    """Replaces the quantities of an object by what an API server stores."""
     group = thing["apiVersion"].rpartition("/")[0]
     for steps in STEPS.get((group, thing["kind"]), ()):
         for holder, key in places(thing, steps):
-            if is_number(holder[key]):
-                holder[key] = quantity_of(holder[key])
+            value = holder[key]
+            if isinstance(value, str):
+                holder[key] = canonical(value)
+            elif is_number(value):
+                holder[key] = quantity_of(value)

@@ -1,7 +1,6 @@
 """The review of each object, as an API server would send it."""
 
 import json
-import re
 from dataclasses import dataclass, field
 from typing import Optional
 
@@ -14,9 +13,6 @@ from .quantities import write_quantities
 OPERATIONS = ("CREATE", "UPDATE", "DELETE")
 # the most numbers of an object that are told
 MOST_NUMBERS = 3
-# what a line has if it has a number that is no 64-bit int; a text may look the same
-MAYBE_NO_INT = re.compile(r"[:\[,]-?(?:[0-9]{19,}|[0-9]+\.[0-9]+|[0-9]+(?:\.[0-9]+)?[eE][-+]?[0-9]+)[,\]}]")
-
 
 @dataclass
 class Asked:
@@ -68,12 +64,9 @@ class Reviews:
         request = self.request(value, resource, uid)
         review = review_of(request, self.asked.user, self.asked.groups)
         try:
-            line = line_of(review)
+            return value, line_of(review)
         except ValueError as why:
-            raise NoReview(why_no_numbers(review["request"]) or f"the object is not JSON: {why}") from why
-        if MAYBE_NO_INT.search(line) and (told := why_no_numbers(review["request"])):
-            raise NoReview(told)
-        return value, line
+            raise NoReview(why_no_ints(review["request"]) or f"the object is not JSON: {why}") from why
 
     def request(self, value: dict, resource: Resource, uid: str) -> dict:
         """The request of an object."""
@@ -91,15 +84,15 @@ class Reviews:
         return made
 
 
-def why_no_numbers(request: dict) -> str:
-    """The numbers of a request that are not decided; empty if there are none."""
+def why_no_ints(request: dict) -> str:
+    """The numbers of a request that no policy can read; empty if there are none."""
     found = [("", number) for number in undecided_numbers(request.get("object"))]
     found += [("oldObject.", number) for number in undecided_numbers(request.get("oldObject"))]
     if not found:
         return ""
     told = ", ".join(f"{of}{path} is {shown}" for of, (path, shown) in found[:MOST_NUMBERS])
     more = f" and {len(found) - MOST_NUMBERS} more" if len(found) > MOST_NUMBERS else ""
-    return f"{told}{more}: only 64-bit ints are decided"
+    return f"{told}{more}: policies read 64-bit ints alone"
 
 
 def line_of(review: dict) -> str:

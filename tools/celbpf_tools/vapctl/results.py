@@ -63,7 +63,7 @@ class Report:
 
     @property
     def status(self) -> int:
-        if self.troubles or self.count(UNDECIDED):
+        if self.troubles or self.findings(ERROR):
             return REFUSED
         return BAD if self.count(DENIED) else GOOD
 

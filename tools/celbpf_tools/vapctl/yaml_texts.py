@@ -1,20 +1,13 @@
 """Documents of YAML, with the line of each document and of each item of a list."""
 
-import re
 from typing import Any, Iterator, Optional
 
 from .. import documents
 from .located import Document, Located
 
 NAMES = documents.YAML_NAMES
-# the most lists and maps that are inside one another
-DEEPEST = 300
 # the most values of a document, each counted as often as it is repeated by an alias
 LARGEST = 5_000_000
-# a text may only be nested deep if it has so many brackets, or a line that begins with so many indentations
-MANY = re.compile(r"(?:[\[{][^\[{]*){300}|^[ \-?:]{300}", re.MULTILINE)
-OPENING = ("MappingStartEvent", "SequenceStartEvent")
-CLOSING = ("MappingEndEvent", "SequenceEndEvent")
 
 
 class NotRead(Exception):
@@ -39,8 +32,7 @@ def documents_of(text: str) -> Iterator[Document]:
     """The documents of a text of YAML, without empty ones."""
     yaml = documents.yaml
     try:
-        if MANY.search(text):
-            refuse_deep(text)
+        refuse_deep(text)
         load = loader()(text)
         try:
             while load.check_node():
@@ -84,12 +76,8 @@ def items_of(node: Any, value: Any) -> Optional[list]:
 
 def refuse_deep(text: str) -> None:
     """Refuses a text that is nested too deep, without nesting calls."""
-    depth = 0
-    for event in documents.yaml.parse(text, loader()):
-        name = type(event).__name__
-        depth += (name in OPENING) - (name in CLOSING)
-        if depth > DEEPEST:
-            raise NotRead("it is nested too deep", event.start_mark.line + 1, event.start_mark.column + 1)
+    if mark := documents.too_deep(text):
+        raise NotRead("it is nested too deep", mark.line + 1, mark.column + 1)
 
 
 def parts_of(value: Any) -> list:
@@ -118,7 +106,7 @@ def refuse_large(value: Any) -> None:
         begun.add(id(one))
         waiting += missing
     size, deep = measures.get(id(value), (1, 0))
-    if deep > DEEPEST:
+    if deep > documents.DEEPEST:
         raise NotRead("aliases nest it too deep")
     if size > LARGEST:
         raise NotRead(f"aliases make it larger than {LARGEST:,} values")

@@ -1,0 +1,152 @@
+"""Runs `vapctl` on manifests, examples and broken inputs, and compares what it prints and how it ends.
+
+usage: tools/run-vapctl [--quick|PROGRAM GATEKEEPER] [TABLE..]
+
+The tables are the files of tools/data/run-vapctl, worked by hand, in the form of those of `tools/run-scripts`; `vapctl` is
+in the path there, and $DATA is the folder tools/data/vapctl. Each example's reviews are then checked as manifests, whose
+outcome is that of the response beside them; a thousand Deployments are audited, whose numbers are counted here too; and
+each subcommand reads the same broken inputs, on which it ends with a status of its own and without a traceback.
+"""
+
+import argparse
+import json
+import os
+import shutil
+import subprocess
+import tempfile
+from collections import Counter
+from collections.abc import Iterator
+from concurrent.futures import ThreadPoolExecutor
+from pathlib import Path
+
+from ..asking.program import GIVEN, tested
+from ..entry import usage_of
+from ..home import DATA, EXAMPLES, ROOT
+from ..vapctl_tests.broken import INPUTS, commands
+from .run_scripts import compared
+
+TABLES = DATA / "run-vapctl"
+CORPUS = DATA / "vapctl"
+# what is printed if vapctl itself fails
+FAILURES = ("Traceback", "an error in vapctl itself")
+DEPLOYMENTS = 1_000
+
+
+class Runs:
+    """How many runs there were, and how many are not as they are to be."""
+
+    def __init__(self) -> None:
+        self.done = self.wrong = 0
+
+    def tell(self, what: str, is_right: bool, found: str) -> None:
+        self.done += 1
+        if not is_right:
+            self.wrong += 1
+            print(f"{what}\nfound: {found}", flush=True)
+
+
+def vapctl(*words: object, asked: bytes = b"") -> subprocess.CompletedProcess[bytes]:
+    """A run of `vapctl`."""
+    command = [str(ROOT / "vapctl"), *map(str, words)]
+    return subprocess.run(command, input=asked, capture_output=True, check=False, timeout=120)
+
+
+def run_tables(runs: Runs, program: Path, chosen: list[str]) -> None:
+    """The tables, or those that are chosen."""
+    for table in sorted(TABLES.iterdir()):
+        if chosen and table.name not in chosen:
+            continue
+        with tempfile.TemporaryDirectory() as folder:
+            done, wrong = compared(table.name, table.read_text().splitlines(), program, folder)
+        runs.done += done
+        runs.wrong += wrong
+
+
+def creations(folder: Path) -> Iterator[tuple[dict, bool]]:
+    """The requests of an example that create an object as the request of a manifest would, and whether each is allowed."""
+    for path in sorted(folder.glob("*.review.json")):
+        request = json.loads(path.read_text())["request"]
+        response = json.loads(path.with_name(path.name.replace(".review.", ".response.")).read_text())["response"]
+        if request["operation"] == "CREATE" and request.get("object") and not request.get("subResource"):
+            yield request, response["allowed"]
+
+
+def run_examples(runs: Runs, folder: Path) -> None:
+    """The examples: each creation is checked as a manifest, by the user of its request."""
+    for example in sorted(path.parent for path in EXAMPLES.glob("*/policy.json")):
+        for request, is_allowed in creations(example):
+            thing, state = folder / "thing.json", []
+            thing.write_text(json.dumps(request["object"]))
+            for name, word in (("params", "--params"), ("namespace", "--policy")):
+                if (example / f"{name}.json").exists():
+                    state += [word, example / f"{name}.json"]
+            user = request.get("userInfo", {})
+            who = [word for group in user.get("groups", []) for word in ("--group", group)]
+            ran = vapctl("check", "--policy", example / "policy.json", *state, thing, "--user", user.get("username", "ann"), *who, "-o", "json")
+            found = json.loads(ran.stdout)["results"][0] if ran.stdout else {}
+            wanted = "allowed" if is_allowed else "denied"
+            told = f"{ran.stdout.decode()}{ran.stderr.decode()}[{ran.returncode}]"
+            runs.tell(f"{example.name}: {request['uid']}: {wanted}", found.get("outcome") == wanted, told)
+
+
+def run_audit(runs: Runs, folder: Path) -> None:
+    """An audit of many Deployments, whose numbers are those that are counted here."""
+    items, counts = [], Counter()
+    for number in range(DEPLOYMENTS):
+        namespace, replicas = f"n{number % 3}", number % 7
+        metadata = {"name": f"web-{number}", "namespace": namespace}
+        items.append({"apiVersion": "apps/v1", "kind": "Deployment", "metadata": metadata, "spec": {"replicas": replicas}})
+        counts[namespace, "denied" if replicas > 3 else "allowed"] += 1
+    (folder / "many.json").write_text(json.dumps({"apiVersion": "v1", "kind": "List", "items": items}, indent=1))
+    for jobs in (1, 3):
+        ran = vapctl("audit", "--policy", EXAMPLES / "replicas" / "policy.json", folder / "many.json", "-o", "json", "--jobs", jobs)
+        found = json.loads(ran.stdout)
+        numbers = {(name, key): count[key] for name, count in found["byNamespace"].items() for key in ("allowed", "denied")}
+        runs.tell(f"audit --jobs {jobs}", ran.returncode == 1 and numbers == counts, f"{numbers}, and not {counts}")
+        names = [one["object"]["name"] for one in found["results"]]
+        runs.tell(f"audit --jobs {jobs}: the order", names == [one["metadata"]["name"] for one in items], str(names[:5]))
+
+
+def run_broken(runs: Runs, folder: Path) -> None:
+    """Each subcommand on each broken input, as a file and as standard input."""
+    for name, text in INPUTS.items():
+        (folder / name).write_bytes(text)
+    asked = [(words, text) for name, text in INPUTS.items() for words in commands(folder / name)]
+    with ThreadPoolExecutor(os.cpu_count()) as pool:
+        for (words, _), ran in zip(asked, pool.map(lambda one: vapctl(*one[0], asked=one[1]), asked)):
+            said = (ran.stdout + ran.stderr).decode(errors="replace")
+            is_right = ran.returncode in (0, 1, 2, 3) and not any(word in said for word in FAILURES)
+            runs.tell(f"vapctl {' '.join(map(str, words))}", is_right, f"{said[-2000:]}[{ran.returncode}]")
+
+
+def words() -> argparse.Namespace:
+    parser = argparse.ArgumentParser(usage=usage_of(__doc__))
+    parser.add_argument("--quick", action="store_true")
+    parser.add_argument("programs", nargs="*", metavar="PROGRAM GATEKEEPER, and tables")
+    return parser.parse_args()
+
+
+def main() -> int:
+    given = words()
+    programs = [] if given.quick else given.programs[:2]
+    chosen = given.programs if given.quick else given.programs[2:]
+    named = programs + ["--quick" if given.quick else None] * 2
+    paths = {name: tested(path, name) for name, path in zip(("celbpf", "gatekeeper"), named)}
+    runs = Runs()
+    with tempfile.TemporaryDirectory() as name:
+        folder = Path(name)
+        # the gatekeeper that is asked is the one beside the program
+        for program, path in paths.items():
+            shutil.copy(path, folder / program)
+        os.environ.update({GIVEN: str(folder / "celbpf"), "PATH": f"{ROOT}:{os.environ['PATH']}", "DATA": str(CORPUS)})
+        run_tables(runs, folder / "celbpf", chosen)
+        if not chosen:
+            run_examples(runs, folder)
+            run_audit(runs, folder)
+            (folder / "broken").mkdir()
+            run_broken(runs, folder / "broken")
+    if runs.wrong:
+        print(f"{runs.wrong} of {runs.done} runs of vapctl are not as they are to be")
+        return 1
+    print(f"all {runs.done} runs of vapctl are as they are to be")
+    return 0

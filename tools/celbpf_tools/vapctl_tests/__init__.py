@@ -1,0 +1,1 @@
+"""What `tools/run-vapctl` runs `vapctl` on."""

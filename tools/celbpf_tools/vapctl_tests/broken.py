@@ -1,0 +1,91 @@
+"""Broken inputs, and the runs of each subcommand on one."""
+
+from collections.abc import Iterator
+from pathlib import Path
+
+from ..home import DATA, EXAMPLES
+
+OBJECT = b'{"apiVersion": "v1", "kind": "ConfigMap", "metadata": %s}'
+POLICY = b"apiVersion: admissionregistration.k8s.io/v1\nkind: ValidatingAdmissionPolicy\nmetadata: {name: p}\nspec: %s\n"
+BINDING = b"apiVersion: admissionregistration.k8s.io/v1\nkind: ValidatingAdmissionPolicyBinding\nmetadata: {name: b}\nspec: %s\n"
+REVIEW = b'{"apiVersion": "admission.k8s.io/v1", "kind": "AdmissionReview", "request": %s}'
+INPUTS = {
+    "empty.yaml": b"",
+    "blank.json": b" \n\t\n",
+    "comment.yaml": b"# nothing\n---\n",
+    "text.yaml": b"just a text\n",
+    "null.json": b"null",
+    "number.json": b"1",
+    "list.json": b"[1, {}, null]",
+    "half.json": b'{"apiVersion": "v1", "kind"',
+    "comma.json": b'{"a": 1,}',
+    "two.json": b'{} {"a": }',
+    "nan.json": OBJECT % b'{"name": NaN}',
+    "huge-number.json": OBJECT % (b'{"name": "a", "n": ' + b"1" * 5000 + b"}"),
+    "infinite.json": OBJECT % b'{"name": "a", "n": 1e999}',
+    "deep.json": b"[" * 100_000,
+    "deep-closed.json": b"[" * 45_000 + b"]" * 45_000,
+    "deep-object.json": OBJECT % (b'{"name": "a", "n": ' + b"[" * 500 + b"]" * 500 + b"}"),
+    "deep.yaml": b"a: " + b"[" * 20_000,
+    "deep-dashes.yaml": b"- " * 50_000 + b"a\n",
+    "bytes.yaml": bytes(range(256)),
+    "utf16.json": '{"apiVersion": "v1"}'.encode("utf-16"),
+    "latin.yaml": b"a: \xe9\n",
+    "nul.yaml": b"a: \x00\n",
+    "tab.yaml": b"a:\n\t- b\n",
+    "template.yaml": b"{{- if .Values.a }}\napiVersion: v1\n{{ end }}\n",
+    "colon.yaml": b"a: b: c\n",
+    "alias.yaml": b"a: *none\n",
+    "cycle.yaml": b"apiVersion: v1\nkind: ConfigMap\nmetadata: &m {name: a, labels: *m}\n",
+    "bomb.yaml": b"a0: &a0 [1, 1]\n" + b"".join(b"a%d: &a%d [*a%d, *a%d]\n" % (n, n, n - 1, n - 1) for n in range(1, 80)),
+    "tag.yaml": b"a: !!python/object/apply:os.system [id]\n",
+    "types.yaml": b"apiVersion: v1\nkind: ConfigMap\nmetadata: {name: !!binary AA==, labels: !!set {a}}\n1: {? [a] : b}\n",
+    "date.yaml": b"apiVersion: v1\nkind: ConfigMap\nmetadata: {name: 2026-11-29, creationTimestamp: !!timestamp 2026-11-29}\n",
+    "no-metadata.yaml": b"apiVersion: v1\nkind: ConfigMap\n",
+    "metadata.json": OBJECT % b'["name"]',
+    "name.json": OBJECT % b'{"name": {"a": 1}, "namespace": 7, "labels": "x"}',
+    "surrogate.json": OBJECT % b'{"name": "\\ud800", "labels": {"\\udfff": "\\u0000"}}',
+    "terminal.json": OBJECT % b'{"name": "\\u001b[31m\\r\\n::error::"}',
+    "kinds.json": b'{"apiVersion": ["v1"], "kind": {"a": 1}, "metadata": {}}',
+    "items.json": b'{"apiVersion": "v1", "kind": "List", "items": [1, null, {"kind": "List", "apiVersion": "v1", "items": [[]]}]}',
+    "spec.yaml": POLICY % b"[]",
+    "spec-null.yaml": POLICY % b"null",
+    "policy.yaml": POLICY % b"{validations: [{expression: 'a ? ? b'}, {expression: 1}], matchConstraints: 7}",
+    "policy-types.yaml": POLICY % b"{validations: {a: 1}, variables: [null], matchConditions: text, paramKind: [], failurePolicy: 3}",
+    "policy-large.yaml": POLICY % (b"{validations: [{expression: '" + b"a" * 70_000 + b"'}]}"),
+    "policy-params.yaml": POLICY % b"{paramKind: {apiVersion: 1, kind: {}}, matchConstraints: {resourceRules: [{}]}, validations: [{expression: 'true'}]}",
+    "twice.yaml": (POLICY % b"{validations: [{expression: 'true'}]}" + b"---\n") * 2,
+    "binding.yaml": BINDING % b"{policyName: [1], validationActions: Deny, paramRef: 3}",
+    "binding-spec.yaml": POLICY % b"{validations: [{expression: 'true'}]}" + b"---\n" + BINDING % b"text",
+    "review.json": REVIEW % b"null",
+    "review-parts.json": REVIEW % b'{"uid": 1, "object": [], "oldObject": "a", "kind": 3}',
+    "crd.json": b'{"apiVersion": "apiextensions.k8s.io/v1", "kind": "CustomResourceDefinition", "metadata": {"name": "a"}, "spec": {"versions": [3]}}',
+    "tests.json": b'{"cases": [{"name": 1}, 3], "policy": []}',
+    "tests-parts.json": b'{"policy": "empty.yaml", "cases": [{"object": {"metadata": []}, "expect": "allowed", "params": [1]}]}',
+}
+GOOD = EXAMPLES / "replicas" / "policy.json"
+THING = DATA / "vapctl" / "manifests" / "02-too-many.yaml"
+
+
+def commands(path: Path) -> Iterator[list[object]]:
+    """The runs of each subcommand on a file, in each place that takes one."""
+    yield ["check", "--policy", GOOD, path]
+    yield ["check", "--policy", GOOD, "-"]
+    yield ["check", "--policy", path, THING, "-o", "sarif"]
+    yield ["check", "--cluster", path, THING, "-o", "json"]
+    yield ["check", "--policy", GOOD, "--params", path, THING, "-o", "junit"]
+    yield ["check", "--policy", GOOD, "--old", path, path, "--skip-unknown", "-o", "policyreport"]
+    yield ["check", "--policy", GOOD, path, "--operation", "DELETE", "-o", "github"]
+    yield ["audit", "--policy", GOOD, path, "-v"]
+    yield ["audit", "--cluster", path, path]
+    yield ["state", "--from", path]
+    yield ["test", path]
+    yield ["test", "--coverage", path, "-o", "junit"]
+    yield ["why", GOOD, path]
+    yield ["why", path, THING]
+    yield ["why", "--params", path, "--namespace-object", path, GOOD, THING]
+    yield ["why", "--case", "a", path]
+    yield ["debug", GOOD, path]
+    yield ["debug", "-", THING]
+    yield ["lint", path]
+    yield ["lint", "-", "-o", "json"]
