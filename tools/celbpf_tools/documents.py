@@ -23,6 +23,11 @@ INT = re.compile(r"[-+]?(?:0|[1-9][0-9_]*|0x[0-9a-fA-F_]+|0o?[0-7_]+|0b[01_]+)$"
 FLOAT = re.compile(r"[-+]?(?:\.[0-9]+|[0-9]+(?:\.[0-9]*)?)(?:[eE][-+]?[0-9]+)?$|[-+]?\.(?:inf|Inf|INF)$|\.(?:nan|NaN|NAN)$")
 
 
+def yaml_package() -> Any:
+    """Python's package for YAML, or `None` if there is none."""
+    return yaml
+
+
 class Unreadable(Stop):
     """A document that cannot be read: the message has the file, and the line and the column if they are known."""
 

@@ -12,16 +12,21 @@ import argparse
 import json
 import os
 import shutil
+import signal
 import subprocess
+import sys
 import tempfile
 from collections import Counter
 from collections.abc import Iterator
-from concurrent.futures import ThreadPoolExecutor
 from pathlib import Path
+from typing import Any
 
+from .. import entry
 from ..asking.program import GIVEN, tested
 from ..entry import usage_of
 from ..home import DATA, EXAMPLES, ROOT
+from ..vapctl.commands import WHATS, module_of
+from ..vapctl.main import main as main_of_vapctl
 from ..vapctl_tests.broken import INPUTS, commands
 from .run_scripts import compared
 
@@ -30,6 +35,8 @@ CORPUS = DATA / "vapctl"
 # what is printed if vapctl itself fails
 FAILURES = ("Traceback", "an error in vapctl itself")
 DEPLOYMENTS = 1_000
+# the most seconds of a run
+PATIENCE = 300
 
 
 class Runs:
@@ -48,7 +55,7 @@ class Runs:
 def vapctl(*words: object, asked: bytes = b"") -> subprocess.CompletedProcess[bytes]:
     """A run of `vapctl`."""
     command = [str(ROOT / "vapctl"), *map(str, words)]
-    return subprocess.run(command, input=asked, capture_output=True, check=False, timeout=120)
+    return subprocess.run(command, input=asked, capture_output=True, check=False)
 
 
 def run_tables(runs: Runs, program: Path, chosen: list[str]) -> None:
@@ -62,7 +69,7 @@ def run_tables(runs: Runs, program: Path, chosen: list[str]) -> None:
         runs.wrong += wrong
 
 
-def creations(folder: Path) -> Iterator[tuple[dict, bool]]:
+def creations(folder: Path) -> Iterator[tuple[dict[str, Any], bool]]:
     """The requests of an example that create an object as the request of a manifest would, and whether each is allowed."""
     for path in sorted(folder.glob("*.review.json")):
         request = json.loads(path.read_text())["request"]
@@ -91,7 +98,8 @@ def run_examples(runs: Runs, folder: Path) -> None:
 
 def run_audit(runs: Runs, folder: Path) -> None:
     """An audit of many Deployments, whose numbers are those that are counted here."""
-    items, counts = [], Counter()
+    items: list[dict[str, Any]] = []
+    counts: Counter[tuple[str, str]] = Counter()
     for number in range(DEPLOYMENTS):
         namespace, replicas = f"n{number % 3}", number % 7
         metadata = {"name": f"web-{number}", "namespace": namespace}
@@ -107,16 +115,38 @@ def run_audit(runs: Runs, folder: Path) -> None:
         runs.tell(f"audit --jobs {jobs}: the order", names == [one["metadata"]["name"] for one in items], str(names[:5]))
 
 
+def forked(words: list[object], text: bytes, folder: Path) -> tuple[int, str]:
+    """The status of a run in a process of its own, which begins as a copy of this one, and what it says on both outputs."""
+    (folder / "stdin").write_bytes(text)
+    child = os.fork()
+    if not child:
+        for number, name, flags in ((0, "stdin", os.O_RDONLY), (1, "said", os.O_WRONLY | os.O_CREAT | os.O_TRUNC)):
+            os.dup2(os.open(folder / name, flags), number)
+        os.dup2(1, 2)
+        sys.stdin, sys.argv = open(0, encoding="utf-8"), ["vapctl", *map(str, words)]
+        signal.alarm(PATIENCE)
+        try:
+            entry.run("vapctl", main_of_vapctl)
+        except SystemExit as ended:
+            sys.stdout.flush()
+            os._exit(ended.code if isinstance(ended.code, int) else 1)
+        finally:
+            os._exit(99)
+    _, status = os.waitpid(child, 0)
+    return os.waitstatus_to_exitcode(status), (folder / "said").read_text(encoding="utf-8", errors="replace")
+
+
 def run_broken(runs: Runs, folder: Path) -> None:
     """Each subcommand on each broken input, as a file and as standard input."""
+    for name in WHATS:
+        module_of(name)
     for name, text in INPUTS.items():
-        (folder / name).write_bytes(text)
-    asked = [(words, text) for name, text in INPUTS.items() for words in commands(folder / name)]
-    with ThreadPoolExecutor(os.cpu_count()) as pool:
-        for (words, _), ran in zip(asked, pool.map(lambda one: vapctl(*one[0], asked=one[1]), asked)):
-            said = (ran.stdout + ran.stderr).decode(errors="replace")
-            is_right = ran.returncode in (0, 1, 2, 3) and not any(word in said for word in FAILURES)
-            runs.tell(f"vapctl {' '.join(map(str, words))}", is_right, f"{said[-2000:]}[{ran.returncode}]")
+        path = folder / name
+        path.write_bytes(text)
+        for words in commands(path):
+            status, said = forked(words, text, folder)
+            is_right = status in (0, 1, 2, 3) and not any(word in said for word in FAILURES)
+            runs.tell(f"vapctl {' '.join(map(str, words))}", is_right, f"{said[-2000:]}[{status}]")
 
 
 def words() -> argparse.Namespace:

@@ -1,9 +1,10 @@
 """A package of the built programs, the scripts for policies, and their pages.
 
-    manual       man pages, of the repository's pages and of what scripts say of themselves
-    completion   completion for bash and zsh
-    pages        the pages of the repository as they are installed
-    tree         the files of a package
-    archives     a Debian package, and a tar archive
-    checking     what is checked of a package once it is installed
+    manual           man pages, of the repository's pages and of what scripts say of themselves
+    commands_manual  a man page of a program with subcommands, of its parser
+    completion       completion for bash and zsh
+    pages            the pages of the repository as they are installed
+    tree             the files of a package
+    archives         a Debian package, and a tar archive
+    checking         what is checked of a package once it is installed
 """

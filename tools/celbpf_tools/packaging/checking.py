@@ -18,6 +18,12 @@ echo "${COMPREPLY[*]}"
 COMP_WORDS=(celbpf-test --j) COMP_CWORD=1
 _celbpf celbpf-test
 echo "${COMPREPLY[*]}"
+COMP_WORDS=(vapctl c) COMP_CWORD=1
+_celbpf vapctl
+echo "${COMPREPLY[*]}"
+COMP_WORDS=(kubectl-vap check --po) COMP_CWORD=2
+_celbpf kubectl-vap
+echo "${COMPREPLY[*]}"
 """
 # the words that are handed to zsh, which chooses among them
 ZSH = """compadd() { shift; print -r -- $@ }
@@ -28,11 +34,13 @@ ask celbpf re
 ask celbpf review --p
 ask celbpf review p
 ask celbpf-place --
+ask vapctl state --
 """
 ZSH_SAYS = """compile review run-image asm list debug
 --policy --review --namespace --params --steps
 files
 --program
+--help --from --to --context --kubeconfig --kubectl
 """
 PYTHON = """import sys
 from celbpf import Gate
@@ -120,8 +128,22 @@ def check_programs(checks: Checks, it: Installed) -> None:
     checks.run([f"{program}-adapt", it.policy], 0, '{\n  "apiVersion"')
     checks.run([f"{program}-as-reviews", it.policy], 0, '{"apiVersion":"admission.k8s.io/v1"')
     checks.run([f"{program}-dap"], 0, "Content-Length: ", dap_launch(it.policy))
+    check_vapctl(checks, it)
     # its name and its usage are those that it is installed by
     checks.run([f"{program}-test", "--help"], 0, "usage: celbpf-test [--junit F]")
+
+
+def check_vapctl(checks: Checks, it: Installed) -> None:
+    """The command `vapctl`, by both of its names."""
+    vapctl, cluster = it.prefix / "bin" / "vapctl", it.examples / "cluster"
+    checks.run([vapctl, "--version"], 0, f"vapctl {checks.ran([it.prefix / 'bin' / 'gatekeeper', '--version']).stdout.split()[-1]}\n")
+    words = ["check", "--cluster", cluster / "state.json", "-n", "dev", cluster / "manifests.yaml", "-o", "github"]
+    for name in ("vapctl", "kubectl-vap"):
+        checks.run([it.prefix / "bin" / name, *words], 1, "::warning file=")
+    checks.run([vapctl, "lint", it.policy], 0, "1 policy: 1 accepted\n")
+    checks.run([vapctl, "why", it.policy, it.review], 1, "denied\nvalidation 0: false")
+    checks.run([vapctl, "test", it.replicas], 0, "TAP version 13\n1..3\nok 1")
+    checks.run([vapctl, "debug", "--dap"], 0, "Content-Length: ", dap_launch(it.policy))
 
 
 def check_library(checks: Checks, it: Installed) -> Iterator[str]:
@@ -176,7 +198,7 @@ def check_manual(checks: Checks, it: Installed) -> Iterator[str]:
             name = page.name.removesuffix(".1.gz")
             is_right = ran.returncode == 0 and not ran.stderr and f"{name} - " in " ".join(ran.stdout.split())
             checks.tell(f"man {name}", is_right, f"{ran.stderr}[{ran.returncode}] {ran.stdout[:300]}")
-    checks.run(["bash", "-c", BASH, "bash", it.prefix], 0, "review\n--junit\n")
+    checks.run(["bash", "-c", BASH, "bash", it.prefix], 0, "review\n--junit\ncheck\n--policy\n")
     if lacking := missing("zsh"):
         yield f"zsh {lacking}"
     else:

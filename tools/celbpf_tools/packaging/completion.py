@@ -4,6 +4,8 @@ import importlib
 import re
 
 from ..home import DATA
+from ..vapctl.main import parser
+from .commands_manual import commands_of, options_of
 from .pages import SCRIPTS
 
 # the words that a command of celbpf takes; what is no option is a file
@@ -12,7 +14,7 @@ COMMANDS = {
     "list": "", "debug": "--review --namespace --params",
 }
 OPTION = re.compile(r"(?<![\w-])--[a-z][a-z-]*")
-NAMES = ["celbpf", "gatekeeper", *(f"celbpf-{name}" for name in SCRIPTS)]
+NAMES = ["celbpf", "gatekeeper", "vapctl", "kubectl-vap", *(f"celbpf-{name}" for name in SCRIPTS)]
 WORDS = """_celbpf_words() {
     case $1 in
 %s
@@ -25,11 +27,15 @@ BASH = """# bash completion of celbpf, gatekeeper and the scripts beside them
 _celbpf() {
     local word=${COMP_WORDS[COMP_CWORD]} name=${1##*/} words
     COMPREPLY=()
-    if [ "$name" = celbpf ] && [ "$COMP_CWORD" -eq 1 ]; then
-        mapfile -t COMPREPLY < <(compgen -W '%s' -- "$word")
-        return
-    fi
-    [ "$name" != celbpf ] || name=${COMP_WORDS[1]}
+    case $name in
+    celbpf | vapctl | kubectl-vap)
+        if [ "$COMP_CWORD" -eq 1 ]; then
+            mapfile -t COMPREPLY < <(compgen -W "$(_celbpf_words "$name")" -- "$word")
+            return
+        fi
+        name="$name ${COMP_WORDS[1]}"
+        ;;
+    esac
     words=$(_celbpf_words "$name")
     case $word in
     -*) mapfile -t COMPREPLY < <(compgen -W "$words" -- "$word") ;;
@@ -48,11 +54,13 @@ ZSH = """#compdef %s
 %s
 _celbpf() {
     local name=$service
-    if [[ $name == celbpf && $CURRENT -eq 2 ]]; then
-        compadd -- %s
-        return
+    if [[ $name == (celbpf|vapctl|kubectl-vap) ]]; then
+        if [[ $CURRENT -eq 2 ]]; then
+            compadd -- $(_celbpf_words "$name")
+            return
+        fi
+        name="$name $words[2]"
     fi
-    [[ $name != celbpf ]] || name=$words[2]
     if [[ $words[CURRENT] == -* ]]; then
         compadd -- $(_celbpf_words "$name")
     else
@@ -75,17 +83,25 @@ def of_script(name: str) -> str:
     return " ".join(dict.fromkeys(OPTION.findall(doc.split("usage: ")[1].split("\n\n")[0])))
 
 
+def of_vapctl(name: str) -> dict:
+    """The subcommands of `vapctl` by one of its names, and the options of each."""
+    commands = commands_of(parser(name))
+    return {name: " ".join(commands), **{f"{name} {one}": " ".join(options_of(command)) for one, command in commands.items()}}
+
+
 def words() -> str:
-    """The function that prints the options of a command, a program or a script."""
-    options = {**COMMANDS, "gatekeeper": of_gatekeeper(), **{f"celbpf-{name}": of_script(name) for name in SCRIPTS}}
-    return WORDS % "\n".join(f"    {name}) echo '{found}' ;;" for name, found in options.items())
+    """The function that prints the commands of a program, or the options of a command, a program or a script."""
+    options = {"celbpf": " ".join(COMMANDS), **{f"celbpf {name}": found for name, found in COMMANDS.items()}}
+    options.update({"gatekeeper": of_gatekeeper(), **of_vapctl("vapctl"), **of_vapctl("kubectl-vap")})
+    options.update({f"celbpf-{name}": of_script(name) for name in SCRIPTS})
+    return WORDS % "\n".join(f"    '{name}') echo '{found}' ;;" for name, found in options.items())
 
 
 def bash() -> str:
     """The completion for bash."""
-    return BASH % (words(), " ".join(COMMANDS), " ".join(NAMES))
+    return BASH % (words(), " ".join(NAMES))
 
 
 def zsh() -> str:
     """The completion for zsh."""
-    return ZSH % (" ".join(NAMES), words(), " ".join(COMMANDS))
+    return ZSH % (" ".join(NAMES), words())

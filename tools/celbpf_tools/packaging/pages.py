@@ -28,7 +28,7 @@ NAMES = [
     (re.compile(r"(?<![\w/.])tools/(" + "|".join(SCRIPTS) + r")\b"), r"celbpf-\1"),
     (re.compile(r"`tools/([^`]+)`"), r"`\1` of the repository"),
     (re.compile(r"(?<![\w/.])tools/(\w)"), r"\1"),
-    (re.compile(r"(?<![\w/.])\./(celbpf|gatekeeper)\b"), r"\1"),
+    (re.compile(r"(?<![\w/.])\./(celbpf|gatekeeper|vapctl)\b"), r"\1"),
     (re.compile(r"(?<![\w/.])embed/c/example\.c"), f"{HOME}/examples/c/example.c"),
     (re.compile(r"(?<![\w/.(])examples/"), f"{HOME}/examples/"),
 ]

@@ -9,13 +9,15 @@ from typing import Optional
 
 from ..embedding.building import EMBED, installed, made
 from ..home import PACKAGE, ROOT
+from ..vapctl.main import DESCRIPTION, NAMES as VAPCTL, parser
 from . import manual, pages
+from .commands_manual import of_parser
 from .completion import NAMES, bash, zsh
 
 # the scripts for policies, which need nothing of the repository
 SCRIPTS = pages.SCRIPTS
 # the packages of Python that these need
-MODULES = ("asking", "adapting", "testing", "evaluator", "manifests", "slots", "viewing", "dap", "commands")
+MODULES = ("asking", "adapting", "testing", "evaluator", "manifests", "slots", "viewing", "dap", "vapctl", "commands")
 ENTRY = '''#!/usr/bin/env python3
 """{what}"""
 
@@ -25,11 +27,12 @@ from pathlib import Path
 sys.dont_write_bytecode = True
 sys.path.insert(0, str(Path(__file__).resolve().parent.parent / "lib" / "celbpf"))
 
-from celbpf_tools.commands.{module} import main
+from celbpf_tools.{module} import main
 from celbpf_tools.entry import run
 
-run("celbpf-{name}", main)
+run("{name}", main)
 '''
+
 PROGRAMS = {
     "celbpf": ("compiles, reviews and debugs policies", "COMMANDS.md"),
     "gatekeeper": ("answers reviews, a line each, under policies that are compiled once", "GATEKEEPER.md"),
@@ -77,7 +80,15 @@ def put_scripts(prefix: Path) -> None:
         module = module_of(name)
         copied(PACKAGE / "commands" / f"{module}.py", package / "commands" / f"{module}.py")
         what = doc_of(name).split("\n\n")[0]
-        written(prefix / "bin" / f"celbpf-{name}", ENTRY.format(name=name, module=module, what=what), 0o755)
+        entry = ENTRY.format(name=f"celbpf-{name}", module=f"commands.{module}", what=what)
+        written(prefix / "bin" / f"celbpf-{name}", entry, 0o755)
+
+
+def put_vapctl(prefix: Path, version: str) -> None:
+    """The command `vapctl`, also as a plugin of `kubectl`, and the version that it prints."""
+    for name in VAPCTL:
+        written(prefix / "bin" / name, ENTRY.format(name=name, module="vapctl.main", what=DESCRIPTION), 0o755)
+    written(prefix / "lib" / "celbpf" / "celbpf_tools" / "version", f"{version}\n")
 
 
 def put_library(prefix: Path, library: Path) -> None:
@@ -96,6 +107,7 @@ def put_pages(prefix: Path, version: str) -> None:
     for name in SCRIPTS:
         more = tests if name == "test" else ""
         found[f"celbpf-{name}"] = manual.of_script(f"celbpf-{name}", doc_of(name), version, more)
+    found.update({name: of_parser(name, parser(name), version) for name in VAPCTL})
     folder = prefix / "share" / "man" / "man1"
     folder.mkdir(parents=True)
     for name, text in found.items():
@@ -125,6 +137,7 @@ def plant(prefix: Path, programs: dict, library: Optional[Path], version: str) -
     """Puts all files of the package below a prefix, such as /usr; without a library that is left out."""
     put_programs(prefix, programs)
     put_scripts(prefix)
+    put_vapctl(prefix, version)
     put_pages(prefix, version)
     put_documents(prefix)
     put_completion(prefix)

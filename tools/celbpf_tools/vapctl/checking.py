@@ -25,11 +25,11 @@ MADE_HERE = Place("(made here)")
 class Sources:
     """The objects that the words of a command name."""
 
-    cluster: list = field(default_factory=list)
-    policies: list = field(default_factory=list)
-    params: list = field(default_factory=list)
-    old: list = field(default_factory=list)
-    new: list = field(default_factory=list)
+    cluster: list[Thing] = field(default_factory=list)
+    policies: list[Thing] = field(default_factory=list)
+    params: list[Thing] = field(default_factory=list)
+    old: list[Thing] = field(default_factory=list)
+    new: list[Thing] = field(default_factory=list)
     troubles: list[Trouble] = field(default_factory=list)
 
 
@@ -38,7 +38,7 @@ def tell(line: str) -> None:
     print(f"vapctl: {line}", file=sys.stderr)
 
 
-def stop_at(troubles: list) -> None:
+def stop_at(troubles: list[Trouble]) -> None:
     """Ends the command if there are troubles, with a line for each."""
     if troubles:
         for trouble in troubles[:-1]:
@@ -58,7 +58,7 @@ def read(given: argparse.Namespace) -> Sources:
     return found
 
 
-def resources_of(things: list) -> Resources:
+def resources_of(things: list[Thing]) -> Resources:
     """The kinds that are built in, and those that are defined among objects."""
     found = Resources()
     found.define([thing.value for thing in things])
@@ -89,7 +89,7 @@ def in_namespace(thing: Thing, resources: Resources, namespace: str) -> Thing:
     return Thing({**thing.value, "metadata": {**thing.metadata, "namespace": namespace}}, thing.place)
 
 
-def namespaces_of(given: argparse.Namespace, found: Sources) -> set:
+def namespaces_of(given: argparse.Namespace, found: Sources) -> set[str]:
     """The namespaces that requests may have."""
     return {given.namespace, *(thing.namespace for thing in (*found.new, *found.old) if thing.namespace)}
 
@@ -98,9 +98,9 @@ def namespaces_of(given: argparse.Namespace, found: Sources) -> set:
 class Prepared:
     """The objects of which there are reviews, with these, and the results of the others."""
 
-    lines: list = field(default_factory=list)
-    asked: list = field(default_factory=list)
-    results: list = field(default_factory=list)
+    lines: list[str] = field(default_factory=list)
+    asked: list[Result] = field(default_factory=list)
+    results: list[Result] = field(default_factory=list)
 
 
 def prepared(given: argparse.Namespace, found: Sources, resources: Resources) -> Prepared:
@@ -135,7 +135,7 @@ def undecided(thing: Thing, namespace: str, why: str) -> Result:
     return Result(thing, namespace, UNDECIDED, "", [Finding("", "", ERROR, why)])
 
 
-def gate_of(given: argparse.Namespace, progress: Callable) -> Gate:
+def gate_of(given: argparse.Namespace, progress: Callable[[], None]) -> Gate:
     """The gatekeeper that is asked."""
     program = located_gatekeeper(given.gatekeeper, None)
     if program is None:
@@ -143,7 +143,7 @@ def gate_of(given: argparse.Namespace, progress: Callable) -> Gate:
     return Gate(program, given.jobs, progress)
 
 
-def report_of(given: argparse.Namespace, progress: Callable = lambda: None) -> Report:
+def report_of(given: argparse.Namespace, progress: Callable[[], None] = lambda: None) -> Report:
     """Checks all objects."""
     found = read(given)
     if not found.new and not found.troubles and not given.allow_empty:

@@ -4,7 +4,7 @@ import json
 from collections.abc import Iterable
 from dataclasses import dataclass, field
 from pathlib import Path
-from typing import Optional
+from typing import Any, Optional
 
 from .inputs import Place, Thing
 
@@ -19,7 +19,7 @@ EVERYTHING = {"apiGroups": ["*"], "apiVersions": ["*"], "operations": ["*"], "re
 class NoState(Exception):
     """Objects that are no state of a cluster, with the lines that say why."""
 
-    def __init__(self, lines: list):
+    def __init__(self, lines: list[str]):
         super().__init__("; ".join(lines))
         self.lines = lines
 
@@ -28,35 +28,35 @@ class NoState(Exception):
 class State:
     """The objects of a cluster. `made` has the policies whose bindings are made here, since none was given."""
 
-    things: list = field(default_factory=list)
-    made: set = field(default_factory=set)
+    things: list[Thing] = field(default_factory=list)
+    made: set[str] = field(default_factory=set)
 
-    def of(self, kind: str) -> list:
+    def of(self, kind: str) -> list[Thing]:
         """The policies or the bindings."""
         return [thing for thing in self.things if is_of(thing, kind)]
 
     @property
-    def policies(self) -> list:
+    def policies(self) -> list[Thing]:
         return self.of(POLICY)
 
     @property
-    def bindings(self) -> list:
+    def bindings(self) -> list[Thing]:
         return self.of(BINDING)
 
-    def namespaces(self) -> set:
+    def namespaces(self) -> set[str]:
         """The names of the namespaces."""
         return {thing.name for thing in self.things if is_namespace(thing)}
 
-    def add(self, things: Iterable) -> None:
+    def add(self, things: Iterable[Thing]) -> None:
         """Adds objects that are not there yet."""
         known = {key_of(thing) for thing in self.things}
         self.things += [thing for thing in things if key_of(thing) not in known]
 
-    def actions(self) -> dict:
+    def actions(self) -> dict[tuple[str, str], list[str]]:
         """By policy and binding the actions of the binding."""
         return {(policy_of(one), one.name): list(spec_of(one).get("validationActions") or ()) for one in self.bindings}
 
-    def written(self, path: Path, actions: Optional[list] = None, only: Optional[Thing] = None) -> Path:
+    def written(self, path: Path, actions: Optional[list[str]] = None, only: Optional[Thing] = None) -> Path:
         """Writes the state as a List. `actions` are those of all bindings, `only` is the one binding that is kept."""
         kept = [thing for thing in self.things if only is None or thing is only or not is_of(thing, BINDING)]
         items = [with_actions(thing, actions) for thing in kept]
@@ -70,14 +70,14 @@ def is_of(thing: Thing, kind: str) -> bool:
     return thing.group == ADMISSION and thing.kind == kind
 
 
-def with_actions(thing: Thing, actions: Optional[list]) -> dict:
+def with_actions(thing: Thing, actions: Optional[list[str]]) -> dict[str, Any]:
     """An object; a binding with these actions if they are given."""
     if actions is None or not is_of(thing, BINDING):
         return thing.value
     return {**thing.value, "spec": {**spec_of(thing), "validationActions": actions}}
 
 
-def spec_of(thing: Thing) -> dict:
+def spec_of(thing: Thing) -> dict[str, Any]:
     """The specification of an object, empty if it has none."""
     spec = thing.value.get("spec")
     return spec if isinstance(spec, dict) else {}
@@ -87,7 +87,7 @@ def policy_of(binding: Thing) -> str:
     return str(spec_of(binding).get("policyName", ""))
 
 
-def key_of(thing: Thing) -> tuple:
+def key_of(thing: Thing) -> tuple[str, ...]:
     """What an object is found by."""
     return thing.group, thing.kind, thing.namespace, thing.name
 
@@ -109,9 +109,9 @@ def as_stored(thing: Thing) -> Thing:
     return thing
 
 
-def duplicates(things: list) -> list:
+def duplicates(things: list[Thing]) -> list[str]:
     """A line for each object that is there twice."""
-    first: dict = {}
+    first: dict[tuple[str, ...], Thing] = {}
     told = []
     for thing in things:
         before = first.setdefault(key_of(thing), thing)
@@ -120,13 +120,13 @@ def duplicates(things: list) -> list:
     return told
 
 
-def of_other_groups(things: list) -> list:
+def of_other_groups(things: list[Thing]) -> list[str]:
     """A line for each policy or binding whose `apiVersion` is that of something else."""
     return [f"{thing.place}: {thing.title}: its apiVersion is {thing.api_version}, and not {VERSION}"
             for thing in things if thing.kind in (POLICY, BINDING) and thing.group != ADMISSION]
 
 
-def saved(things: list) -> State:
+def saved(things: list[Thing]) -> State:
     """The state of objects that a cluster holds."""
     stored = [as_stored(thing) for thing in things]
     if told := of_other_groups(stored) + duplicates(stored):
@@ -134,7 +134,7 @@ def saved(things: list) -> State:
     return State(stored)
 
 
-def of_policies(things: list, params: list) -> State:
+def of_policies(things: list[Thing], params: list[Thing]) -> State:
     """The state in which these policies are bound: by the bindings among them, or else by one that denies."""
     state = saved([*things, *params])
     bound = {policy_of(binding) for binding in state.bindings}
@@ -154,7 +154,7 @@ def with_rules(thing: Thing) -> Thing:
     return Thing({**thing.value, "spec": {**spec, "matchConstraints": {"resourceRules": [EVERYTHING]}}}, thing.place)
 
 
-def params_of(policy: Thing, things: list) -> Optional[list]:
+def params_of(policy: Thing, things: list[Thing]) -> Optional[list[Thing]]:
     """The objects of the kind of a policy's params; `None` if it has none."""
     kind = spec_of(policy).get("paramKind")
     if not isinstance(kind, dict):
@@ -162,17 +162,17 @@ def params_of(policy: Thing, things: list) -> Optional[list]:
     return [one for one in things if (one.api_version, one.kind) == (kind.get("apiVersion"), kind.get("kind"))]
 
 
-def binding_of(policy: Thing, params: Optional[list]) -> Thing:
+def binding_of(policy: Thing, params: Optional[list[Thing]]) -> Thing:
     """A binding by which a policy denies, with the params that are given."""
-    spec: dict = {"policyName": policy.name, "validationActions": ["Deny"]}
+    spec: dict[str, Any] = {"policyName": policy.name, "validationActions": ["Deny"]}
     if params is not None:
         spec["paramRef"] = {"parameterNotFoundAction": "Deny", **reference_to(params)}
     value = {"apiVersion": VERSION, "kind": BINDING, "metadata": {"name": policy.name}, "spec": spec}
     return Thing(value, policy.place)
 
 
-def reference_to(params: list) -> dict:
+def reference_to(params: list[Thing]) -> dict[str, Any]:
     """What selects params: the name of one, or all of a namespace."""
     namespaces = {one.namespace for one in params if one.namespace}
-    found: dict = {"namespace": namespaces.pop()} if len(namespaces) == 1 else {}
+    found: dict[str, Any] = {"namespace": namespaces.pop()} if len(namespaces) == 1 else {}
     return {**found, "name": params[0].name} if len(params) == 1 else {**found, "selector": {}}

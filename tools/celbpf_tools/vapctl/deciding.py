@@ -21,6 +21,9 @@ WARNING = re.compile(r"Validation failed for ValidatingAdmissionPolicy '(.*?)' w
 DENIAL = re.compile(r"is forbidden: ValidatingAdmissionPolicy '(.*?)'(?: with binding '(.*?)')? denied request: (.*)", re.DOTALL)
 LISTED = re.compile(r"celbpf: policy (\S+), bindings.*?(?:, blocked (.*))?$")
 WARNS = ["Warn"]
+# by the place of a review what is found, and the review with what is found so far
+Found = dict[int, list[Finding]]
+Unlisted = dict[int, tuple[str, list[Finding]]]
 # why a state is refused, by the code at the start of the line
 CAUSES = {
     "C2": "no name, another type of namespace or labels, or a namespace where the kind has none",
@@ -36,9 +39,9 @@ class Deciding:
     def __init__(self, gate: Gate, state: State, folder: Path):
         self.gate, self.state, self.folder = gate, state, folder
         self.actions = state.actions()
-        self.policies: list = []
+        self.policies: list[str] = []
         # by policy why it is not decided
-        self.blocked: dict = {}
+        self.blocked: dict[str, str] = {}
         self.file = state.written(folder / "state.json")
         self.start()
 
@@ -65,7 +68,7 @@ class Deciding:
                 return f"{thing.place}: {thing.title}: {why} ({code})"
         return f"{why} ({code})" if code in CAUSES else line
 
-    def decide(self, lines: list) -> Iterator[tuple]:
+    def decide(self, lines: list[str]) -> Iterator[tuple[str, str, list[Finding]]]:
         """The outcome, the message and the findings of each review."""
         answers = self.gate.answers(self.file, lines)
         found = self.found([(place, lines[place]) for place, one in enumerate(answers) if has_more(one)])
@@ -80,7 +83,7 @@ class Deciding:
                 known = any((one.policy, one.message) == (own.policy, own.message) for one in findings)
                 yield DENIED, answer.message, findings if known else [own, *findings]
 
-    def found(self, asked: list) -> dict:
+    def found(self, asked: list[tuple[int, str]]) -> Found:
         """By the place of a review all findings."""
         if not asked:
             return {}
@@ -90,9 +93,9 @@ class Deciding:
         unlisted = {place: (line, self.of_warnings(answer)) for (place, line), answer in zip(asked, answers) if not answer.allowed}
         return {**found, **self.one_by_one(unlisted)}
 
-    def one_by_one(self, asked: dict) -> dict:
+    def one_by_one(self, asked: Unlisted) -> Found:
         """By the place of a review what each binding finds alone, and then what else was found."""
-        found: dict = {place: [] for place in asked}
+        found: Found = {place: [] for place in asked}
         bindings = sorted(self.state.bindings, key=lambda one: (policy_of(one), one.name))
         for binding in bindings if asked else ():
             if policy_of(binding) in self.policies:
@@ -101,7 +104,7 @@ class Deciding:
             found[place] += [one for one in known if one not in found[place]]
         return found
 
-    def add_of(self, binding: Thing, asked: dict, found: dict) -> None:
+    def add_of(self, binding: Thing, asked: Unlisted, found: Found) -> None:
         """Adds what is found by one binding alone."""
         file = self.state.written(self.folder / "alone.json", WARNS, binding)
         answers = self.gate.answers(file, [line for line, _ in asked.values()])
@@ -113,7 +116,7 @@ class Deciding:
                 new.append(self.of_denial(answer))
             found[place] += [one for one in new if one not in found[place]]
 
-    def of_warnings(self, answer: Answer) -> list:
+    def of_warnings(self, answer: Answer) -> list[Finding]:
         """The findings in the warnings of an answer."""
         found = []
         for text in answer.warnings:

@@ -5,7 +5,7 @@ import subprocess
 import threading
 from dataclasses import dataclass, field
 from pathlib import Path
-from typing import Callable, Optional
+from typing import Any, Callable, Optional
 
 MEANINGS = {
     "N2": "the review is not read: it is nested too deep, too large, or converted for a webhook",
@@ -25,7 +25,7 @@ class Answer:
 
     allowed: Optional[bool] = None
     message: str = ""
-    warnings: list = field(default_factory=list)
+    warnings: list[str] = field(default_factory=list)
     has_audit: bool = False
     refused: str = ""
     policy: str = ""
@@ -56,15 +56,15 @@ def answer_of(line: str) -> Answer:
 class Asking:
     """A gatekeeper that is asked, and what it has answered so far."""
 
-    def __init__(self, words: list, lines: list, progress: Callable):
+    def __init__(self, words: list[str], lines: list[str], progress: Callable[[], None]):
         self.words, self.lines, self.progress = words, lines, progress
-        self.answers: list = []
+        self.answers: list[Answer] = []
         self.status = 0
 
     def run(self) -> None:
         """Sends the lines, and reads the answers."""
-        pipes = {"stdin": subprocess.PIPE, "stdout": subprocess.PIPE, "stderr": subprocess.DEVNULL}
-        with subprocess.Popen(self.words, encoding="utf-8", **pipes) as process:
+        pipe = subprocess.PIPE
+        with subprocess.Popen(self.words, encoding="utf-8", stdin=pipe, stdout=pipe, stderr=subprocess.DEVNULL) as process:
             sender = threading.Thread(target=self.send, args=(process.stdin,))
             sender.start()
             for line in process.stdout or ():
@@ -73,16 +73,16 @@ class Asking:
             sender.join()
         self.status = process.returncode
 
-    def send(self, stdin: object) -> None:
+    def send(self, stdin: Any) -> None:
         """Writes the lines. If the gatekeeper has ended, its answers are missing, which is told of them."""
         try:
-            with stdin:  # type: ignore[attr-defined]
+            with stdin:
                 for line in self.lines:
-                    stdin.write(line + "\n")  # type: ignore[attr-defined]
+                    stdin.write(line + "\n")
         except BrokenPipeError:
             pass
 
-    def result(self) -> list:
+    def result(self) -> list[Answer]:
         """An answer to each line."""
         missing = Answer(refused=f"the gatekeeper ended with status {self.status}")
         return self.answers + [missing] * (len(self.lines) - len(self.answers))
@@ -94,14 +94,14 @@ class Gate:
 
     program: Path
     jobs: int = 1
-    progress: Callable = lambda: None
+    progress: Callable[[], None] = lambda: None
 
-    def started(self, state: Path) -> subprocess.CompletedProcess:
+    def started(self, state: Path) -> subprocess.CompletedProcess[str]:
         """A run without a review: standard error has a line for each policy, or why the state is refused."""
         words = [str(self.program), "--cluster", str(state), "--partial"]
         return subprocess.run(words, stdin=subprocess.DEVNULL, capture_output=True, encoding="utf-8", errors="replace", check=False)
 
-    def answers(self, state: Path, lines: list) -> list:
+    def answers(self, state: Path, lines: list[str]) -> list[Answer]:
         """The answer to each review, under a state."""
         words = [str(self.program), "--cluster", str(state), "--partial"]
         size = max(1, -(-len(lines) // self.jobs))

@@ -49,7 +49,7 @@ class Trouble:
 class Thing:
     """An object of a cluster, or of a document that looks like one, and where it is."""
 
-    value: dict
+    value: dict[str, Any]
     place: Place
 
     @property
@@ -65,7 +65,7 @@ class Thing:
         return self.api_version.rpartition("/")[0]
 
     @property
-    def metadata(self) -> dict:
+    def metadata(self) -> dict[str, Any]:
         metadata = self.value.get("metadata")
         return metadata if isinstance(metadata, dict) else {}
 
@@ -91,15 +91,15 @@ class Inputs:
     """What the words of a command name; each file is read once, and standard input may be named once."""
 
     def __init__(self, keeps_texts: bool = False) -> None:
-        self.troubles: list = []
+        self.troubles: list[Trouble] = []
         self.has_stdin = False
         # the text of each file, if they are kept
         self.keeps_texts = keeps_texts
-        self.texts: dict = {}
+        self.texts: dict[str, str] = {}
 
-    def things(self, words: Iterable[str]) -> list:
+    def things(self, words: Iterable[str]) -> list[Thing]:
         """The objects of files and folders, in their order; what cannot be read is among the troubles."""
-        found: list = []
+        found: list[Thing] = []
         for name in dict.fromkeys(words):
             for file in self.files(name):
                 found += self.of_file(file, file != name)
@@ -113,7 +113,7 @@ class Inputs:
         if name == STDIN or not os.path.isdir(name):
             yield name
             return
-        found: list = []
+        found: list[str] = []
         for folder, folders, files in os.walk(name, onerror=self.unread_folder):
             folders[:] = sorted(one for one in folders if not one.startswith("."))
             found += [os.path.join(folder, one) for one in files if one.endswith(SUFFIXES) and not one.startswith(".")]
@@ -124,10 +124,10 @@ class Inputs:
     def unread_folder(self, why: OSError) -> None:
         self.trouble(str(why.filename), 0, why.strerror or str(why))
 
-    def of_file(self, file: str, is_of_folder: bool) -> list:
+    def of_file(self, file: str, is_of_folder: bool) -> list[Thing]:
         """The objects of a file. In a file of a folder, documents that name no kind of object are passed over."""
         name = STDIN_NAME if file == STDIN else file
-        found: list = []
+        found: list[Thing] = []
         try:
             text = self.text(file)
             if self.keeps_texts:
@@ -137,9 +137,9 @@ class Inputs:
             self.trouble(name, why.line, why.why)
         return found
 
-    def of_text(self, name: str, text: str, is_of_folder: bool = False) -> list:
+    def of_text(self, name: str, text: str, is_of_folder: bool = False) -> list[Thing]:
         """The objects of a text, up to where it cannot be read."""
-        found: list = []
+        found: list[Thing] = []
         try:
             for document in self.documents(name, text):
                 if not is_of_folder or names_kind(document.value):
@@ -222,8 +222,8 @@ class Inputs:
         waiting = [value]
         while waiting:
             one = waiting.pop(0)
-            if why := why_no_object(one):
-                self.troubles.append(Trouble(place, why))
+            if fault := why_no_object(one):
+                self.troubles.append(Trouble(place, fault))
             elif one["kind"].endswith("List") and isinstance(one.get("items"), list):
                 waiting = [*one["items"], *waiting]
             else:

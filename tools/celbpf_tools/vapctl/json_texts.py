@@ -2,7 +2,7 @@
 
 import json
 import re
-from typing import Any, Callable, Iterator, NoReturn
+from typing import Any, Callable, Iterator, NoReturn, Optional
 
 from .located import Document, Located
 
@@ -27,7 +27,7 @@ class Reader:
         self.text = text
         self.has_floats = False
         self.counted, self.line = 0, 1
-        self.decode: Callable = json.JSONDecoder(parse_float=self.float_of, parse_constant=refused_constant).raw_decode
+        self.decode: Callable[[str, int], tuple[Any, int]] = json.JSONDecoder(parse_float=self.float_of, parse_constant=refused_constant).raw_decode
 
     def float_of(self, text: str) -> float:
         self.has_floats = True
@@ -64,9 +64,9 @@ class Reader:
             yield Document(value, line, items, self.has_floats)
             at = self.after_blanks(at)
 
-    def object(self, at: int) -> tuple:
+    def object(self, at: int) -> tuple[dict[str, Any], Optional[list[Located]], int]:
         """An object, the items of its list `items` if it has one, and the place after it."""
-        value: dict = {}
+        value: dict[str, Any] = {}
         items = None
         at = self.take("{", at)
         while not self.is_next("}", at):
@@ -84,9 +84,9 @@ class Reader:
             at = self.after_blanks(at)
         return value, items if isinstance(value.get("items"), list) else None, at + 1
 
-    def items(self, at: int) -> tuple:
+    def items(self, at: int) -> tuple[list[Located], int]:
         """The items of a list with their lines, and the place after the list."""
-        found: list = []
+        found: list[Located] = []
         at = self.take("[", at)
         while not self.is_next("]", at):
             if found:
@@ -98,7 +98,7 @@ class Reader:
         return found, at + 1
 
 
-def place_of(text: str, at: int) -> tuple:
+def place_of(text: str, at: int) -> tuple[int, int]:
     """The line and the column of a place in a text, counted from 1."""
     return text.count("\n", 0, at) + 1, at - text.rfind("\n", 0, at)
 

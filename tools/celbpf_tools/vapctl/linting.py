@@ -12,7 +12,7 @@ from ..commands.place import Refused, refused
 from .cluster import VERSION
 from .inputs import Thing
 from .one_decision import policy_text
-from .positions import Marks, Position
+from .positions import Marks, Path, Position
 
 # what a part that is refused is replaced by, so that the parts after it are asked
 VALID = {"variable": "dyn(null)", "condition": "true", "validation": "true", "message": "'a'"}
@@ -61,12 +61,12 @@ class Fault:
         return f"{self.part}: {self.meaning} ({self.code})" if self.part else f"{self.meaning} ({self.code})"
 
 
-def path_of(part: policies.Part) -> tuple:
+def path_of(part: policies.Part) -> Path:
     """The path of a part's text in the document."""
     return "spec", LISTS[part.kind], part.place, KEYS.get(part.kind, "expression")
 
 
-def without(policy: dict, part: policies.Part) -> dict:
+def without(policy: dict[str, Any], part: policies.Part) -> Any:
     """A policy in which a part is replaced by one that is accepted."""
     made = copy.deepcopy(policy)
     made["spec"][LISTS[part.kind]][part.place][KEYS.get(part.kind, "expression")] = VALID[part.kind]
@@ -76,7 +76,7 @@ def without(policy: dict, part: policies.Part) -> dict:
 def faults(program: Program, thing: Thing, marks: Optional[Marks]) -> Iterator[Fault]:
     """The refusals of a policy, in the order in which it is compiled. One of the whole document ends them."""
     policy: Any = json.loads(policy_text(thing))
-    seen: set = set()
+    seen: set[Path] = set()
     while refusal := program.refusal(policy):
         found = refused(program, policy, refusal)
         yield Fault(thing, refusal, found, position_of(thing, found, marks))

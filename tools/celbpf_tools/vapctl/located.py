@@ -18,5 +18,5 @@ class Document:
 
     value: Any
     line: int
-    items: Optional[list]
+    items: Optional[list[Located]]
     has_floats: bool

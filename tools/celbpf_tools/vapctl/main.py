@@ -4,20 +4,21 @@ import argparse
 import os
 import sys
 import traceback
-from types import ModuleType
 from typing import NoReturn, Optional
 
 from ..entry import Stop
-from .commands import audit, check, debug, lint, state, test, why
+from .commands import WHATS, module_of
 from .statuses import REFUSED, WORDS
 from .version import version
 
-COMMANDS: tuple[ModuleType, ...] = (check, audit, state, test, why, debug, lint)
+# `kubectl` runs the second as `kubectl vap`
+NAMES = ("vapctl", "kubectl-vap")
+DESCRIPTION = "Checks, tests and explains ValidatingAdmissionPolicies without a cluster."
 STATUSES = """Status 0: all is allowed, or passed; 1: something is denied, or failed; 2: wrong words; 3: something is refused, is not
 decided, or cannot be read."""
 # calls inside calls are few, but where an expression is taken apart
 DEEPEST = 2_000
-DEEP = (debug.run, lint.run, test.run, why.run)
+DEEP = ("debug", "lint", "test", "why")
 # shows where an error in vapctl itself is
 DEBUG = "VAPCTL_DEBUG"
 
@@ -29,24 +30,30 @@ class Parser(argparse.ArgumentParser):
         self.exit(WORDS, f"{self.prog}: {message}; `{self.prog} --help` has the words\n")
 
 
-def parser() -> argparse.ArgumentParser:
-    """The words of all commands."""
-    made = Parser(prog="vapctl", description="Checks, tests and explains ValidatingAdmissionPolicies without a cluster.",
-                  epilog=STATUSES, formatter_class=argparse.RawDescriptionHelpFormatter, allow_abbrev=False)
+def parser(name: str = "vapctl", chosen: Optional[str] = None) -> argparse.ArgumentParser:
+    """The words of all commands, or of the one that is chosen, under the name by which the program is called."""
+    made = Parser(prog=name.replace("kubectl-", "kubectl "), description=DESCRIPTION, epilog=STATUSES,
+                  formatter_class=argparse.RawDescriptionHelpFormatter, allow_abbrev=False)
     made.add_argument("--version", action="version", version=f"vapctl {version()}", help="print the version, and end")
     commands = made.add_subparsers(dest="command", metavar="COMMAND", required=True, parser_class=Parser)
-    for module in COMMANDS:
-        one = commands.add_parser(module.NAME, help=module.WHAT, description=f"{module.WHAT}\n\n{module.MORE}", epilog=STATUSES,
+    for command, what in WHATS.items():
+        if chosen is not None and command != chosen:
+            commands.add_parser(command, help=what)
+            continue
+        module = module_of(command)
+        one = commands.add_parser(command, help=what, description=f"{what}\n\n{module.MORE}", epilog=STATUSES,
                                   formatter_class=argparse.RawDescriptionHelpFormatter, allow_abbrev=False)
         module.words(one)
         one.set_defaults(run=module.run)
     return made
 
 
-def main(words: Optional[list] = None) -> int:
+def main(words: Optional[list[str]] = None) -> int:
     """Runs the command; an error in vapctl itself is told on one line."""
-    given = parser().parse_args(words)
-    if given.run not in DEEP:
+    words = sys.argv[1:] if words is None else words
+    called = os.path.basename(sys.argv[0])
+    given = parser(called if called in NAMES else NAMES[0], words[0] if words else "").parse_args(words)
+    if given.command not in DEEP:
         sys.setrecursionlimit(DEEPEST)
     try:
         return int(given.run(given))

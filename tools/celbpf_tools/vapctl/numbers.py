@@ -45,7 +45,7 @@ def below(path: str, key: str) -> str:
 def sent(value: Any) -> Any:
     """A value as it is sent, with keys that are texts."""
     holder = [value]
-    waiting: list = [(holder, 0, "")]
+    waiting: list[tuple[Any, Any, str]] = [(holder, 0, "")]
     while waiting:
         parent, place, path = waiting.pop()
         one = parent[place]
@@ -76,7 +76,7 @@ def shown(value: Union[int, float]) -> str:
     return text if len(text) <= 40 else f"{text[:40]}.."
 
 
-def undecided_numbers(value: Any, path: str = "") -> Iterator[tuple]:
+def undecided_numbers(value: Any, path: str = "") -> Iterator[tuple[str, str]]:
     """The path and the text of each number that no review may have, in the order of the document."""
     waiting = [(value, path)]
     while waiting:

@@ -3,7 +3,7 @@
 import argparse
 import json
 from pathlib import Path
-from typing import Optional
+from typing import Any, Optional
 
 from ..entry import Stop
 from ..manifests.sending import object_sent
@@ -18,7 +18,7 @@ from .statuses import REFUSED
 MOST_NAMES = 10
 
 
-def without_nulls(value: dict) -> dict:
+def without_nulls(value: dict[str, Any]) -> dict[str, Any]:
     """A map without the keys that are null, which an API server takes for absent."""
     return {key: one for key, one in value.items() if one is not None}
 
@@ -32,7 +32,7 @@ def policy_text(thing: Thing) -> str:
     return json.dumps(kept)
 
 
-def named(things: list, name: Optional[str], what: str, option: str) -> Thing:
+def named(things: list[Thing], name: Optional[str], what: str, option: str) -> Thing:
     """The one of these objects, or the one of this name, which may follow its kind and a slash."""
     chosen = [one for one in things if name is None or name in (one.name, f"{one.kind}/{one.name}")]
     if len(chosen) == 1:
@@ -55,13 +55,13 @@ class Decision:
         policies = [one for one in self.read(given.policy) if is_of(one, POLICY)]
         self.policy = named(policies, given.name, POLICY, "--name")
         self.review = named(self.read(given.review), given.object, "object", "--object")
-        self.files = {"policy": self.write("policy.json", policy_text(self.policy)),
+        self.files: dict[str, Optional[str]] = {"policy": self.write("policy.json", policy_text(self.policy)),
                       "review": self.write("review.json", self.review_text())}
         self.shown = [str(self.policy.place), f"{self.review.place} {self.review.title}"]
         for key, file in (("namespace", given.namespace_object), ("params", given.params)):
             self.files[key] = self.document(key, file) if file else None
 
-    def read(self, word: str) -> list:
+    def read(self, word: str) -> list[Thing]:
         """The objects of an input, which has to be read whole."""
         found = self.inputs.things([word])
         stop_at(self.inputs.troubles)
@@ -98,8 +98,8 @@ class Decision:
 
 def add_words(parser: argparse.ArgumentParser, is_optional: bool = False) -> None:
     """The options of a decision."""
-    more = {"nargs": "?"} if is_optional else {}
-    parser.add_argument("policy", metavar="POLICY", help="a file, YAML or JSON, with the policy; - is standard input", **more)  # type: ignore[arg-type]
+    more: dict[str, Any] = {"nargs": "?"} if is_optional else {}
+    parser.add_argument("policy", metavar="POLICY", help="a file, YAML or JSON, with the policy; - is standard input", **more)
     parser.add_argument("review", metavar="REVIEW", nargs="?",
                         help="a file with an AdmissionReview, or with a manifest: then its object is created")
     parser.add_argument("--name", metavar="NAME", help="the policy of this name, if POLICY has several")

@@ -1,10 +1,13 @@
 """Where a text of a document is in its file, by the line and the column."""
 
 from dataclasses import dataclass
-from typing import Any, Optional
+from typing import Any, Optional, Union
 
 from .. import documents
 from . import yaml_texts
+
+# keys of maps, and places in lists
+Path = tuple[Union[str, int], ...]
 
 
 @dataclass(frozen=True)
@@ -22,7 +25,7 @@ class Marks:
         self.lines = text.split("\n")
         self.roots = [node for root in composed(text) for node in [root, *items_of(root)]]
 
-    def position(self, line: int, path: tuple, offset: int, text: str) -> Position:
+    def position(self, line: int, path: Path, offset: int, text: str) -> Position:
         """The place of a character of the text at a path of the object that begins at a line."""
         for root in self.roots:
             node = scalar_at(root, path) if root.start_mark.line + 1 == line else None
@@ -42,38 +45,38 @@ class Marks:
         return Position(line + 1, (begin + offset if is_plain else column) + 1)
 
 
-def composed(text: str) -> list:
+def composed(text: str) -> list[Any]:
     """The nodes of a text's documents; none if it is not read as YAML."""
     if not yaml_texts.has_yaml():
         return []
     try:
         yaml_texts.refuse_deep(text)
-        return [node for node in documents.yaml.compose_all(text, yaml_texts.loader()) if node is not None]
-    except (documents.yaml.YAMLError, yaml_texts.NotRead, ValueError):
+        return [node for node in documents.yaml_package().compose_all(text, yaml_texts.loader()) if node is not None]
+    except (documents.yaml_package().YAMLError, yaml_texts.NotRead, ValueError):
         return []
 
 
 def value_at(node: Any, key: Any) -> Optional[Any]:
     """The node of a key of a map, or of an item of a list."""
     if isinstance(key, int):
-        is_item = isinstance(node, documents.yaml.SequenceNode) and key < len(node.value)
+        is_item = isinstance(node, documents.yaml_package().SequenceNode) and key < len(node.value)
         return node.value[key] if is_item else None
-    if not isinstance(node, documents.yaml.MappingNode):
+    if not isinstance(node, documents.yaml_package().MappingNode):
         return None
     found = [value for name, value in node.value if name.value == key]
     return found[-1] if found else None
 
 
-def items_of(root: Any) -> list:
+def items_of(root: Any) -> list[Any]:
     """The nodes of the items of a list."""
     items = value_at(root, "items")
-    return list(items.value) if isinstance(items, documents.yaml.SequenceNode) else []
+    return list(items.value) if isinstance(items, documents.yaml_package().SequenceNode) else []
 
 
-def scalar_at(node: Any, path: tuple) -> Optional[Any]:
+def scalar_at(node: Any, path: Path) -> Optional[Any]:
     """The node of the text at a path."""
     for key in path:
         node = value_at(node, key)
         if node is None:
             return None
-    return node if isinstance(node, documents.yaml.ScalarNode) else None
+    return node if isinstance(node, documents.yaml_package().ScalarNode) else None

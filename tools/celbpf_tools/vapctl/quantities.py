@@ -59,7 +59,7 @@ PATHS = {
 }
 
 
-def steps_of(path: str) -> list:
+def steps_of(path: str) -> list[str]:
     """A path as keys, `*` and `[]`."""
     return [step for part in path.split(".") for step in (part.removesuffix("[]"), "[]" * part.endswith("[]")) if step]
 
@@ -122,7 +122,7 @@ def canonical(text: str) -> str:
         return decimal_text(bounded(digits.scaleb(DECIMAL[suffix])), False)
 
 
-def places(value: Any, steps: list) -> Iterator[tuple]:
+def places(value: Any, steps: list[str]) -> Iterator[tuple[dict[str, Any], str]]:
     """The map and the key of each value at a path."""
     if not isinstance(value, dict) or not steps:
         return
@@ -142,7 +142,7 @@ def is_number(value: Any) -> bool:
     return isinstance(value, (int, float)) and not isinstance(value, bool) and abs(value) <= sys.float_info.max
 
 
-def write_quantities(thing: dict) -> None:
+def write_quantities(thing: dict[str, Any]) -> None:
     """Replaces the quantities of an object by what an API server stores."""
     group = thing["apiVersion"].rpartition("/")[0]
     for steps in STEPS.get((group, thing["kind"]), ()):

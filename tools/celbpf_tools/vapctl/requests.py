@@ -2,7 +2,7 @@
 
 import json
 from dataclasses import dataclass, field
-from typing import Optional
+from typing import Any, Optional
 
 from ..manifests.kinds import Resource, Resources
 from ..manifests.reviews import Converted, OldObjects, placed, request_of, review_of
@@ -21,7 +21,7 @@ class Asked:
     namespace: str = "default"
     operation: str = ""
     user: Optional[str] = None
-    groups: list = field(default_factory=list)
+    groups: list[str] = field(default_factory=list)
 
 
 class NoReview(Exception):
@@ -40,7 +40,7 @@ class Reviews:
         self.asked = asked
         self.old = OldObjects()
 
-    def put(self, thing: Thing) -> tuple:
+    def put(self, thing: Thing) -> tuple[dict[str, Any], Resource]:
         """An object in its namespace with the values that are stored, and its resource."""
         if not isinstance(thing.value.get("metadata"), dict):
             raise NoReview("the object has no metadata")
@@ -58,7 +58,7 @@ class Reviews:
         """Takes an object as one that was there before."""
         self.old.add(*self.put(thing))
 
-    def text(self, thing: Thing, uid: str) -> tuple:
+    def text(self, thing: Thing, uid: str) -> tuple[dict[str, Any], str]:
         """The object as it is sent, and its review on one line."""
         value, resource = self.put(thing)
         request = self.request(value, resource, uid)
@@ -68,7 +68,7 @@ class Reviews:
         except ValueError as why:
             raise NoReview(why_no_ints(review["request"]) or f"the object is not JSON: {why}") from why
 
-    def request(self, value: dict, resource: Resource, uid: str) -> dict:
+    def request(self, value: dict[str, Any], resource: Resource, uid: str) -> dict[str, Any]:
         """The request of an object."""
         operation = self.asked.operation
         try:
@@ -84,7 +84,7 @@ class Reviews:
         return made
 
 
-def why_no_ints(request: dict) -> str:
+def why_no_ints(request: dict[str, Any]) -> str:
     """The numbers of a request that no policy can read; empty if there are none."""
     found = [("", number) for number in undecided_numbers(request.get("object"))]
     found += [("oldObject.", number) for number in undecided_numbers(request.get("oldObject"))]
@@ -95,7 +95,7 @@ def why_no_ints(request: dict) -> str:
     return f"{told}{more}: policies read 64-bit ints alone"
 
 
-def line_of(review: dict) -> str:
+def line_of(review: dict[str, Any]) -> str:
     """A review on one line of JSON."""
     try:
         text = json.dumps(review, ensure_ascii=False, separators=(",", ":"), allow_nan=False)

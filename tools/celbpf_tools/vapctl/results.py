@@ -28,7 +28,7 @@ class Result:
     namespace: str
     outcome: str
     message: str = ""
-    findings: list = field(default_factory=list)
+    findings: list[Finding] = field(default_factory=list)
 
     @property
     def place(self) -> Place:
@@ -49,7 +49,7 @@ class Result:
 class Report:
     """All results, what could not be read, and the policies that were asked."""
 
-    results: list = field(default_factory=list)
+    results: list[Result] = field(default_factory=list)
     troubles: list[Trouble] = field(default_factory=list)
     policies: list[str] = field(default_factory=list)
 
@@ -57,7 +57,7 @@ class Report:
         """The number of objects with an outcome."""
         return sum(result.outcome == outcome for result in self.results)
 
-    def findings(self, *actions: str) -> list:
+    def findings(self, *actions: str) -> list[tuple[Result, Finding]]:
         """The results with each finding of these actions."""
         return [(result, one) for result in self.results for one in result.findings if one.action in actions]
 

@@ -87,8 +87,8 @@ class Saving:
         resources = Resources()
         resources.define([thing.value for thing in self.things])
         for (api_version, kind), policy in param_kinds(self.things).items():
-            resource = resource_of(api_version, kind, resources)
-            if resource is None:
+            named = resource_of(api_version, kind, resources)
+            if named is None:
                 self.troubles.append(Trouble(Place(f"policy {policy}"), f"the kind of its params, {api_version} {kind}, is not defined"))
-            elif resource not in KINDS:
-                self.take(resource)
+            elif named not in KINDS:
+                self.take(named)

@@ -20,17 +20,17 @@ class NotRead(Exception):
 
 def has_yaml() -> bool:
     """Whether Python has a package for YAML."""
-    return documents.yaml is not None
+    return documents.yaml_package() is not None
 
 
 def loader() -> Any:
     """A class that loads YAML, the faster one if the package has it."""
-    return documents.loader(getattr(documents.yaml, "CSafeLoader", documents.yaml.SafeLoader))
+    return documents.loader(getattr(documents.yaml_package(), "CSafeLoader", None))
 
 
 def documents_of(text: str) -> Iterator[Document]:
     """The documents of a text of YAML, without empty ones."""
-    yaml = documents.yaml
+    yaml = documents.yaml_package()
     try:
         refuse_deep(text)
         load = loader()(text)
@@ -61,7 +61,7 @@ def document_of(load: Any, node: Any, has_aliases: bool) -> Optional[Document]:
     return Document(value, node.start_mark.line + 1, items_of(node, value), True)
 
 
-def items_of(node: Any, value: Any) -> Optional[list]:
+def items_of(node: Any, value: Any) -> Optional[list[Located]]:
     """The items of a map's list `items`, with their lines."""
     items = value.get("items") if isinstance(value, dict) else None
     if not isinstance(items, list):
@@ -80,7 +80,7 @@ def refuse_deep(text: str) -> None:
         raise NotRead("it is nested too deep", mark.line + 1, mark.column + 1)
 
 
-def parts_of(value: Any) -> list:
+def parts_of(value: Any) -> list[Any]:
     """The lists and maps that are parts of a list or a map."""
     parts = value.values() if isinstance(value, dict) else value
     return [part for part in parts if isinstance(part, (dict, list))]
@@ -89,8 +89,8 @@ def parts_of(value: Any) -> list:
 def refuse_large(value: Any) -> None:
     """Refuses a value that has itself as a part, or that aliases make too large or too deep."""
     # by the identity of a list or a map how many values it has, counted with repetitions, and how deep it is
-    measures: dict = {}
-    begun: set = set()
+    measures: dict[int, tuple[int, int]] = {}
+    begun: set[int] = set()
     waiting = [value] if isinstance(value, (dict, list)) else []
     while waiting:
         one = waiting[-1]

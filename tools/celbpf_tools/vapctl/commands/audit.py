@@ -9,8 +9,6 @@ from ..checking import add_words, refuse_words, report_of
 from ..reports import forms, summary
 from ..requests import OPERATIONS
 
-NAME = "audit"
-WHAT = "check the objects of a cluster, with a summary by policy, namespace and kind"
 MORE = """The objects are those of files, or of standard input, as `kubectl get deployments -A -o json` prints them. Each is checked
 as a request that creates it. The table has numbers; with -v it lists the findings too."""
 # seconds between two numbers on a terminal

@@ -6,8 +6,6 @@ from ..checking import add_words, refuse_words, report_of
 from ..reports import forms
 from ..requests import OPERATIONS
 
-NAME = "check"
-WHAT = "check manifests against the policies of a cluster, or given ones"
 MORE = """Each object is checked as a request that creates it, or that changes it if --old has it. The decision is that of
 `gatekeeper --cluster`; the report has all findings of each object, with the file and the line of the manifest. Policies
 see objects as they are written, without the defaults that an API server adds."""

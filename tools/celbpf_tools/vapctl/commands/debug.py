@@ -13,8 +13,6 @@ from ..one_decision import Decision, add_words
 from ..refusals import words_of_refusal
 from ..statuses import GOOD, REFUSED, WORDS
 
-NAME = "debug"
-WHAT = "debug a decision step by step, forward and back"
 MORE = """Without --dap it is a session of `celbpf debug` on the policy's program, on standard input and output: `c 1000000` goes to
 the end, `w` shows the verdict, `g 0` goes back to the start, `q` ends it. docs/DEBUGGER.md has all commands."""
 
@@ -46,8 +44,8 @@ def session(given: argparse.Namespace, folder: Path) -> int:
         image = program.kept_image(decision.files["policy"])
     except NotAnswered as why:
         raise Stop(words_of_refusal(why.line), REFUSED) from why
-    beside = [word for key in ("review", "namespace", "params") if decision.files[key]
-              for word in (f"--{key}", decision.files[key])]
+    files = ((key, decision.files[key]) for key in ("review", "namespace", "params"))
+    beside = [word for key, file in files if file for word in (f"--{key}", file)]
     if sys.stdin.isatty():
         print("`c 1000000` goes to the end, `w` shows the verdict, `g 0` goes back, `q` ends", file=sys.stderr)
     sys.stdout.flush()

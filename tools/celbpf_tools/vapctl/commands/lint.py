@@ -3,12 +3,13 @@
 import argparse
 import json
 import tempfile
+from typing import Any
 
 from ...asking.program import Program, located
 from ...asking.texts import pointed
 from ...entry import Stop
 from ..cluster import POLICY
-from ..inputs import Inputs
+from ..inputs import Inputs, Trouble
 from ..linting import Fault, faults
 from ..positions import Marks
 from ..reports.github import command
@@ -16,8 +17,6 @@ from ..reports.texts import on_line
 from ..results import plural
 from ..statuses import GOOD, REFUSED
 
-NAME = "lint"
-WHAT = "show all that is refused in policies"
 MORE = """Each refusal has the line and the column in the file, the part of the policy, what is meant, and its code. Refusals of the
 whole document, such as K3, are told one at a time."""
 FORMS = ("table", "json", "github")
@@ -37,7 +36,7 @@ def run(given: argparse.Namespace) -> int:
     marks = {name: Marks(text) for name, text in inputs.texts.items()}
     if not policies and not inputs.troubles:
         raise Stop(f"no {POLICY} is among the inputs", REFUSED)
-    found: list = []
+    found: list[Fault] = []
     with tempfile.TemporaryDirectory() as folder:
         program = Program(located(given.program), folder)
         for policy in policies:
@@ -55,7 +54,7 @@ def summary(policies: int, refused: int, unread: int) -> str:
     return f"{policies} {'policy' if policies == 1 else 'policies'}: {', '.join(told)}"
 
 
-def table(found: list, troubles: list) -> None:
+def table(found: list[Fault], troubles: list[Trouble]) -> None:
     """A line for each refusal, and its text with carets."""
     for fault in found:
         print(on_line(f"{fault.place}: {fault.policy.name}: {fault.message}"))
@@ -65,7 +64,7 @@ def table(found: list, troubles: list) -> None:
         print(on_line(f"{trouble.place}: not read: {trouble.why}"))
 
 
-def github(found: list, troubles: list) -> None:
+def github(found: list[Fault], troubles: list[Trouble]) -> None:
     """An annotation for each refusal."""
     for fault in found:
         print(command("error", fault.policy.place.file, fault.position.line, fault.policy.name, fault.message))
@@ -73,7 +72,7 @@ def github(found: list, troubles: list) -> None:
         print(command("error", trouble.place.file, trouble.place.line, "not read", trouble.why))
 
 
-def entry(fault: Fault) -> dict:
+def entry(fault: Fault) -> dict[str, Any]:
     """A refusal in JSON."""
     part = fault.refused.part
     piece = {"part": fault.part, "text": part.text[fault.refused.begin : fault.refused.end]} if part else {"part": fault.part}
@@ -81,7 +80,7 @@ def entry(fault: Fault) -> dict:
     return {**where, "policy": fault.policy.name, "code": fault.code, "refusal": fault.refusal, "message": fault.message, **piece}
 
 
-def as_json(found: list, troubles: list) -> None:
+def as_json(found: list[Fault], troubles: list[Trouble]) -> None:
     """All refusals, in ASCII."""
     unread = [{"file": one.place.file, "line": one.place.line, "message": one.why} for one in troubles]
     print(json.dumps({"refusals": list(map(entry, found)), "notRead": unread}, indent=2))

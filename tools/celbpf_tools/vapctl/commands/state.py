@@ -14,8 +14,6 @@ from ..results import plural
 from ..saving import Kubectl, Saving, param_kinds
 from ..statuses import GOOD, REFUSED
 
-NAME = "state"
-WHAT = "save the state of a cluster: its policies, and what they need"
 MORE = """It runs `kubectl` and writes a List of policies, bindings, namespaces, CustomResourceDefinitions and the params of bound
 policies. What `kubectl` may not read is told, with status 3. With --from it takes them of manifests, with the namespace
 `default` if they have none. If params are Secrets, the state is secret."""

@@ -7,14 +7,12 @@ from ...commands import test
 from ...testing import output
 from ..statuses import BAD, GOOD, REFUSED
 
-NAME = "test"
-WHAT = "run tests of policies"
 MORE = """In a folder it takes the files tests.yaml, tests.yml and tests.json, also in subfolders. docs/SCRIPTS.md has the keys of
 a test file."""
 FORMS = ("table", "tap", "junit")
 
 
-def form(text: str) -> tuple:
+def form(text: str) -> tuple[str, str]:
     """A form and a file, which is empty for standard output: `FORM` or `FORM=FILE`."""
     name, equals, file = text.partition("=")
     if name not in FORMS or (equals and not file):
@@ -43,7 +41,7 @@ def run(given: argparse.Namespace) -> int:
     return {0: GOOD, 1: BAD}.get(status, REFUSED)
 
 
-def write(name: str, file: str, results: list, notes: list) -> None:
+def write(name: str, file: str, results: list[output.Result], notes: list[str]) -> None:
     """Writes the report in a form."""
     if name == "junit":
         sys.stdout.flush()

@@ -11,8 +11,6 @@ from ..one_decision import Decision, add_words
 from ..refusals import words_of_refusal
 from ..statuses import BAD, GOOD, REFUSED, WORDS
 
-NAME = "why"
-WHAT = "show why a policy decides a review, a manifest or a test case as it does"
 MORE = """It prints each part of the policy with its value, the parts of what is false with theirs, and what to change. With
 --case the only argument is a test file, and the case has its policy and review."""
 

@@ -8,14 +8,14 @@ from typing import Callable, TextIO
 from ..results import Report
 from . import github, jsons, junit, policyreport, sarif, table
 
-FORMS: dict[str, Callable] = {
+FORMS: dict[str, Callable[[Report, TextIO], None]] = {
     "json": jsons.write, "junit": junit.write, "sarif": sarif.write, "github": github.write,
     "policyreport": policyreport.write,
 }
 NAMES = ("table", *FORMS)
 
 
-def form(text: str) -> tuple:
+def form(text: str) -> tuple[str, str]:
     """A form and a file, which is empty for standard output: `FORM` or `FORM=FILE`."""
     name, equals, file = text.partition("=")
     if name not in NAMES or (equals and not file):

@@ -1,35 +1,35 @@
 """A report as JSON."""
 
 import json
-from typing import TextIO
+from typing import Any, TextIO
 
 from ..counts import by_kind, by_namespace, by_policy
 from ..results import ALLOWED, AUDIT, DENIED, ERROR, UNDECIDED, WARN, Report, Result
 
 
-def object_of(result: Result) -> dict:
+def object_of(result: Result) -> dict[str, Any]:
     """What names an object."""
     named = {"apiVersion": result.thing.api_version, "kind": result.thing.kind}
     more = {"namespace": result.namespace, "name": result.thing.name}
     return {**named, **{key: value for key, value in more.items() if value}}
 
 
-def result_of(result: Result) -> dict:
+def result_of(result: Result) -> dict[str, Any]:
     """A result. `message` is the one that the cluster sends with a denial."""
     findings = [{key: value for key, value in vars(one).items() if value} for one in result.findings]
-    place: dict = {"file": result.place.file, "line": result.place.line}
+    place: dict[str, Any] = {"file": result.place.file, "line": result.place.line}
     made = {**place, "object": object_of(result), "outcome": result.outcome, "findings": findings}
     return {**made, "message": result.message} if result.message else made
 
 
-def summary_of(report: Report) -> dict:
+def summary_of(report: Report) -> dict[str, Any]:
     """The numbers of a report."""
     counts = {outcome: report.count(outcome) for outcome in (ALLOWED, DENIED, UNDECIDED)}
     warned = {"warnings": len(report.findings(WARN)), "audited": len(report.findings(AUDIT))}
     return {"objects": len(report.results), **counts, **warned, "errors": len(report.findings(ERROR)) + len(report.troubles)}
 
 
-def document_of(report: Report) -> dict:
+def document_of(report: Report) -> dict[str, Any]:
     """A whole report."""
     troubles = [{"file": one.place.file, "line": one.place.line, "message": one.why} for one in report.troubles]
     return {

@@ -6,7 +6,7 @@ It has what the schema of Jenkins (junit-10.xsd) and that of Ant (JUnit.xsd) hav
 import xml.etree.ElementTree as xml
 from typing import TextIO
 
-from ..results import AUDIT, DENIED, DENY, ERROR, UNDECIDED, WARN, Report, Result
+from ..results import AUDIT, DENIED, DENY, ERROR, UNDECIDED, WARN, Finding, Report, Result
 from .texts import on_line, printed
 
 
@@ -20,7 +20,7 @@ def write(report: Report, out: TextIO) -> None:
     print(xml.tostring(top, encoding="us-ascii").decode("ascii").split("?>\n", maxsplit=1)[-1], file=out)
 
 
-def files_of(report: Report) -> list:
+def files_of(report: Report) -> list[str]:
     """The files of objects, and those that were not read."""
     places = [*(result.place for result in report.results), *(trouble.place for trouble in report.troubles)]
     return list(dict.fromkeys(place.file for place in places))
@@ -56,13 +56,12 @@ def case_of(result: Result) -> xml.Element:
     return case
 
 
-def line_of(result: Result, finding: object) -> str:
+def line_of(result: Result, finding: Finding) -> str:
     """A finding, with the place of its object."""
-    policy = getattr(finding, "policy")
-    return f"{result.place}: {policy + ': ' if policy else ''}{getattr(finding, 'message')}"
+    return f"{result.place}: {finding.policy + ': ' if finding.policy else ''}{finding.message}"
 
 
-def added(case: xml.Element, tag: str, lines: list) -> None:
+def added(case: xml.Element, tag: str, lines: list[str]) -> None:
     """Adds the failure or the error of a case: the first line is its message."""
     element = xml.SubElement(case, tag, message=on_line(lines[0]) if lines else "", type=tag)
     element.text = printed("\n".join(lines))

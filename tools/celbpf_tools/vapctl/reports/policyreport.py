@@ -13,7 +13,7 @@ RESULTS = {DENY: "fail", WARN: "warn", AUDIT: "warn", ERROR: "error"}
 ALL = "validating-admission-policies"
 
 
-def reference(result: Result) -> dict:
+def reference(result: Result) -> dict[str, Any]:
     """What names an object."""
     made = {"apiVersion": result.thing.api_version, "kind": result.thing.kind}
     if result.namespace:
@@ -23,20 +23,20 @@ def reference(result: Result) -> dict:
     return made
 
 
-def entries(result: Result) -> list:
+def entries(result: Result) -> list[dict[str, Any]]:
     """The entries of an object: one for each finding, or one that it passes."""
     base: dict[str, Any] = {"source": NAME, "scored": True, "resources": [reference(result)]}
-    properties = {"properties": {"file": result.place.file, "line": str(result.place.line)}}
+    properties: dict[str, Any] = {"properties": {"file": result.place.file, "line": str(result.place.line)}}
     made = []
     for one in result.findings:
-        entry = {"policy": one.policy or ALL, "result": RESULTS[one.action], "message": one.message, **base, **properties}
+        entry: dict[str, Any] = {"policy": one.policy or ALL, "result": RESULTS[one.action], "message": one.message, **base, **properties}
         made.append({**entry, "rule": one.binding} if one.binding else entry)
     if not made and result.outcome == ALLOWED:
         made.append({"policy": ALL, "result": "pass", "message": "allowed", **base, **properties})
     return made
 
 
-def report_of(namespace: str, found: list) -> dict:
+def report_of(namespace: str, found: list[dict[str, Any]]) -> dict[str, Any]:
     """The report of a namespace, or of what has none."""
     metadata = {"name": NAME, **({"namespace": namespace} if namespace else {})}
     summary = {outcome: sum(one["result"] == outcome for one in found) for outcome in OUTCOMES}
@@ -44,9 +44,9 @@ def report_of(namespace: str, found: list) -> dict:
     return {"apiVersion": API_VERSION, "kind": kind, "metadata": metadata, "summary": summary, "results": found}
 
 
-def document_of(report: Report) -> dict:
+def document_of(report: Report) -> dict[str, Any]:
     """The reports, in a List that `kubectl apply` takes."""
-    found: dict = {}
+    found: dict[str, list[dict[str, Any]]] = {}
     for result in report.results:
         found.setdefault(result.namespace, []).extend(entries(result))
     items = [report_of(namespace, found[namespace]) for namespace in sorted(found)]

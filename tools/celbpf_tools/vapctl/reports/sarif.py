@@ -4,8 +4,8 @@ import json
 from typing import Any, TextIO
 from urllib.parse import quote
 
-from ..inputs import Place
-from ..results import AUDIT, DENY, ERROR, WARN, Report, Result
+from ..inputs import Place, Trouble
+from ..results import AUDIT, DENY, ERROR, WARN, Finding, Report, Result
 from ..version import version
 from .texts import is_file
 
@@ -15,7 +15,7 @@ LEVELS = {DENY: "error", WARN: "warning", AUDIT: "note", ERROR: "error"}
 NO_POLICY = "not-decided"
 
 
-def location(place: Place, title: str = "", kind: str = "") -> dict:
+def location(place: Place, title: str = "", kind: str = "") -> dict[str, Any]:
     """Where an object is; one on standard input has no file."""
     made: dict[str, Any] = {}
     if is_file(place.file):
@@ -28,11 +28,11 @@ def location(place: Place, title: str = "", kind: str = "") -> dict:
     return made
 
 
-def rule_of(finding: Any) -> str:
+def rule_of(finding: Finding) -> str:
     return finding.policy or NO_POLICY
 
 
-def result_of(result: Result, finding: Any, rules: list) -> dict:
+def result_of(result: Result, finding: Finding, rules: list[str]) -> dict[str, Any]:
     """The result of a finding."""
     rule = rule_of(finding)
     return {
@@ -42,12 +42,12 @@ def result_of(result: Result, finding: Any, rules: list) -> dict:
     }
 
 
-def notification_of(trouble: Any) -> dict:
+def notification_of(trouble: Trouble) -> dict[str, Any]:
     """An input that was not read."""
     return {"level": "error", "message": {"text": str(trouble)}, "locations": [location(trouble.place)]}
 
 
-def document_of(report: Report) -> dict:
+def document_of(report: Report) -> dict[str, Any]:
     """A log with one run."""
     found = [(result, one) for result in report.results for one in result.findings]
     rules = list(dict.fromkeys([*report.policies, *(rule_of(one) for _, one in found)]))
