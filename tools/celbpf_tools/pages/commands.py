@@ -10,7 +10,7 @@ from typing import Any
 from ..home import ROOT
 from .texts import block, read, spans, tables
 
-COMMAND = re.compile(r"\./celbpf (?:compile|review|run-image|asm|list) [^`\n]+")
+COMMAND = re.compile(r"\./(?:celbpf (?:compile|review|run-image|asm|list)|vapctl (?:check|audit|state|test|why|lint)) [^`\n]+")
 SESSION = re.compile(r"\./celbpf debug [^`\n]+")
 # where pages are
 FOLDERS = ("", "docs/", "examples/policies/", "crates/*/")
@@ -26,7 +26,7 @@ class Commands:
         self.runs = self.differing = 0
         for name, path in ("celbpf", program), ("gatekeeper", gatekeeper):
             os.symlink(path, self.folder / name)
-        for name in "examples", "tools":
+        for name in "examples", "tools", "vapctl":
             os.symlink(ROOT / name, self.folder / name)
 
     def shell(self, text: str, asked: Any = '') -> Any:

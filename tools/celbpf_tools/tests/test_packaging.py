@@ -83,7 +83,7 @@ class Package(unittest.TestCase):
     def test_completion(self) -> None:
         ran = subprocess.run(["bash", "-n"], input=bash(), text=True, capture_output=True, check=False)
         self.assertEqual((ran.returncode, ran.stderr), (0, ""))
-        self.assertTrue(zsh().startswith("#compdef celbpf gatekeeper celbpf-why "))
+        self.assertTrue(zsh().startswith("#compdef celbpf gatekeeper vapctl kubectl-vap celbpf-why "))
         for text in (bash(), zsh()):
             self.assertIn("celbpf-as-reviews) echo '--cluster --old --namespace --user --group --skip-unknown'", text)
             self.assertRegex(text, "gatekeeper\\) echo '--policy .*--cluster --partial --help --version'")
