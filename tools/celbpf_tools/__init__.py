@@ -3,6 +3,7 @@
     home         where the repository or the installed package is
     entry        how a script begins and ends: words, streams, statuses
     commands     a module for each script in Python
+    vapctl       the command `vapctl`, a module for each subcommand
     documents    policies, reviews and tests, read as JSON or YAML
     definitions  the definitions in the folders `specs`, read by their names
     asking       questions to the built program about a policy

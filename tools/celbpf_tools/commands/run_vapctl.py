@@ -27,7 +27,7 @@ from ..entry import usage_of
 from ..home import DATA, EXAMPLES, ROOT
 from ..vapctl.commands import WHATS, module_of
 from ..vapctl.main import main as main_of_vapctl
-from ..vapctl_tests.broken import INPUTS, commands
+from ..tests.vapctl_broken import INPUTS, commands
 from .run_scripts import compared
 
 TABLES = DATA / "run-vapctl"

@@ -94,7 +94,8 @@ def words() -> str:
     options = {"celbpf": " ".join(COMMANDS), **{f"celbpf {name}": found for name, found in COMMANDS.items()}}
     options.update({"gatekeeper": of_gatekeeper(), **of_vapctl("vapctl"), **of_vapctl("kubectl-vap")})
     options.update({f"celbpf-{name}": of_script(name) for name in SCRIPTS})
-    return WORDS % "\n".join(f"    '{name}') echo '{found}' ;;" for name, found in options.items())
+    names = {name: f"'{name}'" if " " in name else name for name in options}
+    return WORDS % "\n".join(f"    {names[name]}) echo '{found}' ;;" for name, found in options.items())
 
 
 def bash() -> str:

@@ -1,1 +1,0 @@
-"""What `tools/run-vapctl` runs `vapctl` on."""
