@@ -5,7 +5,7 @@ import sys
 import tempfile
 from dataclasses import dataclass, field
 from pathlib import Path
-from typing import Any, Callable
+from typing import Any, Callable, NoReturn
 
 from ..asking.program import located_gatekeeper
 from ..entry import Stop
@@ -14,6 +14,7 @@ from .cluster import NoState, State, is_namespace, namespace_named, of_policies,
 from .deciding import Deciding
 from .gate import Gate
 from .inputs import Inputs, Place, Thing, Trouble
+from .reports.texts import on_line
 from .requests import Asked, NoReview, Reviews, UnknownKind
 from .results import ERROR, UNDECIDED, Finding, Report, Result
 from .statuses import REFUSED, WORDS
@@ -34,16 +35,21 @@ class Sources:
 
 
 def tell(line: str) -> None:
-    """A line on standard error."""
-    print(f"vapctl: {line}", file=sys.stderr)
+    """A line on standard error, without what a terminal would obey."""
+    print(f"vapctl: {on_line(line)}", file=sys.stderr)
+
+
+def stop(lines: list[str]) -> NoReturn:
+    """Ends the command with these lines on standard error."""
+    for line in lines[:-1]:
+        tell(line)
+    raise Stop(on_line(lines[-1]), REFUSED)
 
 
 def stop_at(troubles: list[Trouble]) -> None:
     """Ends the command if there are troubles, with a line for each."""
     if troubles:
-        for trouble in troubles[:-1]:
-            tell(str(trouble))
-        raise Stop(str(troubles[-1]), REFUSED)
+        stop(list(map(str, troubles)))
 
 
 def read(given: argparse.Namespace) -> Sources:
@@ -155,9 +161,7 @@ def report_of(given: argparse.Namespace, progress: Callable[[], None] = lambda: 
         try:
             deciding = Deciding(gate, state_of(given, found, resources), Path(folder))
         except NoState as why:
-            for line in why.lines[:-1]:
-                tell(line)
-            raise Stop(why.lines[-1], REFUSED) from why
+            stop(why.lines)
         warn(given, deciding)
         for result, answer in zip(made.asked, deciding.decide(made.lines)):
             result.outcome, result.message, result.findings = answer

@@ -1,6 +1,7 @@
 """The state of a cluster, as the gatekeeper reads it: one that was saved, or one of given policies."""
 
 import json
+import re
 from collections.abc import Iterable
 from dataclasses import dataclass, field
 from pathlib import Path
@@ -12,6 +13,7 @@ ADMISSION = "admissionregistration.k8s.io"
 POLICY, BINDING = "ValidatingAdmissionPolicy", "ValidatingAdmissionPolicyBinding"
 # an API server converts the others to it
 VERSION = f"{ADMISSION}/v1"
+NAME = re.compile(r"[a-z0-9](?:[-a-z0-9.]{0,251}[a-z0-9])?")
 NAME_LABEL = "kubernetes.io/metadata.name"
 EVERYTHING = {"apiGroups": ["*"], "apiVersions": ["*"], "operations": ["*"], "resources": ["*"]}
 
@@ -126,10 +128,16 @@ def of_other_groups(things: list[Thing]) -> list[str]:
             for thing in things if thing.kind in (POLICY, BINDING) and thing.group != ADMISSION]
 
 
+def misnamed(things: list[Thing]) -> list[str]:
+    """A line for each policy or binding whose name is none that an API server stores."""
+    return [f"{thing.place}: {thing.title}: its name is no DNS subdomain" for thing in things
+            if (is_of(thing, POLICY) or is_of(thing, BINDING)) and not NAME.fullmatch(thing.name)]
+
+
 def saved(things: list[Thing]) -> State:
     """The state of objects that a cluster holds."""
     stored = [as_stored(thing) for thing in things]
-    if told := of_other_groups(stored) + duplicates(stored):
+    if told := of_other_groups(stored) + misnamed(stored) + duplicates(stored):
         raise NoState(told)
     return State(stored)
 

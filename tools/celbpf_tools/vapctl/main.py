@@ -1,6 +1,7 @@
 """The words of `vapctl`, and how it ends."""
 
 import argparse
+import io
 import os
 import sys
 import traceback
@@ -50,6 +51,10 @@ def parser(name: str = "vapctl", chosen: Optional[str] = None) -> argparse.Argum
 
 def main(words: Optional[list[str]] = None) -> int:
     """Runs the command; an error in vapctl itself is told on one line."""
+    for stream in (sys.stdout, sys.stderr):
+        if isinstance(stream, io.TextIOWrapper):
+            # a terminal may have another encoding than texts of manifests
+            stream.reconfigure(errors="backslashreplace")
     words = sys.argv[1:] if words is None else words
     called = os.path.basename(sys.argv[0])
     given = parser(called if called in NAMES else NAMES[0], words[0] if words else "").parse_args(words)

@@ -7,7 +7,7 @@ from typing import Any, Optional
 
 from ..entry import Stop
 from ..manifests.sending import object_sent
-from .checking import add_request_words, refuse_user, resources_of, stop_at
+from .checking import add_request_words, refuse_user, resources_of, stop, stop_at
 from .cluster import POLICY, as_stored, is_of
 from .inputs import REVIEW, Inputs, Thing, Trouble
 from .requests import OPERATIONS, Asked, NoReview, Reviews
@@ -42,8 +42,8 @@ def named(things: list[Thing], name: Optional[str], what: str, option: str) -> T
     listed = ", ".join(f"{one.kind}/{one.name}" if option != "--name" else one.name for one in things[:MOST_NAMES])
     found = f"{listed}{', ..' if len(things) > MOST_NAMES else ''}"
     if name is None:
-        raise Stop(f"{len(things)} objects for one {what}: {found}{f'; {option} NAME chooses one' * bool(option)}", REFUSED)
-    raise Stop(f"no {what} is called {name}; there are {found}", REFUSED)
+        stop([f"{len(things)} objects for one {what}: {found}{f'; {option} NAME chooses one' * bool(option)}"])
+    stop([f"no {what} is called {name}; there are {found}"])
 
 
 class Decision:
