@@ -69,52 +69,6 @@ def run_tables(runs: Runs, program: Path, chosen: list[str]) -> None:
         runs.wrong += wrong
 
 
-def creations(folder: Path) -> Iterator[tuple[dict[str, Any], bool]]:
-    """The requests of an example that create an object as the request of a manifest would, and whether each is allowed."""
-    for path in sorted(folder.glob("*.review.json")):
-        request = json.loads(path.read_text())["request"]
-        response = json.loads(path.with_name(path.name.replace(".review.", ".response.")).read_text())["response"]
-        if request["operation"] == "CREATE" and request.get("object") and not request.get("subResource"):
-            yield request, response["allowed"]
-
-
-def run_examples(runs: Runs, folder: Path) -> None:
-    """The examples: each creation is checked as a manifest, by the user of its request."""
-    for example in sorted(path.parent for path in EXAMPLES.glob("*/policy.json")):
-        for request, is_allowed in creations(example):
-            thing, state = folder / "thing.json", []
-            thing.write_text(json.dumps(request["object"]))
-            for name, word in (("params", "--params"), ("namespace", "--policy")):
-                if (example / f"{name}.json").exists():
-                    state += [word, example / f"{name}.json"]
-            user = request.get("userInfo", {})
-            who = [word for group in user.get("groups", []) for word in ("--group", group)]
-            ran = vapctl("check", "--policy", example / "policy.json", *state, thing, "--user", user.get("username", "ann"), *who, "-o", "json")
-            found = json.loads(ran.stdout)["results"][0] if ran.stdout else {}
-            wanted = "allowed" if is_allowed else "denied"
-            told = f"{ran.stdout.decode()}{ran.stderr.decode()}[{ran.returncode}]"
-            runs.tell(f"{example.name}: {request['uid']}: {wanted}", found.get("outcome") == wanted, told)
-
-
-def run_audit(runs: Runs, folder: Path) -> None:
-    """An audit of many Deployments, whose numbers are those that are counted here."""
-    items: list[dict[str, Any]] = []
-    counts: Counter[tuple[str, str]] = Counter()
-    for number in range(DEPLOYMENTS):
-        namespace, replicas = f"n{number % 3}", number % 7
-        metadata = {"name": f"web-{number}", "namespace": namespace}
-        items.append({"apiVersion": "apps/v1", "kind": "Deployment", "metadata": metadata, "spec": {"replicas": replicas}})
-        counts[namespace, "denied" if replicas > 3 else "allowed"] += 1
-    (folder / "many.json").write_text(json.dumps({"apiVersion": "v1", "kind": "List", "items": items}, indent=1))
-    for jobs in (1, 3):
-        ran = vapctl("audit", "--policy", EXAMPLES / "replicas" / "policy.json", folder / "many.json", "-o", "json", "--jobs", jobs)
-        found = json.loads(ran.stdout)
-        numbers = {(name, key): count[key] for name, count in found["byNamespace"].items() for key in ("allowed", "denied")}
-        runs.tell(f"audit --jobs {jobs}", ran.returncode == 1 and numbers == counts, f"{numbers}, and not {counts}")
-        names = [one["object"]["name"] for one in found["results"]]
-        runs.tell(f"audit --jobs {jobs}: the order", names == [one["metadata"]["name"] for one in items], str(names[:5]))
-
-
 def forked(words: list[object], text: bytes, folder: Path) -> tuple[int, str]:
     """The status of a run in a process of its own, which begins as a copy of this one, and what it says on both outputs."""
     (folder / "stdin").write_bytes(text)
@@ -136,10 +90,56 @@ def forked(words: list[object], text: bytes, folder: Path) -> tuple[int, str]:
     return os.waitstatus_to_exitcode(status), (folder / "said").read_text(encoding="utf-8", errors="replace")
 
 
+def creations(folder: Path) -> Iterator[tuple[dict[str, Any], bool]]:
+    """The requests of an example that create an object as the request of a manifest would, and whether each is allowed."""
+    for path in sorted(folder.glob("*.review.json")):
+        request = json.loads(path.read_text())["request"]
+        response = json.loads(path.with_name(path.name.replace(".review.", ".response.")).read_text())["response"]
+        if request["operation"] == "CREATE" and request.get("object") and not request.get("subResource"):
+            yield request, response["allowed"]
+
+
+def run_examples(runs: Runs, folder: Path) -> None:
+    """The examples: each creation is checked as a manifest, by the user of its request."""
+    for example in sorted(path.parent for path in EXAMPLES.glob("*/policy.json")):
+        for request, is_allowed in creations(example):
+            thing, state = folder / "thing.json", []
+            thing.write_text(json.dumps(request["object"]))
+            for name, word in (("params", "--params"), ("namespace", "--policy")):
+                if (example / f"{name}.json").exists():
+                    state += [word, example / f"{name}.json"]
+            user = request.get("userInfo", {})
+            who = [word for group in user.get("groups", []) for word in ("--group", group)]
+            report = folder / "report.json"
+            report.unlink(missing_ok=True)
+            words = ["check", "--policy", example / "policy.json", *state, thing, "--user", user.get("username", "ann"), *who]
+            status, said = forked([*words, "-o", f"json={report}"], b"", folder)
+            found = json.loads(report.read_text())["results"][0]["outcome"] if report.exists() else ""
+            wanted = "allowed" if is_allowed else "denied"
+            runs.tell(f"{example.name}: {request['uid']}: {wanted}", found == wanted, f"{found} {said}[{status}]")
+
+
+def run_audit(runs: Runs, folder: Path) -> None:
+    """An audit of many Deployments, whose numbers are those that are counted here."""
+    items: list[dict[str, Any]] = []
+    counts: Counter[tuple[str, str]] = Counter()
+    for number in range(DEPLOYMENTS):
+        namespace, replicas = f"n{number % 3}", number % 7
+        metadata = {"name": f"web-{number}", "namespace": namespace}
+        items.append({"apiVersion": "apps/v1", "kind": "Deployment", "metadata": metadata, "spec": {"replicas": replicas}})
+        counts[namespace, "denied" if replicas > 3 else "allowed"] += 1
+    (folder / "many.json").write_text(json.dumps({"apiVersion": "v1", "kind": "List", "items": items}, indent=1))
+    for jobs in (1, 3):
+        ran = vapctl("audit", "--policy", EXAMPLES / "replicas" / "policy.json", folder / "many.json", "-o", "json", "--jobs", jobs)
+        found = json.loads(ran.stdout)
+        numbers = {(name, key): count[key] for name, count in found["byNamespace"].items() for key in ("allowed", "denied")}
+        runs.tell(f"audit --jobs {jobs}", ran.returncode == 1 and numbers == counts, f"{numbers}, and not {counts}")
+        names = [one["object"]["name"] for one in found["results"]]
+        runs.tell(f"audit --jobs {jobs}: the order", names == [one["metadata"]["name"] for one in items], str(names[:5]))
+
+
 def run_broken(runs: Runs, folder: Path) -> None:
     """Each subcommand on each broken input, as a file and as standard input."""
-    for name in WHATS:
-        module_of(name)
     for name, text in INPUTS.items():
         path = folder / name
         path.write_bytes(text)
@@ -163,6 +163,9 @@ def main() -> int:
     named = programs + ["--quick" if given.quick else None] * 2
     paths = {name: tested(path, name) for name, path in zip(("celbpf", "gatekeeper"), named)}
     runs = Runs()
+    for command in WHATS:
+        # a run begins as a copy of this process, and then need not import it
+        module_of(command)
     with tempfile.TemporaryDirectory() as name:
         folder = Path(name)
         # the gatekeeper that is asked is the one beside the program

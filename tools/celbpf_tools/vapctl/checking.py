@@ -153,7 +153,7 @@ def report_of(given: argparse.Namespace, progress: Callable[[], None] = lambda: 
     """Checks all objects."""
     found = read(given)
     if not found.new and not found.troubles and not given.allow_empty:
-        raise Stop("there is no object to check; --allow-empty takes that for good", REFUSED)
+        raise Stop("there is no object to check; with --allow-empty the status is 0", REFUSED)
     resources = resources_of([*found.cluster, *found.policies, *found.params, *found.new])
     made = prepared(given, found, resources)
     gate = gate_of(given, progress)

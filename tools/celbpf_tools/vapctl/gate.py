@@ -74,7 +74,7 @@ class Asking:
         self.status = process.returncode
 
     def send(self, stdin: Any) -> None:
-        """Writes the lines. If the gatekeeper has ended, its answers are missing, which is told of them."""
+        """Writes the lines. If the gatekeeper has ended, its missing answers are reported as such."""
         try:
             with stdin:
                 for line in self.lines:

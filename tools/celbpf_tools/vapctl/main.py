@@ -50,7 +50,7 @@ def parser(name: str = "vapctl", chosen: Optional[str] = None) -> argparse.Argum
 
 
 def main(words: Optional[list[str]] = None) -> int:
-    """Runs the command; an error in vapctl itself is told on one line."""
+    """Runs the command; an error in vapctl itself is reported on one line."""
     for stream in (sys.stdout, sys.stderr):
         if isinstance(stream, io.TextIOWrapper):
             # a terminal may have another encoding than texts of manifests

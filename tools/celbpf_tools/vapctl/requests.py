@@ -11,7 +11,7 @@ from .numbers import undecided_numbers
 from .quantities import write_quantities
 
 OPERATIONS = ("CREATE", "UPDATE", "DELETE")
-# the most numbers of an object that are told
+# the most numbers of an object that a message names
 MOST_NUMBERS = 3
 
 @dataclass

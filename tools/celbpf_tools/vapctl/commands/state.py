@@ -15,8 +15,8 @@ from ..saving import Kubectl, Saving, param_kinds
 from ..statuses import GOOD, REFUSED
 
 MORE = """It runs `kubectl` and writes a List of policies, bindings, namespaces, CustomResourceDefinitions and the params of bound
-policies. What `kubectl` may not read is told, with status 3. With --from it takes them of manifests, with the namespace
-`default` if they have none. If params are Secrets, the state is secret."""
+policies. It names what `kubectl` may not read, and then ends with status 3. With --from it takes the same of manifests,
+with the namespace `default` if they have none. If params are Secrets, the state is secret."""
 
 
 def words(parser: argparse.ArgumentParser) -> None:
