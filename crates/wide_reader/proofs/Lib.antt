@@ -1,0 +1,27 @@
+-- Proofs of wide_reader: the list of their modules.
+pub mod Names
+pub mod Ranks
+pub mod Prefixes
+pub mod Steps
+pub mod Lists
+pub mod Selections
+pub mod Formed
+pub mod Tested
+pub mod Sound
+pub mod Loose
+pub mod Openings
+pub mod FirstWords
+pub mod Stops
+pub mod Built
+pub mod Looks
+pub mod Plans
+pub mod Theorems
+pub mod Alike
+pub mod Local
+pub mod Completed
+pub mod Places
+pub mod Unsupported
+pub mod Told
+pub mod Shared
+pub mod OneResult
+pub mod Prelude

@@ -1,0 +1,91 @@
+-- Loop invariants and measures of the functions of the cycle `reader` (src/reader.rt).
+use Rattle.wide_reader.proofs.Prelude.{◌+◌, ◌*◌, ◌<◌, ◌≤◌, ◌-◌, length, map, view, item_view, entry_view, Infix, Member, words, WideStepReads, WideReadOutcome, Row, Tail, Suffix, Called, Argument, Bracketed, Item, Mapped, Entry}
+use Rattle.wide_reader.proofs.Ranks.{rank}
+use Rattle.wide_reader.proofs.reader.+reader.Given as goal
+
+abbrev pub decreases-enclosed : goal.decreases-enclosed
+decreases-enclosed l = 20 * length l.tokens.now + 17
+
+abbrev pub decreases-entries : goal.decreases-entries
+decreases-entries l = 20 * length l.tokens.now + 17
+
+abbrev pub decreases-items : goal.decreases-items
+decreases-items l = 20 * length l.tokens.now + 17
+
+abbrev pub decreases-expression : goal.decreases-expression
+decreases-expression l = 20 * length l.tokens.now + 16
+
+abbrev pub decreases-infix : goal.decreases-infix
+decreases-infix l = 20 * length l.tokens.now + (rank l.level + 1)
+
+abbrev pub decreases-operand : goal.decreases-operand
+decreases-operand l = 20 * length l.tokens.now + rank l.level
+
+abbrev pub decreases-unary : goal.decreases-unary
+decreases-unary l = 20 * length l.tokens.now + 5
+
+abbrev pub decreases-member : goal.decreases-member
+decreases-member l = 20 * length l.tokens.now + 4
+
+abbrev pub decreases-primary : goal.decreases-primary
+decreases-primary l = 20 * length l.tokens.now + 3
+
+abbrev pub decreases-selection : goal.decreases-selection
+decreases-selection l = 20 * length l.tokens.now + 19
+
+abbrev pub decreases-method : goal.decreases-method
+decreases-method l = 20 * length l.tokens.now + 18
+
+abbrev pub decreases-called : goal.decreases-called
+decreases-called l = 20 * length l.tokens.now + 18
+
+abbrev pub decreases-indexed : goal.decreases-indexed
+decreases-indexed l = 20 * length l.tokens.now + 17
+
+abbrev pub decreases-arguments : goal.decreases-arguments
+decreases-arguments l = 20 * length l.tokens.now + 17
+
+abbrev pub invariant-infix-loop-operator : goal.invariant-infix-loop-operator
+invariant-infix-loop-operator l = record {
+  goes : (o : WideReadOutcome) → WideStepReads (Tail l.level (view l.left)) l.room (words l.text l.rest) o → WideStepReads (Row (Infix l.level)) l.room (words l.text l.tokens) o;
+  shorter : length l.rest < length l.tokens;
+}
+
+abbrev pub decreases-infix-loop-operator : goal.decreases-infix-loop-operator
+decreases-infix-loop-operator l = length l.rest
+
+abbrev pub invariant-member-loop-behind : goal.invariant-member-loop-behind
+invariant-member-loop-behind l = record {
+  goes : (o : WideReadOutcome) → WideStepReads (Suffix (view l.tree)) l.room (words l.text l.rest) o → WideStepReads (Row Member) l.room (words l.text l.tokens) o;
+  shorter : length l.rest < length l.tokens;
+}
+
+abbrev pub decreases-member-loop-behind : goal.decreases-member-loop-behind
+decreases-member-loop-behind l = length l.rest
+
+abbrev pub invariant-arguments-loop-arguments : goal.invariant-arguments-loop-arguments
+invariant-arguments-loop-arguments l = record {
+  goes : (o : WideReadOutcome) → WideStepReads (Argument (map view l.arguments.items)) (l.room - 1) (words l.text l.rest) o → WideStepReads Called l.room (words l.text l.tokens) o;
+  within : length l.rest ≤ length l.tokens;
+}
+
+abbrev pub decreases-arguments-loop-arguments : goal.decreases-arguments-loop-arguments
+decreases-arguments-loop-arguments l = length l.rest
+
+abbrev pub invariant-items-loop-items : goal.invariant-items-loop-items
+invariant-items-loop-items l = record {
+  goes : (o : WideReadOutcome) → WideStepReads (Item (map item_view l.items.items)) (l.room - 1) (words l.text l.rest) o → WideStepReads Bracketed l.room (words l.text l.tokens) o;
+  within : length l.rest ≤ length l.tokens;
+}
+
+abbrev pub decreases-items-loop-items : goal.decreases-items-loop-items
+decreases-items-loop-items l = length l.rest
+
+abbrev pub invariant-entries-loop-entries : goal.invariant-entries-loop-entries
+invariant-entries-loop-entries l = record {
+  goes : (o : WideReadOutcome) → WideStepReads (Entry (map entry_view l.entries.items)) (l.room - 1) (words l.text l.rest) o → WideStepReads Mapped l.room (words l.text l.tokens) o;
+  within : length l.rest ≤ length l.tokens;
+}
+
+abbrev pub decreases-entries-loop-entries : goal.decreases-entries-loop-entries
+decreases-entries-loop-entries l = length l.rest

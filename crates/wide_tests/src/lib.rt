@@ -1,0 +1,5 @@
+//! Tests of expressions as API servers store them.
+#![tactic(auto)]
+
+#[cfg(test)]
+mod tests;
