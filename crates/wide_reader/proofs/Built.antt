@@ -1,5 +1,5 @@
 -- Every derived phrase is read by some run of the reader.
-use Rattle.wide_reader.proofs.Prelude.{◌≡◌, ℕ, suc, List, [], ◌∷◌, Bool, true, false, ◌&&◌, Some, None, inl, inr, refl, arith, sym, ◌∙◌, ap, is_name, WideWord, name, quoted, mark, Mark, Question, Colon, Comma, Dot, OpenParen, Wide, wides, is_identifier, is_selector, literal_of, at, operator, this_mark, this_name, this_quoted, this_literal, this_operator, WideIsNotNext, WideCloses, WideGoesOn, closing_mark, takes_comma, WideClass, Expression, Infix, Unary, Prefixed, Member, Primary, Arguments, OptionalArguments, Items, OptionalItems, Pairs, OptionalPairs, WidePhrase, One, Many, Listed, Keyed, below, WideOptionalComma, WideDerives, WideReadOutcome, Got, Row, Tail, Suffix, Selection, Called, Argument, BehindArgument, Bracketed, Item, BehindItem, Mapped, Entry, BehindEntry, maybe_call, WidePlanRuns, stands, goes, calls, found, missing, enters, passes, opened, WideStepReads, Level, Or, And, Relation, Sum, Product, Closing, Call, Map, Access, Plain, Optional, method_of, call_of, index_after, item_after, entry_after}
+use Rattle.wide_reader.proofs.Prelude.{◌≡◌, ℕ, suc, List, [], ◌∷◌, Bool, true, false, ◌&&◌, Some, None, inl, inr, refl, arith, sym, ◌∙◌, ap, is_name, WideWord, name, mark, Mark, Question, Colon, Comma, Dot, OpenParen, Wide, wides, is_identifier, is_selector, literal_of, at, operator, this_mark, this_name, this_quoted, this_literal, this_operator, WideIsNotNext, WideCloses, WideGoesOn, closing_mark, takes_comma, WideClass, Expression, Infix, Unary, Prefixed, Member, Primary, Arguments, OptionalArguments, Items, OptionalItems, Pairs, OptionalPairs, WidePhrase, One, Many, Listed, Keyed, below, WideOptionalComma, WideDerives, WideReadOutcome, Got, Row, Tail, Suffix, Selection, Called, Argument, BehindArgument, Bracketed, Item, BehindItem, Mapped, Entry, BehindEntry, maybe_call, WidePlanRuns, stands, goes, calls, found, missing, enters, passes, opened, WideStepReads, Level, Or, And, Relation, Sum, Product, Closing, Call, Map, Access, Plain, method_of, call_of, index_after, item_after, entry_after}
 use Rattle.std.specs.Prelude.{◌||◌, not, codes, bytes_eq, if◌then◌else◌}
 use Rattle.cel_reader.specs.Words.{is_reserved}
 use Rattle.cel_reader.specs.Tree as literals
@@ -7,7 +7,7 @@ use Rattle.wide_reader.specs.Tree as tree
 use Rattle.wide_reader.specs.Grammar as derives
 use Rattle.wide_reader.specs.declared.closing.Closing.TheVariants.{List as ListLiteral}
 use Rattle.cel_reader.specs.declared.operator.UnaryOperator.TheVariants as unary
-use Rattle.wide_reader.proofs.FirstWords.{FirstIs, begins, begins_part, first, goes_on, no_comma, no_prefix, mark_not_first, closing_not_first, part_begins, marked_begins, marked_starts}
+use Rattle.wide_reader.proofs.FirstWords.{FirstIs, begins_part, first, goes_on, no_comma, no_prefix, mark_not_first, closing_not_first, part_begins, marked_begins, marked_starts}
 use Rattle.wide_reader.proofs.Lists.{comma_no_end, in_any, list_empty, list_goes, behind_ends, behind_goes}
 use Rattle.wide_reader.proofs.Looks.{other_one}
 use Rattle.wide_reader.proofs.Steps.{unary_goes, accessed}

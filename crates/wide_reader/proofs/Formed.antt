@@ -1,20 +1,17 @@
 -- What the forms of macros mean for their arguments.
-use Rattle.wide_reader.proofs.Prelude.{◌≡◌, ℕ, ◌+◌, List, [], ◌∷◌, ◌++◌, ◌<◌, ◌≤◌, length, map, Bool, true, false, true≢false, not, Option, Some, None, if◌then◌else◌, ◌||◌, refl, sym, ◌∙◌, ap, subst, arith, nat_tests, length-map, Wide, CodeWide, view, wides, method_of, call_of, Plain}
+use Rattle.wide_reader.proofs.Prelude.{◌≡◌, ℕ, ◌+◌, List, [], ◌∷◌, ◌++◌, ◌<◌, ◌≤◌, length, map, Bool, true, false, true≢false, not, Option, Some, None, if◌then◌else◌, ◌||◌, refl, sym, ◌∙◌, ap, subst, arith, nat_tests, length-map, Wide, CodeWide, view, wides, method_of, Plain}
 use Rattle.std.specs.Prelude.{◌==◌, is_some, bytes_eq, codes}
 use Rattle.wide_reader.specs.Tree as tree
 use Rattle.wide_reader.specs.Tree.{Wides, no_wides, more_wides}
-use Rattle.wide_reader.specs.Forms.{of_two, of_three, of_four, form_of, formed, tested, is_has, wide_count}
+use Rattle.wide_reader.specs.Forms.{of_two, of_three, of_four, form_of, formed, is_has, wide_count}
 use Rattle.wide_reader.specs.Faults.{call_fault}
 use Rattle.wide_reader.specs.declared.wide_error.MacroFault.{MacroFault, TheVariants.ArgumentCount, TheVariants.NoSelection}
 use Rattle.wide_reader.specs.Shapes.{plain_name, are_names, begins_with_name, begins_with_names, has_names, is_selection, HasName, HasTwoNames, AreNames, AreArguments}
 use Rattle.wide_reader.proofs.Steps.{pushed}
 use Rattle.wide_reader.specs.declared.form.Form.{Form, TheVariants.Fold, TheVariants.FilterMap, TheVariants.PairFold, TheVariants.PairFilterMap, TheVariants.OptionalFold, TheVariants.ComputedMap}
-use Rattle.wide_reader.specs.declared.wide.Macro.{Macro}
 use Rattle.wide_reader.specs.declared.wide.Macro.TheVariants as macros
 use Rattle.wide_reader.specs.declared.wide.PairMacro.TheVariants as pairs
 use Rattle.wide_reader.specs.declared.wide.OptionalMacro.TheVariants as optionals
-use Rattle.wide_reader.specs.declared.wide.PairMacro.{PairMacro}
-use Rattle.wide_reader.specs.declared.wide.OptionalMacro.{OptionalMacro}
 
 -- ---- the number of arguments
 
@@ -148,10 +145,6 @@ same_names : (b : Bool) (x y : Wide) → not b ≡ false → (if b then x else y
 same_names true x y e = refl
 same_names false x y e = absurd cc
 
-other_names : (b : Bool) (x y : Wide) → b ≡ false → (if b then x else y) ≡ y
-other_names true x y e = absurd cc
-other_names false x y e = refl
-
 -- without its names, a macro is left as the method
 not_formed : (f : Form) (a : Wide) (n : List ℕ) (more : Wides) → has_names f more ≡ false → formed (Some f) a n more ≡ tree.method a n more
 not_formed (Fold m) a n (more_wides (tree.name x) more) h = absurd cc
@@ -180,58 +173,7 @@ pub method_formed : (a : Wide) (n : List ℕ) (items : List CodeWide) (f : Form)
     → formed (Some f) a n (wides (map view items)) ≡ method_of a n (wides (map view items))
 method_formed a n items f e = ap (λ o. formed o a n (wides (map view items))) (e ∙ ap (form_of n) (sym (count_of items)))
 
--- the macro of two different names
-differ : (k v l u : List ℕ) (p q : Wide) → tree.name l ∷ tree.name u ∷ q ∷ [] ≡ tree.name k ∷ tree.name v ∷ p ∷ [] → bytes_eq l u ≡ false → bytes_eq k v ≡ false
-differ k v l u p q e h = let f : l ≡ k = cc in let g : u ≡ v = cc in subst (λ (x : List ℕ). bytes_eq k x ≡ false) g (subst (λ (x : List ℕ). bytes_eq x u ≡ false) f h)
-
-pub pair_formed : (m : PairMacro) (a : Wide) (n : List ℕ) (ws : List Wide) (k v : List ℕ) (p : Wide) → HasTwoNames ws → ws ≡ tree.name k ∷ tree.name v ∷ p ∷ []
-    → formed (Some (PairFold m)) a n (wides ws) ≡ tree.pair_fold m a k v p
-pair_formed m a n ws k v p h e =
-    ap (λ us. formed (Some (PairFold m)) a n (wides us)) e ∙ other_names (bytes_eq k v) _ _ (differ k v h.0 h.1 p h.2 (sym h.3 ∙ e) h.4)
-
-pub fold_formed : (m : Macro) (a : Wide) (n : List ℕ) (ws : List Wide) (x : List ℕ) (p : Wide) → ws ≡ tree.name x ∷ p ∷ []
-    → formed (Some (Fold m)) a n (wides ws) ≡ tree.fold m a x p
-fold_formed m a n ws x p e = ap (λ us. formed (Some (Fold m)) a n (wides us)) e
-
-pub optional_formed : (m : OptionalMacro) (a : Wide) (n : List ℕ) (ws : List Wide) (x : List ℕ) (p : Wide) → ws ≡ tree.name x ∷ p ∷ []
-    → formed (Some (OptionalFold m)) a n (wides ws) ≡ tree.optional_fold m a x p
-optional_formed m a n ws x p e = ap (λ us. formed (Some (OptionalFold m)) a n (wides us)) e
-
 -- the last argument taken off
-pub three_split : (ws us : List Wide) (t : Wide) → AreArguments FilterMap ws → ws ≡ us ++ t ∷ [] → HasName us
-three_split ws (a ∷ b ∷ []) t h e = let f : a ∷ b ∷ t ∷ [] ≡ tree.name h.0 ∷ h.1 ∷ h.2 ∷ [] = sym e ∙ h.3 in (h.0, h.1, cc)
-three_split ws [] t h e = let f : t ∷ [] ≡ tree.name h.0 ∷ h.1 ∷ h.2 ∷ [] = sym e ∙ h.3 in absurd cc
-three_split ws (a ∷ []) t h e = let f : a ∷ t ∷ [] ≡ tree.name h.0 ∷ h.1 ∷ h.2 ∷ [] = sym e ∙ h.3 in absurd cc
-three_split ws (a ∷ b ∷ c ∷ []) t h e = let f : a ∷ b ∷ c ∷ t ∷ [] ≡ tree.name h.0 ∷ h.1 ∷ h.2 ∷ [] = sym e ∙ h.3 in absurd cc
-three_split ws (a ∷ b ∷ c ∷ d ∷ us) t h e = let f : a ∷ b ∷ c ∷ d ∷ (us ++ t ∷ []) ≡ tree.name h.0 ∷ h.1 ∷ h.2 ∷ [] = sym e ∙ h.3 in absurd cc
-
-pub four_split : (ws us : List Wide) (t : Wide) → AreArguments PairFilterMap ws → ws ≡ us ++ t ∷ [] → HasTwoNames us
-four_split ws (a ∷ b ∷ c ∷ []) t h e =
-    let f : a ∷ b ∷ c ∷ t ∷ [] ≡ tree.name h.0 ∷ tree.name h.1 ∷ h.2 ∷ h.3 ∷ [] = sym e ∙ h.4 in (h.0, h.1, h.2, cc, h.5)
-four_split ws [] t h e = let f : t ∷ [] ≡ tree.name h.0 ∷ tree.name h.1 ∷ h.2 ∷ h.3 ∷ [] = sym e ∙ h.4 in absurd cc
-four_split ws (a ∷ []) t h e = let f : a ∷ t ∷ [] ≡ tree.name h.0 ∷ tree.name h.1 ∷ h.2 ∷ h.3 ∷ [] = sym e ∙ h.4 in absurd cc
-four_split ws (a ∷ b ∷ []) t h e = let f : a ∷ b ∷ t ∷ [] ≡ tree.name h.0 ∷ tree.name h.1 ∷ h.2 ∷ h.3 ∷ [] = sym e ∙ h.4 in absurd cc
-four_split ws (a ∷ b ∷ c ∷ d ∷ []) t h e = let f : a ∷ b ∷ c ∷ d ∷ t ∷ [] ≡ tree.name h.0 ∷ tree.name h.1 ∷ h.2 ∷ h.3 ∷ [] = sym e ∙ h.4 in absurd cc
-four_split ws (a ∷ b ∷ c ∷ d ∷ x ∷ us) t h e =
-    let f : a ∷ b ∷ c ∷ d ∷ x ∷ (us ++ t ∷ []) ≡ tree.name h.0 ∷ tree.name h.1 ∷ h.2 ∷ h.3 ∷ [] = sym e ∙ h.4 in absurd cc
-
-pub filter_formed : (a : Wide) (n : List ℕ) (ws us : List Wide) (x : List ℕ) (p t : Wide) → ws ≡ us ++ t ∷ [] → us ≡ tree.name x ∷ p ∷ []
-    → formed (Some FilterMap) a n (wides ws) ≡ tree.filter_map a x p t
-filter_formed a n ws us x p t e f = ap (λ vs. formed (Some FilterMap) a n (wides vs)) (e ∙ ap (λ (vs : List Wide). vs ++ t ∷ []) f)
-
-pub pair_filter_formed : (a : Wide) (n : List ℕ) (ws us : List Wide) (k v : List ℕ) (p t : Wide) → HasTwoNames us → ws ≡ us ++ t ∷ []
-    → us ≡ tree.name k ∷ tree.name v ∷ p ∷ [] → formed (Some PairFilterMap) a n (wides ws) ≡ tree.pair_filter_map a k v p t
-pair_filter_formed a n ws us k v p t h e f =
-    ap (λ vs. formed (Some PairFilterMap) a n (wides vs)) (e ∙ ap (λ (vs : List Wide). vs ++ t ∷ []) f)
-    ∙ other_names (bytes_eq k v) _ _ (differ k v h.0 h.1 p h.2 (sym h.3 ∙ f) h.4)
-
--- the same for the lists of the code
-pub filter_arguments : (items more : List CodeWide) (t : CodeWide) → AreArguments FilterMap (map view items) → items ≡ more ++ t ∷ [] → HasName (map view more)
-filter_arguments items more t h e = three_split (map view items) (map view more) (view t) h (pushed view more items t e)
-
-pub pair_filter_arguments : (items more : List CodeWide) (t : CodeWide) → AreArguments PairFilterMap (map view items) → items ≡ more ++ t ∷ [] → HasTwoNames (map view more)
-pair_filter_arguments items more t h e = four_split (map view items) (map view more) (view t) h (pushed view more items t e)
-
 two_split : (ws us : List Wide) (t : Wide) → HasTwoNames ws → ws ≡ us ++ t ∷ [] → AreNames us
 two_split ws (a ∷ b ∷ []) t h e = let f : a ∷ b ∷ t ∷ [] ≡ tree.name h.0 ∷ tree.name h.1 ∷ h.2 ∷ [] = sym e ∙ h.3 in (h.0, h.1, cc)
 two_split ws [] t h e = let f : t ∷ [] ≡ tree.name h.0 ∷ tree.name h.1 ∷ h.2 ∷ [] = sym e ∙ h.3 in absurd cc
@@ -268,28 +210,6 @@ selection_of_none (a ∷ items) h = absurd (omega arith)
 pub selection_of_more : (items : List CodeWide) → 1 < length items → is_selection (wides (map view items)) ≡ false
 selection_of_more (a ∷ b ∷ items) h = two_no_selection (view a) (view b) (wides (map view items))
 selection_of_more _ h = absurd (omega arith)
-
-not_tested : (n : List ℕ) (more : Wides) → is_selection more ≡ false → tested n more ≡ tree.call n more
-not_tested n (more_wides (tree.select a Plain f) no_wides) e = absurd cc
-not_tested n _ e = refl
-
-call_by : (b : Bool) (n : List ℕ) (more : Wides) (w : Wide) → b ≡ true → w ≡ tested n more → w ≡ (if b then tested n more else tree.call n more)
-call_by true n more w e f = f
-call_by false n more w e f = absurd cc
-
-plain_by : (b : Bool) (n : List ℕ) (more : Wides) → b ≡ false → tree.call n more ≡ (if b then tested n more else tree.call n more)
-plain_by true n more e = absurd cc
-plain_by false n more e = refl
-
--- a call that is no test, one whose argument is no selection, and a test
-pub call_kept : (n : List ℕ) (more : Wides) → is_has n ≡ false → tree.call n more ≡ call_of n more
-call_kept n more e = plain_by (is_has n) n more e
-
-pub call_left : (n : List ℕ) (more : Wides) → is_has n ≡ true → is_selection more ≡ false → tree.call n more ≡ call_of n more
-call_left n more e f = call_by (is_has n) n more (tree.call n more) e (sym (not_tested n more f))
-
-pub call_tested : (n : List ℕ) (ws : List Wide) (a : Wide) (f : List ℕ) → is_has n ≡ true → ws ≡ tree.select a Plain f ∷ [] → tree.has a f ≡ call_of n (wides ws)
-call_tested n ws a f e h = call_by (is_has n) n (wides ws) (tree.has a f) e (ap (λ us. tested n (wides us)) (sym h))
 
 -- ---- faults of calls
 

@@ -9,7 +9,6 @@ pub mod Formed
 pub mod Tested
 pub mod Sound
 pub mod Loose
-pub mod Openings
 pub mod FirstWords
 pub mod Stops
 pub mod Built

@@ -1,5 +1,5 @@
 -- The result for a text is unique.
-use Rattle.wide_reader.proofs.Prelude.{◌≡◌, ◌≢◌, ℕ, zero, suc, ◌+◌, ◌<◌, ◌≤◌, List, [], ◌∷◌, ◌++◌, length, take, drop, true, false, true≢false, Ok, Err, Result, Option, Some, None, refl, sym, ◌∙◌, ap, subst, inl, inr, arith, cases_order, length-append, length-take, take-append-drop, WideWord, WideToken, WideLexes, one_end, Wide, CodeWide, view, words_only, Expression, One, WideDerives, AreSupported, IsWideExpression, WideIsViablePrefix, WideUnexpectedAt, WideDeepAt, UnsupportedAt, WideReadReturns, FormsWide, IsWide, place_at, is_unsupported, open_limit, WideReadError, ReadError, UnknownCharacter, InvalidTextLiteral, IntOutOfRange, UnexpectedToken, TooManyOpen, TextTooLong, Memory}
+use Rattle.wide_reader.proofs.Prelude.{◌≡◌, ◌≢◌, ℕ, zero, suc, ◌+◌, ◌<◌, ◌≤◌, List, [], ◌∷◌, ◌++◌, length, take, drop, true, false, true≢false, Ok, Err, Result, Some, None, refl, sym, ◌∙◌, ap, subst, inl, inr, arith, cases_order, length-append, length-take, take-append-drop, WideWord, WideToken, WideLexes, one_end, Wide, CodeWide, words_only, Expression, One, WideDerives, AreSupported, IsWideExpression, WideIsViablePrefix, WideUnexpectedAt, WideDeepAt, UnsupportedAt, WideReadReturns, FormsWide, IsWide, place_at, is_unsupported, open_limit, WideReadError, ReadError, UnknownCharacter, InvalidTextLiteral, IntOutOfRange, UnexpectedToken, TooManyOpen, TextTooLong, Memory}
 use Rattle.wide_tokens.specs.Token.{bytes, double}
 use Rattle.wide_reader.specs.Faults.{fault}
 use Rattle.wide_reader.specs.Laws.{wide_of}

@@ -1,5 +1,5 @@
 -- Operators before an operand.
-use Rattle.wide_reader.proofs.Prelude.{◌≡◌, ℕ, List, ◌∷◌, Bool, true, not, ◌∙◌, ap, subst, WideWord, mark, Mark, Wide, unary_mark, at, this_mark, WideIsNotNext, WidePrefixes, none, one_more, applied, One, Member, Prefixed, WideStepReads, Row, Got, Refused, WideCause, stands, goes, fails, calls, missing, UnaryOperator}
+use Rattle.wide_reader.proofs.Prelude.{◌≡◌, ℕ, List, ◌∷◌, Bool, not, ◌∙◌, ap, subst, WideWord, mark, Mark, Wide, unary_mark, at, this_mark, WideIsNotNext, WidePrefixes, none, one_more, applied, One, Member, Prefixed, WideStepReads, Row, Got, Refused, WideCause, stands, goes, fails, calls, missing, UnaryOperator}
 use Rattle.wide_reader.proofs.Steps.{found_at}
 
 pub more : (op : UnaryOperator) (m : Mark) (odd last : Bool) (ws us rest : List WideWord) → m ≡ unary_mark op → ws ≡ mark m ∷ us → WidePrefixes op (not odd) last us rest → WidePrefixes op odd last ws rest

@@ -44,7 +44,7 @@ pub use Rattle.wide_reader.specs.Grammar.{Member, One, OptionalArguments, WideOp
 pub use Rattle.wide_reader.specs.Grammar.{Pairs, WidePhrase, Prefixed, Primary, Unary, applied, below}
 pub use Rattle.wide_reader.specs.Limits.{open_limit}
 pub use Rattle.wide_reader.specs.Look.{WideCloses, WideFoundBy, WideGoesOn, WideIs, WideIsNot, WideIsNotNext, WideLook, at, back_quoted, closing_mark}
-pub use Rattle.wide_reader.specs.Look.{constant, in_literal, named, openings, opens, opens_mark, operator, takes_comma}
+pub use Rattle.wide_reader.specs.Look.{constant, in_literal, named, opens, opens_mark, operator, takes_comma}
 pub use Rattle.wide_reader.specs.Look.{this_literal, this_mark, this_name, this_one, this_operator, this_quoted, words}
 pub use Rattle.wide_reader.specs.Look.{words_only}
 pub use Rattle.wide_reader.specs.Place.{place_left, refused_at}

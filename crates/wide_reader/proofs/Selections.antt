@@ -1,5 +1,5 @@
 -- The plans of what follows a dot.
-use Rattle.wide_reader.proofs.Prelude.{◌≡◌, ℕ, List, ◌∷◌, true, ◌∙◌, WideWord, name, quoted, mark, Wide, wides, is_selector, is_quoted_name, at, named, back_quoted, this_mark, this_name, this_quoted, WideIsNotNext, Starts, Access, Plain, Optional, method_of, One, Misfit, WideReadOutcome, Got, Refused, Selection, maybe_call, WidePlanRuns, WideStepReads, stands, unfit, goes, found, missing}
+use Rattle.wide_reader.proofs.Prelude.{◌≡◌, ℕ, List, ◌∷◌, true, ◌∙◌, WideWord, name, quoted, Wide, wides, is_selector, is_quoted_name, named, back_quoted, this_mark, this_name, this_quoted, WideIsNotNext, Starts, Access, Plain, Optional, method_of, One, Misfit, WideReadOutcome, Got, Refused, Selection, maybe_call, WidePlanRuns, WideStepReads, stands, unfit, goes, found, missing}
 use Rattle.wide_reader.specs.Tree as tree
 use Rattle.wide_reader.proofs.Steps.{found_at}
 

@@ -1,9 +1,8 @@
 -- What the profile's grammar derives, this one derives too.
-use Rattle.wide_reader.proofs.Prelude.{◌≡◌, ℕ, suc, List, [], ◌∷◌, ◌++◌, map, Bool, true, false, not, Some, None, if◌then◌else◌, ◌⊎◌, inl, inr, refl, ◌∙◌, ap, codes, WideWord, Wide, literal_of, operator_of, level_of, WideDerives, One, Many, Listed, Keyed, Arguments, OptionalArguments, Items, OptionalItems, Pairs, OptionalPairs, Expression, Infix, Unary, Prefixed, Member, Primary, WideOptionalComma, WideClass, AreSupported, Access, Plain, BinaryOperator, UnaryOperator, wides, method_of, call_of}
+use Rattle.wide_reader.proofs.Prelude.{◌≡◌, ℕ, List, [], ◌∷◌, ◌++◌, map, Bool, true, false, not, Some, None, if◌then◌else◌, inl, inr, refl, ◌∙◌, ap, codes, Wide, literal_of, operator_of, level_of, WideDerives, One, Many, Listed, Keyed, Arguments, OptionalArguments, Items, OptionalItems, Pairs, OptionalPairs, Expression, Infix, Unary, Prefixed, Member, Primary, WideOptionalComma, WideClass, AreSupported, Access, Plain, BinaryOperator, UnaryOperator, wides, method_of, call_of}
 use Rattle.std.specs.Prelude.{bytes_eq}
 use Rattle.cel_tokens.specs.Token.{Word}
 use Rattle.cel_tokens.specs.Token as word
-use Rattle.cel_tokens.specs.declared.mark.Mark.TheVariants.{Comma, Question, Colon}
 use Rattle.cel_reader.specs.Words as profile_words
 use Rattle.cel_reader.specs.Tree as profile
 use Rattle.cel_reader.specs.Tree.{Tree, Literal, trees}

@@ -1,5 +1,5 @@
 -- What the reader reads is derived by the grammar.
-use Rattle.wide_reader.proofs.Prelude.{◌≡◌, ℕ, suc, List, [], ◌∷◌, ◌++◌, Bool, false, true, not, ◌⊎◌, inl, inr, refl, WideWord, name, quoted, mark, Mark, Colon, Dot, Comma, Question, OpenParen, CloseParen, OpenBracket, CloseBracket, OpenBrace, Wide, wides, items, entries, is_identifier, is_selector, WideLook, WideFoundBy, WideIs, opens_mark, this_mark, this_one, this_name, this_quoted, this_literal, this_operator, WideCloses, closing_mark, WideClass, Expression, Infix, Unary, Prefixed, Member, Primary, Arguments, OptionalArguments, Items, OptionalItems, Pairs, OptionalPairs, One, WidePhrase, Many, Listed, Keyed, WideOptionalComma, Marked, WideDerives, WideKind, WideOf, WideReadStep, Row, Tail, Suffix, Selection, Indexed, Enclosed, Called, Argument, BehindArgument, Bracketed, Item, BehindItem, Mapped, Entry, BehindEntry, WidePlan, done, whole, go, call, look, enter, inside, plan, Closing, Call, Map, Access, Plain, Optional, method_of, call_of}
+use Rattle.wide_reader.proofs.Prelude.{◌≡◌, ℕ, suc, List, [], ◌∷◌, ◌++◌, Bool, false, true, ◌⊎◌, inl, inr, refl, WideWord, name, mark, Mark, Colon, Dot, Comma, OpenParen, CloseParen, OpenBracket, OpenBrace, Wide, wides, items, entries, is_identifier, is_selector, WideLook, WideFoundBy, WideIs, opens_mark, this_mark, this_one, this_name, this_quoted, this_literal, this_operator, WideCloses, closing_mark, WideClass, Expression, Infix, Unary, Prefixed, Member, Primary, Arguments, OptionalArguments, Items, OptionalItems, Pairs, OptionalPairs, One, WidePhrase, Many, Listed, Keyed, WideOptionalComma, Marked, WideDerives, WideKind, WideOf, WideReadStep, Row, Tail, Suffix, Selection, Indexed, Enclosed, Called, Argument, BehindArgument, Bracketed, Item, BehindItem, Mapped, Entry, BehindEntry, WidePlan, done, whole, go, call, look, enter, inside, plan, Closing, Call, Map, Access, Plain, Optional, method_of, call_of}
 use Rattle.wide_reader.specs.Tree as tree
 use Rattle.wide_reader.specs.Grammar as derives
 use Rattle.wide_reader.specs.declared.closing.Closing.TheVariants.{List as ListLiteral}

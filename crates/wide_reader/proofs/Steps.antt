@@ -1,5 +1,5 @@
 -- Steps over the results of calls.
-use Rattle.wide_reader.proofs.Prelude.{Bool, true, false, ◌≡◌, ◌≢◌, ℕ, suc, ◌-◌, List, [], ◌∷◌, ◌++◌, map, length, Err, Result, sym, ◌∙◌, ap, arith, map-append, length-map, WideReadOutcome, Refused, WideCause, Misfit, Deep, ReturnsWideOutcome, WideKind, Row, WidePlan, access, look, enter, inside, WidePlanRuns, Access, Plain, Optional, Starts, Prefixed, goes, found, missing, enters, opened, full, WideStepReads, Unary, unary_mark, UnaryOperator, Mark, err_from_is_err_and, IsErrAnd, WideWord, WideToken, token_view, mark, CodeToken, words, WideLook, WideFoundBy, WideIs, this_mark, opens_mark, Refusal}
+use Rattle.wide_reader.proofs.Prelude.{true, false, ◌≡◌, ◌≢◌, ℕ, suc, ◌-◌, List, [], ◌∷◌, ◌++◌, map, length, Err, Result, sym, ◌∙◌, ap, arith, map-append, length-map, WideReadOutcome, Refused, WideCause, Misfit, Deep, ReturnsWideOutcome, WideKind, Row, WidePlan, access, look, enter, inside, WidePlanRuns, Access, Plain, Optional, Starts, Prefixed, goes, found, missing, enters, opened, full, WideStepReads, Unary, unary_mark, UnaryOperator, Mark, err_from_is_err_and, IsErrAnd, WideWord, WideToken, token_view, mark, CodeToken, words, WideLook, WideFoundBy, WideIs, this_mark, opens_mark, Refusal}
 use Rattle.cel_reader.specs.declared.operator.UnaryOperator.TheVariants as unary
 
 pub has_room : (room : ℕ) → room ≢ 0 → room ≡ suc (room - 1)

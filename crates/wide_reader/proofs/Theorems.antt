@@ -1,9 +1,8 @@
 -- Theorems about the grammar and the reader's runs.
-use Rattle.wide_reader.proofs.Prelude.{◌≡◌, ℕ, ◌+◌, ◌<◌, ◌≤◌, List, [], ◌∷◌, arith, WideWord, Wide, openings, Expression, One, WideDerives, WideReadOutcome, Got, Refused, Misfit, Deep, Row, WideStepReads}
+use Rattle.wide_reader.proofs.Prelude.{◌≡◌, ℕ, ◌+◌, ◌≤◌, List, [], ◌∷◌, arith, WideWord, Wide, Expression, One, WideDerives, WideReadOutcome, Got, Refused, Misfit, Deep, Row, WideStepReads}
 use Rattle.wide_reader.proofs.Stops.{ends_all}
 use Rattle.wide_reader.proofs.Sound.{sound}
 use Rattle.wide_reader.proofs.Loose.{loosely}
-use Rattle.wide_reader.proofs.Openings.{counted}
 use Rattle.wide_reader.proofs.Built.{built}
 use Rattle.wide_reader.proofs.Plans.{one_outcome, roomier}
 
@@ -42,7 +41,3 @@ rest_never room other ws us w a b r d = let same = one_answer room other ws b (G
 -- a text that is too deep for the reader is not a phrase with this room
 pub deep_never : (room : ℕ) (ws us : List WideWord) (a : Wide) → WideStepReads (Row Expression) room ws (Refused (Deep us)) → WideDerives Expression room ws (One a) [] → ⊥
 deep_never room ws us a r d = let same = one_outcome r (built d ends_all) in cc
-
--- a text that is too deep has more opening brackets and question marks than the room
-pub deep_openings : (room : ℕ) (ws us : List WideWord) → WideStepReads (Row Expression) room ws (Refused (Deep us)) → room < openings ws
-deep_openings room ws us r = counted r

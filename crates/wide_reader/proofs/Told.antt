@@ -1,10 +1,9 @@
 -- Results for whole texts, from the reader's runs.
-use Rattle.wide_reader.proofs.Prelude.{◌≡◌, ◌≢◌, ℕ, suc, ◌-◌, ◌≤◌, List, [], ◌∷◌, ◌++◌, length, map, take, drop, Ok, Err, Result, Option, Some, None, refl, sym, ◌∙◌, ap, subst, arith, drop-map, WideWord, WideToken, token_view, CodeToken, WideLexes, one_end, some_taken, Wide, CodeWide, view, words, words_only, Expression, One, WideDerives, Got, Row, WideStepReads, IsWideExpression, WideIsViablePrefix, AreSupported, WideUnexpectedAt, WideDeepAt, WideStandsAt, WideParseReturns, WideReadReturns, IsNoWideExpression, FormsWide, IsWide, place_at, place_left, refused_at, Refusal, ReadError, UnknownCharacter, InvalidTextLiteral, IntOutOfRange, UnexpectedToken, TooManyOpen, TextTooLong, Memory, WideReadError, open_limit, text_limit}
+use Rattle.wide_reader.proofs.Prelude.{◌≡◌, ◌≢◌, ℕ, suc, ◌-◌, ◌≤◌, List, [], ◌∷◌, ◌++◌, length, map, take, Ok, Err, Result, Option, Some, None, refl, sym, ◌∙◌, ap, subst, arith, drop-map, WideWord, WideToken, token_view, CodeToken, WideLexes, one_end, some_taken, Wide, CodeWide, view, words, words_only, Expression, One, WideDerives, Got, Row, WideStepReads, IsWideExpression, AreSupported, WideUnexpectedAt, WideDeepAt, WideStandsAt, WideParseReturns, WideReadReturns, IsNoWideExpression, FormsWide, IsWide, place_at, place_left, Refusal, ReadError, UnknownCharacter, InvalidTextLiteral, IntOutOfRange, UnexpectedToken, TooManyOpen, TextTooLong, Memory, WideReadError, open_limit}
 use Rattle.std.proofs.lemmas.List.{append-nil, take_all}
 use Rattle.wide_tokens.specs.Lexis.{WideTokensReturns}
 use Rattle.wide_reader.specs.declared.refusal.Refusal.TheVariants as refusal
 use Rattle.wide_reader.specs.declared.wide_error.WideReadError.TheVariants as errors
-use Rattle.wide_reader.specs.Answers.{InTokens}
 use Rattle.wide_reader.specs.Faults.{verdict}
 use Rattle.wide_reader.specs.declared.wide_error.MacroFault.{MacroFault}
 use Rattle.wide_reader.specs.Place.{unsupported_in, first_error, wide_refused_at}

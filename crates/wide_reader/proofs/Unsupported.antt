@@ -1,5 +1,5 @@
 -- Bytes and doubles among the tokens.
-use Rattle.wide_reader.proofs.Prelude.{◌≡◌, ℕ, zero, suc, ◌<◌, ◌≤◌, ◌-◌, List, [], ◌∷◌, ◌++◌, length, map, take, drop, true, false, Option, Some, None, inl, inr, ◌⊎◌, refl, ap, arith, Err, subst, WideWord, WideToken, CodeToken, token_view, word_of, mark_word, mark_of, Mark, words, AreSupported, WideIsViablePrefix, UnsupportedAt, WideStandsAt, WideParseReturns, place_at, is_unsupported, open_limit, WideReadError, words_only}
+use Rattle.wide_reader.proofs.Prelude.{◌≡◌, ℕ, zero, suc, ◌<◌, ◌≤◌, ◌-◌, List, [], ◌∷◌, ◌++◌, length, map, take, drop, false, Option, Some, None, inl, inr, ◌⊎◌, refl, ap, arith, Err, subst, WideWord, CodeToken, token_view, word_of, mark_word, mark_of, Mark, words, AreSupported, WideIsViablePrefix, UnsupportedAt, WideParseReturns, place_at, is_unsupported, open_limit, WideReadError}
 use Rattle.wide_tokens.specs.Token.{bytes, double}
 use Rattle.wide_tokens.specs.declared.kind.Kind.{Kind}
 use Rattle.wide_tokens.specs.declared.kind.Kind.TheVariants as kinds

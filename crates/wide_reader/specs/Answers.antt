@@ -1,8 +1,7 @@
 -- Results of the reader.
 use Rattle.std.specs.Prelude.{◌≡◌, ◌≢◌, ℕ, suc, ◌<◌, ◌≤◌, List, [], ◌∷◌, ◌++◌, length, take, drop, true, false, None, Some, Result, Ok, Err}
 use Rattle.cel_tokens.specs.Limits.{text_limit}
-use Rattle.cel_tokens.specs.declared.read_error.ReadError.{ReadError}
-use Rattle.cel_tokens.specs.declared.read_error.ReadError.TheVariants.{UnknownCharacter, InvalidTextLiteral, IntOutOfRange, UnexpectedToken, TooManyOpen, TextTooLong, Memory}
+use Rattle.cel_tokens.specs.declared.read_error.ReadError.TheVariants.{UnexpectedToken, TooManyOpen, Memory}
 use Rattle.wide_tokens.specs.Token.{WideWord, WideToken, bytes, double}
 use Rattle.wide_tokens.specs.Lexis.{WideLexes, WideTakesMemory}
 use Rattle.wide_reader.specs.Limits.{open_limit}

@@ -1,5 +1,5 @@
 -- The first invalid macro: a node before its parts, parts from left to right.
-use Rattle.std.specs.Prelude.{ℕ, List, Bool, true, false, Option, Some, None, Result, Ok, Err, if◌then◌else◌}
+use Rattle.std.specs.Prelude.{ℕ, List, Option, Some, None, Result, Ok, Err, if◌then◌else◌}
 use Rattle.std.specs.Option.{option_or}
 use Rattle.wide_reader.specs.Tree as tree
 use Rattle.wide_reader.specs.Tree.{Wide, Wides, WideItems, WideEntries, no_wides, more_wides, no_items, more_items, no_entries, more_entries}

@@ -1,5 +1,5 @@
 -- Lookahead: the front of the words.
-use Rattle.std.specs.Prelude.{◌≡◌, ◌≢◌, ℕ, ◌+◌, List, [], ◌∷◌, map, Bool, true, false, if◌then◌else◌, Some, None, ◌⊎◌}
+use Rattle.std.specs.Prelude.{◌≡◌, ◌≢◌, ℕ, List, [], ◌∷◌, map, Bool, true, false, Some, None, ◌⊎◌}
 use Rattle.wide_tokens.specs.Token.{WideWord, WideToken, token_view, name, quoted, mark}
 use Rattle.wide_tokens.specs.Quoted.{is_quoted_name}
 use Rattle.wide_tokens.specs.declared.token.Token.{Token as CodeToken}
@@ -95,8 +95,3 @@ opens_mark other = false
 abbrev pub opens : WideWord → Bool
 opens (mark m) = opens_mark m
 opens _ = false
-
--- the number of opening brackets and question marks among the words
-abbrev pub openings : List WideWord → ℕ
-openings [] = 0
-openings (w ∷ ws) = (if opens w then 1 else 0) + openings ws

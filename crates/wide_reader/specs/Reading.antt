@@ -5,7 +5,6 @@ use Rattle.wide_tokens.specs.Token.{WideWord, mark}
 use Rattle.cel_tokens.specs.declared.mark.Mark.{Mark, TheVariants.CloseBracket, TheVariants.OpenBrace}
 use Rattle.cel_tokens.specs.declared.mark.Mark.TheVariants.{Question, Colon, Dot, Comma, Not, Minus, OpenParen, CloseParen, OpenBracket}
 use Rattle.cel_reader.specs.Words.{is_identifier, is_selector, unary_mark}
-use Rattle.cel_reader.specs.declared.operator.UnaryOperator.{UnaryOperator}
 use Rattle.cel_reader.specs.declared.operator.UnaryOperator.TheVariants as unary
 use Rattle.wide_reader.specs.Tree as tree
 use Rattle.wide_reader.specs.Tree.{Wide, wides, items, entries}

@@ -1,5 +1,5 @@
 -- Words and trees that the profile's grammar and this one share.
-use Rattle.std.specs.Prelude.{◌≡◌, ℕ, List, [], ◌∷◌, ◌++◌, map}
+use Rattle.std.specs.Prelude.{ℕ, List, [], ◌∷◌, ◌++◌, map}
 use Rattle.cel_tokens.specs.Token as word
 use Rattle.cel_tokens.specs.Token.{Word}
 use Rattle.cel_reader.specs.Tree as profile

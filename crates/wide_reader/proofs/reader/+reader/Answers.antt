@@ -1,5 +1,5 @@
 -- Proof obligations of the functions of the cycle `reader` (src/reader.rt).
-use Rattle.wide_reader.proofs.Prelude.{[], arith, refl, Comma, view, item_view, entry_view, words, this_mark, this_name, this_quoted, this_literal, this_operator, Unary, Member, Primary, Refused, Misfit, WideStepReads, Row, Selection, Enclosed, Argument, Item, Entry, index_after, item_after, entry_after, stands, unfit, goes, fails, calls, missing, passes, Call, Map}
+use Rattle.wide_reader.proofs.Prelude.{[], arith, refl, Comma, view, item_view, entry_view, words, this_mark, this_name, this_literal, this_operator, Unary, Member, Primary, Refused, WideStepReads, Row, Selection, Enclosed, Argument, Item, Entry, index_after, item_after, entry_after, stands, unfit, goes, fails, calls, missing, passes, Call, Map}
 use Rattle.wide_reader.specs.declared.closing.Closing.TheVariants.{List as ListLiteral}
 use Rattle.wide_reader.proofs.Looks.{other_one}
 use Rattle.wide_reader.proofs.Lists.{in_any, behind_ends, behind_misfit, behind_goes, list_empty, list_goes, list_comma}

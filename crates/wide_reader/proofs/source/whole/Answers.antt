@@ -1,5 +1,5 @@
 -- Proof obligations of `whole` (src/source.rt).
-use Rattle.wide_reader.proofs.Prelude.{sym, ◌∙◌}
+use Rattle.wide_reader.proofs.Prelude.{sym}
 use Rattle.wide_reader.proofs.Told.{told_none, told_ok, told_foreign, told_rest, told_fails, some_lexeme}
 use Rattle.wide_reader.proofs.source.whole.Goals as goal
 
