@@ -103,7 +103,7 @@ class Builder:
             raise Stop("there is no command rt in the path; it comes with the toolchain", NO_RT)
         if LOGIC not in toolchain:
             self.say(f"the toolchain is {toolchain}, and the sources were written for one with {LOGIC}")
-        self.say(f"it is {WHAT}, in about two minutes; {HOW}")
+        self.say(f"it is {WHAT}, in two to three minutes; {HOW}")
         # what is stopped may still write there
         with tempfile.TemporaryDirectory(ignore_cleanup_errors=True) as folder:
             made = compiled(self.crate, kit_of("rt"), Path(folder).resolve(), self.ran)
@@ -135,7 +135,7 @@ class Builder:
         if OF_SOURCE.search(why):
             print(why, end="", file=sys.stderr)
             raise Stop("the sources do not compile; the lines above say why", NOT_COMPILED)
-        self.say("this toolchain gives no program to keep; `rt try` runs the sources, in about two minutes each time")
+        self.say("this toolchain gives no program to keep; `rt try` runs the sources, in two to three minutes each time")
         status, said = tried(self.crate, words, self.say, self.waited)
         if status is None:
             print(said, end="", file=sys.stderr)
