@@ -13,6 +13,7 @@ import os
 import re
 import sys
 import traceback
+from types import ModuleType
 from typing import Callable, NoReturn, Optional
 
 from .home import is_checkout
@@ -88,11 +89,16 @@ def drop_output() -> None:
     os.dup2(os.open(os.devnull, os.O_WRONLY), sys.stdout.fileno())
 
 
+def has_parser(command: ModuleType) -> bool:
+    """Whether a command has a parser of its own, or one of `parser_of`, which answers `--help`."""
+    return hasattr(command, "parser") or hasattr(command, "parser_of")
+
+
 def run(name: str, main: Callable[[], Optional[int]]) -> NoReturn:
     """Runs a command as the script of this name, and ends the process."""
     sys.setrecursionlimit(DEEPEST)
     command = sys.modules[main.__module__]
-    if sys.argv[1:] == ["--help"] and not hasattr(command, "parser_of"):
+    if sys.argv[1:] == ["--help"] and not has_parser(command):
         print(told_of(command.__doc__))
         sys.exit(0)
     status = ended(name, main)

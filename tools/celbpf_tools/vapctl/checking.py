@@ -169,7 +169,9 @@ def report_of(given: argparse.Namespace, progress: Callable[[], None] = lambda: 
 
 
 def warn(given: argparse.Namespace, deciding: Deciding) -> None:
-    """Tells of policies that are refused, and of those that read the user if there is none."""
+    """Tells if there is no policy, of policies that are refused, and of those that read the user if there is none."""
+    if not deciding.policies:
+        tell("no policy is bound, so each object is allowed")
     for name, why in deciding.blocked.items():
         tell(f"policy {name} is not decided: {why}")
     for policy in deciding.state.policies if given.user is None else ():
@@ -214,11 +216,13 @@ def count(text: str) -> int:
 
 
 def refuse_user(given: argparse.Namespace) -> None:
-    """Refuses groups without a user, and names that are empty."""
+    """Refuses groups without a user, and names that are empty, as of a variable of the shell that is not set."""
     if given.groups and given.user is None:
         raise Stop("--group needs a --user", WORDS)
     if given.user == "" or "" in given.groups:
         raise Stop("a user or a group has no name", WORDS)
+    if not given.namespace:
+        raise Stop("the namespace of -n has no name", WORDS)
 
 
 def refuse_words(given: argparse.Namespace) -> None:
@@ -227,4 +231,7 @@ def refuse_words(given: argparse.Namespace) -> None:
         raise Stop("one of --cluster and --policy is needed", WORDS)
     if given.params and given.cluster:
         raise Stop("--params goes with --policy: the state of --cluster has its params", WORDS)
+    files = [file for _, file in given.output if file]
+    if len(set(files)) < len(files):
+        raise Stop("two reports go to one file", WORDS)
     refuse_user(given)
