@@ -42,7 +42,7 @@ MEANINGS = {
     "M3": "has() is asked of what is no field",
     "Y1": "a name is unknown",
     "Y2": "no function or operator takes operands of these types",
-    "Y3": "variables stands without a variable in scope behind it",
+    "Y3": "variables is not followed by the name of a variable in scope",
     "G1": "it needs more than 60 words of the stack",
     "G2": "a variable is nested more than six variables deep",
     "G3": "the parts up to here have more than 512 nodes together",

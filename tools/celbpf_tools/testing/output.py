@@ -1,5 +1,6 @@
 """How the outcomes of tests are told: TAP, short lines, JUnit's XML."""
 
+import os
 import xml.etree.ElementTree as xml
 from dataclasses import dataclass, field
 from typing import BinaryIO, TextIO, Union
@@ -41,16 +42,21 @@ def tap(results: list, notes: list, out: TextIO) -> None:
         print(f"# {one_line(line)}", file=out)
 
 
+def coloured(text: str, colour: str, out: TextIO) -> str:
+    """A text with colour if the stream is a terminal, and NO_COLOR is not set."""
+    return f"{colour}{text}{PLAIN}" if out.isatty() and not os.environ.get("NO_COLOR") else text
+
+
 def lines(results: list, notes: list, out: TextIO) -> None:
     """A line for each file, and below it those cases that fail."""
     for file in dict.fromkeys(result.file for result in results):
         of_file = [result for result in results if result.file == file]
         failed = [result for result in of_file if result.failures]
-        colour, word = (RED, "FAIL") if failed else (GREEN, "ok")
-        print(f"{colour}{word:4}{PLAIN} {one_line(file)}: {len(of_file) - len(failed)} of {len(of_file)}", file=out)
+        word = coloured(f"{'FAIL' if failed else 'ok':4}", RED if failed else GREEN, out)
+        print(f"{word} {one_line(file)}: {len(of_file) - len(failed)} of {len(of_file)}", file=out)
         for result in failed:
             if result.name:
-                print(f"     {RED}{one_line(result.name)}{PLAIN}", file=out)
+                print(f"     {coloured(one_line(result.name), RED, out)}", file=out)
             for line in result.failures:
                 print(f"         {one_line(line)}", file=out)
     for line in notes:

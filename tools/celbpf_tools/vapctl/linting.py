@@ -2,6 +2,7 @@
 
 import copy
 import json
+import re
 from collections.abc import Iterator
 from dataclasses import dataclass
 from typing import Any, Optional
@@ -18,6 +19,12 @@ from .positions import Marks, Path, Position
 VALID = {"variable": "dyn(null)", "condition": "true", "validation": "true", "message": "'a'"}
 LISTS = {"variable": "variables", "condition": "matchConditions", "validation": "validations", "message": "validations"}
 KEYS = {"message": "messageExpression"}
+# what `Keys` says of an item, a specification or a document that lacks a key
+MISSING = tuple(f"{key} is missing" for key in ("expression", "name", "spec", "validations"))
+# a key, or a place in a list, of the path of a key
+STEP = re.compile(r"([^.\[\]]+)|\[([0-9]{1,9})\]")
+# a number with a fraction or an exponent
+DOUBLE = re.compile(r"(?<![\w.])\d+(?:\.\d+|[eE][-+]?\d+)")
 
 
 @dataclass
@@ -48,9 +55,10 @@ class Fault:
     @property
     def meaning(self) -> str:
         """What is meant, in the words of one who writes policies."""
-        part, at = self.refused.part, self.refused.begin
-        if part and self.code == "P4" and any(part.text[at - back :].startswith((".?", "[?")) for back in (0, 1) if at >= back):
-            return "optional fields, `.?` and `[?`, are outside the language"
+        if self.refused.part and self.code == "P4":
+            return outside(self.refused.part.text, self.refused.begin) or self.refused.meaning
+        if self.refused.key and self.refused.value in MISSING:
+            return str(self.refused.value)
         if self.code == "K2":
             return f"its apiVersion is {self.policy.api_version}, and not {VERSION}"
         return self.refused.meaning
@@ -61,9 +69,24 @@ class Fault:
         return f"{self.part}: {self.meaning} ({self.code})" if self.part else f"{self.meaning} ({self.code})"
 
 
+def outside(text: str, at: int) -> str:
+    """Which form of CEL that is outside the language does not fit at a place, if it is a known one."""
+    if any(text[at - back :].startswith((".?", "[?")) for back in (0, 1) if at >= back):
+        return "optional fields, `.?` and `[?`, are outside the language"
+    for found in DOUBLE.finditer(text):
+        if found.start() < at < found.end():
+            return f"doubles, such as {found[0]}, are outside the language"
+    return ""
+
+
 def path_of(part: policies.Part) -> Path:
     """The path of a part's text in the document."""
     return "spec", LISTS[part.kind], part.place, KEYS.get(part.kind, "expression")
+
+
+def path_of_key(key: str) -> Path:
+    """The path of a key as `of_key` calls it, such as `spec.validations[1].expression`."""
+    return tuple(int(place) if place else name for name, place in STEP.findall(key))
 
 
 def without(policy: dict[str, Any], part: policies.Part) -> Any:
@@ -88,7 +111,10 @@ def faults(program: Program, thing: Thing, marks: Optional[Marks]) -> Iterator[F
 
 def position_of(thing: Thing, found: Refused, marks: Optional[Marks]) -> Position:
     """The place of what is refused, or that of the policy."""
-    if marks is None or found.part is None:
-        return Position(max(1, thing.place.line))
-    return marks.position(thing.place.line, path_of(found.part), found.begin, found.part.text)
+    line = thing.place.line
+    if marks is None or not (found.part or found.key):
+        return Position(max(1, line))
+    if found.part is None:
+        return marks.of_key(line, path_of_key(found.key))
+    return marks.position(line, path_of(found.part), found.begin, found.part.text)
 

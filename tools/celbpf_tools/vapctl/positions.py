@@ -33,6 +33,14 @@ class Marks:
                 return self.within(node, offset, text)
         return Position(line)
 
+    def of_key(self, line: int, path: Path) -> Position:
+        """The place of a key or of an item of a list, in the object that begins at a line."""
+        for root in self.roots:
+            node = key_at(root, path) if path and root.start_mark.line + 1 == line else None
+            if node is not None:
+                return Position(node.start_mark.line + 1, node.start_mark.column + 1)
+        return Position(line)
+
     def within(self, node: Any, offset: int, text: str) -> Position:
         """The place of a character of a scalar's text."""
         line, column = node.start_mark.line, node.start_mark.column
@@ -71,6 +79,18 @@ def items_of(root: Any) -> list[Any]:
     """The nodes of the items of a list."""
     items = value_at(root, "items")
     return list(items.value) if isinstance(items, documents.yaml_package().SequenceNode) else []
+
+
+def key_at(node: Any, path: Path) -> Optional[Any]:
+    """The node of the last key of a path, or of the item if it ends with a place in a list."""
+    *before, last = path
+    for key in before:
+        node = value_at(node, key)
+    if isinstance(last, int):
+        return value_at(node, last)
+    pairs = node.value if isinstance(node, documents.yaml_package().MappingNode) else []
+    found = [name for name, _ in pairs if name.value == last]
+    return found[-1] if found else None
 
 
 def scalar_at(node: Any, path: Path) -> Optional[Any]:
