@@ -24,6 +24,7 @@ from ..adapting.report import Variables
 from ..adapting.rewriter import Rewriter
 from ..asking.policies import asking, whole
 from ..asking.program import GIVEN, Program, tested
+from ..entry import Stop
 from ..home import DATA, TOOLS
 
 TABLES = DATA / "run-scripts"
@@ -106,12 +107,18 @@ def compared(name: str, lines: list, program: Path, folder: str) -> tuple:
     return runs, differing
 
 
+def tables_of(folder: Path, chosen: list[str]) -> list[Path]:
+    """The tables of a folder, or those that are chosen."""
+    found = {table.name: table for table in sorted(folder.iterdir())}
+    if unknown := [name for name in chosen if name not in found]:
+        raise Stop(f"no table is called {unknown[0]}; there are {', '.join(found)}")
+    return [table for name, table in found.items() if not chosen or name in chosen]
+
+
 def main() -> int:
     program = tested(sys.argv[1] if len(sys.argv) > 1 else None)
     counts = []
-    for table in sorted(TABLES.iterdir()):
-        if sys.argv[2:] and table.name not in sys.argv[2:]:
-            continue
+    for table in tables_of(TABLES, sys.argv[2:]):
         with tempfile.TemporaryDirectory() as folder:
             counts.append(compared(table.name, table.read_text().splitlines(), program, folder))
     runs, differing = map(sum, zip(*counts))

@@ -28,7 +28,7 @@ from ..home import DATA, EXAMPLES, ROOT
 from ..vapctl.commands import WHATS, module_of
 from ..vapctl.main import main as main_of_vapctl
 from ..tests.vapctl_broken import INPUTS, commands
-from .run_scripts import compared
+from .run_scripts import compared, tables_of
 
 TABLES = DATA / "run-vapctl"
 CORPUS = DATA / "vapctl"
@@ -60,9 +60,7 @@ def vapctl(*words: object, asked: bytes = b"") -> subprocess.CompletedProcess[by
 
 def run_tables(runs: Runs, program: Path, chosen: list[str]) -> None:
     """The tables, or those that are chosen."""
-    for table in sorted(TABLES.iterdir()):
-        if chosen and table.name not in chosen:
-            continue
+    for table in tables_of(TABLES, chosen):
         with tempfile.TemporaryDirectory() as folder:
             done, wrong = compared(table.name, table.read_text().splitlines(), program, folder)
         runs.done += done

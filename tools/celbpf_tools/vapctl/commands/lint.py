@@ -18,7 +18,7 @@ from ..results import plural
 from ..statuses import GOOD, REFUSED
 
 MORE = """Each refusal has the line and the column in the file, the part of the policy, what is meant, and its code. Refusals of the
-whole document, such as K3, are shown one at a time."""
+whole document, such as K3, are shown one at a time. docs/CLUSTERS.md has what to write instead."""
 FORMS = ("table", "json", "github")
 
 

@@ -12,7 +12,8 @@ from ..refusals import words_of_refusal
 from ..statuses import BAD, GOOD, REFUSED, WORDS
 
 MORE = """It prints each part of the policy with its value, the parts of what is false with theirs, and what to change. With
---case the only argument is a test file, and the case has its policy and review."""
+--case the only argument is a test file, and the case has its policy and review. The policy is asked whether or not its
+matchConstraints match."""
 
 
 def words(parser: argparse.ArgumentParser) -> None:
