@@ -23,6 +23,7 @@ class Words(unittest.TestCase):
         for text, at, told in (
             ("a > 0.5", 6, "doubles, such as 0.5, are outside the language"),
             ("a > 1e3", 5, "doubles, such as 1e3, are outside the language"),
+            ("a > 3u", 5, "unsigned ints, such as 3u, are outside the language"),
             ("a.?b", 1, "optional fields, `.?` and `[?`, are outside the language"),
             ("a[?b]", 2, "optional fields, `.?` and `[?`, are outside the language"),
             ("a 0.5", 2, ""), ("a.b1.5", 4, ""), ("a == ", 5, ""), ("0.5 + ", 6, ""),

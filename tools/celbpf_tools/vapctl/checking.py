@@ -10,7 +10,7 @@ from typing import Any, Callable, NoReturn
 from ..asking.program import located_gatekeeper
 from ..entry import Stop
 from ..manifests.kinds import Resources
-from .cluster import NoState, State, is_namespace, namespace_named, of_policies, saved, spec_of
+from .cluster import NoState, State, is_namespace, namespace_named, of_policies, policy_of, saved, spec_of
 from .deciding import Deciding
 from .gate import Gate
 from .inputs import Inputs, Place, Thing, Trouble
@@ -169,9 +169,13 @@ def report_of(given: argparse.Namespace, progress: Callable[[], None] = lambda: 
 
 
 def warn(given: argparse.Namespace, deciding: Deciding) -> None:
-    """Tells if there is no policy, of policies that are refused, and of those that read the user if there is none."""
+    """Tells of bindings without a policy, of policies that are refused, and of those that read the user if there is none."""
     if not deciding.policies:
         tell("no policy is bound, so each object is allowed")
+    known = {policy.name for policy in deciding.state.policies}
+    for binding in deciding.state.bindings:
+        if policy_of(binding) not in known:
+            tell(f"binding {binding.name} has no effect: there is no policy {policy_of(binding)}")
     for name, why in deciding.blocked.items():
         tell(f"policy {name} is not decided: {why}")
     for policy in deciding.state.policies if given.user is None else ():

@@ -23,8 +23,8 @@ KEYS = {"message": "messageExpression"}
 MISSING = tuple(f"{key} is missing" for key in ("expression", "name", "spec", "validations"))
 # a key, or a place in a list, of the path of a key
 STEP = re.compile(r"([^.\[\]]+)|\[([0-9]{1,9})\]")
-# a number with a fraction or an exponent
-DOUBLE = re.compile(r"(?<![\w.])\d+(?:\.\d+|[eE][-+]?\d+)")
+# literals of types that the language does not have
+LITERALS = {"doubles": re.compile(r"(?<![\w.])\d+(?:\.\d+|[eE][-+]?\d+)"), "unsigned ints": re.compile(r"(?<![\w.])\d+[uU]")}
 
 
 @dataclass
@@ -73,9 +73,10 @@ def outside(text: str, at: int) -> str:
     """Which form of CEL that is outside the language does not fit at a place, if it is a known one."""
     if any(text[at - back :].startswith((".?", "[?")) for back in (0, 1) if at >= back):
         return "optional fields, `.?` and `[?`, are outside the language"
-    for found in DOUBLE.finditer(text):
-        if found.start() < at < found.end():
-            return f"doubles, such as {found[0]}, are outside the language"
+    for what, literal in LITERALS.items():
+        for found in literal.finditer(text):
+            if found.start() < at < found.end():
+                return f"{what}, such as {found[0]}, are outside the language"
     return ""
 
 
