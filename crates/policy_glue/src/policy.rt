@@ -4,7 +4,7 @@ ghost use Rattle.std.specs.Prelude.{◌≡◌, ◌≢◌, Err, string_bytes};
 ghost use Rattle.std.specs.List.{list_any};
 ghost use Rattle.serde_json.specs.View.{view};
 ghost use Rattle.policy_glue.specs.Policy.{policy_view};
-ghost use Rattle.policy_glue.specs.Reading.{has_broken_message, has_line_break, has_too_many, judged, policy_in, policy_of, PolicyReadReturns};
+ghost use Rattle.policy_glue.specs.Reading.{has_broken_message, has_line_break, has_too_many, IsAcceptedPolicy, judged, policy_in, policy_of, PolicyReadReturns};
 ghost use Rattle.policy_glue.specs.declared.policy_error.PolicyError.TheVariants.{Memory};
 
 use crate::documents::parse_document;
@@ -51,20 +51,41 @@ impl Policy {
         ensures { PolicyReadReturns (policy_in bytes.now) result }
     {
         match parse_document(alloc, bytes)? {
-            Some(value) => policy_of(alloc, &value),
+            Some(value) => Policy::of_value(alloc, &value),
             None => Err(PolicyError::NotJson),
         }
     }
-}
 
-#[tactic(auto, unfolding(crate::specs::Reading::policy_of))]
-fn policy_of(alloc: Global, value: &Value) -> Result<Policy, PolicyError>
-    ensures { PolicyReadReturns (policy_of (view value.now)) result }
-{
-    if !has_head(value) {
-        return Err(PolicyError::NotAPolicy);
+    /// Reads the policy in a document that is parsed already.
+    ///
+    /// # Errors
+    ///
+    /// As in `read`, but for `NotJson`.
+    #[tactic(auto, unfolding(crate::specs::Reading::policy_of))]
+    pub fn of_value(alloc: Global, value: &Value) -> Result<Policy, PolicyError>
+        ensures { PolicyReadReturns (policy_of (view value.now)) result }
+    {
+        if !has_head(value) {
+            return Err(PolicyError::NotAPolicy);
+        }
+        judged(parts(alloc, value)?)
     }
-    judged(parts(alloc, value)?)
+
+    /// The policy with these parts, which are within the limits.
+    pub fn of_parts(parts: Parts) -> Policy
+        requires { IsAcceptedPolicy (policy_view parts) }
+        ensures { result ≡ policy_view parts }
+    {
+        Policy { parts }
+    }
+
+    /// Its parts.
+    pub fn into_parts(self) -> Parts
+        ensures parts { policy_view result ≡ self }
+        ensures accepted { IsAcceptedPolicy (policy_view result) }
+    {
+        self.parts
+    }
 }
 
 /// The policy with these parts, if they are within the limits.
