@@ -3,6 +3,7 @@ pub mod Ascending
 pub mod Equal
 pub mod Keys
 pub mod Ordered
+pub mod Lengths
 pub mod Measures
 pub mod Orders
 pub mod Pairs

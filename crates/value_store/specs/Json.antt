@@ -1,6 +1,6 @@
 -- The JSON text of a value (RFC 8259): compact, the keys in byte order, with the escapes of
 -- `serde_json`.
-use Rattle.std.specs.Prelude.{ℕ, List, [], ◌++◌, Bool, true, false, if◌then◌else◌, codes}
+use Rattle.std.specs.Prelude.{ℕ, ◌^◌, List, [], ◌++◌, Bool, true, false, if◌then◌else◌, codes, length, min}
 use Rattle.std.specs.Fmt.{signed_decimal}
 use Rattle.json.specs.Print.{quoted}
 use Rattle.value_store.specs.Value.{Value, null, boolean, int, text, list, map, Items, no_items, item, Entries, no_entries, entry, ValueOrError, error, value}
@@ -33,3 +33,7 @@ abbrev mutual
 abbrev pub shown_text : ValueOrError → List ℕ
 shown_text error = codes "error"
 shown_text (value v) = json_text v
+
+-- the length of that text in bytes; one above 2 ^ 62 counts as 2 ^ 62, so that the sum of two fits a word
+abbrev pub json_length : ValueOrError → ℕ
+json_length x = min (length (shown_text x)) (2 ^ 62)

@@ -9,7 +9,7 @@ use Rattle.value_store.specs.Order.{less}
 use Rattle.value_store.specs.Lookup.{find, place_of_key, member, inserted}
 use Rattle.value_store.specs.Keys.{IsOrdered, IsDocumentOrdered}
 use Rattle.value_store.specs.Placing.{first_values, is_appended, place, placed}
-use Rattle.value_store.specs.Json.{json_text, shown_text}
+use Rattle.value_store.specs.Json.{json_length, json_text, shown_text}
 use Rattle.value_store.specs.Roots.{root_of, start_contents}
 use Rattle.value_store.specs.declared.table_error.TableError.TheVariants.{NotAnObject, NumberOutOfInt64}
 
@@ -168,6 +168,9 @@ pub record StoreRowsHold : Type 0 where
   pub json_line_feed : json_text (text (10 ∷ [])) ≡ codes "\"\\n\""
   pub json_control : json_text (text (1 ∷ [])) ≡ codes "\"\\u0001\""
   pub json_key : json_text (kind.map (entry (34 ∷ []) null no_entries)) ≡ codes "{\"\\\"\":null}"
+  pub length_error : json_length error ≡ 5
+  pub length_map : json_length (value (kind.map a_and_b)) ≡ 16
+  pub length_line_feed : json_length (value (text (10 ∷ []))) ≡ 4
   pub shown_error : shown_text error ≡ codes "error"
   pub root_null : root_of 4 json.null ≡ Ok null
   pub root_object : root_of 4 replicas_document ≡ Ok replicas

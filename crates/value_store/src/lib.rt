@@ -2,6 +2,7 @@
 #![tactic(auto)]
 
 mod equality;
+mod json_length;
 pub mod laws;
 mod limits;
 mod measure;
@@ -17,7 +18,7 @@ mod store;
 mod table_error;
 mod tree;
 
-pub use limits::CHARGE_LIMIT;
+pub use limits::{CHARGE_LIMIT, JSON_LENGTH_LIMIT};
 pub use plain_table::PlainTable;
 pub use roots::start_charge;
 pub use shape::Shape;

@@ -3,9 +3,11 @@
 ghost use Rattle.std.specs.Prelude.{◌≡◌, ◌<◌, ◌^◌, option_map, string_bytes, IfSome, IfOk};
 ghost use Rattle.value_store.specs.Size.{result_depth};
 ghost use Rattle.value_store.specs.Calls.{value_part};
-ghost use Rattle.value_store.specs.Json.{shown_text};
+ghost use Rattle.value_store.specs.Json.{json_length, shown_text};
 ghost use Rattle.value_store.specs.Seen.{outcome_view, shape_view, seen_size};
 
+use crate::json_length::text_length;
+use crate::limits::JSON_LENGTH_LIMIT;
 use crate::shape::Shape;
 use crate::tree::Tree;
 use std::alloc::{AllocError, Global};
@@ -47,6 +49,16 @@ impl Node {
         match self {
             Node::Error => String::from_str(alloc, "error"),
             Node::Value(tree) => tree.json(alloc),
+        }
+    }
+
+    /// The length of this text.
+    pub(crate) fn json_length(&self) -> u64
+        ensures { result ≡ json_length (stored self.now) }
+    {
+        match self {
+            Node::Error => 5,
+            Node::Value(tree) => text_length(&tree.document).min(JSON_LENGTH_LIMIT),
         }
     }
 

@@ -213,6 +213,10 @@ impl ValueStore for PlainTable {
         self.nodes[h as usize].json(*self.nodes.allocator())
     }
 
+    fn json_length(&self, h: u64) -> u64 {
+        self.nodes[h as usize].json_length()
+    }
+
     fn place_int(&mut self, n: i64) -> Result<u64, AllocError> {
         self.place(Tree::of_int(n))
     }

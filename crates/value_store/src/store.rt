@@ -4,7 +4,7 @@ ghost use Rattle.std.specs.Prelude.{◌≡◌, ◌≤◌, ◌<◌, ◌+◌, ◌^
 ghost use Rattle.value_store.specs.Value.{ValueOrError, int, text, list, map, no_items, no_entries};
 ghost use Rattle.value_store.specs.Size.{result_depth};
 ghost use Rattle.value_store.specs.Placing.{first_values, charge_limit};
-ghost use Rattle.value_store.specs.Json.{shown_text};
+ghost use Rattle.value_store.specs.Json.{json_length, shown_text};
 ghost use Rattle.value_store.specs.Keys.{AreOrdered};
 ghost use Rattle.value_store.specs.Calls.{Places, text_at, equal_at, less_at, member_at, find_at, part_at, key_at, joined, pushed, put_in};
 ghost use Rattle.value_store.specs.Seen.{outcome_view, shape_view, seen_size};
@@ -86,6 +86,11 @@ pub trait ValueStore: Drop {
     fn json(&self, h: u64) -> Result<String, AllocError>
         requires { h < length (values self.now) }
         ensures { IfOk result (λ s. Some (string_bytes s) ≡ option_map shown_text (slice_get (values self.now) h)) };
+
+    /// The length in bytes of the text that `json` gives, at most 2^62. Takes no memory.
+    fn json_length(&self, h: u64) -> u64
+        requires { h < length (values self.now) }
+        ensures { Some result ≡ option_map json_length (slice_get (values self.now) h) };
 
     /// Places an int.
     fn place_int(&mut self, n: i64) -> Result<u64, AllocError>

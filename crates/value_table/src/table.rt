@@ -25,7 +25,7 @@ use crate::sequence::Sequence;
 use serde_json::Value;
 use std::alloc::{AllocError, Global};
 use std::marker::Model;
-use value_store::{Shape, TableError, ValueStore, start_charge};
+use value_store::{JSON_LENGTH_LIMIT, Shape, TableError, ValueStore, start_charge};
 
 /// The values of a program, by reference. Copies of a table share its cells, texts, lists and maps
 /// until one of them grows.
@@ -184,6 +184,13 @@ impl ValueStore for Table {
         match place_of(&self.places, h) {
             Some(place) => self.heap.json(alloc, place),
             None => String::from_str(alloc, "error"),
+        }
+    }
+
+    fn json_length(&self, h: u64) -> u64 {
+        match place_of(&self.places, h) {
+            Some(place) => self.heap.cell(place).json.min(JSON_LENGTH_LIMIT),
+            None => 5,
         }
     }
 
