@@ -4,6 +4,7 @@ pub mod Unplaced
 pub mod Seeing
 pub mod Maps
 pub mod Pairs
+pub mod Reading
 pub mod Finding
 pub mod Ranking
 pub mod Covering

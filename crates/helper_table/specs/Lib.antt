@@ -7,7 +7,9 @@ pub mod Lookups
 pub mod Comparisons
 pub mod Building
 pub mod Calls
+pub mod Reads
 pub mod Rows
+pub mod ReadRows
 pub mod Ends
 pub mod Kinds
 pub mod Effects

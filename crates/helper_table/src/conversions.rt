@@ -14,7 +14,8 @@ use guest_memory::{Fault, Regions};
 use itoa::Buffer;
 use value_store::{Shape, ValueStore};
 
-fn kind_number(shape: Shape<'_>) -> u64
+/// The number of a kind.
+pub(crate) fn kind_number(shape: Shape<'_>) -> u64
     ensures { result ≡ kind_number (shape_view shape.entry) }
 {
     match shape {

@@ -1,11 +1,17 @@
 //! Laws of the helper rows, each proved as the contract of an empty function.
 ghost use Rattle.helper_table.specs.Laws.{PlacedIsNamed, PlacedExtends, RowPlaces, CallsFollow, OthersPlaceNothing};
+ghost use Rattle.helper_table.specs.ReadRows.{ReadRowsHold};
 ghost use Rattle.helper_table.specs.Rows.{HelperRowsHold};
 ghost use Rattle.helper_table.specs.Tables.{TablesAreKept};
 
 /// Calls worked out by hand.
 pub fn rows_stand()
     ensures { HelperRowsHold }
+{}
+
+/// What calls read, worked out by hand.
+pub fn read_rows_stand()
+    ensures { ReadRowsHold }
 {}
 
 /// A placed value has a reference to it, and every reference keeps its value.
