@@ -1,2 +1,3 @@
 -- The lemmas of cluster_rows.
 pub mod ParamOrder
+pub mod Status

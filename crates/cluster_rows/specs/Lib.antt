@@ -11,3 +11,4 @@ pub mod Gates
 pub mod Commands
 pub mod Words
 pub mod Gatekeeper
+pub mod Status
