@@ -28,7 +28,9 @@ use Rattle.wide_translation.specs.Carried.{Carried, plain, guarded, listed, Tran
 use Rattle.wide_translation.specs.Forms.{call_tree, text_tree, first_tree, let_tree, held, is_empty_tree, is_simple}
 use Rattle.wide_translation.specs.Holds.{guard_part, value_part, list_part, IsPlain, Carries, WideHolds}
 use Rattle.wide_translation.specs.Names.{held_name}
-use Rattle.wide_translation.specs.Translated.{once, string_tree, function_carried, call_translation, value_carried, or_value_carried, test_translation, method_carried, method_translation, with_plain}
+use Rattle.wide_translation.specs.Translated.{once, string_tree, function_carried, call_translation, value_carried}
+use Rattle.wide_translation.specs.Translated.{or_value_carried, test_translation, method_carried, method_translation}
+use Rattle.wide_translation.specs.Translated.{with_plain}
 use Rattle.wide_translation.proofs.FieldsHold.{part_fits, plain_holds, with_holds, on_plain_holds, with_plain_holds, has_value_holds}
 use Rattle.wide_translation.proofs.OperatorsHold.{first_kind, second_kind}
 use Rattle.wide_meaning.specs.Functions.{bool_of}

@@ -1,5 +1,6 @@
 -- Names in the environments of the translation.
-use Rattle.std.proofs.Common.{◌≡◌, ℕ, Bool, true, false, List, Option, Some, None, bytes_eq, if◌then◌else◌, is_some, refl, ap, sym, ◌∙◌, ◌||◌, ◌&&◌, subst}
+use Rattle.std.proofs.Common.{◌≡◌, ℕ, Bool, true, false, List, Option, Some, None, bytes_eq, if◌then◌else◌, is_some}
+use Rattle.std.proofs.Common.{refl, ap, sym, ◌∙◌, ◌||◌, ◌&&◌, subst}
 use lib.Pointwise.{bytes_decides}
 use Rattle.std.specs.Option.{option_or}
 use Rattle.cel_reader.specs.Tree as tree

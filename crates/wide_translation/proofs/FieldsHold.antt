@@ -1,5 +1,6 @@
 -- Names, fields, and whether a field is there.
-use Rattle.std.proofs.Common.{◌≡◌, ℕ, Bool, true, false, List, Option, Some, None, if◌then◌else◌, is_some, unwrap_or, refl, ap, sym, ◌∙◌, subst}
+use Rattle.std.proofs.Common.{◌≡◌, ℕ, Bool, true, false, List, Option, Some, None, if◌then◌else◌, is_some, unwrap_or}
+use Rattle.std.proofs.Common.{refl, ap, sym, ◌∙◌, subst}
 use Rattle.cel_reader.specs.Tree as tree
 use Rattle.cel_reader.specs.Tree.{Tree}
 use Rattle.cel_reader.specs.declared.operator.BinaryOperator.{TheVariants.And, TheVariants.NotEqual}
@@ -24,13 +25,20 @@ use Rattle.wide_kinds.specs.declared.kind.ValueKind.{ValueKind}
 use Rattle.wide_kinds.specs.declared.kind.ValueKind.TheVariants as kind
 use Rattle.wide_kinds.specs.Fitting.{FitsKind, IsOfKind, IsOptionalOf}
 use Rattle.wide_translation.specs.Carried.{Carried, plain, guarded, listed, WideFault, UnknownName, Translation, taken, refused}
-use Rattle.wide_translation.specs.Forms.{empty_tree, guarded_tree, present_tree, access_tree, field_list_tree, flat_tree, let_tree, held, is_simple, root_tree}
-use Rattle.wide_translation.specs.Holds.{guard_part, value_part, list_part, IsPlain, IsGuarded, IsListed, Carries, WideHolds, WideNamed, Declared, WideStandsFor}
+use Rattle.wide_translation.specs.Forms.{empty_tree, guarded_tree, present_tree, access_tree, field_list_tree}
+use Rattle.wide_translation.specs.Forms.{flat_tree, let_tree, held, is_simple, root_tree}
+use Rattle.wide_translation.specs.Holds.{guard_part, value_part, list_part, IsPlain, IsGuarded, IsListed, Carries}
+use Rattle.wide_translation.specs.Holds.{WideHolds, WideNamed, Declared, WideStandsFor}
 use Rattle.wide_translation.specs.Names.{held_name, is_taken}
 use Rattle.wide_translation.specs.Scope.{WideScope, is_hidden}
-use Rattle.wide_translation.specs.Translated.{with_carried, on_plain, with_plain, on_list, root_translation, name_translation, variable_translation, optional_field, field_of_list, field_of_guarded, field_carried, has_value_carried, has_carried, has_value_translation, selected_translation}
+use Rattle.wide_translation.specs.Translated.{with_carried, on_plain, with_plain, on_list, root_translation}
+use Rattle.wide_translation.specs.Translated.{name_translation, variable_translation, optional_field, field_of_list}
+use Rattle.wide_translation.specs.Translated.{field_of_guarded, field_carried, has_value_carried, has_carried}
+use Rattle.wide_translation.specs.Translated.{has_value_translation, selected_translation}
 use Rattle.wide_translation.proofs.Environments.{variables_free, root_tree_free}
-use Rattle.wide_translation.proofs.Steps.{field_outcome, access_means, access_free, present_means, value_of_field, guarded_means, guard_again, field_list_means, let_held, once_means, after, flat_holds, field_list_held}
+use Rattle.wide_translation.proofs.Steps.{field_outcome, access_means, access_free, present_means, value_of_field}
+use Rattle.wide_translation.proofs.Steps.{guarded_means, guard_again, field_list_means, let_held, once_means, after}
+use Rattle.wide_translation.proofs.Steps.{flat_holds, field_list_held}
 
 -- ---- values and outcomes
 

@@ -1,8 +1,10 @@
 -- Bools that texts denote, and values that are not zero.
-use Rattle.std.proofs.Common.{◌≡◌, ℕ, zero, suc, Bool, true, false, ◌||◌, List, [], ◌∷◌, pos, negsuc, bytes_eq, nat_eq, if◌then◌else◌, refl, ap, ◌∙◌, arith}
+use Rattle.std.proofs.Common.{◌≡◌, ℕ, zero, suc, Bool, true, false, ◌||◌, List, [], ◌∷◌, pos, negsuc, bytes_eq, nat_eq}
+use Rattle.std.proofs.Common.{if◌then◌else◌, refl, ap, ◌∙◌, arith}
 use Rattle.cel_reader.specs.Tree.{Tree}
 use Rattle.cel_reader.specs.Words.{is_one_of}
-use Rattle.value_store.specs.Value.{Value, ValueOrError, error, value, null, boolean, int, text, list, map, no_items, item, no_entries, entry, items_of}
+use Rattle.value_store.specs.Value.{Value, ValueOrError, error, value, null, boolean, int, text, list, map, no_items}
+use Rattle.value_store.specs.Value.{item, no_entries, entry, items_of}
 use Rattle.value_store.specs.Lookup.{has_item}
 use Rattle.cel_macros.specs.Comparison.{equal_of, member_of}
 use Rattle.cel_macros.specs.Environment.{Environment}

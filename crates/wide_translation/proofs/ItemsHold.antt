@@ -1,8 +1,10 @@
 -- Indices with a question mark that are int literals.
-use Rattle.std.proofs.Common.{◌≡◌, ℕ, ◌<◌, ◌≤◌, Bool, true, false, List, length, Option, Some, None, is_some, pos, slice_get, get_or, inl, inr, ◌⊎◌, int_lt, refl, ap, sym, ◌∙◌, subst, arith}
+use Rattle.std.proofs.Common.{◌≡◌, ℕ, ◌<◌, ◌≤◌, Bool, true, false, List, length, Option, Some, None, is_some, pos}
+use Rattle.std.proofs.Common.{slice_get, get_or, inl, inr, ◌⊎◌, int_lt, refl, ap, sym, ◌∙◌, subst, arith}
 use Rattle.std.proofs.lemmas.Option.{slice_get_cases}
 use Rattle.cel_reader.specs.Tree.{Tree}
-use Rattle.value_store.specs.Value.{Value, ValueOrError, error, value, null, boolean, int, text, list, map, Items, no_items, item, items_join, list_of}
+use Rattle.value_store.specs.Value.{Value, ValueOrError, error, value, null, boolean, int, text, list, map, Items}
+use Rattle.value_store.specs.Value.{no_items, item, items_join, list_of}
 use Rattle.cel_macros.specs.Arithmetic.{sum_of}
 use Rattle.cel_macros.specs.Comparison.{equal_of, less_of}
 use Rattle.cel_macros.specs.Environment.{Environment, bind, value_or_error}

@@ -11,3 +11,7 @@ pub mod RangesHold
 pub mod Same
 pub mod Policies
 pub mod Finished
+pub mod WideViews
+pub mod Depths
+pub mod Arms
+pub mod ItemSteps

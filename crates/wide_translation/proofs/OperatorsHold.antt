@@ -27,7 +27,9 @@ use Rattle.wide_kinds.specs.Fitting.{FitsKind, IsOfKind, IsOptionalOf}
 use Rattle.wide_translation.specs.Carried.{Carried, plain, guarded, listed, OptionalValue, Translation, taken, refused}
 use Rattle.wide_translation.specs.Forms.{guarded_tree}
 use Rattle.wide_translation.specs.Holds.{list_part, IsPlain, IsListed, Carries, WideHolds}
-use Rattle.wide_translation.specs.Translated.{on_plain, on_list, equality, binary_carried, ternary_carried, Parts, parts, no_parts, joined_tree, one_more, Pairs, pairs, no_pairs, entry_more, list_translation, map_translation}
+use Rattle.wide_translation.specs.Translated.{on_plain, on_list, equality, binary_carried, ternary_carried, Parts}
+use Rattle.wide_translation.specs.Translated.{parts, no_parts, joined_tree, one_more, Pairs, pairs, no_pairs}
+use Rattle.wide_translation.specs.Translated.{entry_more, list_translation, map_translation}
 use Rattle.wide_translation.proofs.FieldsHold.{part_fits, plain_holds, on_plain_holds, on_list_holds}
 use Rattle.wide_translation.proofs.Steps.{guarded_means}
 

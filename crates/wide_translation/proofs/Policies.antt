@@ -1,7 +1,8 @@
 -- A policy's translations carry what its expressions mean.
 use lib.Pointwise.{bytes_decides}
 use Rattle.std.specs.Prelude.{⊤}
-use Rattle.std.proofs.Common.{◌≡◌, ℕ, Bool, true, false, List, [], ◌∷◌, ◌++◌, fold, map, Option, Some, None, bytes_eq, if◌then◌else◌, unwrap_or, refl, ap, sym, ◌∙◌, subst, arith, append_assoc, append-nil}
+use Rattle.std.proofs.Common.{◌≡◌, ℕ, Bool, true, false, List, [], ◌∷◌, ◌++◌, fold, map, Option, Some, None, bytes_eq}
+use Rattle.std.proofs.Common.{if◌then◌else◌, unwrap_or, refl, ap, sym, ◌∙◌, subst, arith, append_assoc, append-nil}
 use Rattle.cel_reader.specs.Tree.{Tree}
 use Rattle.cel_reader.specs.Tree as tree
 use Rattle.value_store.specs.Value.{Value, ValueOrError, error}
@@ -18,7 +19,8 @@ use Rattle.wide_translation.specs.Scope.{scope_of}
 use Rattle.wide_translation.specs.Forms.{root_tree}
 use Rattle.wide_translation.specs.Holds.{Declared, WideStandsFor}
 use Rattle.wide_translation.specs.Names.{params_name, params_field}
-use Rattle.wide_translation.specs.Placed.{placed, wide_environment, environment, WideStep, kind_of, AreTranslated, with_outcome, with_value, PolicyMeansTheSame}
+use Rattle.wide_translation.specs.Placed.{placed, wide_environment, environment, WideStep, kind_of, AreTranslated}
+use Rattle.wide_translation.specs.Placed.{with_outcome, with_value, PolicyMeansTheSame}
 use Rattle.wide_translation.specs.Results.{WideMeans, IsCarried}
 
 -- ---- roots

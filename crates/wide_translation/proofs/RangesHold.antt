@@ -25,7 +25,8 @@ use Rattle.wide_kinds.specs.Fitting.{FitsKind, IsOfKind, IsOptionalOf}
 use Rattle.wide_translation.specs.Carried.{Carried, plain, guarded, listed, Translation, taken, refused}
 use Rattle.wide_translation.specs.Forms.{macro_tree, filter_map_tree}
 use Rattle.wide_translation.specs.Holds.{IsPlain, Carries, WideHolds}
-use Rattle.wide_translation.specs.Translated.{plain_index, text_index, count_index, index_carried, macro_kind, field_carried, on_plain, with_plain}
+use Rattle.wide_translation.specs.Translated.{plain_index, text_index, count_index, index_carried, macro_kind}
+use Rattle.wide_translation.specs.Translated.{field_carried, on_plain, with_plain}
 use Rattle.wide_translation.proofs.FieldsHold.{plain_holds, on_plain_holds, field_holds}
 use Rattle.wide_translation.specs.Forms.{guarded_tree}
 use Rattle.wide_translation.proofs.ItemsHold.{item_holds, item_of_optional}

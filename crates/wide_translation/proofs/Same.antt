@@ -29,11 +29,15 @@ use Rattle.wide_translation.specs.Holds.{WideHolds, WideStandsFor}
 use Rattle.wide_translation.specs.Laws.{TranslationMeansTheSame}
 use Rattle.wide_translation.specs.Names.{held_name, is_taken}
 use Rattle.wide_translation.specs.Scope.{WideScope, within}
-use Rattle.wide_translation.specs.Translated.{operand, compares, with_carried, with_plain, on_list, optional_carried, has_carried, binary_carried, ternary_carried, fold_carried, index_carried, text_literal, count_literal, parts, pairs}
+use Rattle.wide_translation.specs.Translated.{operand, compares, with_carried, with_plain, on_list, optional_carried}
+use Rattle.wide_translation.specs.Translated.{has_carried, binary_carried, ternary_carried, fold_carried, index_carried}
+use Rattle.wide_translation.specs.Translated.{text_literal, count_literal, parts, pairs}
 unfoldable use Rattle.wide_translation.specs.Translated.{translated, all_translated, items_translated, entries_translated}
 use Rattle.wide_translation.proofs.Environments.{both_bound, held_bound}
-use Rattle.wide_translation.proofs.FieldsHold.{plain_holds, with_holds, with_plain_holds, on_list_holds, root_holds, name_holds, selected_holds, has_holds}
-use Rattle.wide_translation.proofs.OperatorsHold.{unary_holds, binary_holds, ternary_holds, PartsHold, PairsHold, part_more, list_translated, entry_holds, map_translated}
+use Rattle.wide_translation.proofs.FieldsHold.{plain_holds, with_holds, with_plain_holds, on_list_holds, root_holds}
+use Rattle.wide_translation.proofs.FieldsHold.{name_holds, selected_holds, has_holds}
+use Rattle.wide_translation.proofs.OperatorsHold.{unary_holds, binary_holds, ternary_holds, PartsHold, PairsHold}
+use Rattle.wide_translation.proofs.OperatorsHold.{part_more, list_translated, entry_holds, map_translated}
 use Rattle.wide_translation.proofs.CallsHold.{call_holds, method_called_holds}
 use Rattle.wide_translation.proofs.OptionalHold.{AllHold, optional_holds}
 use Rattle.wide_translation.proofs.RangesHold.{IsText, IsCount, index_holds, over_holds, fold_holds, filter_map_holds}

@@ -1,5 +1,6 @@
 -- The meanings of the forms that the translation writes.
-use Rattle.std.proofs.Common.{◌≡◌, ℕ, Bool, true, false, List, [], ◌∷◌, Option, Some, None, codes, if◌then◌else◌, pos, refl, ap, sym, ◌∙◌, is_some}
+use Rattle.std.proofs.Common.{◌≡◌, ℕ, Bool, true, false, List, [], ◌∷◌, Option, Some, None, codes, if◌then◌else◌, pos}
+use Rattle.std.proofs.Common.{refl, ap, sym, ◌∙◌, is_some}
 use Rattle.cel_reader.specs.Tree as tree
 use Rattle.cel_reader.specs.Tree.{Tree}
 use Rattle.cel_reader.specs.Words.{is_selector}
@@ -14,13 +15,15 @@ use Rattle.cel_macros.specs.Selection.{field_of, has_of, index_of}
 use Rattle.cel_macros.specs.Literals.{list_literal}
 use Rattle.cel_macros.specs.Macros.{macro_name, over_range, range_of, map_over_range}
 unfoldable use Rattle.cel_macros.specs.Macros.{macro_named, is_map, is_has, is_variables}
-use Rattle.cel_macros.specs.declared.macros.Macro.{Macro, TheVariants.All, TheVariants.Exists, TheVariants.ExistsOne, TheVariants.Filter, TheVariants.Map}
+use Rattle.cel_macros.specs.declared.macros.Macro.{Macro, TheVariants.All, TheVariants.Exists, TheVariants.ExistsOne}
+use Rattle.cel_macros.specs.declared.macros.Macro.{TheVariants.Filter, TheVariants.Map}
 use Rattle.cel_macros.specs.Meaning.{selected}
 unfoldable use Rattle.cel_macros.specs.Meaning.{meaning, operand_meaning, meanings}
 use Rattle.wide_meaning.specs.Outcome.{Outcome, failed, plain, absent, present, optional_of}
 use Rattle.wide_meaning.specs.Access.{sel}
 use Rattle.wide_meaning.specs.Ranges.{over_items, filter_map_over}
-use Rattle.wide_translation.specs.Forms.{one_tree, macro_tree, filter_map_tree, let_tree, held, has_tree, access_tree, present_tree, field_list_tree, guarded_tree, flat_tree, is_simple}
+use Rattle.wide_translation.specs.Forms.{one_tree, macro_tree, filter_map_tree, let_tree, held, has_tree, access_tree}
+use Rattle.wide_translation.specs.Forms.{present_tree, field_list_tree, guarded_tree, flat_tree, is_simple}
 use Rattle.wide_translation.specs.Holds.{guard_part, value_part, list_part}
 use Rattle.wide_translation.specs.Names.{held_name}
 use Rattle.wide_translation.specs.Translated.{once}

@@ -3,7 +3,9 @@ use Rattle.std.specs.Prelude.{ℕ, pos, Bool, true, false, ◌&&◌, List, codes
 use Rattle.cel_reader.specs.Tree as tree
 use Rattle.cel_reader.specs.Tree.{Tree, Trees, no_trees, more_trees, no_entries}
 use Rattle.cel_reader.specs.Words.{is_selector}
-use Rattle.cel_reader.specs.declared.operator.BinaryOperator.{BinaryOperator, TheVariants.And, TheVariants.Equal, TheVariants.NotEqual, TheVariants.In, TheVariants.Add, TheVariants.Less, TheVariants.Or}
+use Rattle.cel_reader.specs.declared.operator.BinaryOperator.{BinaryOperator, TheVariants.And, TheVariants.Equal}
+use Rattle.cel_reader.specs.declared.operator.BinaryOperator.{TheVariants.NotEqual, TheVariants.In, TheVariants.Add}
+use Rattle.cel_reader.specs.declared.operator.BinaryOperator.{TheVariants.Less, TheVariants.Or}
 use Rattle.cel_macros.specs.Macros.{macro_name, variables_name}
 use Rattle.cel_macros.specs.declared.macros.Macro.{Macro, TheVariants.Map}
 use Rattle.wide_meaning.specs.Functions.{true_texts, false_texts}
@@ -56,7 +58,9 @@ access_tree a f = if is_selector f then tree.select a f else tree.index a (tree.
 abbrev pub has_any_tree : Tree → List ℕ → Tree
 has_any_tree a f =
     if is_selector f then has_tree a f
-    else tree.ternary (has_tree a (codes "a")) (tree.binary In (tree.literal (tree.text f)) a) (tree.binary In (tree.literal (tree.text f)) a)
+    else tree.ternary (has_tree a (codes "a"))
+    (tree.binary In (tree.literal (tree.text f)) a)
+    (tree.binary In (tree.literal (tree.text f)) a)
 
 -- whether a has f: a != null && has(a.f)
 abbrev pub present_tree : Tree → List ℕ → Tree

@@ -11,5 +11,7 @@ use Rattle.wide_translation.specs.Translated.{translated}
 -- A translation, if there is one, carries what the wide expression means, in each environment that has the values of
 -- the names of another; whatever the calls mean that `wide_meaning` leaves open.
 abbrev pub TranslationMeansTheSame : Type 0
-TranslationMeansTheSame = (others : Wide → WideEnvironment → Outcome) (e : Wide) (s : WideScope) (env : WideEnvironment) (env' : Environment) → WideStandsFor s env env'
+TranslationMeansTheSame =
+    (others : Wide → WideEnvironment → Outcome) (e : Wide) (s : WideScope) (env : WideEnvironment) (env' : Environment)
+    → WideStandsFor s env env'
     → WideHolds (translated s e) (wide_meaning others e env) env'

@@ -4,7 +4,11 @@ pub mod Forms
 pub mod Carried
 pub mod Scope
 pub mod Parts
+pub mod Declarations
+pub mod Layers
+pub mod Segments
 pub mod Translated
+pub mod Keys
 pub mod Holds
 pub mod Results
 pub mod Placed

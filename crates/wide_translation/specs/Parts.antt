@@ -8,7 +8,8 @@ use Rattle.wide_kinds.specs.declared.kind.Kind.{Kind}
 use Rattle.wide_kinds.specs.declared.kind.Kind.TheVariants as of
 use Rattle.wide_kinds.specs.declared.kind.ValueKind.{ValueKind}
 use Rattle.wide_kinds.specs.declared.kind.ValueKind.TheVariants as kind
-use Rattle.wide_translation.specs.Carried.{Carried, plain, guarded, listed, WideFault, OptionalValue, Unsupported, Translation, taken, refused}
+use Rattle.wide_translation.specs.Carried.{Carried, plain, guarded, listed, WideFault, OptionalValue, Unsupported}
+use Rattle.wide_translation.specs.Carried.{Translation, taken, refused}
 use Rattle.wide_translation.specs.Forms.{guarded_tree, let_tree, held, is_simple}
 use Rattle.wide_translation.specs.Names.{held_name}
 

@@ -43,11 +43,13 @@ kind_of v = (v.name, v.kind)
 -- each variable is translated in the scope of the variables before it
 abbrev pub AreTranslated : Bool → List (List ℕ × Kind) → List WideStep → Type 0
 AreTranslated wrapped before [] = ⊤
-AreTranslated wrapped before (v ∷ vs) = WideMeans (scope_of wrapped before) v.wide v.kind v.tree × AreTranslated wrapped (before ++ kind_of v ∷ []) vs
+AreTranslated wrapped before (v ∷ vs) =
+    WideMeans (scope_of wrapped before) v.wide v.kind v.tree × AreTranslated wrapped (before ++ kind_of v ∷ []) vs
 
 -- the values of the variables: of the wide expressions, and of the translations, each with the values of those before
 -- it
-abbrev pub with_outcome : (Wide → WideEnvironment → Outcome) → Roots → List (List ℕ × Outcome) → WideStep → List (List ℕ × Outcome)
+abbrev pub with_outcome :
+    (Wide → WideEnvironment → Outcome) → Roots → List (List ℕ × Outcome) → WideStep → List (List ℕ × Outcome)
 with_outcome others roots before v = before ++ (v.name, wide_meaning others v.wide (wide_environment roots before)) ∷ []
 
 abbrev pub with_value : Roots → List (List ℕ × ValueOrError) → WideStep → List (List ℕ × ValueOrError)
@@ -56,7 +58,9 @@ with_value roots before v = before ++ (v.name, meaning v.tree (environment roots
 -- A translation in the scope of a policy's variables carries what the wide expression means with their values,
 -- whatever tables the root `params` has. So do all conditions, validations and messages.
 abbrev pub PolicyMeansTheSame : Type 0
-PolicyMeansTheSame = (others : Wide → WideEnvironment → Outcome) (wrapped : Bool) (ts : Value) (roots : Roots) (vs : List WideStep) (e : Wide) (k : Kind) (a : Tree)
+PolicyMeansTheSame =
+    (others : Wide → WideEnvironment → Outcome) (wrapped : Bool) (ts : Value) (roots : Roots) (vs : List WideStep)
+    (e : Wide) (k : Kind) (a : Tree)
     → AreTranslated wrapped [] vs → WideMeans (scope_of wrapped (each kind_of vs)) e k a
     → IsCarried k a (wide_meaning others e (wide_environment roots (fold (with_outcome others roots) [] vs)))
     (environment (placed wrapped ts roots) (fold (with_value (placed wrapped ts roots)) [] vs))

@@ -17,5 +17,7 @@ IsCarried (Optional k) a o env = IsListed k a o env
 -- In each environment that has the values of the names of another, the tree carries what the wide expression means in
 -- that other one, whatever the calls mean that `wide_meaning` leaves open.
 abbrev pub WideMeans : WideScope → Wide → Kind → Tree → Type 0
-WideMeans s e k a = (others : Wide → WideEnvironment → Outcome) (env : WideEnvironment) (env' : Environment) → WideStandsFor s env env'
+WideMeans s e k a =
+    (others : Wide → WideEnvironment → Outcome) (env : WideEnvironment) (env' : Environment)
+    → WideStandsFor s env env'
     → IsCarried k a (wide_meaning others e env) env'

@@ -48,16 +48,21 @@ pub record TranslationRowsHold : Type 0 where
       (binary Equal (field_or_nothing "a") (field_or_nothing "b"))
   -- object.spec[?0].orValue('')
   pub item_or : Becomes (or_value (maybe_item object_spec (num 0)) (str "")) kind.Dyn
-      (ternary (ternary (binary Equal plain_spec plain.nothing) plain.no (binary Less (plain.num 0) (plain.call "size" (binary Add plain_spec (plain.list_literal []) ∷ []))))
+      (ternary
+      (ternary (binary Equal plain_spec plain.nothing) plain.no
+      (binary Less (plain.num 0) (plain.call "size" (binary Add plain_spec (plain.list_literal []) ∷ []))))
       (index plain_spec (plain.num 0)) (plain.str ""))
   -- has(object.spec.`a-b`)
   pub quoted : Becomes (has object_spec "a-b") kind.Bool
       (binary And (binary NotEqual plain_spec plain.nothing)
-      (ternary (plain.call "has" (plain_field "a" ∷ [])) (binary In (plain.str "a-b") plain_spec) (binary In (plain.str "a-b") plain_spec)))
+      (ternary (plain.call "has" (plain_field "a" ∷ []))
+      (binary In (plain.str "a-b") plain_spec)
+      (binary In (plain.str "a-b") plain_spec)))
   -- string(object.spec) + 'm'
   pub as_text : Becomes (wide.binary Add (call "string" (object_spec ∷ [])) (str "m")) kind.String
       (binary Add
-      (ternary (binary Equal plain_spec plain.yes) (plain.str "true") (ternary (binary Equal plain_spec plain.no) (plain.str "false") (plain.call "string" (plain_spec ∷ []))))
+      (ternary (binary Equal plain_spec plain.yes) (plain.str "true")
+      (ternary (binary Equal plain_spec plain.no) (plain.str "false") (plain.call "string" (plain_spec ∷ []))))
       (plain.str "m"))
   -- 1 in []
   pub in_nothing : Becomes (wide.binary In (num 1) (list_literal [])) kind.Bool plain.no

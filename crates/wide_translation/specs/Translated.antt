@@ -2,8 +2,10 @@
 use Rattle.std.specs.Prelude.{ℕ, pos, nat_lt, Bool, true, false, List, [], ◌∷◌, Option, Some, None, codes, if◌then◌else◌}
 use Rattle.cel_reader.specs.Tree as tree
 use Rattle.cel_reader.specs.Tree.{Tree, no_trees, more_trees, no_entries, more_entries}
-use Rattle.cel_reader.specs.declared.operator.BinaryOperator.{BinaryOperator, TheVariants.And, TheVariants.Equal, TheVariants.NotEqual, TheVariants.In}
-use Rattle.cel_reader.specs.declared.operator.BinaryOperator.{TheVariants.Less, TheVariants.LessEqual, TheVariants.Greater, TheVariants.GreaterEqual}
+use Rattle.cel_reader.specs.declared.operator.BinaryOperator.{BinaryOperator, TheVariants.And, TheVariants.Equal}
+use Rattle.cel_reader.specs.declared.operator.BinaryOperator.{TheVariants.NotEqual, TheVariants.In}
+use Rattle.cel_reader.specs.declared.operator.BinaryOperator.{TheVariants.Less, TheVariants.LessEqual}
+use Rattle.cel_reader.specs.declared.operator.BinaryOperator.{TheVariants.Greater, TheVariants.GreaterEqual}
 use Rattle.cel_macros.specs.Environment.{lookup, is_root}
 use Rattle.cel_macros.specs.Functions.{function_name, test_name}
 use Rattle.cel_macros.specs.declared.function.Function.TheVariants as plain_function
@@ -30,9 +32,16 @@ use Rattle.wide_kinds.specs.declared.kind.Kind.TheVariants as of
 use Rattle.wide_kinds.specs.declared.kind.ValueKind.{ValueKind}
 use Rattle.wide_kinds.specs.declared.kind.ValueKind.TheVariants as kind
 use Rattle.wide_kinds.specs.Kinds.{literal_kind, unary_kind, binary_kind, joined_kind}
-use Rattle.wide_translation.specs.Carried.{Carried, plain, guarded, listed, UnknownName, OptionalValue, TakenName, UnsignedInt, Unsupported, Translation, taken, refused}
-use Rattle.wide_translation.specs.Forms.{empty_tree, one_tree, call_tree, macro_tree, filter_map_tree, first_tree, let_tree, held, access_tree, present_tree, field_list_tree, guarded_tree, flat_tree, present_item_tree, item_tree, item_list_tree, is_empty_tree, text_tree, non_zero_tree, bool_tree, text_bool_tree, root_tree, variable_tree, is_simple}
-pub use Rattle.wide_translation.specs.Parts.{with_carried, on_plain, with_plain, as_list, from_list, on_list, IsFinished, once, Parts, parts, no_parts, joined_tree, list_more, one_more, Pairs, pairs, no_pairs, entry_more, list_translation, map_translation}
+use Rattle.wide_translation.specs.Carried.{Carried, plain, guarded, listed, UnknownName, OptionalValue, TakenName}
+use Rattle.wide_translation.specs.Carried.{UnsignedInt, Unsupported, Translation, taken, refused}
+use Rattle.wide_translation.specs.Forms.{empty_tree, one_tree, call_tree, macro_tree, filter_map_tree, first_tree}
+use Rattle.wide_translation.specs.Forms.{let_tree, held, access_tree, present_tree, field_list_tree, guarded_tree}
+use Rattle.wide_translation.specs.Forms.{flat_tree, present_item_tree, item_tree, item_list_tree, is_empty_tree}
+use Rattle.wide_translation.specs.Forms.{text_tree, non_zero_tree, bool_tree, text_bool_tree, root_tree, variable_tree}
+use Rattle.wide_translation.specs.Forms.{is_simple}
+pub use Rattle.wide_translation.specs.Parts.{with_carried, on_plain, with_plain, as_list, from_list, on_list, IsFinished, once}
+pub use Rattle.wide_translation.specs.Parts.{Parts, parts, no_parts, joined_tree, list_more, one_more, list_translation}
+pub use Rattle.wide_translation.specs.Parts.{Pairs, pairs, no_pairs, entry_more, map_translation}
 use Rattle.wide_translation.specs.Names.{held_name, is_taken}
 use Rattle.wide_translation.specs.Scope.{WideScope, within, is_hidden}
 
@@ -124,7 +133,8 @@ binary_carried empty op c d = on_plain c (λ k a. on_plain d (λ j b. plain_bina
 -- the branches are both values or both optional values
 abbrev pub ternary_carried : Tree → Carried → Carried → Translation
 ternary_carried t (plain k a) d = on_plain d (λ j b. taken (plain (joined_kind k j) (tree.ternary t a b)))
-ternary_carried t c d = on_list OptionalValue c (λ k l. on_list OptionalValue d (λ j m. taken (listed (joined_kind k j) (tree.ternary t l m))))
+ternary_carried t c d =
+    on_list OptionalValue c (λ k l. on_list OptionalValue d (λ j m. taken (listed (joined_kind k j) (tree.ternary t l m))))
 
 -- ---- macros
 
@@ -197,7 +207,8 @@ value_carried (listed k l) = taken (plain k (first_tree l))
 abbrev pub or_value_carried : Carried → ValueKind → Tree → Translation
 or_value_carried (plain k t) j d = refused (UnknownName (method_name method.OrValue))
 or_value_carried (guarded k g v) j d = taken (plain (joined_kind k j) (tree.ternary g v d))
-or_value_carried (listed k l) j d = taken (plain (joined_kind k j) (let_tree held_name l (tree.ternary (is_empty_tree held) d (first_tree held))))
+or_value_carried (listed k l) j d =
+    taken (plain (joined_kind k j) (let_tree held_name l (tree.ternary (is_empty_tree held) d (first_tree held))))
 
 abbrev pub has_value_translation : Carried → Translation
 has_value_translation (plain k t) = refused (UnknownName (method_name method.HasValue))
@@ -279,7 +290,9 @@ compares _ = false
 
 -- an operand of an operator: an unsigned int, if it may be one and fits 63 bits, is an int
 abbrev pub operand : Bool → Wide → Translation → Translation
-operand true (wide.uint n) t = if nat_lt n 9223372036854775808 then taken (plain kind.Int (tree.literal (tree.int (pos n)))) else refused UnsignedInt
+operand true (wide.uint n) t =
+    if nat_lt n 9223372036854775808 then taken (plain kind.Int (tree.literal (tree.int (pos n))))
+    else refused UnsignedInt
 operand _ a t = t
 
 unfoldable mutual
@@ -290,13 +303,16 @@ unfoldable mutual
   translated s (wide.name n) = name_translation (lookup n s.names) n (root_translation s.wrapped n)
   translated s (wide.root n) = root_translation s.wrapped n
   translated s (wide.select a o f) = selected_translation (denotes_variables a (is_hidden s)) o f s (translated s a)
-  translated s (wide.index a o k) = with_carried (translated s a) (λ c. with_carried (translated s k) (λ d. index_carried (text_literal k) (count_literal k) o c d))
+  translated s (wide.index a o k) =
+      with_carried (translated s a) (λ c. with_carried (translated s k) (λ d. index_carried (text_literal k) (count_literal k) o c d))
   translated s (wide.has a f) = with_carried (translated s a) (λ c. taken (plain kind.Bool (has_carried f c)))
   translated s (wide.unary op a) = with_plain (translated s a) (λ k t. taken (plain (unary_kind op) (tree.unary op t)))
   translated s (wide.binary op a b) =
-      with_carried (operand (compares op) a (translated s a)) (λ c. with_carried (operand (compares op) b (translated s b)) (λ d. binary_carried (is_empty_list b) op c d))
+      with_carried (operand (compares op) a (translated s a)) (λ c. with_carried (operand (compares op) b (translated s b))
+      (λ d. binary_carried (is_empty_list b) op c d))
   translated s (wide.ternary c a b) =
-      with_plain (translated s c) (λ k t. with_carried (translated s a) (λ d. with_carried (translated s b) (λ e. ternary_carried t d e)))
+      with_plain (translated s c) (λ k t. with_carried (translated s a)
+      (λ d. with_carried (translated s b) (λ e. ternary_carried t d e)))
   translated s (wide.list items) = list_translation (items_translated s items)
   translated s (wide.map es) = map_translation (entries_translated s es)
   translated s (wide.fold m r x p) =
@@ -304,15 +320,17 @@ unfoldable mutual
       else with_plain (translated s r) (λ k a. with_plain (translated (within x kind.Dyn s) p) (λ j b. taken (fold_carried m x a b)))
   translated s (wide.filter_map r x p t) =
       if is_taken x then refused (TakenName x)
-      else with_plain (translated s r) (λ k a. with_plain (translated (within x kind.Dyn s) p) (λ j b. with_plain (translated (within x kind.Dyn s) t)
-      (λ i c. taken (plain kind.List (filter_map_tree x a b c)))))
+      else with_plain (translated s r) (λ k a. with_plain (translated (within x kind.Dyn s) p)
+      (λ j b. with_plain (translated (within x kind.Dyn s) t) (λ i c. taken (plain kind.List (filter_map_tree x a b c)))))
   translated s (wide.call n es) = call_translation (function_named n) n (all_translated s es)
-  translated s (wide.method a n es) = method_translation (qualified_named (namespace_in a) n) (method_named n) n (translated s a) (all_translated s es)
+  translated s (wide.method a n es) =
+      method_translation (qualified_named (namespace_in a) n) (method_named n) n (translated s a) (all_translated s es)
   translated s (wide.pair_fold m r k v p) = refused Unsupported
   translated s (wide.pair_filter_map r k v p t) = refused Unsupported
   translated s (wide.optional_fold m a x t) =
       if is_taken x then refused (TakenName x)
-      else with_carried (translated s a) (λ c. on_list OptionalValue c (λ k l. with_carried (translated (within x kind.Dyn s) t) (optional_carried m x l)))
+      else with_carried (translated s a) (λ c. on_list OptionalValue c
+      (λ k l. with_carried (translated (within x kind.Dyn s) t) (optional_carried m x l)))
 
   -- the translation of each of the expressions
   pub all_translated : WideScope → Wides → List Translation

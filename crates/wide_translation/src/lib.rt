@@ -1,6 +1,27 @@
-//! The translation of expressions as clusters store them into the expressions that are compiled.
+//! Translates expressions as clusters store them into the expressions that are compiled.
 #![tactic(auto)]
 
+mod build;
+mod calls;
+mod carried;
+mod conversions;
+mod copying;
+mod fields;
+mod indices;
 mod laws;
+mod lists;
+mod names;
+mod naming;
+mod operators;
+mod presence;
+mod ranges;
+mod scope;
+mod translated;
+mod translating;
+mod translation_error;
 
 pub use laws::{policy_means_the_same, rows_stand, translation_means_the_same};
+pub use scope::{Scope, Variable};
+pub use translated::Translated;
+pub use translating::translate;
+pub use translation_error::TranslationError;

@@ -1,6 +1,7 @@
 -- Proof obligations of `rows_stand` (src/laws.rt).
 unfoldable use Rattle.cel_macros.specs.Environment.{is_root}
-unfoldable use Rattle.wide_meaning.specs.Functions.{function_named, method_named, text_method, optional_method, list_method, optional_named, sets_named, qualified_named}
+unfoldable use Rattle.wide_meaning.specs.Functions.{function_named, method_named, text_method, optional_method}
+unfoldable use Rattle.wide_meaning.specs.Functions.{list_method, optional_named, sets_named, qualified_named}
 unfoldable use Rattle.wide_translation.specs.Translated.{translated}
 use Rattle.wide_translation.proofs.laws.rows_stand.Goals as goal
 

@@ -1,0 +1,141 @@
+-- Operands, arguments and indices by their form.
+use Rattle.std.proofs.lemmas.Bool.Decides.{nat_tests}
+use Rattle.std.proofs.Common.{◌≡◌, ◌==◌, ◌∙◌, ap, ℕ, ℤ, pos, negsuc, ◌<◌, ◌<ℤ◌, ◌≤ℤ◌, Bool, true, false, List, [], ◌∷◌}
+use Rattle.std.proofs.Common.{Option, Some, None, Result, Ok, Err, IsErr, IsErrAnd, length, get_or, map, refl, sym}
+use Rattle.std.proofs.Common.{subst, arith}
+use Rattle.std.specs.declared.alloc.Global.{Global}
+use Rattle.std.specs.declared.vec.Vec.{Vec}
+use Rattle.cel_reader.specs.Tree as node
+use Rattle.cel_reader.specs.declared.operator.BinaryOperator.{BinaryOperator, TheVariants.Equal, TheVariants.NotEqual}
+use Rattle.wide_reader.specs.Tree as wide
+use Rattle.wide_reader.specs.Tree.{Wide}
+use Rattle.wide_reader.specs.declared.wide.Access.{Access}
+use Rattle.wide_reader.specs.declared.wide.Wide.{Wide as CodeWide}
+use Rattle.wide_reader.specs.declared.wide.Wide as code
+use Rattle.wide_meaning.specs.Functions.{method_name}
+use Rattle.wide_meaning.specs.Meaning.{is_empty_list}
+use Rattle.wide_meaning.specs.declared.function.Function.{Function}
+use Rattle.wide_meaning.specs.declared.function.Method.{Method}
+use Rattle.wide_meaning.specs.declared.function.Method.TheVariants as method
+use Rattle.wide_meaning.specs.declared.function.Qualified.{Qualified}
+use Rattle.wide_meaning.specs.declared.function.Qualified.TheVariants as qualified
+use Rattle.wide_translation.specs.declared.carried.Carried.{Carried as CodeCarried}
+use Rattle.wide_translation.specs.declared.translation_error.TranslationError.{TranslationError}
+use Rattle.wide_translation.specs.Carried.{Carried, UnknownName, UnsignedInt, Translation, taken, refused}
+use Rattle.wide_translation.specs.Declarations.{ReturnsCarried, IsRefusal}
+use Rattle.wide_translation.specs.Layers.{compared_uint, is_equality}
+use Rattle.wide_translation.specs.Scope.{WideScope}
+use Rattle.wide_translation.specs.Translated.{on_plain, equality, plain_binary, binary_carried, operand}
+use Rattle.wide_translation.specs.Translated.{function_carried, call_translation, qualified_translation, method_carried}
+use Rattle.wide_translation.specs.Translated.{index_carried, plain_index, count_index, count_literal}
+unfoldable use Rattle.wide_translation.specs.Translated.{translated, all_translated}
+use Rattle.wide_translation.proofs.WideViews.{view_list}
+
+-- whether a list literal has no items
+items_empty : (es : List (Access × CodeWide)) → is_empty_list (wide.list (wide.items (map wide.item_view es))) ≡ (length es == 0)
+items_empty [] = refl
+items_empty (e ∷ es) = grind (arith, nat_tests)
+
+pub list_is_empty : (given : Vec (Access × CodeWide) Global) → is_empty_list (wide.view (code.List given)) ≡ (length given.items == 0)
+list_is_empty given = ap is_empty_list (view_list given) ∙ items_empty given.items
+
+number : Option ℕ → ℕ
+number (Some n) = n
+number None = 0
+
+pub compared_some : (b : Bool) (a : Wide) (n : ℕ) (t : Translation) → Some n ≡ compared_uint b a → operand b a t ≡ operand true (wide.uint n) (refused UnsignedInt)
+unfolding number
+compared_some true (wide.uint m) n t h = (λ j. operand true (wide.uint (number (sym h j))) t)
+compared_some true _ n t h = absurd (cc)
+compared_some false a n t h = absurd (cc)
+
+pub compared_none : (b : Bool) (a : Wide) (t : Translation) → None ≡ compared_uint b a → operand b a t ≡ t
+compared_none true (wide.uint m) t h = absurd (cc)
+compared_none true _ t h = refl
+compared_none false a t h = refl
+
+pub call_of_none : (f : Option Function) (n : List ℕ) (es : List CodeWide) (s : WideScope) → length es < 1
+    → call_translation f n (all_translated s (wide.wides (map wide.view es))) ≡ refused (UnknownName n)
+unfolding all_translated
+call_of_none None n es s h = refl
+call_of_none (Some f) n [] s h = refl
+call_of_none (Some f) n (a ∷ es) s h = absurd (omega arith)
+
+pub call_of_many : (f : Option Function) (n : List ℕ) (es : List CodeWide) (s : WideScope) → 1 < length es
+    → call_translation f n (all_translated s (wide.wides (map wide.view es))) ≡ refused (UnknownName n)
+unfolding all_translated
+call_of_many None n es s h = refl
+call_of_many (Some f) n (a ∷ b ∷ es) s h = refl
+call_of_many (Some f) n _ s h = absurd (omega arith)
+
+qualified_refused : (q : Qualified) (n : List ℕ) (t u : Translation) (ts : List Translation) → qualified_translation q n (t ∷ u ∷ ts) ≡ refused (UnknownName n)
+qualified_refused qualified.OptionalOf n t u ts = refl
+qualified_refused _ n t u ts = refl
+
+pub qualified_of_many : (q : Qualified) (n : List ℕ) (es : List CodeWide) (s : WideScope) → 1 < length es
+    → qualified_translation q n (all_translated s (wide.wides (map wide.view es))) ≡ refused (UnknownName n)
+unfolding all_translated
+qualified_of_many q n (a ∷ b ∷ es) s h = qualified_refused q n _ _ _
+qualified_of_many q n _ s h = absurd (omega arith)
+
+method_refused : (m : Method) (c : Carried) (t u : Translation) (ts : List Translation) → method_carried m c (t ∷ u ∷ ts) ≡ refused (UnknownName (method_name m))
+method_refused method.Size c t u ts = refl
+method_refused _ c t u ts = refl
+
+pub method_of_many : (m : Method) (c : Carried) (es : List CodeWide) (s : WideScope) → 1 < length es
+    → method_carried m c (all_translated s (wide.wides (map wide.view es))) ≡ refused (UnknownName (method_name m))
+unfolding all_translated
+method_of_many m c (a ∷ b ∷ es) s h = method_refused m c _ _ _
+method_of_many m c _ s h = absurd (omega arith)
+
+pub counted : (z : ℤ) (o : Access) (c d : Carried) (r : Result CodeCarried TranslationError) → pos 0 ≤ℤ z → ((n : ℕ) → z ≡ pos n → ReturnsCarried (count_index n o c d) r)
+    → ReturnsCarried (index_carried None (count_literal (wide.literal (node.int z))) o c d) r
+counted (pos n) o c d r h f = f n refl
+counted (negsuc n) o c d r h f = absurd (omega (arith, h))
+
+pub equality_arm : (empty : Bool) (op : BinaryOperator) (c d : Carried) → is_equality op ≡ true → binary_carried empty op c d ≡ equality op c d
+equality_arm empty Equal c d h = refl
+equality_arm empty NotEqual c d h = refl
+equality_arm empty _ c d h = absurd (cc)
+
+pub operands_arm : (empty : Bool) (op : BinaryOperator) (c d : Carried) → is_equality op ≡ false
+    → binary_carried empty op c d ≡ on_plain c (λ k a. on_plain d (λ j b. plain_binary empty op k j a b))
+operands_arm empty Equal c d h = absurd (cc)
+operands_arm empty NotEqual c d h = absurd (cc)
+operands_arm empty _ c d h = refl
+
+-- ---- arguments
+
+all_of_none : (s : WideScope) (es : List CodeWide) → length es < 1 → all_translated s (wide.wides (map wide.view es)) ≡ []
+unfolding all_translated
+all_of_none s [] h = refl
+all_of_none s (a ∷ es) h = absurd (omega arith)
+
+all_of_one : (s : WideScope) (es : List CodeWide) (a : CodeWide) → length es ≡ 1 → a ≡ get_or es 0 a → all_translated s (wide.wides (map wide.view es)) ≡ translated s (wide.view a) ∷ []
+unfolding all_translated
+all_of_one s [] a h is = absurd (omega arith)
+all_of_one s (b ∷ []) a h is = ap (λ (x : CodeWide). translated s (wide.view x) ∷ []) (sym is)
+all_of_one s (b ∷ d ∷ es) a h is = absurd (omega arith)
+
+returns_at : (t u : Translation) (r : Result CodeCarried TranslationError) → t ≡ u → ReturnsCarried t r → ReturnsCarried u r
+returns_at t u r h x = subst (λ (y : Translation). ReturnsCarried y r) h x
+
+pub none_returns : (f : List Translation → Translation) (s : WideScope) (es : List CodeWide) (r : Result CodeCarried TranslationError) → length es < 1
+    → ReturnsCarried (f []) r → ReturnsCarried (f (all_translated s (wide.wides (map wide.view es)))) r
+none_returns f s es r h x = returns_at _ _ r (ap f (sym (all_of_none s es h))) x
+
+pub one_returns : (f : List Translation → Translation) (s : WideScope) (es : List CodeWide) (a : CodeWide) (r : Result CodeCarried TranslationError) → length es ≡ 1 → a ≡ get_or es 0 a
+    → ReturnsCarried (f (translated s (wide.view a) ∷ [])) r → ReturnsCarried (f (all_translated s (wide.wides (map wide.view es)))) r
+one_returns f s es a r h is x = returns_at _ _ r (ap f (sym (all_of_one s es a h is))) x
+
+pub call_taken : (f : Option Function) (g : Function) (n : List ℕ) (t : Translation) (c : Carried) (r : Result CodeCarried TranslationError) → f ≡ Some g → t ≡ taken c
+    → ReturnsCarried (on_plain c (function_carried g)) r → ReturnsCarried (call_translation f n (t ∷ [])) r
+call_taken f g n t c r p q x = returns_at _ _ r (sym (λ j. call_translation (p j) n (q j ∷ []))) x
+
+pub call_refused : (f : Option Function) (g : Function) (n : List ℕ) (t : Translation) (e : TranslationError) → f ≡ Some g → IsRefusal t e → IsRefusal (call_translation f n (t ∷ [])) e
+call_refused f g n t e p x = λ m. (λ j. call_translation (p j) n (x m j ∷ []))
+
+-- an error that `?` passes on
+pub passed_on : (t : Translation) (e : TranslationError) (r : Result CodeCarried TranslationError) → IsRefusal t e → IsErr r → IsErrAnd r (λ x. x ≡ e) → ReturnsCarried t r
+passed_on t e (Ok c) h err is = absurd is
+passed_on t e (Err x) h err is = subst (λ (y : TranslationError). IsRefusal t y) (sym is) h

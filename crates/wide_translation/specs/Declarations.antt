@@ -1,0 +1,70 @@
+-- Scopes, trees and errors of the code as plain data.
+use Rattle.std.specs.Prelude.{◌≡◌, ℕ, Bool, true, false, List, Result, Ok, Err, map, string_bytes}
+use Rattle.cel_reader.specs.Tree.{Tree, view}
+use Rattle.wide_kinds.specs.declared.kind.Kind.{Kind}
+use Rattle.wide_translation.specs.declared.carried.Carried.{Carried as CodeCarried}
+use Rattle.wide_translation.specs.declared.carried.Carried.TheVariants as code
+use Rattle.wide_translation.specs.declared.names.Names.{Names}
+use Rattle.wide_translation.specs.declared.names.Names.TheOpen.{Names-F}
+use Rattle.wide_translation.specs.declared.names.Names.TheOpen as layer
+use Rattle.wide_translation.specs.declared.names.Names.TheFolds.{fold-Names}
+use Rattle.wide_translation.specs.declared.scope.Variable.{Variable}
+use Rattle.wide_translation.specs.declared.translated.Translated.{Translated}
+use Rattle.wide_translation.specs.declared.translation_error.TranslationError.{TranslationError}
+use Rattle.wide_translation.specs.declared.translation_error.TranslationError.TheVariants as error
+use Rattle.wide_translation.specs.Carried.{Carried, plain, guarded, listed, WideFault, UnknownName, OptionalValue}
+use Rattle.wide_translation.specs.Carried.{TakenName, UnsignedInt, Unsupported, Translation, taken, refused}
+use Rattle.wide_translation.specs.Parts.{IsFinished}
+use Rattle.wide_translation.specs.Scope.{WideScope, within, scope_of}
+
+-- a variable and its kind
+abbrev pub declaration : Variable → List ℕ × Kind
+declaration v = (string_bytes v.name, v.kind)
+
+-- one layer of names, and the scope of the names around it
+abbrev pub scope_step : Names-F WideScope → WideScope
+scope_step (layer.Outside variables wrapped) = scope_of wrapped (map declaration variables.now)
+scope_step (layer.Within n k outer) = within n.now k outer.now
+
+-- the scope of the code's names
+abbrev pub scope_in : Names → WideScope
+scope_in = fold-Names WideScope scope_step
+
+-- what the code carries as plain data
+abbrev pub carried_view : CodeCarried → Carried
+carried_view (code.Plain k t) = plain k (view t)
+carried_view (code.Guarded k g v) = guarded k (view g) (view v)
+carried_view (code.Listed k l) = listed k (view l)
+
+-- whether an error is out of memory, which has no cause in the expression
+abbrev pub is_memory : TranslationError → Bool
+is_memory error.Memory = true
+is_memory _ = false
+
+-- the fault that an error tells; that of out of memory is not used
+abbrev pub fault_of : TranslationError → WideFault
+fault_of (error.UnknownName n) = UnknownName (string_bytes n)
+fault_of error.OptionalValue = OptionalValue
+fault_of (error.TakenName n) = TakenName (string_bytes n)
+fault_of error.UnsignedInt = UnsignedInt
+fault_of error.Unsupported = Unsupported
+fault_of error.Memory = Unsupported
+
+-- the translation is refused with the fault of the error, unless that is out of memory
+abbrev pub IsRefusal : Translation → TranslationError → Type 0
+IsRefusal t e = is_memory e ≡ false → t ≡ refused (fault_of e)
+
+-- the translation is taken, and finished as this kind and tree
+abbrev pub IsTranslatedTo : Translation → Kind → Tree → Type 0
+IsTranslatedTo (taken c) k a = IsFinished c k a
+IsTranslatedTo (refused f) k a = ⊥
+
+-- what the code returns is the translation, or the error of its fault
+abbrev pub IsTranslation : Translation → Result Translated TranslationError → Type 0
+IsTranslation t (Ok r) = IsTranslatedTo t r.kind (view r.expression)
+IsTranslation t (Err e) = IsRefusal t e
+
+-- the same of a translation that is not finished
+abbrev pub ReturnsCarried : Translation → Result CodeCarried TranslationError → Type 0
+ReturnsCarried t (Ok c) = t ≡ taken (carried_view c)
+ReturnsCarried t (Err e) = IsRefusal t e

@@ -1,0 +1,288 @@
+//! Builds expressions from their parts.
+
+ghost use Rattle.std.specs.Prelude.{◌≡◌, IfOk, string_bytes};
+ghost use Rattle.std.specs.Prelude as list;
+ghost use Rattle.cel_reader.specs.Tree as node;
+ghost use Rattle.cel_reader.specs.Tree.{view, trees, entries, entry_view};
+ghost use Rattle.wide_translation.specs.Forms as forms;
+ghost use Rattle.wide_translation.specs.Names as names;
+
+use crate::names::{HELD, PARAMS, PARAMS_FIELD, VARIABLES};
+use cel_macros::Macro;
+use cel_reader::{BinaryOperator, Expr, Literal, UnaryOperator};
+use std::alloc::{AllocError, Global};
+
+/// A name.
+pub(crate) fn name(alloc: Global, name: &str) -> Result<Expr, AllocError>
+    ensures { IfOk result (λ e. view e ≡ node.name name.now) }
+{
+    Ok(Expr::Name(String::from_str(alloc, name)?))
+}
+
+/// A text literal.
+pub(crate) fn text(alloc: Global, text: &str) -> Result<Expr, AllocError>
+    ensures { IfOk result (λ e. view e ≡ node.literal (node.text text.now)) }
+{
+    Ok(Expr::Literal(Literal::Text(String::from_str(alloc, text)?)))
+}
+
+/// The name that the translation binds.
+pub(crate) fn held(alloc: Global) -> Result<Expr, AllocError>
+    ensures { IfOk result (λ e. view e ≡ forms.held) }
+{
+    name(alloc, HELD)
+}
+
+/// A field of an expression.
+pub(crate) fn select(alloc: Global, of: Expr, field: &str) -> Result<Expr, AllocError>
+    ensures { IfOk result (λ e. view e ≡ node.select (view of) field.now) }
+{
+    let copy = String::from_str(alloc, field)?;
+    Ok(Expr::Select(Box::new(alloc, of)?, copy))
+}
+
+/// A root; `params` is a field of its root if that has tables too.
+pub(crate) fn root(alloc: Global, given: &str, wrapped: bool) -> Result<Expr, AllocError>
+    ensures { IfOk result (λ e. view e ≡ forms.root_tree wrapped given.now) }
+{
+    if wrapped && PARAMS == given {
+        let of = name(alloc, PARAMS)?;
+        return select(alloc, of, PARAMS_FIELD);
+    }
+    name(alloc, given)
+}
+
+/// A variable.
+pub(crate) fn variable(alloc: Global, field: &str) -> Result<Expr, AllocError>
+    ensures { IfOk result (λ e. view e ≡ forms.variable_tree field.now) }
+{
+    let of = name(alloc, VARIABLES)?;
+    select(alloc, of, field)
+}
+
+/// An item or entry of an expression.
+pub(crate) fn index(alloc: Global, of: Expr, key: Expr) -> Result<Expr, AllocError>
+    ensures { IfOk result (λ e. view e ≡ node.index (view of) (view key)) }
+{
+    Ok(Expr::Index(Box::new(alloc, of)?, Box::new(alloc, key)?))
+}
+
+/// The first item of an expression.
+pub(crate) fn first(alloc: Global, of: Expr) -> Result<Expr, AllocError>
+    ensures { IfOk result (λ e. view e ≡ forms.first_tree (view of)) }
+{
+    index(alloc, of, Expr::Literal(Literal::Int(0)))
+}
+
+/// A call of a function with one argument.
+pub(crate) fn call(alloc: Global, name: &str, argument: Expr) -> Result<Expr, AllocError>
+    ensures { IfOk result (λ e. view e ≡ forms.call_tree name.now (view argument)) }
+{
+    let callee = String::from_str(alloc, name)?;
+    let mut arguments = Vec::new(alloc);
+    arguments.push(argument)?;
+    Ok(Expr::Call(callee, arguments))
+}
+
+/// Whether an expression has a field.
+pub(crate) fn has(alloc: Global, of: Expr, field: &str) -> Result<Expr, AllocError>
+    ensures { IfOk result (λ e. view e ≡ forms.has_tree (view of) field.now) }
+{
+    let selection = select(alloc, of, field)?;
+    call(alloc, "has", selection)
+}
+
+/// A call of a method without arguments.
+pub(crate) fn method(alloc: Global, of: Expr, name: &str) -> Result<Expr, AllocError>
+    ensures { IfOk result (λ e. view e ≡ node.method (view of) name.now node.no_trees) }
+{
+    let callee = String::from_str(alloc, name)?;
+    Ok(Expr::Method(Box::new(alloc, of)?, callee, Vec::new(alloc)))
+}
+
+/// A call of a method with one argument.
+pub(crate) fn method_with(
+    alloc: Global,
+    of: Expr,
+    name: &str,
+    argument: Expr,
+) -> Result<Expr, AllocError>
+    ensures { IfOk result (λ e. view e ≡ node.method (view of) name.now (node.more_trees (view argument) node.no_trees)) }
+{
+    let callee = String::from_str(alloc, name)?;
+    let mut arguments = Vec::new(alloc);
+    arguments.push(argument)?;
+    Ok(Expr::Method(Box::new(alloc, of)?, callee, arguments))
+}
+
+/// An operator before an operand.
+pub(crate) fn unary(
+    alloc: Global,
+    operator: UnaryOperator,
+    operand: Expr,
+) -> Result<Expr, AllocError>
+    ensures { IfOk result (λ e. view e ≡ node.unary operator (view operand)) }
+{
+    Ok(Expr::Unary(operator, Box::new(alloc, operand)?))
+}
+
+/// An operator between operands.
+pub(crate) fn binary(
+    alloc: Global,
+    operator: BinaryOperator,
+    left: Expr,
+    right: Expr,
+) -> Result<Expr, AllocError>
+    ensures { IfOk result (λ e. view e ≡ node.binary operator (view left) (view right)) }
+{
+    Ok(Expr::Binary(operator, Box::new(alloc, left)?, Box::new(alloc, right)?))
+}
+
+/// A conditional.
+pub(crate) fn ternary(
+    alloc: Global,
+    condition: Expr,
+    yes: Expr,
+    no: Expr,
+) -> Result<Expr, AllocError>
+    ensures { IfOk result (λ e. view e ≡ node.ternary (view condition) (view yes) (view no)) }
+{
+    Ok(Expr::Ternary(
+        Box::new(alloc, condition)?,
+        Box::new(alloc, yes)?,
+        Box::new(alloc, no)?,
+    ))
+}
+
+/// An empty list literal.
+pub(crate) fn empty(alloc: Global) -> Expr
+    ensures { view result ≡ forms.empty_tree }
+{
+    Expr::List(Vec::new(alloc))
+}
+
+/// A list literal of one item.
+pub(crate) fn one(alloc: Global, item: Expr) -> Result<Expr, AllocError>
+    ensures { IfOk result (λ e. view e ≡ forms.one_tree (view item)) }
+{
+    let mut items = Vec::new(alloc);
+    items.push(item)?;
+    Ok(Expr::List(items))
+}
+
+/// A list literal.
+pub(crate) fn list(items: Vec<Expr>) -> Expr
+    ensures { view result ≡ node.list (trees (list.map view items.items)) }
+{
+    Expr::List(items)
+}
+
+/// A map literal.
+pub(crate) fn map(pairs: Vec<(Expr, Expr)>) -> Expr
+    ensures { view result ≡ node.map (entries (list.map entry_view pairs.items)) }
+{
+    Expr::Map(pairs)
+}
+
+/// A macro over a range, by its name.
+fn macro_named(
+    alloc: Global,
+    name: &str,
+    item: &str,
+    range: Expr,
+    part: Expr,
+) -> Result<Expr, AllocError>
+    ensures { IfOk result (λ e. view e ≡ node.method (view range) name.now (node.more_trees (node.name item.now) (node.more_trees (view part) node.no_trees))) }
+{
+    let callee = String::from_str(alloc, name)?;
+    let iteration_name = Expr::Name(String::from_str(alloc, item)?);
+    let mut arguments = Vec::new(alloc);
+    arguments.push(iteration_name)?;
+    arguments.push(part)?;
+    Ok(Expr::Method(Box::new(alloc, range)?, callee, arguments))
+}
+
+/// A macro over a range.
+pub(crate) fn fold(
+    alloc: Global,
+    found: Macro,
+    item: &str,
+    range: Expr,
+    part: Expr,
+) -> Result<Expr, AllocError>
+    ensures { IfOk result (λ e. view e ≡ forms.macro_tree found item.now (view range) (view part)) }
+{
+    match found {
+        Macro::All => macro_named(alloc, "all", item, range, part),
+        Macro::Exists => macro_named(alloc, "exists", item, range, part),
+        Macro::ExistsOne => macro_named(alloc, "exists_one", item, range, part),
+        Macro::Filter => macro_named(alloc, "filter", item, range, part),
+        Macro::Map => macro_named(alloc, "map", item, range, part),
+    }
+}
+
+/// `map` with a predicate and a transform.
+pub(crate) fn filter_map(
+    alloc: Global,
+    item: &str,
+    range: Expr,
+    predicate: Expr,
+    transform: Expr,
+) -> Result<Expr, AllocError>
+    ensures { IfOk result (λ e. view e ≡ forms.filter_map_tree item.now (view range) (view predicate) (view transform)) }
+{
+    let callee = String::from_str(alloc, "map")?;
+    let iteration_name = Expr::Name(String::from_str(alloc, item)?);
+    let mut arguments = Vec::new(alloc);
+    arguments.push(iteration_name)?;
+    arguments.push(predicate)?;
+    arguments.push(transform)?;
+    Ok(Expr::Method(Box::new(alloc, range)?, callee, arguments))
+}
+
+/// An expression with the name that the translation binds for the value of another.
+pub(crate) fn bound(alloc: Global, of: Expr, body: Expr) -> Result<Expr, AllocError>
+    ensures { IfOk result (λ e. view e ≡ forms.let_tree names.held_name (view of) (view body)) }
+{
+    let items = one(alloc, of)?;
+    let mapped = fold(alloc, Macro::Map, HELD, items, body)?;
+    first(alloc, mapped)
+}
+
+/// The list of an expression if a guard holds, else the empty list.
+pub(crate) fn guarded(alloc: Global, guard: Expr, value: Expr) -> Result<Expr, AllocError>
+    ensures { IfOk result (λ e. view e ≡ forms.guarded_tree (view guard) (view value)) }
+{
+    let items = one(alloc, value)?;
+    ternary(alloc, guard, items, empty(alloc))
+}
+
+/// What a list is for the item of another, or the empty list.
+pub(crate) fn flat(alloc: Global, item: &str, of: Expr, body: Expr) -> Result<Expr, AllocError>
+    ensures { IfOk result (λ e. view e ≡ forms.flat_tree item.now (view of) (view body)) }
+{
+    let mapped = fold(alloc, Macro::Map, item, of, body)?;
+    let last = one(alloc, empty(alloc))?;
+    let lists = binary(alloc, BinaryOperator::Add, mapped, last)?;
+    first(alloc, lists)
+}
+
+/// Whether an expression is cheap to write again.
+pub(crate) fn is_simple(e: &Expr) -> bool
+    ensures { result ≡ forms.is_simple (view e.now) }
+{
+    match e {
+        Expr::Literal(_) => true,
+        Expr::Name(_) => true,
+        Expr::Select(of, _) => is_simple(of),
+        Expr::Index(of, at) => is_simple(of) && is_leaf(at),
+        _ => false,
+    }
+}
+
+/// Whether an expression is a literal or a name.
+fn is_leaf(e: &Expr) -> bool
+    ensures { result ≡ forms.is_leaf (view e.now) }
+{
+    matches!(e, Expr::Literal(_) | Expr::Name(_))
+}

@@ -1,0 +1,222 @@
+//! Values as texts, texts as bools, and optional values of values that are not zero.
+
+ghost use Rattle.std.specs.Prelude.{◌≡◌, [], ◌∷◌, IfOk, map, true, false};
+ghost use Rattle.cel_reader.specs.Tree as node;
+ghost use Rattle.cel_reader.specs.Tree.{view};
+ghost use Rattle.wide_meaning.specs.Functions.{false_texts, true_texts};
+ghost use Rattle.wide_translation.specs.Forms as forms;
+ghost use Rattle.wide_translation.specs.Translated as specs;
+
+use crate::build;
+use crate::copying::copy;
+use cel_reader::{BinaryOperator, Expr, Literal};
+use std::alloc::{AllocError, Global};
+use wide_kinds::ValueKind;
+
+/// A choice between the text `true` and another expression.
+fn chosen_text(alloc: Global, condition: Expr, other: Expr) -> Result<Expr, AllocError>
+    ensures { IfOk result (λ e. view e ≡ node.ternary (view condition) (node.literal (node.text forms.true_text)) (view other)) }
+{
+    let yes = build::text(alloc, "true")?;
+    build::ternary(alloc, condition, yes, other)
+}
+
+/// Whether an expression is equal to a bool.
+fn is_bool(alloc: Global, of: &Expr, value: bool) -> Result<Expr, AllocError>
+    ensures { IfOk result (λ e. view e ≡ forms.is_bool_tree (view of.now) value) }
+{
+    let operand = copy(alloc, of)?;
+    let literal = Expr::Literal(Literal::Bool(value));
+    build::binary(alloc, BinaryOperator::Equal, operand, literal)
+}
+
+/// A value of any kind as a text.
+fn any_text(alloc: Global, of: Expr) -> Result<Expr, AllocError>
+    ensures { IfOk result (λ e. view e ≡ forms.text_tree (view of)) }
+{
+    let is_true = is_bool(alloc, &of, true)?;
+    let is_false = is_bool(alloc, &of, false)?;
+    let no = build::text(alloc, "false")?;
+    let text = build::call(alloc, "string", of)?;
+    let inner = build::ternary(alloc, is_false, no, text)?;
+    chosen_text(alloc, is_true, inner)
+}
+
+/// A value of any kind as a text, with the value written once.
+fn once_text(alloc: Global, of: Expr) -> Result<Expr, AllocError>
+    ensures { IfOk result (λ e. view e ≡ specs.once (view of) forms.text_tree) }
+{
+    if build::is_simple(&of) {
+        return any_text(alloc, of);
+    }
+    let held = build::held(alloc)?;
+    let body = any_text(alloc, held)?;
+    build::bound(alloc, of, body)
+}
+
+/// A value of a kind as a text.
+pub(crate) fn string(alloc: Global, kind: ValueKind, of: Expr) -> Result<Expr, AllocError>
+    ensures { IfOk result (λ e. view e ≡ specs.string_tree kind (view of)) }
+{
+    match kind {
+        ValueKind::Int | ValueKind::String => build::call(alloc, "string", of),
+        ValueKind::Bool => {
+            let no = build::text(alloc, "false")?;
+            chosen_text(alloc, of, no)
+        }
+        _ => once_text(alloc, of),
+    }
+}
+
+/// The texts that denote true.
+fn true_list(alloc: Global) -> Result<Expr, AllocError>
+    ensures { IfOk result (λ e. view e ≡ node.list (forms.text_trees true_texts)) }
+{
+    let mut items = Vec::new(alloc);
+    items.push(build::text(alloc, "1")?)?;
+    items.push(build::text(alloc, "t")?)?;
+    items.push(build::text(alloc, "T")?)?;
+    items.push(build::text(alloc, "true")?)?;
+    items.push(build::text(alloc, "TRUE")?)?;
+    items.push(build::text(alloc, "True")?)?;
+    Ok(build::list(items))
+}
+
+/// The texts that denote false.
+fn false_list(alloc: Global) -> Result<Expr, AllocError>
+    ensures { IfOk result (λ e. view e ≡ node.list (forms.text_trees false_texts)) }
+{
+    let mut items = Vec::new(alloc);
+    items.push(build::text(alloc, "0")?)?;
+    items.push(build::text(alloc, "f")?)?;
+    items.push(build::text(alloc, "F")?)?;
+    items.push(build::text(alloc, "false")?)?;
+    items.push(build::text(alloc, "FALSE")?)?;
+    items.push(build::text(alloc, "False")?)?;
+    Ok(build::list(items))
+}
+
+/// The choice between true, false and the error.
+fn chosen_bool(alloc: Global, is_true: Expr, is_false: Expr) -> Result<Expr, AllocError>
+    ensures { IfOk result (λ e. view e ≡ node.ternary (view is_true) (node.literal (node.truth true)) (node.ternary (view is_false) (node.literal (node.truth false)) forms.error_tree)) }
+{
+    let error = build::first(alloc, build::empty(alloc))?;
+    let no = Expr::Literal(Literal::Bool(false));
+    let other = build::ternary(alloc, is_false, no, error)?;
+    let yes = Expr::Literal(Literal::Bool(true));
+    build::ternary(alloc, is_true, yes, other)
+}
+
+/// The bool that a text denotes.
+fn text_bool(alloc: Global, of: Expr) -> Result<Expr, AllocError>
+    ensures { IfOk result (λ e. view e ≡ forms.text_bool_tree (view of)) }
+{
+    let operand = copy(alloc, &of)?;
+    let yes = true_list(alloc)?;
+    let is_true = build::binary(alloc, BinaryOperator::In, operand, yes)?;
+    let no = false_list(alloc)?;
+    let is_false = build::binary(alloc, BinaryOperator::In, of, no)?;
+    chosen_bool(alloc, is_true, is_false)
+}
+
+/// Whether an expression is true, or a text that denotes it.
+fn denotes_true(alloc: Global, of: &Expr) -> Result<Expr, AllocError>
+    ensures { IfOk result (λ e. view e ≡ forms.denotes_tree (view of.now) true true_texts) }
+{
+    let first = is_bool(alloc, of, true)?;
+    let operand = copy(alloc, of)?;
+    let texts = true_list(alloc)?;
+    let second = build::binary(alloc, BinaryOperator::In, operand, texts)?;
+    build::binary(alloc, BinaryOperator::Or, first, second)
+}
+
+/// Whether an expression is false, or a text that denotes it.
+fn denotes_false(alloc: Global, of: &Expr) -> Result<Expr, AllocError>
+    ensures { IfOk result (λ e. view e ≡ forms.denotes_tree (view of.now) false false_texts) }
+{
+    let first = is_bool(alloc, of, false)?;
+    let operand = copy(alloc, of)?;
+    let texts = false_list(alloc)?;
+    let second = build::binary(alloc, BinaryOperator::In, operand, texts)?;
+    build::binary(alloc, BinaryOperator::Or, first, second)
+}
+
+/// The bool that a value or a text denotes.
+fn any_bool(alloc: Global, of: &Expr) -> Result<Expr, AllocError>
+    ensures { IfOk result (λ e. view e ≡ forms.bool_tree (view of.now)) }
+{
+    let is_true = denotes_true(alloc, of)?;
+    let is_false = denotes_false(alloc, of)?;
+    chosen_bool(alloc, is_true, is_false)
+}
+
+/// The bool that a text denotes, with the text written once.
+fn once_text_bool(alloc: Global, of: Expr) -> Result<Expr, AllocError>
+    ensures { IfOk result (λ e. view e ≡ specs.once (view of) forms.text_bool_tree) }
+{
+    if build::is_simple(&of) {
+        return text_bool(alloc, of);
+    }
+    let held = build::held(alloc)?;
+    let body = text_bool(alloc, held)?;
+    build::bound(alloc, of, body)
+}
+
+/// The bool that a value of any kind denotes, with the value written once.
+fn once_any_bool(alloc: Global, of: Expr) -> Result<Expr, AllocError>
+    ensures { IfOk result (λ e. view e ≡ specs.once (view of) forms.bool_tree) }
+{
+    if build::is_simple(&of) {
+        return any_bool(alloc, &of);
+    }
+    let held = build::held(alloc)?;
+    let body = any_bool(alloc, &held)?;
+    build::bound(alloc, of, body)
+}
+
+/// The bool that a value of a kind denotes.
+pub(crate) fn bool_of(alloc: Global, kind: ValueKind, of: Expr) -> Result<Expr, AllocError>
+    ensures { IfOk result (λ e. view e ≡ specs.bool_of_kind kind (view of)) }
+{
+    match kind {
+        ValueKind::String => once_text_bool(alloc, of),
+        _ => once_any_bool(alloc, of),
+    }
+}
+
+/// The list of the values that are null, false, 0 or empty.
+fn zero_list(alloc: Global) -> Result<Expr, AllocError>
+    ensures { IfOk result (λ e. view e ≡ node.list forms.zero_trees) }
+{
+    let mut items = Vec::new(alloc);
+    items.push(Expr::Literal(Literal::Null))?;
+    items.push(Expr::Literal(Literal::Bool(false)))?;
+    items.push(Expr::Literal(Literal::Int(0)))?;
+    items.push(build::text(alloc, "")?)?;
+    items.push(build::empty(alloc))?;
+    items.push(build::map(Vec::new(alloc)))?;
+    Ok(build::list(items))
+}
+
+/// The list of a value, or the empty list if it is null, false, 0 or empty.
+fn any_non_zero(alloc: Global, of: Expr) -> Result<Expr, AllocError>
+    ensures { IfOk result (λ e. view e ≡ forms.non_zero_tree (view of)) }
+{
+    let operand = copy(alloc, &of)?;
+    let zeros = zero_list(alloc)?;
+    let is_zero = build::binary(alloc, BinaryOperator::In, operand, zeros)?;
+    let list = build::one(alloc, of)?;
+    build::ternary(alloc, is_zero, build::empty(alloc), list)
+}
+
+/// The same, with the value written once.
+pub(crate) fn non_zero(alloc: Global, of: Expr) -> Result<Expr, AllocError>
+    ensures { IfOk result (λ e. view e ≡ specs.once (view of) forms.non_zero_tree) }
+{
+    if build::is_simple(&of) {
+        return any_non_zero(alloc, of);
+    }
+    let held = build::held(alloc)?;
+    let body = any_non_zero(alloc, held)?;
+    build::bound(alloc, of, body)
+}

@@ -1,0 +1,121 @@
+//! Fields, and whether a field is there.
+
+ghost use Rattle.std.specs.Prelude.{◌≡◌, IfOk};
+ghost use Rattle.cel_reader.specs.Tree.{view};
+ghost use Rattle.wide_translation.specs.Declarations.{carried_view};
+ghost use Rattle.wide_translation.specs.Forms as forms;
+ghost use Rattle.wide_translation.specs.Translated as specs;
+
+use crate::carried::Carried;
+use crate::names::HELD;
+use crate::{build, presence};
+use cel_reader::{BinaryOperator, Expr};
+use std::alloc::{AllocError, Global};
+use wide_kinds::ValueKind;
+use wide_reader::Access;
+
+/// The optional field of a value.
+fn optional_field(alloc: Global, of: Expr, field: &str) -> Result<Carried, AllocError>
+    ensures { IfOk result (λ c. carried_view c ≡ specs.optional_field (forms.is_simple (view of)) (view of) field.now) }
+{
+    if build::is_simple(&of) {
+        let guard = presence::present(alloc, &of, field)?;
+        let value = presence::access(alloc, of, field)?;
+        return Ok(Carried::Guarded(ValueKind::Dyn, guard, value));
+    }
+    let body = presence::field_list(alloc, field)?;
+    let list = build::bound(alloc, of, body)?;
+    Ok(Carried::Listed(ValueKind::Dyn, list))
+}
+
+/// The field of the value of an optional value.
+fn field_of_list(alloc: Global, list: Expr, field: &str) -> Result<Carried, AllocError>
+    ensures { IfOk result (λ c. carried_view c ≡ specs.field_of_list (view list) field.now) }
+{
+    let body = presence::field_list(alloc, field)?;
+    let fields = build::flat(alloc, HELD, list, body)?;
+    Ok(Carried::Listed(ValueKind::Dyn, fields))
+}
+
+/// The field of the value of an optional value with a guard.
+fn field_of_guarded(
+    alloc: Global,
+    guard: Expr,
+    value: Expr,
+    field: &str,
+) -> Result<Carried, AllocError>
+    ensures { IfOk result (λ c. carried_view c ≡ specs.field_of_guarded (forms.is_simple (view value)) (view guard) (view value) field.now) }
+{
+    if build::is_simple(&value) {
+        let present = presence::present(alloc, &value, field)?;
+        let both = build::binary(alloc, BinaryOperator::And, guard, present)?;
+        let inner = presence::access(alloc, value, field)?;
+        return Ok(Carried::Guarded(ValueKind::Dyn, both, inner));
+    }
+    let list = build::guarded(alloc, guard, value)?;
+    field_of_list(alloc, list, field)
+}
+
+/// The field of an operand.
+pub(crate) fn field(
+    alloc: Global,
+    access: Access,
+    name: &str,
+    of: Carried,
+) -> Result<Carried, AllocError>
+    ensures { IfOk result (λ c. carried_view c ≡ specs.field_carried access name.now (carried_view of)) }
+{
+    match of {
+        Carried::Plain(_, tree) => match access {
+            Access::Plain => {
+                let inner = presence::access(alloc, tree, name)?;
+                Ok(Carried::Plain(ValueKind::Dyn, inner))
+            }
+            Access::Optional => optional_field(alloc, tree, name),
+        },
+        Carried::Guarded(_, guard, value) => field_of_guarded(alloc, guard, value, name),
+        Carried::Listed(_, list) => field_of_list(alloc, list, name),
+    }
+}
+
+/// Whether an optional value has a value.
+pub(crate) fn has_value(alloc: Global, of: Carried) -> Result<Expr, AllocError>
+    ensures { IfOk result (λ e. view e ≡ specs.has_value_carried (carried_view of)) }
+{
+    match of {
+        Carried::Plain(_, tree) => Ok(tree),
+        Carried::Guarded(_, guard, _) => Ok(guard),
+        Carried::Listed(_, list) => {
+            build::binary(alloc, BinaryOperator::NotEqual, list, build::empty(alloc))
+        }
+    }
+}
+
+/// Whether a value has a field.
+fn has_plain(alloc: Global, of: Expr, field: &str) -> Result<Expr, AllocError>
+    ensures { IfOk result (λ e. view e ≡ specs.once (view of) (λ a. forms.present_tree a field.now)) }
+{
+    if build::is_simple(&of) {
+        return presence::present(alloc, &of, field);
+    }
+    let held = build::held(alloc)?;
+    let body = presence::present(alloc, &held, field)?;
+    build::bound(alloc, of, body)
+}
+
+/// Whether an operand has a field.
+pub(crate) fn has(alloc: Global, name: &str, of: Carried) -> Result<Expr, AllocError>
+    ensures { IfOk result (λ e. view e ≡ specs.has_carried name.now (carried_view of)) }
+{
+    match of {
+        Carried::Plain(_, tree) => has_plain(alloc, tree, name),
+        Carried::Guarded(_, guard, value) => {
+            let inner = field_of_guarded(alloc, guard, value, name)?;
+            has_value(alloc, inner)
+        }
+        Carried::Listed(_, list) => {
+            let inner = field_of_list(alloc, list, name)?;
+            has_value(alloc, inner)
+        }
+    }
+}

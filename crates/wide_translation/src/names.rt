@@ -1,0 +1,116 @@
+//! Names in scope, and names that an iteration name must not be.
+
+ghost use Rattle.std.specs.Prelude.{◌≡◌, map};
+ghost use Rattle.cel_macros.specs.Environment as environment;
+ghost use Rattle.cel_macros.specs.Environment.{lookup};
+ghost use Rattle.cel_reader.specs.Words as words;
+ghost use Rattle.wide_translation.specs.Declarations.{declaration, scope_in};
+ghost use Rattle.wide_translation.specs.Names as specs;
+ghost use Rattle.wide_translation.specs.Scope.{is_hidden};
+
+use crate::scope::Variable;
+use cel_tokens::is_name;
+use wide_kinds::{Kind, ValueKind};
+
+/// The iteration name that the translation binds.
+pub(crate) const HELD: &str = "celbpf_a";
+
+/// The root of the parameters.
+pub(crate) const PARAMS: &str = "params";
+
+/// Its field that has the parameters, if the root also has tables.
+pub(crate) const PARAMS_FIELD: &str = "v";
+
+/// The name before the dot of a variable.
+pub(crate) const VARIABLES: &str = "variables";
+
+/// The names in scope.
+#[derive(Drop)]
+pub(crate) enum Names<'a> {
+    /// Outside all macros: the variables, and whether the root `params` has tables beside the parameters.
+    Outside(&'a [Variable], bool),
+    /// Inside a macro: its iteration name, the kind of the items, and the names around it.
+    Within(&'a str, ValueKind, &'a Names<'a>),
+}
+
+/// Whether a name may follow a dot.
+pub(crate) fn is_selector(name: &str) -> bool
+    ensures { result ≡ words.is_selector name.now }
+{
+    is_name(name.as_bytes())
+        && !(name == "true" || name == "false" || name == "null" || name == "in")
+}
+
+/// Whether a name is that of a root.
+#[tactic(auto, unfolding(cel_macros::specs::Environment::is_root))]
+pub(crate) fn is_root(name: &str) -> bool
+    ensures { result ≡ environment.is_root name.now }
+{
+    name == "object"
+        || name == "oldObject"
+        || name == "params"
+        || name == "namespaceObject"
+        || name == "request"
+}
+
+/// Whether an iteration name is a root, `variables`, or the name that the translation binds.
+pub(crate) fn is_taken(name: &str) -> bool
+    ensures { result ≡ specs.is_taken name.now }
+{
+    is_root(name) || VARIABLES == name || HELD == name
+}
+
+/// Whether the root `params` has tables beside the parameters.
+pub(crate) fn is_wrapped(names: &Names) -> bool
+    ensures { result ≡ (scope_in names.now).wrapped }
+{
+    match names {
+        Names::Outside(_, wrapped) => *wrapped,
+        Names::Within(_, _, outer) => is_wrapped(outer),
+    }
+}
+
+/// The kind of the items that an iteration name in scope denotes.
+pub(crate) fn item_kind(name: &str, names: &Names) -> Option<ValueKind>
+    ensures { result ≡ lookup name.now (scope_in names.now).names }
+{
+    match names {
+        Names::Outside(_, _) => None,
+        Names::Within(first, kind, outer) => {
+            if *first == name {
+                Some(*kind)
+            } else {
+                item_kind(name, outer)
+            }
+        }
+    }
+}
+
+/// Whether an iteration name hides `variables`.
+pub(crate) fn hides_variables(names: &Names) -> bool
+    ensures { result ≡ is_hidden (scope_in names.now) }
+{
+    item_kind(VARIABLES, names).is_some()
+}
+
+/// The kind of the first variable of this name.
+fn kind_named(name: &str, variables: &[Variable]) -> Option<Kind>
+    ensures { result ≡ lookup name.now (map declaration variables.now) }
+{
+    for variable in variables {
+        if variable.name.as_str() == name {
+            return Some(variable.kind);
+        }
+    }
+    None
+}
+
+/// The kind of a variable in scope.
+pub(crate) fn variable_kind(name: &str, names: &Names) -> Option<Kind>
+    ensures { result ≡ lookup name.now (scope_in names.now).variables }
+{
+    match names {
+        Names::Outside(variables, _) => kind_named(name, variables),
+        Names::Within(_, _, outer) => variable_kind(name, outer),
+    }
+}

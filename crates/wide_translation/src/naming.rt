@@ -1,0 +1,118 @@
+//! Names, variables, and expressions that are told by their form.
+
+ghost use Rattle.std.specs.Prelude.{◌≡◌};
+ghost use Rattle.cel_macros.specs.Environment.{lookup};
+ghost use Rattle.wide_reader.specs.Tree as wide;
+ghost use Rattle.wide_meaning.specs.Environment as environment;
+ghost use Rattle.wide_meaning.specs.Functions.{qualified_named};
+ghost use Rattle.wide_meaning.specs.Meaning.{is_empty_list, namespace_in};
+ghost use Rattle.wide_translation.specs.Declarations.{ReturnsCarried, scope_in};
+ghost use Rattle.wide_translation.specs.Layers as layers;
+ghost use Rattle.wide_translation.specs.Translated as specs;
+
+use crate::build;
+use crate::calls::unknown;
+use crate::carried::Carried;
+use crate::names::{Names, VARIABLES, is_root, is_wrapped, item_kind, variable_kind};
+use crate::translation_error::TranslationError;
+use std::alloc::Global;
+use wide_kinds::{Kind, ValueKind};
+use wide_meaning::Qualified;
+use wide_reader::Wide;
+
+/// A root.
+pub(crate) fn root(alloc: Global, name: &str, wrapped: bool) -> Result<Carried, TranslationError>
+    ensures { ReturnsCarried (specs.root_translation wrapped name.now) result }
+{
+    if is_root(name) {
+        let tree = build::root(alloc, name, wrapped)?;
+        return Ok(Carried::Plain(ValueKind::Dyn, tree));
+    }
+    Err(unknown(alloc, name))
+}
+
+/// A name.
+pub(crate) fn name(alloc: Global, name: &str, names: &Names) -> Result<Carried, TranslationError>
+    ensures { let s = scope_in names.now in ReturnsCarried (specs.name_translation (lookup name.now s.names) name.now (specs.root_translation s.wrapped name.now)) result }
+{
+    match item_kind(name, names) {
+        Some(kind) => {
+            let tree = build::name(alloc, name)?;
+            Ok(Carried::Plain(kind, tree))
+        }
+        None => root(alloc, name, is_wrapped(names)),
+    }
+}
+
+/// A variable.
+pub(crate) fn variable(
+    alloc: Global,
+    name: &str,
+    names: &Names,
+) -> Result<Carried, TranslationError>
+    ensures { ReturnsCarried (specs.variable_translation (lookup name.now (scope_in names.now).variables) name.now) result }
+{
+    match variable_kind(name, names) {
+        Some(Kind::Value(kind)) => {
+            let tree = build::variable(alloc, name)?;
+            Ok(Carried::Plain(kind, tree))
+        }
+        Some(Kind::Optional(kind)) => {
+            let tree = build::variable(alloc, name)?;
+            Ok(Carried::Listed(kind, tree))
+        }
+        None => Err(unknown(alloc, name)),
+    }
+}
+
+/// Whether an expression is the name `variables`, which no iteration name hides.
+pub(crate) fn denotes_variables(e: &Wide, hidden: bool) -> bool
+    ensures { result ≡ environment.denotes_variables (wide.view e.now) hidden }
+{
+    match e {
+        Wide::Name(name) => VARIABLES == name.as_str() && !hidden,
+        Wide::Root(name) => VARIABLES == name.as_str(),
+        _ => false,
+    }
+}
+
+/// Whether an expression is the literal `[]`.
+#[tactic(auto, using(crate::proofs::Arms::list_is_empty))]
+pub(crate) fn is_empty(e: &Wide) -> bool
+    ensures { result ≡ is_empty_list (wide.view e.now) }
+{
+    match e {
+        Wide::List(items) => items.is_empty(),
+        _ => false,
+    }
+}
+
+/// The namespace that a name before a method can be; empty for what is no name.
+fn namespace(of: &Wide) -> &str
+    ensures { result.now ≡ namespace_in (wide.view of.now) }
+{
+    match of {
+        Wide::Name(name) => name.as_str(),
+        _ => "",
+    }
+}
+
+/// The function with a namespace that a method of an operand is.
+pub(crate) fn qualified(of: &Wide, name: &str) -> Option<Qualified>
+    ensures { result ≡ qualified_named (namespace_in (wide.view of.now)) name.now }
+{
+    Qualified::of_names(namespace(of), name)
+}
+
+/// The unsigned int of an operand that is compared, if it is one.
+pub(crate) fn compared_uint(is_compared: bool, e: &Wide) -> Option<u64>
+    ensures { result ≡ layers.compared_uint is_compared (wide.view e.now) }
+{
+    if !is_compared {
+        return None;
+    }
+    match e {
+        Wide::Uint(n) => Some(*n),
+        _ => None,
+    }
+}

@@ -1,0 +1,126 @@
+//! Whether a field or an item is there, and fields and items of what may not have them.
+
+ghost use Rattle.std.specs.Prelude.{◌≡◌, ℕ, IfOk, pos};
+ghost use Rattle.cel_reader.specs.Tree as node;
+ghost use Rattle.cel_reader.specs.Tree.{view};
+ghost use Rattle.wide_translation.specs.Forms as forms;
+ghost use Rattle.wide_translation.specs.Layers.{list_size_tree};
+
+use crate::build;
+use crate::copying::copy;
+use crate::names::is_selector;
+use cel_reader::{BinaryOperator, Expr, Literal};
+use std::alloc::{AllocError, Global};
+
+/// A field, as an index if its name may not follow a dot.
+pub(crate) fn access(alloc: Global, of: Expr, field: &str) -> Result<Expr, AllocError>
+    ensures { IfOk result (λ e. view e ≡ forms.access_tree (view of) field.now) }
+{
+    if is_selector(field) {
+        return build::select(alloc, of, field);
+    }
+    let key = build::text(alloc, field)?;
+    build::index(alloc, of, key)
+}
+
+/// Whether a field, whose name may not follow a dot, is among the keys of an expression.
+fn key_in(alloc: Global, field: &str, of: &Expr) -> Result<Expr, AllocError>
+    ensures { IfOk result (λ e. view e ≡ node.binary forms.membership (node.literal (node.text field.now)) (view of.now)) }
+{
+    let key = build::text(alloc, field)?;
+    let container = copy(alloc, of)?;
+    build::binary(alloc, BinaryOperator::In, key, container)
+}
+
+/// Whether an expression, which is not null, has a field.
+fn has_any(alloc: Global, of: &Expr, field: &str) -> Result<Expr, AllocError>
+    ensures { IfOk result (λ e. view e ≡ forms.has_any_tree (view of.now) field.now) }
+{
+    let operand = copy(alloc, of)?;
+    if is_selector(field) {
+        return build::has(alloc, operand, field);
+    }
+    let test = build::has(alloc, operand, "a")?;
+    let first = key_in(alloc, field, of)?;
+    let second = key_in(alloc, field, of)?;
+    build::ternary(alloc, test, first, second)
+}
+
+/// Whether an expression has a field. Null has none.
+pub(crate) fn present(alloc: Global, of: &Expr, field: &str) -> Result<Expr, AllocError>
+    ensures { IfOk result (λ e. view e ≡ forms.present_tree (view of.now) field.now) }
+{
+    let operand = copy(alloc, of)?;
+    let is_value = build::binary(
+        alloc,
+        BinaryOperator::NotEqual,
+        operand,
+        Expr::Literal(Literal::Null),
+    )?;
+    let has_field = has_any(alloc, of, field)?;
+    build::binary(alloc, BinaryOperator::And, is_value, has_field)
+}
+
+/// The list of a field of the name that the translation binds, or the empty list.
+pub(crate) fn field_list(alloc: Global, field: &str) -> Result<Expr, AllocError>
+    ensures { IfOk result (λ e. view e ≡ forms.field_list_tree forms.held field.now) }
+{
+    let of = build::held(alloc)?;
+    let guard = present(alloc, &of, field)?;
+    let value = access(alloc, of, field)?;
+    build::guarded(alloc, guard, value)
+}
+
+/// An int literal.
+fn int(n: i64) -> Expr
+    ensures { view result ≡ node.literal (node.int n) }
+{
+    Expr::Literal(Literal::Int(n))
+}
+
+/// The number of items of a list. The error for what is no list.
+fn list_size(alloc: Global, of: &Expr) -> Result<Expr, AllocError>
+    ensures { IfOk result (λ e. view e ≡ list_size_tree (view of.now)) }
+{
+    let operand = copy(alloc, of)?;
+    let list = build::binary(alloc, BinaryOperator::Add, operand, build::empty(alloc))?;
+    build::call(alloc, "size", list)
+}
+
+/// Whether a list has an item of this index. Null has none.
+pub(crate) fn present_item(alloc: Global, of: &Expr, position: i64) -> Result<Expr, AllocError>
+    ensures { IfOk result (λ e. (n : ℕ) → position ≡ pos n → view e ≡ forms.present_item_tree (view of.now) n) }
+{
+    let operand = copy(alloc, of)?;
+    let is_null = build::binary(
+        alloc,
+        BinaryOperator::Equal,
+        operand,
+        Expr::Literal(Literal::Null),
+    )?;
+    let size = list_size(alloc, of)?;
+    let is_below = build::binary(alloc, BinaryOperator::Less, int(position), size)?;
+    build::ternary(
+        alloc,
+        is_null,
+        Expr::Literal(Literal::Bool(false)),
+        is_below,
+    )
+}
+
+/// The item of this index.
+pub(crate) fn item(alloc: Global, of: Expr, position: i64) -> Result<Expr, AllocError>
+    ensures { IfOk result (λ e. (n : ℕ) → position ≡ pos n → view e ≡ forms.item_tree (view of) n) }
+{
+    build::index(alloc, of, int(position))
+}
+
+/// The list of an item of the name that the translation binds, or the empty list.
+pub(crate) fn item_list(alloc: Global, position: i64) -> Result<Expr, AllocError>
+    ensures { IfOk result (λ e. (n : ℕ) → position ≡ pos n → view e ≡ forms.item_list_tree forms.held n) }
+{
+    let of = build::held(alloc)?;
+    let guard = present_item(alloc, &of, position)?;
+    let value = item(alloc, of, position)?;
+    build::guarded(alloc, guard, value)
+}

@@ -1,0 +1,372 @@
+//! The translation of wide expressions.
+
+ghost use Rattle.std.specs.Prelude.{[], ◌∷◌, IfOk};
+ghost use Rattle.std.specs.Prelude as list;
+ghost use Rattle.cel_reader.specs.Tree as node;
+ghost use Rattle.wide_reader.specs.Tree as wide;
+ghost use Rattle.wide_meaning.specs.Functions.{function_named};
+ghost use Rattle.wide_translation.specs.Declarations.{IsTranslation, ReturnsCarried, carried_view, scope_in};
+ghost use Rattle.wide_translation.specs.Results.{WideMeans};
+ghost use Rattle.wide_translation.specs.Scope.{scope_of};
+ghost use Rattle.wide_translation.specs.Translated as specs;
+ghost use Rattle.wide_translation.specs.Translated.{IsFinished, translated, all_translated, items_translated, entries_translated};
+
+use crate::calls::{as_list, taken_name, unknown, unknown_method};
+use crate::carried::Carried;
+use crate::indices::index;
+use crate::lists::ListParts;
+use crate::names::{Names, hides_variables, is_taken, is_wrapped};
+use crate::naming::{compared_uint, denotes_variables, is_empty, name, qualified, root, variable};
+use crate::scope::Scope;
+use crate::translated::Translated;
+use crate::translation_error::TranslationError;
+use crate::{build, calls, copying, fields, operators, ranges};
+use cel_macros::TextTest;
+use std::alloc::{AllocError, Global};
+use wide_kinds::{Kind, ValueKind, literal_kind};
+use wide_meaning::{Function, Method, Qualified};
+use wide_reader::{Access, Wide};
+
+/// A list literal.
+#[cycle(translation)]
+fn items(
+    alloc: Global,
+    given: &[(Access, Wide)],
+    names: &Names,
+) -> Result<Carried, TranslationError>
+    ensures { ReturnsCarried (specs.list_translation (items_translated (scope_in names.now) (wide.items (list.map wide.item_view given.now)))) result }
+{
+    let mut parts = ListParts::new(alloc);
+    for (access, item) in given {
+        let found = translation(alloc, item, names)?;
+        parts.add(alloc, *access, found)?;
+    }
+    let tree = parts.joined(alloc)?;
+    Ok(Carried::Plain(ValueKind::List, tree))
+}
+
+/// A map literal.
+#[cycle(translation)]
+fn pairs(
+    alloc: Global,
+    given: &[(Access, Wide, Wide)],
+    names: &Names,
+) -> Result<Carried, TranslationError>
+    ensures { ReturnsCarried (specs.map_translation (entries_translated (scope_in names.now) (wide.entries (list.map wide.entry_view given.now)))) result }
+{
+    let mut out = Vec::new(alloc);
+    for (access, key, value) in given {
+        if matches!(access, Access::Optional) {
+            return Err(TranslationError::Unsupported);
+        }
+        let first = translation(alloc, key, names)?;
+        let Carried::Plain(_, key_tree) = first else {
+            return Err(TranslationError::OptionalValue);
+        };
+        let second = translation(alloc, value, names)?;
+        let Carried::Plain(_, value_tree) = second else {
+            return Err(TranslationError::OptionalValue);
+        };
+        if let Err(failed) = out.push((key_tree, value_tree)) {
+            return Err(AllocError::from(failed).into());
+        }
+    }
+    Ok(Carried::Plain(ValueKind::Map, build::map(out)))
+}
+
+/// An operand of an operator. One that is compared may be an unsigned int.
+#[cycle(translation)]
+#[tactic(auto, using(crate::proofs::Arms::compared_some, crate::proofs::Arms::compared_none))]
+fn operand(
+    alloc: Global,
+    is_compared: bool,
+    e: &Wide,
+    names: &Names,
+) -> Result<Carried, TranslationError>
+    ensures { ReturnsCarried (specs.operand is_compared (wide.view e.now) (translated (scope_in names.now) (wide.view e.now))) result }
+{
+    match compared_uint(is_compared, e) {
+        Some(n) => operators::unsigned(n),
+        None => translation(alloc, e, names),
+    }
+}
+
+/// A call of a function.
+#[cycle(translation)]
+#[tactic(auto, using(crate::proofs::Arms::call_of_none, crate::proofs::Arms::call_of_many))]
+fn call(
+    alloc: Global,
+    name: &str,
+    arguments: &[Wide],
+    names: &Names,
+) -> Result<Carried, TranslationError>
+    ensures { ReturnsCarried (specs.call_translation (function_named name.now) name.now (all_translated (scope_in names.now) (wide.wides (list.map wide.view arguments.now)))) result }
+{
+    let Some(found) = Function::of_name(name) else {
+        return Err(unknown(alloc, name));
+    };
+    match arguments {
+        [] => Err(unknown(alloc, name)),
+        [argument] => {
+            let operand = translation(alloc, argument, names)?;
+            calls::function(alloc, found, operand)
+        }
+        _ => Err(unknown(alloc, name)),
+    }
+}
+
+/// A function with a namespace of one argument.
+#[cycle(translation)]
+fn qualified_of(
+    alloc: Global,
+    found: Qualified,
+    name: &str,
+    argument: &Wide,
+    names: &Names,
+) -> Result<Carried, TranslationError>
+    ensures { ReturnsCarried (specs.qualified_translation found name.now (translated (scope_in names.now) (wide.view argument.now) ∷ [])) result }
+{
+    match found {
+        Qualified::OptionalOf => {
+            let operand = translation(alloc, argument, names)?;
+            calls::optional_of(alloc, operand)
+        }
+        Qualified::OptionalOfNonZeroValue => {
+            let operand = translation(alloc, argument, names)?;
+            calls::optional_of_non_zero(alloc, operand)
+        }
+        _ => Err(unknown(alloc, name)),
+    }
+}
+
+/// A function with a namespace.
+#[cycle(translation)]
+#[tactic(auto, using(crate::proofs::Arms::qualified_of_many))]
+fn qualified_call(
+    alloc: Global,
+    found: Qualified,
+    name: &str,
+    arguments: &[Wide],
+    names: &Names,
+) -> Result<Carried, TranslationError>
+    ensures { ReturnsCarried (specs.qualified_translation found name.now (all_translated (scope_in names.now) (wide.wides (list.map wide.view arguments.now)))) result }
+{
+    match arguments {
+        [] => calls::qualified(alloc, found, name),
+        [argument] => qualified_of(alloc, found, name, argument, names),
+        _ => Err(unknown(alloc, name)),
+    }
+}
+
+/// A test of a text with an argument.
+#[cycle(translation)]
+fn tested(
+    alloc: Global,
+    test: TextTest,
+    of: Carried,
+    argument: &Wide,
+    names: &Names,
+) -> Result<Carried, TranslationError>
+    ensures { ReturnsCarried (specs.test_translation test (carried_view of) (translated (scope_in names.now) (wide.view argument.now))) result }
+{
+    let Carried::Plain(_, text) = of else {
+        return Err(TranslationError::OptionalValue);
+    };
+    let operand = translation(alloc, argument, names)?;
+    calls::tested(alloc, test, text, operand)
+}
+
+/// A method of one argument.
+#[cycle(translation)]
+fn method_with(
+    alloc: Global,
+    found: Method,
+    of: Carried,
+    argument: &Wide,
+    names: &Names,
+) -> Result<Carried, TranslationError>
+    ensures { ReturnsCarried (specs.method_carried found (carried_view of) (translated (scope_in names.now) (wide.view argument.now) ∷ [])) result }
+{
+    match found {
+        Method::StartsWith => tested(alloc, TextTest::StartsWith, of, argument, names),
+        Method::EndsWith => tested(alloc, TextTest::EndsWith, of, argument, names),
+        Method::Contains => tested(alloc, TextTest::Contains, of, argument, names),
+        Method::OrValue => {
+            let other = translation(alloc, argument, names)?;
+            calls::or_value(alloc, of, other)
+        }
+        Method::Or => {
+            let other = translation(alloc, argument, names)?;
+            calls::or(alloc, of, other)
+        }
+        _ => Err(unknown_method(alloc, found)),
+    }
+}
+
+/// A method of an operand.
+#[cycle(translation)]
+#[tactic(auto, using(crate::proofs::Arms::method_of_many))]
+fn method(
+    alloc: Global,
+    found: Method,
+    of: Carried,
+    arguments: &[Wide],
+    names: &Names,
+) -> Result<Carried, TranslationError>
+    ensures { ReturnsCarried (specs.method_carried found (carried_view of) (all_translated (scope_in names.now) (wide.wides (list.map wide.view arguments.now)))) result }
+{
+    match arguments {
+        [] => calls::method(alloc, found, of),
+        [argument] => method_with(alloc, found, of, argument, names),
+        _ => Err(unknown_method(alloc, found)),
+    }
+}
+
+/// The translation of an expression.
+#[cycle(translation)]
+#[tactic(auto, using(crate::proofs::WideViews::view_call, crate::proofs::WideViews::view_method, crate::proofs::WideViews::view_list, crate::proofs::WideViews::view_map), unfolding(crate::specs::Translated::translated))]
+fn translation(alloc: Global, e: &Wide, names: &Names) -> Result<Carried, TranslationError>
+    ensures { ReturnsCarried (translated (scope_in names.now) (wide.view e.now)) result }
+{
+    match e {
+        Wide::Literal(literal) => {
+            let tree = copying::literal(alloc, literal)?;
+            Ok(Carried::Plain(literal_kind(literal), tree))
+        }
+        Wide::Uint(_) => Err(TranslationError::UnsignedInt),
+        Wide::Name(given) => name(alloc, given.as_str(), names),
+        Wide::Root(given) => root(alloc, given.as_str(), is_wrapped(names)),
+        Wide::Select(of, access, field) => {
+            if denotes_variables(of, hides_variables(names)) && matches!(access, Access::Plain) {
+                return variable(alloc, field.as_str(), names);
+            }
+            let inner = translation(alloc, of, names)?;
+            Ok(fields::field(alloc, *access, field.as_str(), inner)?)
+        }
+        Wide::Index(of, access, at) => {
+            let inner = translation(alloc, of, names)?;
+            let key = translation(alloc, at, names)?;
+            index(alloc, at, *access, inner, key)
+        }
+        Wide::Has(of, field) => {
+            let inner = translation(alloc, of, names)?;
+            let tree = fields::has(alloc, field.as_str(), inner)?;
+            Ok(Carried::Plain(ValueKind::Bool, tree))
+        }
+        Wide::Unary(operator, of) => {
+            let inner = translation(alloc, of, names)?;
+            operators::unary(alloc, *operator, inner)
+        }
+        Wide::Binary(operator, left, right) => {
+            let is_compared = operators::compares(*operator);
+            let first = operand(alloc, is_compared, left, names)?;
+            let second = operand(alloc, is_compared, right, names)?;
+            operators::binary(alloc, is_empty(right), *operator, first, second)
+        }
+        Wide::Ternary(condition, yes, no) => {
+            let Carried::Plain(_, test) = translation(alloc, condition, names)? else {
+                return Err(TranslationError::OptionalValue);
+            };
+            let first = translation(alloc, yes, names)?;
+            let second = translation(alloc, no, names)?;
+            operators::ternary(alloc, test, first, second)
+        }
+        Wide::List(given) => items(alloc, given.as_slice(), names),
+        Wide::Map(given) => pairs(alloc, given.as_slice(), names),
+        Wide::Fold(found, range, item, part) => {
+            if is_taken(item.as_str()) {
+                return Err(taken_name(alloc, item.as_str()));
+            }
+            let Carried::Plain(_, of) = translation(alloc, range, names)? else {
+                return Err(TranslationError::OptionalValue);
+            };
+            let inner = Names::Within(item.as_str(), ValueKind::Dyn, &*names);
+            let body = translation(alloc, part, &inner)?;
+            ranges::fold(alloc, *found, item.as_str(), of, body)
+        }
+        Wide::FilterMap(range, item, predicate, transform) => {
+            if is_taken(item.as_str()) {
+                return Err(taken_name(alloc, item.as_str()));
+            }
+            let Carried::Plain(_, of) = translation(alloc, range, names)? else {
+                return Err(TranslationError::OptionalValue);
+            };
+            let inner = Names::Within(item.as_str(), ValueKind::Dyn, &*names);
+            let Carried::Plain(_, test) = translation(alloc, predicate, &inner)? else {
+                return Err(TranslationError::OptionalValue);
+            };
+            let body = translation(alloc, transform, &inner)?;
+            ranges::filter_map(alloc, item.as_str(), of, test, body)
+        }
+        Wide::PairFold(_, _, _, _, _) => Err(TranslationError::Unsupported),
+        Wide::PairFilterMap(_, _, _, _, _) => Err(TranslationError::Unsupported),
+        Wide::OptionalFold(found, of, item, part) => {
+            if is_taken(item.as_str()) {
+                return Err(taken_name(alloc, item.as_str()));
+            }
+            let operand = translation(alloc, of, names)?;
+            let Carried::Listed(_, list) = as_list(alloc, operand)? else {
+                return Err(TranslationError::OptionalValue);
+            };
+            let inner = Names::Within(item.as_str(), ValueKind::Dyn, &*names);
+            let body = translation(alloc, part, &inner)?;
+            ranges::optional_fold(alloc, *found, item.as_str(), list, body)
+        }
+        Wide::Call(given, arguments) => { call(alloc, given.as_str(), arguments.as_slice(), names) }
+        Wide::Method(of, given, arguments) => {
+            if let Some(found) = qualified(of, given.as_str()) {
+                return qualified_call(alloc, found, given.as_str(), arguments.as_slice(), names);
+            }
+            let Some(found) = Method::of_name(given.as_str()) else {
+                return Err(unknown(alloc, given.as_str()));
+            };
+            let operand = translation(alloc, of, names)?;
+            method(alloc, found, operand, arguments.as_slice(), names)
+        }
+    }
+}
+
+/// An optional value as a list; a value as it is.
+fn finished(alloc: Global, of: Carried) -> Result<Translated, AllocError>
+    ensures { IfOk result (λ t. IsFinished (carried_view of) t.kind (node.view t.expression)) }
+{
+    match of {
+        Carried::Plain(kind, tree) => Ok(Translated {
+            kind: Kind::Value(kind),
+            expression: tree,
+        }),
+        Carried::Guarded(kind, guard, value) => Ok(Translated {
+            kind: Kind::Optional(kind),
+            expression: build::guarded(alloc, guard, value)?,
+        }),
+        Carried::Listed(kind, list) => Ok(Translated {
+            kind: Kind::Optional(kind),
+            expression: list,
+        }),
+    }
+}
+
+/// The translation of an expression into one that means the same. `wrapped` tells whether the root `params` has the
+/// parameters as the field `v`, beside tables.
+///
+/// # Errors
+///
+/// The fault of the first part, from left to right, that is not translated: `UnknownName` for a name, a function or a
+/// method that has no meaning here, `OptionalValue` for an optional value where a value is needed and the other way
+/// round, `TakenName` for an iteration name that the translation needs, `UnsignedInt` for an unsigned int that is no
+/// operand of a comparison or takes more than 63 bits, `Unsupported` for a form that is not translated. `Memory` if an
+/// allocation fails.
+#[tactic(auto, using(crate::proofs::Finished::finished_means))]
+pub fn translate(
+    alloc: Global,
+    e: &Wide,
+    scope: &Scope,
+    wrapped: bool,
+) -> Result<Translated, TranslationError>
+    ensures exact { IsTranslation (translated (scope_of wrapped scope.now) (wide.view e.now)) result }
+    ensures means { IfOk result (λ t. WideMeans (scope_of wrapped scope.now) (wide.view e.now) t.kind (node.view t.expression)) }
+{
+    let names = Names::Outside(scope.variables(), wrapped);
+    let carried = translation(alloc, e, &names)?;
+    Ok(finished(alloc, carried)?)
+}
