@@ -3,6 +3,7 @@
 use std::alloc::{AllocError, Global};
 
 mod policies;
+mod translations;
 mod trees;
 
 /// The text `unit` repeated `count` times, followed by `more`.

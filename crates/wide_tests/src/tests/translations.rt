@@ -1,0 +1,95 @@
+//! Translations, worked out by hand, and expressions that are not translated.
+
+use super::cells;
+use std::alloc::{AllocError, Global};
+use std::test::Fail;
+use wide_kinds::{Kind, ValueKind};
+use wide_reader::read;
+use wide_translation::{Scope, TranslationError, translate};
+
+/// One row per line: a wide expression, a broken bar and its translation.
+#[rattlefmt::skip]
+const TRANSLATIONS: &str = r#"object.spec.?replicas.orValue(1) <= 5¦(object.spec != null && has(object.spec.replicas) ? object.spec.replicas : 1) <= 5
+object.spec.?replicas.hasValue()¦object.spec != null && has(object.spec.replicas)
+has(oldObject.spec)¦oldObject != null && has(oldObject.spec)
+optional.of(1).value()¦[1][0]
+.object.spec == 1u¦object.spec == 1
+object.x in []¦false
+string(true)¦true ? 'true' : 'false'
+[1, ?object.?a, 2]¦[1] + ((object != null && has(object.a) ? [object.a] : []) + [2])
+object.l.all(x, x != '')¦object.l.all(x, x != '')
+variables.v + params.max¦variables.v + params.max
+variables.o.orValue(0)¦[variables.o].map(celbpf_a, celbpf_a == [] ? 0 : celbpf_a[0])[0]
+object.l.map(x, x.?n.orValue(x))¦object.l.map(x, x != null && has(x.n) ? x.n : x)"#;
+
+/// One row per line: a wide expression, a broken bar and the error in words.
+const REFUSALS: &str = "name¦name is not supported here
+authorizer.path('/x')¦path is not supported here
+variables.none¦none is not supported here
+object.?a + 1¦an optional value cannot be used here
+object.l.all(object, true)¦object cannot be an iteration name here
+1u + 1¦this unsigned int is not supported here
+object.m.all(k, v, true)¦this form is not supported here";
+
+/// The variables `v`, of any kind, and `o`, an optional value.
+fn scope(alloc: Global) -> Result<Scope, AllocError> {
+    let mut scope = Scope::new(alloc);
+    scope.add("v", Kind::Value(ValueKind::Dyn))?;
+    scope.add("o", Kind::Optional(ValueKind::Dyn))?;
+    Ok(scope)
+}
+
+/// Whether the text is translated to this expression.
+fn has_translation(alloc: Global, text: &str, wrapped: bool, wanted: &str) -> Result<bool, Fail> {
+    let found = translate(alloc, &read(alloc, text)?, &scope(alloc)?, wrapped)?;
+    let expected = cel_reader::read(alloc, wanted)?;
+    let tree = format!(in alloc; "{:?}", found.expression)?;
+    Ok(tree.as_str() == format!(in alloc; "{expected:?}")?.as_str())
+}
+
+#[test]
+fn translates_expressions(rt: HostRuntime) -> Result<(), Fail> {
+    for line in TRANSLATIONS.lines() {
+        let (text, tree) = cells(line);
+        assert!(rt;
+            has_translation(rt.alloc(), text, false, tree)?,
+            "row {text}"
+        );
+    }
+    Ok(())
+}
+
+#[test]
+fn translates_params_beside_tables(rt: HostRuntime) -> Result<(), Fail> {
+    assert!(rt; has_translation(rt.alloc(), "params.max", true, "params.v.max")?);
+    Ok(())
+}
+
+#[test]
+fn tells_kinds(rt: HostRuntime) -> Result<(), Fail> {
+    let alloc = rt.alloc();
+    let names = scope(alloc)?;
+    let value = translate(alloc, &read(alloc, "1 < 2")?, &names, false)?;
+    assert!(rt; matches!(value.kind, Kind::Value(ValueKind::Bool)));
+    let optional = translate(alloc, &read(alloc, "object.?a")?, &names, false)?;
+    assert!(rt; matches!(optional.kind, Kind::Optional(ValueKind::Dyn)));
+    Ok(())
+}
+
+/// Whether the text is refused in these words.
+fn is_refused(alloc: Global, text: &str, wanted: &str) -> Result<bool, Fail> {
+    match translate(alloc, &read(alloc, text)?, &scope(alloc)?, false) {
+        Ok(_) => Ok(false),
+        Err(TranslationError::Memory) => Err(AllocError.into()),
+        Err(error) => Ok(format!(in alloc; "{error}")?.as_str() == wanted),
+    }
+}
+
+#[test]
+fn refuses_expressions(rt: HostRuntime) -> Result<(), Fail> {
+    for line in REFUSALS.lines() {
+        let (text, words) = cells(line);
+        assert!(rt; is_refused(rt.alloc(), text, words)?, "row {text}");
+    }
+    Ok(())
+}
