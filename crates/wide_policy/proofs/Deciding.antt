@@ -1,22 +1,24 @@
 -- A policy whose expressions carry the values of another's decides as the other does.
-use Rattle.std.proofs.Common.{◌≡◌, ℕ, List, [], ◌∷◌, map, fold, Option, Some, None, option_map, refl, sym, ap, ◌∙◌, false}
-use Rattle.value_store.specs.Value.{ValueOrError, null}
+use Rattle.std.proofs.Common.{◌≡◌, ℕ, List, [], ◌∷◌, map, fold, Option, Some, None, option_map, refl, sym, ap, ◌∙◌, subst, false}
+use Rattle.value_store.specs.Value.{Value as StoreValue, ValueOrError, null}
 use Rattle.cel_reader.specs.Tree.{Tree}
 use Rattle.cel_macros.specs.Environment.{Environment, Roots}
 unfoldable use Rattle.cel_macros.specs.Meaning.{meaning}
 use Rattle.wide_reader.specs.Tree.{Wide}
-use Rattle.wide_kinds.specs.declared.kind.Kind.{TheVariants.Value}
+use Rattle.wide_kinds.specs.declared.kind.Kind.{Kind, TheVariants.Value}
 use Rattle.wide_meaning.specs.Environment.{WideEnvironment}
-use Rattle.wide_meaning.specs.Outcome.{Outcome}
+use Rattle.wide_meaning.specs.Meaning.{wide_meaning}
+use Rattle.wide_meaning.specs.Outcome.{Outcome, plain_part}
 use Rattle.wide_translation.specs.Placed.{WideStep, AreTranslated, kind_of, wide_environment, environment, with_outcome, with_value as with_step_value, PolicyMeansTheSame}
 unfoldable use Rattle.policy_glue.specs.Evaluation.{decision_of}
 use Rattle.policy_glue.specs.Evaluation.{condition_values, with_value, values_of, validation_value, validation_values}
-use Rattle.policy_glue.specs.Trees.{ValidationTree}
+use Rattle.policy_glue.specs.Trees.{VariableTree, ValidationTree, PolicyTree}
 use Rattle.policy_glue.specs.Verdict.{verdict_of}
+use Rattle.policy_glue.specs.declared.failure_policy.FailurePolicy.{FailurePolicy}
 unfoldable use Rattle.wide_policy.specs.WideEvaluation.{wide_decision_of}
 use Rattle.wide_policy.specs.WideEvaluation.{wide_value, with_wide_value, wide_values_of, wide_condition_values, wide_validation_value, wide_validation_values}
-use Rattle.wide_policy.specs.WideTrees.{WideValidationTree}
-use Rattle.wide_policy.specs.Carrying.{EachPair, CarriesValue, CarriesMessage, CarriesValidation, wide_variable, profile_variable, CarriedPolicyDecides}
+use Rattle.wide_policy.specs.WideTrees.{WideVariableTree, WideValidationTree, WidePolicyTree}
+use Rattle.wide_policy.specs.Carrying.{EachPair, CarriesValue, CarriesMessage, CarriesValidation, wide_variable, profile_variable, CarriesPolicy, CarriedPolicyDecides}
 
 -- equal values at each place make equal lists
 pub same_values : {A B C : Type 0} (P : A → B → Type 0) (f : A → C) (g : B → C) (xs : List A) (ys : List B) → ((a : A) (b : B) → P a b → g b ≡ f a) → EachPair P xs ys

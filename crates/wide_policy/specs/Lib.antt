@@ -2,3 +2,9 @@
 pub mod WideTrees
 pub mod WideEvaluation
 pub mod Carrying
+pub mod WideDocuments
+pub mod Errors
+pub mod Taking
+pub mod Returns
+pub mod Reading
+pub mod Laws

@@ -1,7 +1,9 @@
 //! Laws, each the contract of an empty function.
 
 ghost use Rattle.wide_policy.specs.Carrying.{CarriedPolicyDecides};
+ghost use Rattle.wide_policy.specs.Laws.{HasOneWidePolicy, WidePoliciesAreTaken, WidePoliciesDecide};
 
+use wide_reader::one_tree;
 use wide_translation::policy_means_the_same;
 
 /// A policy whose expressions carry the values of a wide policy's decides as that does.
@@ -10,4 +12,18 @@ pub fn carried_policy_decides()
     ensures { CarriedPolicyDecides }
 {
     policy_means_the_same();
+}
+
+/// A document holds one policy, or is refused.
+pub fn one_wide_policy()
+    ensures one { HasOneWidePolicy }
+    ensures taken { WidePoliciesAreTaken }
+{}
+
+/// A policy in a document decides as its wide expressions mean.
+pub fn wide_policies_decide()
+    ensures { WidePoliciesDecide }
+{
+    carried_policy_decides();
+    one_tree();
 }

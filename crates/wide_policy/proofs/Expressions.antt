@@ -1,0 +1,91 @@
+-- Results on single expressions.
+use Rattle.std.proofs.Common.{◌≡◌, ◌≢◌, ℕ, true, false, List, Some, None, Result, Ok, Err, IsErr, refl, sym, ap, subst, arith, ◌∙◌, true≢false, String, Global, string_bytes}
+use Rattle.std.proofs.lemmas.Bool.{false≢true}
+use Rattle.std.specs.Result.{IsErrAnd}
+use Rattle.cel_tokens.specs.declared.read_error.ReadError.{ReadError}
+use Rattle.cel_tokens.specs.declared.read_error.ReadError.TheVariants as read_error
+use Rattle.cel_reader.specs.Tree.{Tree, view}
+use Rattle.cel_writer.specs.Printed.{printed}
+use Rattle.cel_writer.specs.Writing.{WritesBack, IsReadBack}
+use Rattle.cel_writer.specs.declared.write_error.WriteError.{WriteError}
+use Rattle.cel_writer.specs.declared.write_error.WriteError.TheVariants as write_error
+use Rattle.wide_reader.specs.Answers.{IsWide, WideReadReturns}
+use Rattle.wide_reader.specs.Tree.{Wide}
+use Rattle.wide_reader.specs.declared.wide_error.WideReadError.{WideReadError}
+use Rattle.wide_reader.specs.declared.wide_error.WideReadError.TheVariants as wide_read
+use Rattle.wide_kinds.specs.declared.kind.Kind.{Kind}
+use Rattle.wide_translation.specs.Declarations.{IsTranslation, is_memory}
+use Rattle.wide_translation.specs.Scope.{scope_of}
+use Rattle.wide_translation.specs.Translated.{translated}
+use Rattle.wide_translation.specs.declared.translated.Translated.{Translated}
+use Rattle.wide_translation.specs.declared.translation_error.TranslationError.{TranslationError}
+use Rattle.wide_translation.specs.declared.translation_error.TranslationError.TheVariants as translation
+use Rattle.policy_glue.specs.declared.part_kind.PartKind.{PartKind}
+use Rattle.wide_policy.specs.Errors.{from_reader, from_translation, from_writer, in_part}
+use Rattle.wide_policy.specs.Returns.{ReturnsTranslation, ReturnsExpression, ReturnsPart, IsPartTakenAs}
+use Rattle.wide_policy.specs.Taking.{TakenExpression, IsTranslated, IsTakenPart, IsRefusedPart, RefusesPart, fits}
+use Rattle.wide_policy.specs.declared.expression_error.WideExpressionError.{WideExpressionError}
+use Rattle.wide_policy.specs.declared.expression_error.WideExpressionError.TheVariants as error
+use Rattle.wide_policy.specs.declared.wide_policy_error.WidePolicyError.{WidePolicyError}
+
+-- an error that is returned unchanged
+pub handed_on : {X E : Type 0} (Target : Result X E → Type 0) (e : E) (r : Result X E) → Target (Err e) → IsErr r → IsErrAnd r (λ x. x ≡ e) → Target r
+handed_on Target e r here err is = grind (arith, false≢true)
+
+module _ (variables : List (List ℕ × Kind)) (text : List ℕ) where
+  -- the text is not an expression
+  unread_text : (e : ReadError) → WideReadReturns text (Err (wide_read.Text e)) → ReturnsTranslation variables text (Err (from_reader (wide_read.Text e)))
+  unread_text read_error.Memory said = λ some. absurd (some refl)
+  unread_text (read_error.UnknownCharacter place) said = λ some p. said
+  unread_text (read_error.InvalidTextLiteral place) said = λ some p. said
+  unread_text (read_error.IntOutOfRange place) said = λ some p. said
+  unread_text (read_error.UnexpectedToken place) said = λ some p. said
+  unread_text (read_error.TooManyOpen place) said = λ some p. said
+  unread_text (read_error.TextTooLong place) said = λ some p. said
+
+  pub unread_by : (e : WideReadError) → WideReadReturns text (Err e) → ReturnsTranslation variables text (Err (from_reader e))
+  unread_by (wide_read.Text e) said = unread_text e said
+  unread_by (wide_read.Bytes place) said = λ some p. said
+  unread_by (wide_read.Double place) said = λ some p. said
+  unread_by (wide_read.Macro fault) said = λ some p. said
+
+  -- the expression has no translation
+  pub untranslated_by : (w : Wide) (e : TranslationError) → IsWide text w → IsTranslation (translated (scope_of false variables) w) (Err e)
+      → ReturnsTranslation variables text (Err (from_translation e))
+  untranslated_by w translation.Memory reads said = λ some. absurd (some refl)
+  untranslated_by w (translation.UnknownName n) reads said = λ some p. (refl, w, reads, said refl)
+  untranslated_by w translation.OptionalValue reads said = λ some p. (refl, w, reads, said refl)
+  untranslated_by w (translation.TakenName n) reads said = λ some p. (refl, w, reads, said refl)
+  untranslated_by w translation.UnsignedInt reads said = λ some p. (refl, w, reads, said refl)
+  untranslated_by w translation.Unsupported reads said = λ some p. (refl, w, reads, said refl)
+
+  pub translated_is : (w : Wide) (t : Translated) → IsWide text w → IsTranslation (translated (scope_of false variables) w) (Ok t) → ReturnsTranslation variables text (Ok t)
+  translated_is w t reads said =
+      (record { wide = w; kind = t.kind; tree = view t.expression }, record { reads = reads; translation = said }, refl, refl)
+
+  module _ (p : PartKind) (t : Translated) (one : ReturnsTranslation variables text (Ok t)) where
+    pub optional_is : fits p t.kind ≡ false → IsRefusedPart p variables text error.OptionalResult
+    optional_is other = (one.0, one.1, ap (fits p) one.2 ∙ other)
+
+    pub unwritten_by : (e : WriteError) → fits p t.kind ≡ true → WritesBack (view t.expression) (Err e) → from_writer e ≢ error.Memory → IsRefusedPart p variables text (from_writer e)
+    unwritten_by write_error.Memory fit said some = absurd (some refl)
+    unwritten_by write_error.Unreadable fit said some = (one.0, one.1, ap (fits p) one.2 ∙ fit, λ written. said (subst IsReadBack one.3 written))
+
+    pub expression_is : (s : String Global) → fits p t.kind ≡ true → WritesBack (view t.expression) (Ok s) → ReturnsExpression p variables text (Ok (t.kind, s))
+    expression_is s fit said = record {
+      expression = one.0;
+      taken = record { is = one.1; fit = ap (fits p) one.2 ∙ fit; written = subst IsReadBack (sym one.3) said.1 };
+      kind_is = sym one.2;
+      text_is = said.0 ∙ ap printed (sym one.3);
+    }
+
+  part_by : (p : PartKind) (place : ℕ) (e : WideExpressionError) → ReturnsExpression p variables text (Err e) → ReturnsPart p place variables text (Err (in_part p place e))
+  part_by p place (error.Unread e) said = λ some. record { cause = error.Unread e; because = said (λ is. cc); is = refl }
+  part_by p place (error.Untranslated e) said = λ some. record { cause = error.Untranslated e; because = said (λ is. cc); is = refl }
+  part_by p place error.OptionalResult said = λ some. record { cause = error.OptionalResult; because = said (λ is. cc); is = refl }
+  part_by p place error.Unwritten said = λ some. record { cause = error.Unwritten; because = said (λ is. cc); is = refl }
+  part_by p place error.Memory said = λ some. absurd (some refl)
+
+  pub part_refused : (p : PartKind) (place : ℕ) (e : WideExpressionError) (x : WidePolicyError) → ReturnsExpression p variables text (Err e) → x ≡ in_part p place e
+      → ReturnsPart p place variables text (Err x)
+  part_refused p place e x said is = subst (λ (y : WidePolicyError). ReturnsPart p place variables text (Err y)) (sym is) (part_by p place e said)

@@ -1,0 +1,144 @@
+-- Results of the code on single expressions, on lists of parts, and on policies.
+use Rattle.std.specs.Prelude.{◌≡◌, ◌≢◌, ℕ, List, [], ◌∷◌, ◌++◌, map, Option, Some, None, option_map, Result, Ok, Err, String, string_bytes, Vec}
+use Rattle.std.specs.Global.{Global}
+use Rattle.cel_reader.specs.Tree.{view}
+use Rattle.cel_writer.specs.Printed.{printed}
+use Rattle.wide_kinds.specs.declared.kind.Kind.{Kind}
+use Rattle.wide_translation.specs.Declarations.{IsTranslatedTo}
+use Rattle.wide_translation.specs.Placed.{WideStep, kind_of}
+use Rattle.wide_translation.specs.declared.scope.Scope.{Scope}
+use Rattle.wide_translation.specs.declared.translated.Translated.{Translated}
+use Rattle.policy_glue.specs.Policy.{NamedExpression, Validation, Policy, named_view, validation_view}
+use Rattle.policy_glue.specs.declared.named_expression.NamedExpression.{NamedExpression as CodeNamedExpression}
+use Rattle.policy_glue.specs.declared.part_kind.PartKind.{PartKind, TheVariants.Message, TheVariants.Variable, TheVariants.Condition}
+use Rattle.wide_policy.specs.Taking.{TakenExpression, IsTranslated, fits, IsTakenPart, IsRefusedPart, RefusesPart, TakesNamed, WideVariablesEnd, WideConditionsEnd, TakenValidation, TakesWideMessage, TakesWideValidation, RefusesWideValidation, WideValidationsEnd, TakenParts, WidePartsEnd, profile_named, profile_validation, source_of, profile_of, kept_text, with_note, notes_from}
+use Rattle.wide_policy.specs.declared.left_out.LeftOut.{LeftOut}
+use Rattle.wide_policy.specs.declared.message_rule.MessageRule.{MessageRule, TheVariants.Required, TheVariants.LeftOut as MayBeLeftOut}
+use Rattle.wide_policy.specs.declared.expression_error.WideExpressionError.{WideExpressionError}
+use Rattle.wide_policy.specs.declared.expression_error.WideExpressionError.TheVariants as expression_error
+use Rattle.wide_policy.specs.declared.policy.WidePolicy.{WidePolicy}
+use Rattle.wide_policy.specs.declared.taken_message.TakenMessage.{TakenMessage}
+use Rattle.wide_policy.specs.declared.taken_pair.TakenPair.{TakenPair}
+use Rattle.wide_policy.specs.declared.taken_lists.TakenLists.{TakenLists}
+use Rattle.wide_policy.specs.declared.wide_policy_error.WidePolicyError.{WidePolicyError, TheVariants.InvalidExpression}
+use Rattle.wide_policy.specs.declared.wide_policy_error.WidePolicyError.TheVariants as wide_error
+
+-- ---- one expression
+
+-- the expression of the text, and its translation; or why there is none in the place of any part
+abbrev pub ReturnsTranslation : List (List ℕ × Kind) → List ℕ → Result Translated WideExpressionError → Type 0
+ReturnsTranslation variables text (Ok t) = (x : TakenExpression) × IsTranslated variables text x × (x.kind ≡ t.kind) × (x.tree ≡ view t.expression)
+ReturnsTranslation variables text (Err e) = e ≢ expression_error.Memory → (p : PartKind) → IsRefusedPart p variables text e
+
+-- the kind and the text of a part's translation
+pub record IsPartTakenAs (p : PartKind) (variables : List (List ℕ × Kind)) (source : List ℕ) (kind : Kind) (text : List ℕ) : Type 0 where
+  pub expression : TakenExpression
+  pub taken : IsTakenPart p variables source expression
+  pub kind_is : kind ≡ expression.kind
+  pub text_is : text ≡ printed expression.tree
+
+abbrev pub ReturnsExpression : PartKind → List (List ℕ × Kind) → List ℕ → Result (Kind × String Global) WideExpressionError → Type 0
+ReturnsExpression p variables text (Ok x) = IsPartTakenAs p variables text x.0 (string_bytes x.1)
+ReturnsExpression p variables text (Err e) = e ≢ expression_error.Memory → IsRefusedPart p variables text e
+
+abbrev pub ReturnsPart : PartKind → ℕ → List (List ℕ × Kind) → List ℕ → Result (Kind × String Global) WidePolicyError → Type 0
+ReturnsPart p place variables text (Ok x) = IsPartTakenAs p variables text x.0 (string_bytes x.1)
+ReturnsPart p place variables text (Err e) = e ≢ wide_error.Memory → RefusesPart p variables place text e
+
+-- ---- variables and conditions
+
+-- a variable is added to the scope, and its translation to the end of the list
+pub record IsAddedWide (n : NamedExpression) (old new : List (List ℕ × Kind)) (before after : List NamedExpression) : Type 0 where
+  pub variable : WideStep
+  pub taken : TakesNamed Variable old n variable
+  pub scope : new ≡ old ++ kind_of variable ∷ []
+  pub list : after ≡ before ++ profile_named variable ∷ []
+
+abbrev pub ReturnsVariable : NamedExpression → ℕ → List (List ℕ × Kind) → List (List ℕ × Kind) → List NamedExpression → List NamedExpression → Result (Unit {0}) WidePolicyError → Type 0
+ReturnsVariable n place old new before after (Ok u) = IsAddedWide n old new before after
+ReturnsVariable n place old new before after (Err e) = e ≢ wide_error.Memory → RefusesPart Variable old place n.expression e
+
+abbrev pub ReturnsVariables : List NamedExpression → Result (List (List ℕ × Kind) × Vec CodeNamedExpression Global) WidePolicyError → Type 0
+ReturnsVariables ns (Ok x) =
+    (vs : List WideStep) × WideVariablesEnd ns (Ok vs) × (x.0 ≡ map kind_of vs) × (map named_view x.1.items ≡ map profile_named vs)
+ReturnsVariables ns (Err e) = e ≢ wide_error.Memory → WideVariablesEnd ns (Err e)
+
+abbrev pub ReturnsCondition : ℕ → List (List ℕ × Kind) → NamedExpression → Result CodeNamedExpression WidePolicyError → Type 0
+ReturnsCondition place variables n (Ok m) = (v : WideStep) × TakesNamed Condition variables n v × (named_view m ≡ profile_named v)
+ReturnsCondition place variables n (Err e) = e ≢ wide_error.Memory → RefusesPart Condition variables place n.expression e
+
+abbrev pub ReturnsConditions : List NamedExpression → Result (Vec CodeNamedExpression Global) WidePolicyError → Type 0
+ReturnsConditions ns (Ok x) = (cs : List WideStep) × WideConditionsEnd ns (Ok cs) × (map named_view x.items ≡ map profile_named cs)
+ReturnsConditions ns (Err e) = e ≢ wide_error.Memory → WideConditionsEnd ns (Err e)
+
+-- ---- validations
+
+-- the texts of a message expression: its author's, if it is not left out, and that of its translation
+pub record IsMessageTaken (rule : MessageRule) (variables : List (List ℕ × Kind)) (text : Option (List ℕ)) (m : TakenMessage) : Type 0 where
+  pub expression : Option TakenExpression
+  pub taken : TakesWideMessage rule variables text expression m.refusal
+  pub source : option_map string_bytes m.source ≡ kept_text m.refusal text
+  pub profile : option_map string_bytes m.profile ≡ option_map (λ (x : TakenExpression). printed x.tree) expression
+
+-- the message expression of the validation at this place is refused
+pub record IsMessageRefused (rule : MessageRule) (place : ℕ) (variables : List (List ℕ × Kind)) (text : Option (List ℕ)) (e : WidePolicyError) : Type 0 where
+  pub source : List ℕ
+  pub is : text ≡ Some source
+  pub required : rule ≡ Required
+  pub because : RefusesPart Message variables place source e
+
+abbrev pub ReturnsMessage : MessageRule → ℕ → List (List ℕ × Kind) → Option (List ℕ) → Result TakenMessage WidePolicyError → Type 0
+ReturnsMessage rule place variables text (Ok m) = IsMessageTaken rule variables text m
+ReturnsMessage rule place variables text (Err e) = e ≢ wide_error.Memory → IsMessageRefused rule place variables text e
+
+-- a refusal of a message expression leaves it out, if the rule says so; out of memory stays `Memory`
+abbrev pub leave_out : MessageRule → WidePolicyError → Option WideExpressionError
+leave_out MayBeLeftOut (InvalidExpression p place e) = Some e
+leave_out _ _ = None
+
+pub record LeavesNothing (m : TakenMessage) (e : WideExpressionError) : Type 0 where
+  pub source : m.source ≡ None
+  pub profile : m.profile ≡ None
+  pub refusal : m.refusal ≡ Some e
+
+abbrev pub LeavesOut : MessageRule → WidePolicyError → Result TakenMessage WidePolicyError → Type 0
+LeavesOut rule e (Ok m) = (cause : WideExpressionError) × (leave_out rule e ≡ Some cause) × LeavesNothing m cause
+LeavesOut rule e (Err f) = (f ≡ e) × (leave_out rule e ≡ None)
+
+-- a validation with its translation
+pub record IsPairOf (r : TakenValidation) (pair : TakenPair) : Type 0 where
+  pub source : validation_view pair.source ≡ r.source
+  pub profile : validation_view pair.profile ≡ profile_validation r
+  pub refusal : pair.refusal ≡ r.left_out
+
+abbrev pub ReturnsValidation : MessageRule → ℕ → List (List ℕ × Kind) → Validation → Result TakenPair WidePolicyError → Type 0
+ReturnsValidation rule place variables n (Ok pair) = (r : TakenValidation) × TakesWideValidation rule variables n r × IsPairOf r pair
+ReturnsValidation rule place variables n (Err e) = e ≢ wide_error.Memory → RefusesWideValidation rule variables place n e
+
+-- the validation at this place is added to the lists
+pub record HasAddedPair (old new : TakenLists) (place : ℕ) (pair : TakenPair) : Type 0 where
+  pub source : new.source.items ≡ old.source.items ++ pair.source ∷ []
+  pub profile : new.profile.items ≡ old.profile.items ++ pair.profile ∷ []
+  pub left_out : new.left_out.items ≡ old.left_out.items ++ with_note place pair.refusal []
+
+-- the lists have these validations
+pub record IsListsOf (rs : List TakenValidation) (lists : TakenLists) : Type 0 where
+  pub source : map validation_view lists.source.items ≡ map (λ (r : TakenValidation). r.source) rs
+  pub profile : map validation_view lists.profile.items ≡ map profile_validation rs
+  pub left_out : lists.left_out.items ≡ notes_from 0 rs
+
+abbrev pub ReturnsValidations : MessageRule → List (List ℕ × Kind) → List Validation → Result TakenLists WidePolicyError → Type 0
+ReturnsValidations rule variables ns (Ok lists) = (rs : List TakenValidation) × WideValidationsEnd rule variables ns (Ok rs) × IsListsOf rs lists
+ReturnsValidations rule variables ns (Err e) = e ≢ wide_error.Memory → WideValidationsEnd rule variables ns (Err e)
+
+-- ---- policies
+
+-- the policy and its translation
+pub record IsPolicyOfParts (parsed : Policy) (parts : TakenParts) (p : WidePolicy) : Type 0 where
+  pub source : p.source ≡ source_of parsed parts
+  pub profile : p.profile ≡ profile_of parsed parts
+  pub left_out : p.left_out.items ≡ notes_from 0 parts.validations
+
+abbrev pub ReturnsPolicy : MessageRule → Policy → Result WidePolicy WidePolicyError → Type 0
+ReturnsPolicy rule parsed (Ok p) = (parts : TakenParts) × WidePartsEnd rule parsed (Ok parts) × IsPolicyOfParts parsed parts p
+ReturnsPolicy rule parsed (Err e) = e ≢ wide_error.Memory → WidePartsEnd rule parsed (Err e)

@@ -1,0 +1,63 @@
+//! Single expressions.
+
+ghost use Rattle.std.specs.Prelude.{◌≡◌};
+ghost use Rattle.wide_policy.specs.Returns.{ReturnsExpression, ReturnsPart, ReturnsTranslation};
+ghost use Rattle.wide_policy.specs.Taking.{fits};
+
+use crate::expression_error::WideExpressionError;
+use crate::wide_policy_error::WidePolicyError;
+use policy_glue::PartKind;
+use std::alloc::Global;
+use wide_kinds::Kind;
+use wide_translation::{Scope, Translated, translate};
+
+/// Reads the text and translates the expression, which may use the variables of the scope.
+fn translation(alloc: Global, text: &str, scope: &Scope) -> Result<Translated, WideExpressionError>
+    ensures { ReturnsTranslation scope.now text.now result }
+{
+    let wide = wide_reader::read(alloc, text)?;
+    Ok(translate(alloc, &wide, scope, false)?)
+}
+
+/// Whether the expression of this part may be of this kind.
+fn fits(part: PartKind, kind: Kind) -> bool
+    ensures { result ≡ fits part kind }
+{
+    match part {
+        PartKind::Variable => true,
+        _ => matches!(kind, Kind::Value(_)),
+    }
+}
+
+/// The text of the translation of a part's expression, and the kind of its value.
+fn expression(
+    alloc: Global,
+    part: PartKind,
+    text: &str,
+    scope: &Scope,
+) -> Result<(Kind, String), WideExpressionError>
+    ensures { ReturnsExpression part scope.now text.now result }
+{
+    let translated = translation(alloc, text, scope)?;
+    if fits(part, translated.kind) {
+        let text = cel_writer::write(alloc, &translated.expression)?;
+        return Ok((translated.kind, text));
+    }
+    Err(WideExpressionError::OptionalResult)
+}
+
+/// The same of the part at this place of its list.
+pub(crate) fn part_at(
+    alloc: Global,
+    part: PartKind,
+    place: usize,
+    text: &str,
+    scope: &Scope,
+) -> Result<(Kind, String), WidePolicyError>
+    ensures { ReturnsPart part place scope.now text.now result }
+{
+    match expression(alloc, part, text, scope) {
+        Ok(taken) => Ok(taken),
+        Err(error) => Err(error.at(part, place)),
+    }
+}
