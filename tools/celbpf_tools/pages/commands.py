@@ -10,7 +10,7 @@ from typing import Any
 from ..home import ROOT
 from .texts import block, read, spans, tables
 
-COMMAND = re.compile(r"\./(?:celbpf (?:compile|review|run-image|asm|list)|vapctl (?:check|audit|state|test|why|lint)) [^`\n]+")
+COMMAND = re.compile(r"\./(?:celbpf (?:compile|review|run-image|asm|list)|vapctl (?:check|audit|state|test|why|lint|compile)) [^`\n]+")
 SESSION = re.compile(r"\./celbpf debug [^`\n]+")
 # where pages are
 FOLDERS = ("", "docs/", "examples/policies/", "crates/*/")

@@ -86,7 +86,7 @@ class Package(unittest.TestCase):
         self.assertTrue(zsh().startswith("#compdef celbpf gatekeeper vapctl kubectl-vap celbpf-why "))
         for text in (bash(), zsh()):
             self.assertIn("celbpf-as-reviews) echo '--cluster --old --namespace --user --group --skip-unknown'", text)
-            self.assertIn("    vapctl) echo 'check audit state test why debug lint' ;;", text)
+            self.assertIn("    vapctl) echo 'check audit state test why debug lint compile' ;;", text)
             self.assertIn("'kubectl-vap state') echo '--help --from --to --context --kubeconfig --kubectl' ;;", text)
             self.assertRegex(text, "gatekeeper\\) echo '--policy .*--cluster --partial --help --version'")
 

@@ -1,5 +1,6 @@
 """Broken inputs, and the runs of each subcommand on one."""
 
+import os
 from collections.abc import Iterator
 from pathlib import Path
 
@@ -89,3 +90,4 @@ def commands(path: Path) -> Iterator[list[object]]:
     yield ["debug", "-", THING]
     yield ["lint", path]
     yield ["lint", "-", "-o", "json"]
+    yield ["compile", path, "-o", os.devnull]

@@ -9,11 +9,13 @@ from typing import Any, Optional
 
 from ..asking import policies
 from ..asking.program import Program
+from ..asking.texts import pointed
 from ..commands.place import Refused, refused
 from .cluster import VERSION
 from .inputs import Thing
 from .one_decision import policy_text
 from .positions import Marks, Path, Position
+from .reports.texts import on_line
 
 # what a part that is refused is replaced by, so that the parts after it are asked
 VALID = {"variable": "dyn(null)", "condition": "true", "validation": "true", "message": "'a'"}
@@ -67,6 +69,12 @@ class Fault:
     def message(self) -> str:
         """What is meant, after the part or the key."""
         return f"{self.part}: {self.meaning} ({self.code})" if self.part else f"{self.meaning} ({self.code})"
+
+    def lines(self) -> Iterator[str]:
+        """What is printed: the place and what is meant, and the text of the part with carets."""
+        yield on_line(f"{self.place}: {self.policy.name}: {self.message}")
+        if self.refused.part:
+            yield pointed(self.refused.part.text, self.refused.begin, self.refused.end)
 
 
 def outside(text: str, at: int) -> str:

@@ -19,7 +19,7 @@ STATUSES = """Status 0: all is allowed, or passed; 1: something is denied, or fa
 decided, or cannot be read."""
 # calls inside calls are few, but where an expression is taken apart
 DEEPEST = 2_000
-DEEP = ("debug", "lint", "test", "why")
+DEEP = ("compile", "debug", "lint", "test", "why")
 # shows where an error in vapctl itself is
 DEBUG = "VAPCTL_DEBUG"
 

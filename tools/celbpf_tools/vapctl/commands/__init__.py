@@ -15,6 +15,7 @@ WHATS = {
     "why": "show why a policy decides a review, a manifest or a test case as it does",
     "debug": "debug a decision step by step, forward and back",
     "lint": "show all that is refused in policies",
+    "compile": "write the image of a policy's program",
 }
 
 

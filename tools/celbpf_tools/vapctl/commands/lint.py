@@ -6,7 +6,6 @@ import tempfile
 from typing import Any
 
 from ...asking.program import Program, located
-from ...asking.texts import pointed
 from ...entry import Stop
 from ..cluster import POLICY
 from ..inputs import Inputs, Trouble
@@ -57,9 +56,7 @@ def summary(policies: int, refused: int, unread: int) -> str:
 def table(found: list[Fault], troubles: list[Trouble]) -> None:
     """A line for each refusal, and its text with carets."""
     for fault in found:
-        print(on_line(f"{fault.place}: {fault.policy.name}: {fault.message}"))
-        if fault.refused.part:
-            print(pointed(fault.refused.part.text, fault.refused.begin, fault.refused.end))
+        print(*fault.lines(), sep="\n")
     for trouble in troubles:
         print(on_line(f"{trouble.place}: not read: {trouble.why}"))
 
