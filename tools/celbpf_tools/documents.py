@@ -3,7 +3,7 @@
 import json
 import re
 from pathlib import Path
-from typing import Any, Optional, Union
+from typing import Any, Iterator, Optional, Union
 
 from .entry import Stop
 
@@ -15,6 +15,8 @@ except ImportError:
 YAML_NAMES = (".yaml", ".yml")
 # PyYAML takes more texts for numbers and dates than a cluster does: 1:30 is a text there, and so is 2026-11-26
 NOT_RESOLVED = ("tag:yaml.org,2002:timestamp", "tag:yaml.org,2002:int", "tag:yaml.org,2002:float")
+# the tag of the key `<<`, which may be there twice
+MERGE = "tag:yaml.org,2002:merge"
 # the most lists and maps that are inside one another; only texts with so many brackets, or a line that begins with so
 # many indentations, may have more
 DEEPEST = 300
@@ -86,6 +88,39 @@ def too_deep(text: str) -> Any:
     return None
 
 
+def refuse_repeated(root: Any) -> None:
+    """Refuses a document in which a map has a key twice: which of them counts depends on who reads it."""
+    waiting, seen = [root], {id(root)}
+    while waiting:
+        node = waiting.pop()
+        parts = node.value if isinstance(node, yaml.SequenceNode) else []
+        if isinstance(node, yaml.MappingNode):
+            parts = [part for pair in node.value for part in pair]
+            lines: dict = {}
+            for key in (name for name, _ in node.value if isinstance(name, yaml.ScalarNode) and name.tag != MERGE):
+                if key.value in lines:
+                    told = f"the key {key.value!r} of line {lines[key.value]} is repeated"
+                    raise yaml.constructor.ConstructorError(None, None, told, key.start_mark)
+                lines[key.value] = key.start_mark.line + 1
+        for part in parts:
+            # an alias has the node that it repeats
+            if isinstance(part, yaml.CollectionNode) and id(part) not in seen:
+                seen.add(id(part))
+                waiting.append(part)
+
+
+def yaml_values(text: str, load: Any) -> Iterator:
+    """The node and the value of each document of a text in YAML, with a loader of this class."""
+    loading = load(text)
+    try:
+        while loading.check_node():
+            node = loading.get_node()
+            refuse_repeated(node)
+            yield node, loading.construct_document(node)
+    finally:
+        loading.dispose()
+
+
 def yaml_of(text: str, path: Path) -> list:
     """The documents of a text in YAML, without empty ones."""
     if yaml is None:
@@ -93,7 +128,7 @@ def yaml_of(text: str, path: Path) -> list:
     try:
         if deep := too_deep(text):
             raise Unreadable(f"{path}: it is nested too deep at line {deep.line + 1} column {deep.column + 1}")
-        return [one for one in yaml.load_all(text, loader()) if one is not None]
+        return [value for _, value in yaml_values(text, loader()) if value is not None]
     except yaml.YAMLError as why:
         mark = getattr(why, "problem_mark", None)
         where = f" at line {mark.line + 1} column {mark.column + 1}" if mark else ""

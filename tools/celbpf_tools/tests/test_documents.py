@@ -58,6 +58,19 @@ class Yaml(Files):
     def test_place_of_a_yaml_fault(self) -> None:
         self.assertRegex(self.refused(self.file("a.yaml", "a: [1\nb: 2\n")), r"^a.yaml: .* at line 2 column 2$")
 
+    def test_a_repeated_key(self) -> None:
+        path = self.file("a.yaml", "a: 1\nb:\n- {c: 1, d: 2}\n- c: 1\n  'c': 2\n")
+        self.assertEqual(self.refused(path), "a.yaml: the key 'c' of line 4 is repeated at line 5 column 3")
+
+    def test_a_merge_may_be_repeated_and_overridden(self) -> None:
+        path = self.file("a.yaml", "a: &a {x: 1, y: 1}\nb: &b {<<: *a, <<: {z: 2}, x: 3}\nc: {<<: *b, x: 4}\n")
+        self.assertEqual(documents.one_in(path)["c"], {"x": 4, "y": 1, "z": 2})
+
+    def test_a_map_that_aliases_repeat_is_read_once(self) -> None:
+        lines = ["a0: &a0 {x: 1}", *(f"a{n}: &a{n} [*a{n - 1}, *a{n - 1}]" for n in range(1, 60))]
+        node = documents.yaml.compose("\n".join(lines), documents.loader())
+        documents.refuse_repeated(node)
+
     def test_several_documents(self) -> None:
         path = self.file("a.yaml", "a: 1\n---\nb: 2\n---\n")
         self.assertEqual(documents.all_in(path), [{"a": 1}, {"b": 2}])

@@ -33,14 +33,9 @@ def documents_of(text: str) -> Iterator[Document]:
     yaml = documents.yaml_package()
     try:
         refuse_deep(text)
-        load = loader()(text)
-        try:
-            while load.check_node():
-                document = document_of(load, load.get_node(), "*" in text)
-                if document is not None:
-                    yield document
-        finally:
-            load.dispose()
+        for node, value in documents.yaml_values(text, loader()):
+            if value is not None:
+                yield document_of(node, value, "*" in text)
     except yaml.YAMLError as why:
         mark = getattr(why, "problem_mark", None)
         told = str(getattr(why, "problem", None) or getattr(why, "reason", None) or why)
@@ -51,11 +46,8 @@ def documents_of(text: str) -> Iterator[Document]:
         raise NotRead(str(why).split("\n", maxsplit=1)[0]) from why
 
 
-def document_of(load: Any, node: Any, has_aliases: bool) -> Optional[Document]:
-    """The document of a node, or `None` if it is empty."""
-    value = load.construct_document(node)
-    if value is None:
-        return None
+def document_of(node: Any, value: Any, has_aliases: bool) -> Document:
+    """The document of a node with this value."""
     if has_aliases:
         refuse_large(value)
     return Document(value, node.start_mark.line + 1, items_of(node, value), True)
