@@ -165,7 +165,7 @@ def report_of(given: argparse.Namespace, progress: Callable[[], None] = lambda: 
         warn(given, deciding)
         for result, answer in zip(made.asked, deciding.decide(made.lines)):
             result.outcome, result.message, result.findings = answer
-    return Report(made.results, found.troubles, deciding.policies)
+    return Report(made.results, found.troubles, deciding.policies, given.fail_on_warn)
 
 
 def warn(given: argparse.Namespace, deciding: Deciding) -> None:
@@ -206,6 +206,7 @@ def add_words(parser: argparse.ArgumentParser, jobs: int = 1) -> None:
     add_request_words(parser)
     other = parser.add_argument_group("other")
     other.add_argument("--skip-unknown", action="store_true", help="leave out objects whose kind is not known")
+    other.add_argument("--fail-on-warn", action="store_true", help="end with 1 if there is a warning, as if it were a denial")
     other.add_argument("--allow-empty", action="store_true", help="end with 0 if there is no object; without it with 3")
     other.add_argument("-j", "--jobs", type=count, default=jobs, metavar="N",
                        help=f"the number of gatekeepers (default: {'1' if jobs == 1 else 'that of processors'})")

@@ -47,11 +47,12 @@ class Result:
 
 @dataclass
 class Report:
-    """All results, what could not be read, and the policies that were asked."""
+    """All results, what could not be read, the policies that were asked, and whether a warning is a failure."""
 
     results: list[Result] = field(default_factory=list)
     troubles: list[Trouble] = field(default_factory=list)
     policies: list[str] = field(default_factory=list)
+    fails_on_warn: bool = False
 
     def count(self, outcome: str) -> int:
         """The number of objects with an outcome."""
@@ -65,7 +66,8 @@ class Report:
     def status(self) -> int:
         if self.troubles or self.findings(ERROR):
             return REFUSED
-        return BAD if self.count(DENIED) else GOOD
+        is_warned = self.fails_on_warn and self.findings(WARN)
+        return BAD if self.count(DENIED) or is_warned else GOOD
 
     @property
     def summary(self) -> str:
