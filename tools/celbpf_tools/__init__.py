@@ -6,6 +6,7 @@
     vapctl       the command `vapctl`, a module for each subcommand
     documents    policies, reviews and tests, read as JSON or YAML
     definitions  the definitions in the folders `specs`, read by their names
+    assembling   a friendlier text of programs than `celbpf asm` takes
     asking       questions to the built program about a policy
     evaluator    what a policy answers to a review, written apart from the crates
     slots        which sub-expression each slot of a compiled policy belongs to

@@ -3,8 +3,9 @@
 usage: tools/package [--programs FOLDER] [--library FILE] [--no-library] [--to FOLDER] [--tar]
 
 They are `celbpf_VERSION_ARCH.deb` and `.tar.xz` in the folder `dist`. Installed are celbpf, gatekeeper, the scripts as
-celbpf-why, celbpf-place, celbpf-reviews, celbpf-test, celbpf-adapt, celbpf-as-reviews and celbpf-dap, a man page of each,
-completion for bash and zsh, the library for C, Go, Python and Rust, the pages for users, the examples and the licence.
+celbpf-why, celbpf-place, celbpf-reviews, celbpf-test, celbpf-adapt, celbpf-as-reviews, celbpf-dap and celbpf-asm, a man
+page of each, completion for bash and zsh, the library for C, Go, Python and Rust, the pages for users, the examples and the
+licence.
 FOLDER of `--programs` has the programs to pack; without it the repository's are proved and built first if they
 are not up to date. FILE is the proved library, else `libcelbpf_c.a` of FOLDER or what `tools/embed` left in `crates/celbpf_c/out`;
 `--no-library` leaves it out. `--tar` makes the tar archive alone.

@@ -128,6 +128,7 @@ def check_programs(checks: Checks, it: Installed) -> None:
     checks.run([f"{program}-adapt", it.policy], 0, '{\n  "apiVersion"')
     checks.run([f"{program}-as-reviews", it.policy], 0, '{"apiVersion":"admission.k8s.io/v1"')
     checks.run([f"{program}-dap"], 0, "Content-Length: ", dap_launch(it.policy))
+    checks.run([f"{program}-asm", "-"], 0, "mov64 r0, 1\nexit\n", "mov64 r0, 0x1 ; one\nexit\n")
     check_vapctl(checks, it)
     # its name and its usage are those that it is installed by
     checks.run([f"{program}-test", "--help"], 0, "usage: celbpf-test [--junit F]")

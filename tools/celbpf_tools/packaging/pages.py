@@ -7,7 +7,7 @@ from typing import Iterator
 from ..home import ROOT
 
 # the scripts for policies, which need nothing of the repository
-SCRIPTS = ("why", "place", "reviews", "test", "adapt", "as-reviews", "dap")
+SCRIPTS = ("why", "place", "reviews", "test", "adapt", "as-reviews", "dap", "asm")
 PAGES = (
     "ASSEMBLER", "CEL", "CLUSTER", "CLUSTERS", "CODE", "COMMANDS", "DEBUGGER", "EMBEDDING", "GATEKEEPER", "GLOSSARY", "HELPERS",
     "INSTALL", "MACHINE", "PERFORMANCE", "POLICIES", "SCRIPTS", "TUTORIAL", "VALUES", "VAPCTL", "WHY",

@@ -17,7 +17,9 @@ from .completion import NAMES, bash, zsh
 # the scripts for policies, which need nothing of the repository
 SCRIPTS = pages.SCRIPTS
 # the packages of Python that these need
-MODULES = ("asking", "adapting", "testing", "evaluator", "manifests", "slots", "viewing", "dap", "vapctl", "commands")
+MODULES = (
+    "asking", "adapting", "assembling", "testing", "evaluator", "manifests", "slots", "viewing", "dap", "vapctl", "commands",
+)
 ENTRY = '''#!/usr/bin/env python3
 """{what}"""
 

@@ -1,0 +1,78 @@
+"""The friendlier text of programs: its pieces, numbers and constants."""
+
+import unittest
+
+from ..assembling.items import Jump
+from ..assembling.programs import Placed, Program, jump_faults, read
+from ..assembling.scanning import Fault, Pieces, bytes_of
+
+
+def plain(text: str) -> str:
+    """The text for `celbpf asm` of a text without a fault."""
+    program = read(text)
+    if program.faults:
+        raise program.faults[0][1]
+    return program.plain
+
+
+class Texts(unittest.TestCase):
+    def test_escapes(self) -> None:
+        for text, wanted in [
+            (r'"a\n\t\r\0\"\\"', b'a\n\t\r\0"\\'), (r'"\x00\xfF"', b"\0\xff"), (r'"\u{e9}\u{10ffff}"', "é\U0010ffff".encode()),
+        ]:
+            with self.subTest(text):
+                self.assertEqual(bytes_of(Pieces(text).take()), wanted)
+
+    def test_no_escapes(self) -> None:
+        for text, column in [(r'"ab\q"', 4), (r'"\xg0"', 2), (r'"\u{110000}"', 2), (r'"\u{}"', 2), (r'"a\u{dfff}"', 3)]:
+            with self.subTest(text), self.assertRaises(Fault) as raised:
+                bytes_of(Pieces(text).take())
+            self.assertEqual(raised.exception.column, column)
+
+
+class Numbers(unittest.TestCase):
+    def test_of_32_bits(self) -> None:
+        for number, wanted in [("-2147483648", -2147483648), ("0x7fff_ffff", 2147483647), ("-0x10", -16), ("+1_0", 10), ("0", 0)]:
+            with self.subTest(number):
+                self.assertEqual(plain(f"mov64 r1, {number}"), f"mov64 r1, {wanted}\n")
+
+    def test_none_of_32_bits(self) -> None:
+        for number in ("2147483648", "-2147483649", "0x", "0x_1", "00", "1x", "--1", "- r1", "1" * 5000, "0X1", "٣"):
+            with self.subTest(number), self.assertRaises(Fault):
+                plain(f"mov64 r1, {number}")
+
+    def test_of_64_bits(self) -> None:
+        for number, wanted in [("-1", "f" * 16), ("0x8000000000000000", "8" + "0" * 15), ("-9223372036854775808", "8" + "0" * 15)]:
+            with self.subTest(number):
+                self.assertEqual(plain(f"lddw r1, {number}"), f"lddw r1, 0x{wanted}\n")
+        for number in ("18446744073709551616", "-9223372036854775809"):
+            with self.subTest(number), self.assertRaises(Fault):
+                plain(f"lddw r1, {number}")
+
+
+class Constants(unittest.TestCase):
+    def test_places_and_sizes(self) -> None:
+        text = '.constants\na: "xy"\n"z", 1\nb:\nc: 2\n.code\nlddw r1, %s\nmov64 r2, %s.size\n'
+        for name, place, size in [("a", 0, 4), ("b", 4, 0), ("c", 4, 1)]:
+            with self.subTest(name):
+                self.assertEqual(plain(text % (name, name)), f"lddw r1, 0x{(4 << 32) + place:016x}\nmov64 r2, {size}\n")
+
+    def test_a_name_is_a_constant_or_a_label(self) -> None:
+        for text in ("a: exit\n.constants\na: 1\n", ".constants\na: 1\n.code\nja a\n", "a: exit\nlddw r1, a\n"):
+            with self.subTest(text), self.assertRaises(Fault):
+                plain(text)
+
+
+class Lines(unittest.TestCase):
+    def test_of_windows(self) -> None:
+        self.assertEqual(plain("exit\r\n; a\r\nexit"), "exit\nexit\n")
+
+    def test_jumps_at_the_borders(self) -> None:
+        # an offset is counted from the slot after the jump
+        for bits, slot, label, is_far in [
+            (16, 0, 32768, False), (16, 0, 32769, True), (16, 32767, 0, False), (16, 32768, 0, True), (32, 0, 65536, False),
+        ]:
+            with self.subTest(bits=bits, slot=slot, label=label):
+                jump = Placed("ja end", 1, slot, 1, (Jump("end", 4, bits),))
+                program = Program(placed=[jump], labels={"end": label})
+                self.assertEqual(len(list(jump_faults(program))), int(is_far))
