@@ -51,8 +51,8 @@ def answered(program: Program, policy: str, review: Path, beside: list, files: F
     try:
         program.documents = ["--review", files.named(review), *beside]
         response = program.response(policy)
-    except Unreadable:
-        return NOT_DECIDED, "celbpf: file"
+    except Unreadable as why:
+        return NOT_DECIDED, why.line.removeprefix(f"{review}: ")
     except NotAnswered as why:
         return NOT_DECIDED, f"celbpf: {why.line}"
     return (ALLOWED, "") if response["allowed"] else (DENIED, response["status"]["message"])
