@@ -144,6 +144,8 @@ def check_vapctl(checks: Checks, it: Installed) -> None:
     checks.run([vapctl, "lint", it.policy], 0, "1 policy: 1 accepted\n")
     checks.run([vapctl, "compile", it.policy, "-o", "replicas.img"], 0, "")
     checks.run([vapctl, "why", it.policy, it.review], 1, "denied\nvalidation 0: false")
+    words = ["why", "--cluster", cluster / "state.json", "-n", "dev", cluster / "manifests.yaml", "--object", "orders"]
+    checks.run([vapctl, *words], 1, "denied\n")
     checks.run([vapctl, "test", it.replicas], 0, "TAP version 13\n1..3\nok 1")
     checks.run([vapctl, "debug", "--dap"], 0, "Content-Length: ", dap_launch(it.policy))
 

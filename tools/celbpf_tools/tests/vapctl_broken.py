@@ -59,6 +59,7 @@ INPUTS = {
     "binding.yaml": BINDING % b"{policyName: [1], validationActions: Deny, paramRef: 3}",
     "binding-spec.yaml": POLICY % b"{validations: [{expression: 'true'}]}" + b"---\n" + BINDING % b"text",
     "review.json": REVIEW % b"null",
+    "review-number.json": REVIEW % b'{"uid": "u", "object": {"n": 1e999}}',
     "review-parts.json": REVIEW % b'{"uid": 1, "object": [], "oldObject": "a", "kind": 3}',
     "crd.json": b'{"apiVersion": "apiextensions.k8s.io/v1", "kind": "CustomResourceDefinition", "metadata": {"name": "a"}, "spec": {"versions": [3]}}',
     "tests.json": b'{"cases": [{"name": 1}, 3], "policy": []}',
@@ -86,6 +87,9 @@ def commands(path: Path) -> Iterator[list[object]]:
     yield ["why", path, THING]
     yield ["why", "--params", path, "--namespace-object", path, GOOD, THING]
     yield ["why", "--case", "a", path]
+    yield ["why", "--cluster", path, THING]
+    yield ["why", "--policy", path, "--policy", GOOD, THING]
+    yield ["why", "--policy", GOOD, path]
     yield ["debug", GOOD, path]
     yield ["debug", "-", THING]
     yield ["lint", path]
