@@ -11,10 +11,12 @@ import unittest
 import xml.etree.ElementTree as xml
 from typing import Any
 
+from .. import documents
 from ..home import DATA
 from ..vapctl.inputs import Place, Thing, Trouble
 from ..vapctl.reports import forms, github, jsons, junit, policyreport, sarif, table
 from ..vapctl.results import ALLOWED, AUDIT, DENIED, DENY, ERROR, UNDECIDED, WARN, Finding, Report, Result
+from .vapctl_crds import object_faults
 
 SCHEMAS = DATA / "vapctl"
 HAS_JSONSCHEMA = importlib.util.find_spec("jsonschema") is not None
@@ -139,10 +141,17 @@ class Forms(unittest.TestCase):
         for one in found["items"]:
             self.assertEqual(sum(one["summary"].values()), len(one["results"]))
 
-    @unittest.skipUnless(HAS_JSONSCHEMA, "jsonschema is not installed")
-    def test_policyreport_by_its_schema(self) -> None:
+    @unittest.skipIf(documents.yaml_package() is None, "PyYAML is not installed")
+    def test_policyreport_by_its_definition(self) -> None:
+        definitions = SCHEMAS / "policyreport-crd.yaml"
         for one in json.loads(written(policyreport.write))["items"]:
-            self.valid(one, "policyreport.json")
+            self.assertEqual(object_faults(one, definitions), [])
+            self.assertEqual(object_faults({**one, "metadata": {"name": "A"}}, definitions)[0], "its name is none")
+            spoiled = {**one, "results": [{"result": "good", "resources": [{"line": 1}]}], "more": {}}
+            self.assertEqual(object_faults(spoiled, definitions), [
+                ".results[0].policy is missing", ".results[0].result is good", ".results[0].resources[0].line is not defined",
+                ".more is not defined",
+            ])
 
     def test_words(self) -> None:
         self.assertEqual(forms.form("junit=a=b.xml"), ("junit", "a=b.xml"))
