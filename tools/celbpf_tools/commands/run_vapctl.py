@@ -4,8 +4,9 @@ usage: tools/run-vapctl [--quick|PROGRAM GATEKEEPER] [TABLE..]
 
 The tables are the files of tools/data/run-vapctl, worked by hand, in the form of those of `tools/run-scripts`; `vapctl` is
 in the path there, and $DATA is the folder tools/data/vapctl. Each example's reviews are then checked as manifests, whose
-outcome is that of the response beside them; a thousand Deployments are audited, whose numbers are counted here too; and
-each subcommand reads the same broken inputs, on which it ends with a status of its own and without a traceback.
+outcome is that of the response beside them; the findings of fifty files of manifests, and for some what does not match,
+are those of an evaluator written apart; a thousand Deployments are audited, whose numbers are counted here too; and each
+subcommand reads the same broken inputs, on which it ends with a status of its own and without a traceback.
 """
 
 import argparse
@@ -28,13 +29,20 @@ from ..home import DATA, EXAMPLES, ROOT
 from ..vapctl.commands import WHATS, module_of
 from ..vapctl.main import main as main_of_vapctl
 from ..tests.vapctl_broken import INPUTS, commands
+from ..tests.vapctl_corpus import Corpus, Finding
 from .run_scripts import compared, tables_of
 
 TABLES = DATA / "run-vapctl"
 CORPUS = DATA / "vapctl"
+POLICIES = [CORPUS / "policies", CORPUS / "corpus-policies"]
 # what is printed if vapctl itself fails
 FAILURES = ("Traceback", "an error in vapctl itself")
 DEPLOYMENTS = 1_000
+# the files of manifests in the corpus
+FILES = 50
+# some files of the corpus, and what `why` prints before what does not match
+WHY = ("21-nginx.yaml", "23-fluentd.yaml", "24-backup.yaml", "26-services.json", "29-accounts.yaml", "33-probes.yaml", "35-namespaces.yaml")
+OUT = "these do not match:\n"
 # the most seconds of a run
 PATIENCE = 300
 
@@ -117,6 +125,46 @@ def run_examples(runs: Runs, folder: Path) -> None:
             runs.tell(f"{example.name}: {request['uid']}: {wanted}", found == wanted, f"{found} {said}[{status}]")
 
 
+def files(folders: list[Path]) -> list[Path]:
+    """All files of folders."""
+    return sorted(path for folder in folders for path in folder.iterdir())
+
+
+def finding(entry: dict[str, str]) -> Finding:
+    """A finding of a report; of what is not decided without its message."""
+    return entry.get("policy", ""), entry["action"], entry["message"] if entry["action"] != "error" else ""
+
+
+def run_corpus(runs: Runs, folder: Path) -> None:
+    """The manifests, whose findings are computed apart."""
+    manifests = [CORPUS / name for name in ("manifests", "corpus")]
+    wanted = Corpus(files(POLICIES), files(manifests)).findings()
+    words = [word for one in POLICIES for word in ("--policy", one)]
+    report = folder / "corpus.json"
+    status, said = forked(["check", *words, *manifests, "-o", f"json={report}"], b"", folder)
+    results = json.loads(report.read_text())["results"]
+    found: dict[str, list[set[Finding]]] = {name: [] for name in wanted}
+    for one in results:
+        found[Path(one["file"]).name].append(set(map(finding, one["findings"])))
+    runs.tell("the corpus: status and files", status == 3 and len(wanted) == FILES, f"{said}[{status}] {len(wanted)}")
+    for name, each in wanted.items():
+        runs.tell(f"the corpus: {name}", found[name] == each, f"{found[name]}\nand not {each}")
+
+
+def run_why(runs: Runs, folder: Path) -> None:
+    """Some of the manifests, of which `why` names the policies and bindings that do not match."""
+    words = [word for one in POLICIES for word in ("--policy", one)]
+    for file in WHY:
+        corpus = Corpus(files(POLICIES), [CORPUS / "corpus" / file])
+        thing = next(iter(corpus.files.values()))[0]
+        named = f"{thing['kind']}/{thing['metadata']['name']}"
+        status, said = forked(["why", *words, CORPUS / "corpus" / file, "--object", named], b"", folder)
+        _, _, listed = said.partition(OUT)
+        found = {line.strip().split(": ")[0] for line in listed.splitlines()}
+        wanted = corpus.kept_out(thing)
+        runs.tell(f"why: {file}", found == wanted and status in (0, 1), f"{said}[{status}]\nand not {sorted(wanted)}")
+
+
 def run_audit(runs: Runs, folder: Path) -> None:
     """An audit of many Deployments, whose numbers are those that are counted here."""
     items: list[dict[str, Any]] = []
@@ -173,6 +221,8 @@ def main() -> int:
         run_tables(runs, folder / "celbpf", chosen)
         if not chosen:
             run_examples(runs, folder)
+            run_corpus(runs, folder)
+            run_why(runs, folder)
             run_audit(runs, folder)
             (folder / "broken").mkdir()
             run_broken(runs, folder / "broken")
