@@ -26,6 +26,7 @@ Found = dict[int, list[Finding]]
 Unlisted = dict[int, tuple[str, list[Finding]]]
 # why a state is refused, by the code at the start of the line
 CAUSES = {
+    "C1": "an object of the state has a number or a text that JSON does not have",
     "C2": "no name, another type of namespace or labels, or a namespace where the kind has none",
     "C4": "the state has no Namespace",
     "C5": "an API server does not store this binding: its policyName, paramRef, matchResources or validationActions",
