@@ -15,7 +15,6 @@
     seeded       policies and reviews from a seed
     json_texts   documents from a seed as bytes, and what Python's json reads of them
     copies       copies of the crates, on which scripts work
-    measures     runs that are timed
     pages        what the pages show, as runs
     tests        unit tests, which `tools/run-units` runs
 

@@ -1,4 +1,4 @@
-"""Runs the unit tests of the Python package. They ask no program, so `--quick` changes nothing.
+"""Runs the unit tests of the Python packages. They ask no program, so `--quick` changes nothing.
 
 usage: tools/run-units [--quick] [-v]
 """
@@ -6,11 +6,17 @@ usage: tools/run-units [--quick] [-v]
 import sys
 import unittest
 
-from ..home import TOOLS
+from ..home import ROOT, TOOLS
+
+# where packages are, each with its unit tests
+PACKAGES = {TOOLS: "celbpf_tools", ROOT / "research": "celbpf_research"}
 
 
 def main() -> int:
-    tests = unittest.defaultTestLoader.discover(str(TOOLS / "celbpf_tools" / "tests"), top_level_dir=str(TOOLS))
+    tests = unittest.TestSuite()
+    for top, package in PACKAGES.items():
+        # a loader keeps the first top that it is given
+        tests.addTest(unittest.TestLoader().discover(str(top / package / "tests"), top_level_dir=str(top)))
     verbosity = 2 if "-v" in sys.argv[1:] else 1
     result = unittest.TextTestRunner(stream=sys.stdout, verbosity=verbosity).run(tests)
     if not result.wasSuccessful():

@@ -26,7 +26,7 @@ BUILDING = re.compile(r"^A \[package\]|`rt\b|^    rt\b|^passes all proofs\b|\bto
 LINK = re.compile(r"\[([^\]]*)\]\(([^)#\s]+)(#[^)\s]*)?\)")
 NAMES = [
     (re.compile(r"(?<![\w/.])tools/(" + "|".join(SCRIPTS) + r")\b"), r"celbpf-\1"),
-    (re.compile(r"`tools/([^`]+)`"), r"`\1` of the repository"),
+    (re.compile(r"`(?:tools|research)/([^`]+)`"), r"`\1` of the repository"),
     (re.compile(r"(?<![\w/.])tools/(\w)"), r"\1"),
     (re.compile(r"(?<![\w/.])\./(celbpf|gatekeeper|vapctl)\b"), r"\1"),
     (re.compile(r"(?<![\w/.])embed/c/example\.c"), f"{HOME}/examples/c/example.c"),

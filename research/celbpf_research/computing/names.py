@@ -3,7 +3,7 @@
 from pathlib import Path
 from typing import NamedTuple, Optional
 
-from ..home import ROOT
+from celbpf_tools.home import ROOT
 from ..mutating.above import kit
 from .natives import NATIVES
 from .sources import Definition, Source

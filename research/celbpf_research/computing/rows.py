@@ -8,7 +8,7 @@ from dataclasses import dataclass, field
 from pathlib import Path
 from typing import Any, Iterator, Optional
 
-from ..definitions import CRATES
+from celbpf_tools.definitions import CRATES
 from ..mutating import pins
 from .deciding import is_true
 from .names import Names

@@ -4,8 +4,8 @@ import random
 from dataclasses import dataclass
 from typing import Iterator, Optional
 
-from ..commands.belief import CONTRACTS, rests_on
-from ..definitions import CRATES, Module, modules
+from celbpf_tools.commands.belief import CONTRACTS, rests_on
+from celbpf_tools.definitions import CRATES, Module, modules
 from .change import Change
 from .changes import of_definition
 

@@ -1,8 +1,8 @@
 """Feeds a gatekeeper reviews that are made to stall it, and prints the costliest.
 
-usage: tools/hostile [--seed N] [--count N] [--keep FOLDER] [--program PROGRAM]
-       tools/hostile --loops [--seed N] [--count N] [--keep FOLDER] [--program PROGRAM]
-       tools/hostile --rows [--keep FOLDER] [--program PROGRAM]
+usage: research/hostile [--seed N] [--count N] [--keep FOLDER] [--program PROGRAM]
+       research/hostile --loops [--seed N] [--count N] [--keep FOLDER] [--program PROGRAM]
+       research/hostile --rows [--keep FOLDER] [--program PROGRAM]
 
 Each review is one of `examples/policies` or of a policy from a seed, of up to three mebibytes, with texts, lists or
 maps that are made large. A gatekeeper is started for it, with the policy and the default number of steps. It has to
@@ -12,7 +12,7 @@ documents of those are written to a folder. An interrupt ends it early, with wha
 
 With --loops the policies are loops that read large parts of a document in each turn, and values that are alike but
 for one place. A gatekeeper gets 25 reviews, one after another. With --rows it is given the documents that once
-stalled it, of rows.py, repeats.py, stalls.py and written.py in celbpf_tools/hostile.
+stalled it, of rows.py, repeats.py, stalls.py and written.py in celbpf_research/hostile.
 """
 
 import argparse
@@ -23,8 +23,8 @@ from itertools import chain
 from pathlib import Path
 from typing import Any, Iterator
 
-from ..entry import parser_of
-from ..home import built
+from celbpf_tools.entry import parser_of
+from celbpf_tools.home import built
 from ..hostile import loops
 from ..hostile.costs import Cost, cost_of, worst
 from ..hostile.repeats import repeats
@@ -33,9 +33,9 @@ from ..hostile.rows import rows
 from ..hostile.stalls import stalls
 from ..hostile.written import written
 from ..hostile.watched import Watched
-from ..seeded.cases import Case, case_of, wanted
-from ..seeded.examples import examples
-from ..seeded.numbers import Numbers
+from celbpf_tools.seeded.cases import Case, case_of, wanted
+from celbpf_tools.seeded.examples import examples
+from celbpf_tools.seeded.numbers import Numbers
 
 # policies from the seed, beside those of the examples
 SEEDED = 40

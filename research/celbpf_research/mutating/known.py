@@ -2,9 +2,7 @@
 
 from pathlib import Path
 
-from ..home import DATA
-
-FOLDER = DATA / "mutate-definitions"
+FOLDER = Path(__file__).resolve().parents[2] / "data" / "mutate-definitions"
 EQUIVALENT = FOLDER / "equivalent"
 FALSE_LAWS = FOLDER / "false-laws"
 MARK = " -- "

@@ -13,8 +13,8 @@ import time
 from pathlib import Path
 from typing import Iterator
 
-from ..entry import Stop
-from ..home import ROOT
+from celbpf_tools.entry import Stop
+from celbpf_tools.home import ROOT
 from . import above
 from .drawing import Drawn
 from .pins import Pin

@@ -4,7 +4,7 @@ import tempfile
 import unittest
 from pathlib import Path
 
-from ..definitions import Module
+from celbpf_tools.definitions import Module
 from ..mutating import known
 from ..mutating.above import below, check, dependencies, kit
 from ..mutating.change import Change

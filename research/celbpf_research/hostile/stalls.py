@@ -5,7 +5,7 @@ import json
 import random
 from typing import Any, Iterator
 
-from ..home import EXAMPLES
+from celbpf_tools.home import EXAMPLES
 from .loops import REVIEW
 
 LETTERS = "abcdefghijklmnopqrstuvwxyz0123456789"

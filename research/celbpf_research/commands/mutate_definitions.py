@@ -1,6 +1,6 @@
 """Changes definitions one at a time, and lists the changes that no row and no law notices.
 
-usage: tools/mutate-definitions [--seed N].. [--count N] [--crate NAME].. [--above N] [--again FILE]
+usage: research/mutate-definitions [--seed N].. [--count N] [--crate NAME].. [--above N] [--again FILE]
                                 [--list | --unpinned | --computed] [FILE NAME]
 
 From each seed it draws --count changes out of the definitions that tools/belief lists, those of FILE and NAME alone if
@@ -11,7 +11,7 @@ Then the literal rows of all crates are computed in Python (`computing`) over ea
 definition; as they stand, all that have an answer there are true. Where none is false, the prover checks the rows and
 laws of the definition's crate that rest on it, which follow no code, on a copy of the crates, and then the rows of the
 --above (1) nearest crates above that rest on it. Each change gets a line: killed, by rows or by laws; survived;
-equivalent, where the file `equivalent` of tools/data/mutate-definitions says why it means the same as what it replaces,
+equivalent, where the file `equivalent` of research/data/mutate-definitions says why it means the same as what it replaces,
 and then it is not tried; or undecided, where laws alone are not proved any more and the file `false-laws` does not say
 how the change makes one false: that may be its proof alone. A table has the counts of each crate. --again tries the
 changes that survived or were undecided by the lines of FILE, what an earlier run printed. --computed asks no prover:
@@ -28,8 +28,8 @@ from tempfile import TemporaryDirectory
 from typing import Iterator
 
 from ..computing.rows import Rows
-from ..definitions import CRATES, Module
-from ..entry import Stop, parser_of
+from celbpf_tools.definitions import CRATES, Module
+from celbpf_tools.entry import Stop, parser_of
 from ..mutating import known
 from ..mutating.drawing import Drawn, again, believed, changes, drawn, read_all
 from ..mutating.pins import Pin, all_pins

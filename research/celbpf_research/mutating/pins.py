@@ -5,8 +5,8 @@ from dataclasses import dataclass
 from pathlib import Path
 from typing import Iterator
 
-from ..commands.belief import WORD, rests_on
-from ..definitions import CRATES, USE, Module
+from celbpf_tools.commands.belief import WORD, rests_on
+from celbpf_tools.definitions import CRATES, USE, Module
 
 LAW = re.compile(r"^pub fn (\w+)\(\)\n((?:    .*\n)+)\{", re.M)
 ROWS = re.compile(r"stands?$|_holds?$")

@@ -8,7 +8,7 @@ from ..hostile import alike, loops, repeats, rows
 from ..hostile.costs import Cost, worst
 from ..hostile.reviews import MOST, hostile
 from ..hostile.shapes import at, changed, large, long_text, many, nested, places, put, size, wide_map
-from ..seeded.numbers import Numbers
+from celbpf_tools.seeded.numbers import Numbers
 
 REVIEW = {
     "kind": "AdmissionReview",

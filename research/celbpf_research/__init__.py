@@ -1,0 +1,11 @@
+"""Tools that ask how well the rest is tested, and what it costs; nothing that a user runs needs them.
+
+    computing   the values of definitions, computed from their text
+    mutating    definitions that are changed one at a time, and whether a row notices
+    hostile     reviews that are made to stall a gatekeeper
+    measures    runs that are timed
+    commands    a module for each script
+    tests       unit tests, which `tools/run-units` runs
+
+They use the package `celbpf_tools`, which uses nothing of this one.
+"""
