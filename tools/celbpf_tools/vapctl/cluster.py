@@ -11,8 +11,9 @@ from .inputs import Place, Thing
 
 ADMISSION = "admissionregistration.k8s.io"
 POLICY, BINDING = "ValidatingAdmissionPolicy", "ValidatingAdmissionPolicyBinding"
-# an API server converts the others to it
 VERSION = f"{ADMISSION}/v1"
+# an API server converts these to it
+OLDER = (f"{ADMISSION}/v1beta1", f"{ADMISSION}/v1alpha1")
 NAME = re.compile(r"[a-z0-9](?:[-a-z0-9.]{0,251}[a-z0-9])?")
 NAME_LABEL = "kubernetes.io/metadata.name"
 EVERYTHING = {"apiGroups": ["*"], "apiVersions": ["*"], "operations": ["*"], "resources": ["*"]}
@@ -106,7 +107,7 @@ def namespace_named(name: str, place: Place) -> Thing:
 
 def as_stored(thing: Thing) -> Thing:
     """A policy or a binding of an older version as one of v1, as an API server stores it; others are unchanged."""
-    if (is_of(thing, POLICY) or is_of(thing, BINDING)) and thing.api_version != VERSION:
+    if (is_of(thing, POLICY) or is_of(thing, BINDING)) and thing.api_version in OLDER:
         return Thing({**thing.value, "apiVersion": VERSION}, thing.place)
     return thing
 
@@ -122,10 +123,10 @@ def duplicates(things: list[Thing]) -> list[str]:
     return told
 
 
-def of_other_groups(things: list[Thing]) -> list[str]:
-    """A line for each policy or binding whose `apiVersion` is that of something else."""
+def of_other_versions(things: list[Thing]) -> list[str]:
+    """A line for each policy or binding whose `apiVersion` is that of something else, or of none."""
     return [f"{thing.place}: {thing.title}: its apiVersion is {thing.api_version}, and not {VERSION}"
-            for thing in things if thing.kind in (POLICY, BINDING) and thing.group != ADMISSION]
+            for thing in things if thing.kind in (POLICY, BINDING) and thing.api_version != VERSION]
 
 
 def misnamed(things: list[Thing]) -> list[str]:
@@ -137,7 +138,7 @@ def misnamed(things: list[Thing]) -> list[str]:
 def saved(things: list[Thing]) -> State:
     """The state of objects that a cluster holds."""
     stored = [as_stored(thing) for thing in things]
-    if told := of_other_groups(stored) + misnamed(stored) + duplicates(stored):
+    if told := of_other_versions(stored) + misnamed(stored) + duplicates(stored):
         raise NoState(told)
     return State(stored)
 
