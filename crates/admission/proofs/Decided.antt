@@ -1,5 +1,5 @@
 -- The results of reviews, from the states of the policies' programs.
-use Rattle.admission.proofs.Prelude.{◌≡◌, ℕ, ◌+◌, ◌*◌, ◌≤◌, ◌⊎◌, Bool, false, List, [], ◌∷◌, ◌++◌, length, Option, Some, Result, Ok, Err, refl, sym, ap, ◌∙◌, subst, arith, inl, inr, if◌then◌else◌, cases_lt, length-map, length_push, Fault as GuestFault, F8, StartIsCanonical, Contents, Roots, StartsAreTables, State, start_state, StatesAreKept, is_running, state_after, Status, Exited, Running, HasValues, TakenOrRefused, PartsEnd, policy_work, decision_of, outcome_of, outcome_word, Compiles, Verdict, Policy, Decides, OutOfBudget, LeavesByExit, PolicyTree, Finding, decided, judged_by, verdict_of, CompileError, FailurePolicy, PolicyAndImage, Reply, Documents, IsAnswered, IsPolicy, decision, started, values_given, IsPolicyOf, Exit, Exits, HasExited, IsExit, OfVerdict, IsDecisionOf, Decision, decision_from_verdict, Images, PolicyRun, RunHasStatus, RunAgrees, exactly, document_given, parts_given, uid_in, RunError, ReviewRefused, NamespaceOrParamsRefused, OutOfSteps, OverLimit}
+use Rattle.admission.proofs.Prelude.{◌≡◌, ℕ, ◌+◌, ◌*◌, ◌≤◌, ◌⊎◌, Bool, false, List, [], ◌∷◌, ◌++◌, length, Option, Some, Result, Ok, Err, refl, sym, ap, ◌∙◌, subst, arith, inl, inr, if◌then◌else◌, cases_lt, length-map, length_push, Fault as GuestFault, F8, StartIsCanonical, Contents, Roots, StartsAreTables, State, start_state, StatesAreKept, is_running, state_after, Status, Exited, Running, HasValues, TakenOrRefused, PartsEnd, policy_work, decision_of, outcome_of, outcome_word, Compiles, Verdict, Policy, Decides, OutOfBudget, LeavesByExit, PolicyTree, Finding, decided, judged_by, verdict_of, CompileError, FailurePolicy, GatePolicy, Reply, Documents, IsAnswered, IsPolicy, decision, started, values_given, IsGateOn, Exit, Exits, HasExited, IsExit, OfVerdict, IsDecisionOf, Decision, decision_from_verdict, Images, PolicyRun, RunHasStatus, RunAgrees, exactly, document_given, parts_given, uid_in, RunError, ReviewRefused, NamespaceOrParamsRefused, OutOfSteps, OverLimit}
 use Rattle.bpf_machine.specs.declared.status.Status.TheVariants.{Fault}
 use Rattle.policy_glue.specs.Checking as checking
 use Rattle.policy_glue.specs.Findings.{PolicyFinding, findings_of}
@@ -12,7 +12,9 @@ use Rattle.value_table.specs.ReviewTable.{ReviewTableReturns}
 use Rattle.value_table.specs.declared.review_error.ReviewError.{ReviewError}
 use Rattle.value_table.specs.declared.review_error.ReviewError.TheVariants as review_error
 use Rattle.admission.specs.Reviews.{refusal_at, table_refusal}
+use Rattle.policy_glue.specs.Layout.{IsLayout}
 use Rattle.admission.proofs.RootTables.{refused_as}
+use Rattle.admission.proofs.Said.{same_form}
 use Rattle.admission.proofs.RootContents.{given_have_values}
 
 -- ---- the number of findings
@@ -58,13 +60,13 @@ IsOfDocuments e = (e ≡ ReviewRefused) ⊎ (e ≡ NamespaceOrParamsRefused)
 by_test : (b : Bool) → IsOfDocuments (if b then NamespaceOrParamsRefused else ReviewRefused)
 by_test b = grind arith
 
-module _ (gate : PolicyAndImage) (d : Documents) (of : IsPolicyOf d.policy gate) (n : ℕ) where
-  abbrev policy : IsPolicy d.policy
-  policy = record { parsed = gate.policy; is_said = of.0; trees = of.1.trees; compiles = of.1.compiles }
+module _ (gate : GatePolicy) (d : Documents) (of : IsGateOn d.language d.policy gate) (n : ℕ) where
+  abbrev policy : IsPolicy d.language d.policy
+  policy = record { told = gate.told; parsed = gate.policy; is_said = of.0; trees = of.1.trees; compiles = of.1.compiles }
 
   -- what the program left for a review, and the run of its image
   abbrev pub ExitsSo : Result Exit RunError → Type 0
-  ExitsSo result = Exits gate.policy d n result × RunAgrees (exactly gate.image) d n result
+  ExitsSo result = Exits gate.told d n result × RunAgrees (exactly gate.image) d n result
 
   by_documents : (e : RunError) → values_given d ≡ Err e → IsOfDocuments e → ExitsSo (Err e)
   by_documents e is of = grind (arith, policy)
@@ -125,8 +127,10 @@ module _ (gate : PolicyAndImage) (d : Documents) (of : IsPolicyOf d.policy gate)
     exit_by w is (LeavesByExit by layout) =
         let memory = (laws.states.after gate.image (started roots) n of.1.program.code of.1.program.constants has.table).memory in
         let many = compiled_length gate.policy (Ok of.1.trees) of.1.trees of.1.compiles refl in
-        let few : length (decision run.case).findings ≤ length gate.policy.validations = omega (arith, few_findings f of.1.trees roots, many) in
-        (record { case = run.case; of_policy = refl; is_memory = memory; few = few; layout = layout; uid_is = refl }, standing (λ v. Exited (outcome_word v.outcome)) by)
+        let alike = same_form d.language d.policy gate.told gate.policy of.0 in
+        let few : length (decision run.case).findings ≤ length gate.told.validations = omega (arith, few_findings f of.1.trees roots, many, alike.validations) in
+        let as_told = subst (λ (g : FailurePolicy). IsLayout g (decision run.case) s.values.values s.memory.verdict) (sym alike.failure_policy) layout in
+        (record { case = run.case; of_policy = refl; is_memory = memory; few = few; layout = as_told; uid_is = refl }, standing (λ v. Exited (outcome_word v.outcome)) by)
 
     ended : HasExited s.status (Ok tt) → ExitsSo (Ok (record { state = s; uid = uid_in d.review }))
     ended exited = exit_by exited.0 exited.1 (stopped (ap is_running exited.1))
@@ -172,7 +176,7 @@ replied p v uid response allowed word text told allows = grind (arith, outcome_t
 
 -- what is made of the verdict that was left is made of the policy's decision
 made_so : {A : Type 0} (make : Policy → Verdict → List ℕ → A) (p : Policy) (d : Documents) (exit : Exit) (x : A) (is : IsExit p d exit)
-    → OfVerdict p exit.state (λ v. x ≡ make p v exit.uid) → x ≡ make is.case.policy.parsed (decision is.case) (uid_in d.review)
+    → OfVerdict p exit.state (λ v. x ≡ make p v exit.uid) → x ≡ make is.case.policy.told (decision is.case) (uid_in d.review)
 made_so make p d exit x is of =
     of (decision is.case) is.is_memory is.few is.layout ∙ ap (make p (decision is.case)) is.uid_is
     ∙ ap (λ (q : Policy). make q (decision is.case) (uid_in d.review)) (sym is.of_policy)

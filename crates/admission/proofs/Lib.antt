@@ -1,10 +1,13 @@
 -- The proofs of `admission`.
 
 pub mod Results
+pub mod Said
 mod DocumentNumbers
 pub mod RootContents
 pub mod RootTables
 pub mod Decided
 pub mod Standing
 pub mod OneReview
+pub mod WideCases
+pub mod WideGates
 pub mod Prelude

@@ -57,10 +57,11 @@ pub use Rattle.value_store.specs.Placing.{Contents, charge_limit, first_values}
 pub use Rattle.value_store.specs.Roots.{StoreStarts, contents_of, root_of, root_then, roots_of, sizes, start_contents}
 pub use Rattle.value_store.specs.declared.table_error.TableError.{TableError}
 pub use Rattle.value_store.specs.declared.table_error.TableError.TheVariants.{RootsTooLarge}
-pub use Rattle.admission.specs.Deciding.{Reply, Case, Documents, IsAnswered, IsPolicy, IsPolicyOf, decision}
+pub use Rattle.admission.specs.Deciding.{Reply, Case, Documents, IsAnswered, IsGateOn, IsPolicy, IsSaid, decision}
 pub use Rattle.admission.specs.Deciding.{AreGiven, started, values_given, values_of_roots}
 pub use Rattle.admission.specs.Exiting.{Exit, Exits, HasExited, IsExit, OfVerdict}
-pub use Rattle.admission.specs.Lent.{documents_lent}
+pub use Rattle.admission.specs.GatePolicies.{GatePolicy}
+pub use Rattle.admission.specs.Lent.{documents_in}
 pub use Rattle.admission.specs.OneAnswer.{ReviewHasOneResult}
 pub use Rattle.admission.specs.Reviews.{ReturnsDue, ReviewRoots, accepted, contents_from, document_given, documents_from}
 pub use Rattle.admission.specs.Reviews.{is_review, member_or_null, members_in, parts_given, parts_in, request_of}
@@ -68,7 +69,8 @@ pub use Rattle.admission.specs.Reviews.{root_refusal, text_or_empty, without}
 pub use Rattle.admission.specs.RootValues.{AreOfRoots, DocumentsHaveValues, GivenHaveValues}
 pub use Rattle.admission.specs.Decisions.{IsDecisionOf, Decision, decision_from_verdict}
 pub use Rattle.admission.specs.Standing.{Images, PolicyRun, RunHasStatus, RunAgrees, exactly}
-pub use Rattle.admission.specs.declared.policy_and_image.PolicyAndImage.{PolicyAndImage}
+pub use Rattle.admission.specs.declared.language.Language.{Language}
+pub use Rattle.admission.specs.declared.language.Language.TheVariants.{Profile, Wide}
 pub use Rattle.admission.specs.declared.run_error.RunError.{RunError}
 pub use Rattle.admission.specs.declared.run_error.RunError.TheVariants.{ReviewRefused, NamespaceOrParamsRefused}
 pub use Rattle.admission.specs.declared.run_error.RunError.TheVariants.{OutOfSteps, OverLimit}

@@ -1,5 +1,6 @@
 -- The result of a review under a policy.
-use Rattle.std.specs.Prelude.{◌≡◌, ℕ, ◌+◌, ◌*◌, ◌<◌, ◌⊎◌, Bool, true, false, List, [], ◌∷◌, ◌++◌, map, Option, Some, Result, Ok, Err}
+use Rattle.std.specs.Prelude.{◌≡◌, ℕ, ◌+◌, ◌*◌, ◌<◌, ◌⊎◌, Bool, true, false, List, [], ◌∷◌, ◌++◌, map, Option, Some, Result, Ok, Err, Vec}
+use Rattle.std.specs.declared.alloc.Global.{Global}
 use Rattle.value_store.specs.Placing.{Contents, charge_limit, first_values}
 use Rattle.value_store.specs.Roots.{sizes}
 use Rattle.value_store.specs.Value.{Value, value}
@@ -15,13 +16,22 @@ use Rattle.policy_glue.specs.Response.{response_of}
 use Rattle.policy_glue.specs.Trees.{PolicyTree}
 use Rattle.policy_glue.specs.Verdict.{Verdict}
 use Rattle.policy_glue.specs.declared.outcome.Outcome.{Outcome, TheVariants.Skipped, TheVariants.Admitted}
+use Rattle.wide_policy.specs.Reading.{IsWidePolicy, WidePolicyReturns}
+use Rattle.wide_policy.specs.declared.left_out.LeftOut.{LeftOut}
+use Rattle.wide_policy.specs.declared.message_rule.MessageRule.{MessageRule}
+use Rattle.wide_policy.specs.declared.wide_policy_error.WidePolicyError.TheVariants as wide_error
+use Rattle.admission.specs.GatePolicies.{GatePolicy}
 use Rattle.admission.specs.Reviews.{contents_given, uid_in}
+use Rattle.admission.specs.declared.language.Language.{Language, TheVariants.Profile, TheVariants.Wide}
 use Rattle.admission.specs.declared.policy_and_image.PolicyAndImage.{PolicyAndImage}
 use Rattle.admission.specs.declared.policy_refusal.PolicyRefusal.{PolicyRefusal, TheVariants.Unread, TheVariants.Uncompiled}
 use Rattle.admission.specs.declared.policy_refusal.PolicyRefusal.TheVariants as policy_refusal
 use Rattle.admission.specs.declared.reply.Reply.{Reply as CodeReply}
 use Rattle.admission.specs.declared.run_error.RunError.{RunError}
 use Rattle.admission.specs.declared.run_error.RunError.TheVariants.{PolicyRefused, ReviewRefused, NamespaceOrParamsRefused, OutOfSteps, OverLimit, Memory}
+use Rattle.admission.specs.declared.wide_gate.WideGate.{WideGate}
+use Rattle.admission.specs.declared.wide_refusal.WideRefusal.{WideRefusal}
+use Rattle.admission.specs.declared.wide_refusal.WideRefusal.TheVariants as wide_refusal
 
 -- ---- replies
 
@@ -47,10 +57,18 @@ answer_view (Err e) = Err e
 
 -- ---- policies
 
+-- The policy in a document of this language: with the texts of its author, which messages tell, and as it is compiled.
+-- In the wide language these are its translations, and the first has no message expressions that are left out.
+abbrev pub IsSaid : Language → List ℕ → Policy → Policy → Type 0
+IsSaid Profile document told parsed = (policy_in document ≡ Ok parsed) × (told ≡ parsed)
+IsSaid (Wide rule) document told parsed =
+    (notes : Vec LeftOut Global) × IsWidePolicy rule document (record { source = told; profile = parsed; left_out = notes })
+
 -- the document holds a policy that compiles
-pub record IsPolicy (document : List ℕ) : Type 0 where
+pub record IsPolicy (language : Language) (document : List ℕ) : Type 0 where
+  pub told : Policy
   pub parsed : Policy
-  pub is_said : policy_in document ≡ Ok parsed
+  pub is_said : IsSaid language document told parsed
   pub trees : PolicyTree
   pub compiles : Compiles parsed (Ok trees)
 
@@ -71,6 +89,36 @@ CompilesDocument document (Err (Unread e)) = IsPolicyRefused document (Unread e)
 CompilesDocument document (Err (Uncompiled e)) = IsPolicyRefused document (Uncompiled e)
 CompilesDocument document (Err policy_refusal.Memory) = Unit {0}
 
+-- ---- gates
+
+-- the document holds the policy of this gate, and its image is one of that policy
+abbrev pub IsGateOn : Language → List ℕ → GatePolicy → Type 0
+IsGateOn language document g = IsSaid language document g.told g.policy × IsCompiled g.policy g.image
+
+-- the gate of a document in the language that is compiled, or why there is none; or an allocation failed
+abbrev pub OpensGate : List ℕ → Result GatePolicy PolicyRefusal → Type 0
+OpensGate document (Ok g) = IsGateOn Profile document g
+OpensGate document (Err e) = CompilesDocument document (Err e)
+
+-- the gate of a document in the wide language, with the message expressions that are left out
+pub record IsWideGateOn (rule : MessageRule) (document : List ℕ) (g : WideGate) : Type 0 where
+  pub is_said : IsWidePolicy rule document (record { source = g.gate.told; profile = g.gate.policy; left_out = g.left_out })
+  pub compiled : IsCompiled g.gate.policy g.gate.image
+
+-- why a document of the wide language gives no image
+abbrev pub IsWideRefused : MessageRule → List ℕ → WideRefusal → Type 0
+IsWideRefused rule document (wide_refusal.Unread wide_error.Memory) = ⊥
+IsWideRefused rule document (wide_refusal.Unread e) = WidePolicyReturns rule document (Err e)
+IsWideRefused rule document (wide_refusal.Uncompiled e) =
+    (told parsed : Policy) × IsSaid (Wide rule) document told parsed × Compiles parsed (Err e)
+IsWideRefused rule document wide_refusal.Memory = ⊥
+
+-- the gate, or why there is none; or an allocation failed
+abbrev pub OpensWideGate : MessageRule → List ℕ → Result WideGate WideRefusal → Type 0
+OpensWideGate rule document (Ok g) = IsWideGateOn rule document g
+OpensWideGate rule document (Err wide_refusal.Memory) = Unit {0}
+OpensWideGate rule document (Err e) = IsWideRefused rule document e
+
 -- ---- roots
 
 -- the roots in the order of their references, from 4 on
@@ -83,8 +131,9 @@ started r = record { values = first_values ++ map value (values_of_roots r); cha
 
 -- ---- reviews
 
--- the documents of a policy and of a review
+-- the documents of a policy, in this language, and of a review
 pub record Documents : Type 0 where
+  pub language : Language
   pub policy : List ℕ
   pub review : List ℕ
   pub namespace : Option (List ℕ)
@@ -101,7 +150,7 @@ pub record AreGiven (d : Documents) (values : Contents) (uid : List ℕ) : Type 
 
 -- the case to decide: the policy in one document, and the roots in the others
 pub record Case (d : Documents) : Type 0 where
-  pub policy : IsPolicy d.policy
+  pub policy : IsPolicy d.language d.policy
   pub roots : Roots
   pub are_given : values_given d ≡ Ok (started roots)
 
@@ -123,7 +172,7 @@ IsBeyond case =
 -- the reply is the one for the policy's verdict
 pub record IsAnswered (d : Documents) (answer : Reply) : Type 0 where
   pub case : Case d
-  pub answer_is : answer ≡ answer_of case.policy.parsed (decision case) (uid_in d.review)
+  pub answer_is : answer ≡ answer_of case.policy.told (decision case) (uid_in d.review)
 
 -- the work may take more than n steps
 pub record IsUnended (d : Documents) (n : ℕ) : Type 0 where
@@ -138,9 +187,9 @@ pub record IsStopped (d : Documents) : Type 0 where
 -- an error that a review may have: the first refusal of the policy, of the documents, or of the program's run, which may
 -- take n steps; or that an allocation failed, at any time
 abbrev pub HasNoResponse : Documents → ℕ → RunError → Type 0
-HasNoResponse d n (PolicyRefused e) = IsPolicyRefused d.policy e
-HasNoResponse d n ReviewRefused = IsPolicy d.policy × (values_given d ≡ Err ReviewRefused)
-HasNoResponse d n NamespaceOrParamsRefused = IsPolicy d.policy × (values_given d ≡ Err NamespaceOrParamsRefused)
+HasNoResponse d n (PolicyRefused e) = (d.language ≡ Profile) × IsPolicyRefused d.policy e
+HasNoResponse d n ReviewRefused = IsPolicy d.language d.policy × (values_given d ≡ Err ReviewRefused)
+HasNoResponse d n NamespaceOrParamsRefused = IsPolicy d.language d.policy × (values_given d ≡ Err NamespaceOrParamsRefused)
 HasNoResponse d n OutOfSteps = IsUnended d n
 HasNoResponse d n OverLimit = IsStopped d
 HasNoResponse d n Memory = Unit {0}

@@ -35,7 +35,7 @@ decision_from_verdict p v uid = record { rejection = rejection_of p v; uid = uid
 -- the decision is the one for the policy's verdict
 pub record IsDecisionOf (d : Documents) (said : Decision) : Type 0 where
   pub case : Case d
-  pub decision_is : said ≡ decision_from_verdict case.policy.parsed (decision case) (uid_in d.review)
+  pub decision_is : said ≡ decision_from_verdict case.policy.told (decision case) (uid_in d.review)
 
 -- the policy's decision on a review, or an error that the review may have
 abbrev pub DecidesReview : Documents → ℕ → Result Decision RunError → Type 0

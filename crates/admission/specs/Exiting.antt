@@ -26,11 +26,11 @@ abbrev pub exit_state : State → Result (Unit {0}) RunError → Result State Ru
 exit_state s (Ok u) = Ok s
 exit_state s (Err e) = Err e
 
--- the verdict region holds the verdict of this policy, and the uid is that of the request; that the program has exited is
--- said by `RunAgrees`
+-- the verdict region holds the verdict of this policy, as its messages tell it, and the uid is that of the request; that
+-- the program has exited is said by `RunAgrees`
 pub record IsExit (p : Policy) (d : Documents) (exit : Exit) : Type 0 where
   pub case : Case d
-  pub of_policy : case.policy.parsed ≡ p
+  pub of_policy : case.policy.told ≡ p
   pub is_memory : IsMemory exit.state.memory
   pub few : length (decision case).findings ≤ length p.validations
   pub layout : IsLayout p.failure_policy (decision case) exit.state.values.values exit.state.memory.verdict

@@ -14,7 +14,7 @@ findings_view (Err e) = Err e
 -- this is what the policy's verdict finds
 pub record AreFindingsOf (d : Documents) (found : List PolicyFinding) : Type 0 where
   pub case : Case d
-  pub findings_are : found ≡ findings_of case.policy.parsed (decision case)
+  pub findings_are : found ≡ findings_of case.policy.told (decision case)
 
 -- what the policy finds against a review, or an error that the review may have
 abbrev pub FindsReview : Documents → ℕ → Result (List PolicyFinding) RunError → Type 0

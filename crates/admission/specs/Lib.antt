@@ -3,6 +3,7 @@
 pub mod ErrorCodes
 pub mod Refusals
 pub mod Reviews
+pub mod GatePolicies
 pub mod Deciding
 pub mod Lent
 pub mod OneAnswer
@@ -10,5 +11,6 @@ pub mod Decisions
 pub mod Findings
 pub mod Exiting
 pub mod Standing
+pub mod WideCases
 pub mod RootRows
 pub mod RootValues

@@ -1,4 +1,8 @@
 -- Why a policy gives no image, and the refusal of a review for that reason.
+use Rattle.wide_policy.specs.declared.wide_policy_error.WidePolicyError.{WidePolicyError}
+use Rattle.wide_policy.specs.declared.wide_policy_error.WidePolicyError.TheVariants as wide_error
+use Rattle.admission.specs.declared.wide_refusal.WideRefusal.{WideRefusal}
+use Rattle.admission.specs.declared.wide_refusal.WideRefusal.TheVariants as wide_refusal
 use Rattle.policy_glue.specs.declared.compile_error.CompileError.{CompileError}
 use Rattle.policy_glue.specs.declared.compile_error.CompileError.TheVariants as compile_error
 use Rattle.policy_glue.specs.declared.policy_error.PolicyError.{PolicyError}
@@ -22,3 +26,13 @@ compile_refusal e = Uncompiled e
 abbrev pub run_policy_refusal : PolicyRefusal → RunError
 run_policy_refusal policy_refusal.Memory = run_error.Memory
 run_policy_refusal e = PolicyRefused e
+
+-- the refusal of a document that is not a policy in the wide language; out of memory stays `Memory`
+abbrev pub wide_document_refusal : WidePolicyError → WideRefusal
+wide_document_refusal wide_error.Memory = wide_refusal.Memory
+wide_document_refusal e = wide_refusal.Unread e
+
+-- the refusal of its translation, if that does not compile; out of memory stays `Memory`
+abbrev pub wide_compile_refusal : CompileError → WideRefusal
+wide_compile_refusal compile_error.Memory = wide_refusal.Memory
+wide_compile_refusal e = wide_refusal.Uncompiled e

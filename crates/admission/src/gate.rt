@@ -12,12 +12,15 @@ ghost use Rattle.policy_glue.specs.Naming.{conditions_name_namespace};
 ghost use Rattle.policy_glue.specs.OneImage.{OneImage};
 ghost use Rattle.policy_glue.specs.Rejections.{rejection_of, rejection_view};
 ghost use Rattle.policy_glue.specs.Trees.{PolicyTree};
-ghost use Rattle.admission.specs.Deciding.{answer_of, answer_view, is_allowed, AreGiven, CompilesDocument, Documents, IsPolicyOf, Reviews, values_given};
+ghost use Rattle.policy_glue.specs.Compiled.{CompilesTo};
+ghost use Rattle.admission.specs.Deciding.{answer_of, answer_view, is_allowed, AreGiven, Documents, IsGateOn, OpensGate, Reviews, values_given};
 ghost use Rattle.admission.specs.Exiting.{exit_state, exit_view, Exits, HasExited, OfVerdict};
-ghost use Rattle.admission.specs.Lent.{documents_lent};
+ghost use Rattle.admission.specs.GatePolicies.{gate_image};
+ghost use Rattle.admission.specs.Lent.{documents_in};
 ghost use Rattle.admission.specs.Decisions.{decision_value, decision_view, said_view, DecidesReview};
 ghost use Rattle.admission.specs.Findings.{findings_view, FindsReview};
 ghost use Rattle.admission.specs.Standing.{exactly, RunAgrees};
+ghost use Rattle.admission.specs.declared.language.Language.{Language};
 
 use crate::decision::Decision;
 use crate::policy_and_image::compile_document;
@@ -28,8 +31,8 @@ use bpf_machine::laws::{starts_are_tables, states_are_kept};
 use bpf_machine::{Machine, Program, Status};
 use guest_memory::Guest;
 use policy_glue::{
-    Finding, Outcome, Policy, Rejection, Verdict, conditions_name_namespace, findings_left,
-    rejection_left, respond,
+    CompileError, Finding, Outcome, Policy, Rejection, Verdict, compile, conditions_name_namespace,
+    findings_left, rejection_left, respond,
 };
 use std::alloc::{AllocError, Global};
 use std::marker::Model;
@@ -42,16 +45,19 @@ use value_table::Table;
 #[derive(Drop)]
 pub struct Gate {
     alloc: Global,
+    /// The policy with the texts of its author, if other texts are compiled.
+    told: Option<Policy>,
+    /// The policy that is compiled.
     policy: Policy,
     program: Program,
 }
 
 impl Model for Gate {
-    ghost use Rattle.admission.specs.declared.policy_and_image.PolicyAndImage.{PolicyAndImage};
+    ghost use Rattle.admission.specs.GatePolicies.{told_or, GatePolicy};
 
-    ghost Value = { PolicyAndImage };
+    ghost Value = { GatePolicy };
 
-    ghost view = { λ g. record { policy = g.policy; image = g.program } };
+    ghost view = { λ g. record { told = told_or g.told g.policy; policy = g.policy; image = g.program } };
 }
 
 impl Gate {
@@ -63,7 +69,7 @@ impl Gate {
     /// `Unread` if the document is not a policy, `Uncompiled` if the policy is not compiled. `Memory`
     /// if an allocation fails; the contract always allows it, and then states nothing of the policy.
     pub fn new(alloc: Global, policy: &[u8]) -> Result<Gate, PolicyRefusal>
-        ensures compiles { CompilesDocument policy.now result }
+        ensures compiles { OpensGate policy.now result }
         // Pins the image: there is only one that meets this clause.
         ensures one { IfOk result (λ g. OneImage g.policy g.image) }
     {
@@ -71,9 +77,40 @@ impl Gate {
         let program = Program::new(alloc, compiled.image)?;
         Ok(Gate {
             alloc,
+            told: None,
             policy: compiled.policy,
             program,
         })
+    }
+
+    /// Compiles the translation of a policy. Messages have the texts of `told`.
+    pub(crate) fn of_translation(
+        alloc: Global,
+        told: Policy,
+        policy: Policy,
+    ) -> Result<Gate, CompileError>
+        ensures compiles { CompilesTo policy (gate_image result) }
+        ensures policies { IfOk result (λ g. (g.told ≡ told) × (g.policy ≡ policy)) }
+        ensures one { IfOk result (λ g. OneImage policy g.image) }
+    {
+        let image = compile(alloc, &policy)?;
+        let program = Program::new(alloc, image)?;
+        Ok(Gate {
+            alloc,
+            told: Some(told),
+            policy,
+            program,
+        })
+    }
+
+    /// The policy with the texts of its author.
+    fn told(&self) -> &Policy
+        ensures { result.now ≡ self.now.told }
+    {
+        match &self.told {
+            Some(told) => told,
+            None => &self.policy,
+        }
     }
 
     /// The response to a review (AdmissionReview, `admission.k8s.io/v1`) under the policy, whose
@@ -94,9 +131,9 @@ impl Gate {
         n: u64,
     ) -> Result<Reply, RunError>
         // A result that the review may have, for each policy document that gives this gate.
-        ensures reviews { (policy : List ℕ) → IsPolicyOf policy self.now → Reviews (documents_lent policy review.now namespace.entry params.entry) n (answer_view result) }
+        ensures reviews { (language : Language) (policy : List ℕ) → IsGateOn language policy self.now → Reviews (documents_in language policy review.now namespace.entry params.entry) n (answer_view result) }
         // The program's run agrees. Only one result meets both clauses, apart from `Memory`.
-        ensures runs { (policy : List ℕ) → IsPolicyOf policy self.now → RunAgrees (exactly self.now.image) (documents_lent policy review.now namespace.entry params.entry) n (answer_view result) }
+        ensures runs { (language : Language) (policy : List ℕ) → IsGateOn language policy self.now → RunAgrees (exactly self.now.image) (documents_in language policy review.now namespace.entry params.entry) n (answer_view result) }
     {
         let (table, uid) = Table::of_review(self.alloc, review, namespace, params)?;
         self.decide_on(table, uid.as_str(), n)
@@ -109,12 +146,12 @@ impl Gate {
     ///
     /// `OutOfSteps`, `OverLimit` and `Memory`, as in `decide`.
     pub fn decide_on(&self, table: Table, uid: &str, n: u64) -> Result<Reply, RunError>
-        ensures reviews { (d : Documents) → IsPolicyOf d.policy self.now → AreGiven d (held_contents table) uid.now → Reviews d n (answer_view result) }
-        ensures runs { (d : Documents) → IsPolicyOf d.policy self.now → AreGiven d (held_contents table) uid.now → RunAgrees (exactly self.now.image) d n (answer_view result) }
+        ensures reviews { (d : Documents) → IsGateOn d.language d.policy self.now → AreGiven d (held_contents table) uid.now → Reviews d n (answer_view result) }
+        ensures runs { (d : Documents) → IsGateOn d.language d.policy self.now → AreGiven d (held_contents table) uid.now → RunAgrees (exactly self.now.image) d n (answer_view result) }
     {
         let mut machine = self.machine(table)?;
         self.run(&mut machine, n)?;
-        Ok(reply(self.alloc, &self.policy, &machine, uid)?)
+        Ok(reply(self.alloc, self.told(), &machine, uid)?)
     }
 
     /// The policy's decision on the request of such a review. See `decide_on`.
@@ -123,8 +160,8 @@ impl Gate {
     ///
     /// `OutOfSteps`, `OverLimit` and `Memory`, as in `decide`.
     pub fn decision_on(&self, table: Table, uid: &str, n: u64) -> Result<Decision, RunError>
-        ensures says { (d : Documents) → IsPolicyOf d.policy self.now → AreGiven d (held_contents table) uid.now → DecidesReview d n (decision_view result) }
-        ensures runs { (d : Documents) → IsPolicyOf d.policy self.now → AreGiven d (held_contents table) uid.now → RunAgrees (exactly self.now.image) d n (decision_view result) }
+        ensures says { (d : Documents) → IsGateOn d.language d.policy self.now → AreGiven d (held_contents table) uid.now → DecidesReview d n (decision_view result) }
+        ensures runs { (d : Documents) → IsGateOn d.language d.policy self.now → AreGiven d (held_contents table) uid.now → RunAgrees (exactly self.now.image) d n (decision_view result) }
     {
         let rejection = self.rejection_on(table, n)?;
         Ok(with_uid(self.alloc, rejection, uid)?)
@@ -137,12 +174,12 @@ impl Gate {
     ///
     /// `OutOfSteps`, `OverLimit` and `Memory`, as in `decide`.
     pub fn rejection_on(&self, table: Table, n: u64) -> Result<Option<Rejection>, RunError>
-        ensures says { (d : Documents) (uid : List ℕ) → IsPolicyOf d.policy self.now → AreGiven d (held_contents table) uid → DecidesReview d n (said_view uid result) }
-        ensures runs { (d : Documents) (uid : List ℕ) → IsPolicyOf d.policy self.now → AreGiven d (held_contents table) uid → RunAgrees (exactly self.now.image) d n (said_view uid result) }
+        ensures says { (d : Documents) (uid : List ℕ) → IsGateOn d.language d.policy self.now → AreGiven d (held_contents table) uid → DecidesReview d n (said_view uid result) }
+        ensures runs { (d : Documents) (uid : List ℕ) → IsGateOn d.language d.policy self.now → AreGiven d (held_contents table) uid → RunAgrees (exactly self.now.image) d n (said_view uid result) }
     {
         let mut machine = self.machine(table)?;
         self.run(&mut machine, n)?;
-        Ok(rejection_of_verdict(self.alloc, &self.policy, &machine)?)
+        Ok(rejection_of_verdict(self.alloc, self.told(), &machine)?)
     }
 
     /// What the policy finds against the request of such a review.
@@ -151,12 +188,12 @@ impl Gate {
     ///
     /// `OutOfSteps`, `OverLimit` and `Memory`, as in `decide`.
     pub fn findings_on(&self, table: Table, n: u64) -> Result<Vec<Finding>, RunError>
-        ensures finds { (d : Documents) → IsPolicyOf d.policy self.now → values_given d ≡ Ok (held_contents table) → FindsReview d n (findings_view result) }
-        ensures runs { (d : Documents) → IsPolicyOf d.policy self.now → values_given d ≡ Ok (held_contents table) → RunAgrees (exactly self.now.image) d n (findings_view result) }
+        ensures finds { (d : Documents) → IsGateOn d.language d.policy self.now → values_given d ≡ Ok (held_contents table) → FindsReview d n (findings_view result) }
+        ensures runs { (d : Documents) → IsGateOn d.language d.policy self.now → values_given d ≡ Ok (held_contents table) → RunAgrees (exactly self.now.image) d n (findings_view result) }
     {
         let mut machine = self.machine(table)?;
         self.run(&mut machine, n)?;
-        Ok(findings_of_verdict(self.alloc, &self.policy, &machine)?)
+        Ok(findings_of_verdict(self.alloc, self.told(), &machine)?)
     }
 
     /// Whether some match condition of the policy names the root `namespaceObject`, if only as the
@@ -177,9 +214,9 @@ impl Gate {
     /// Runs a machine before its first step until the policy's program exits, for at most `n` steps.
     /// The machine is borrowed, since it is large.
     fn run(&self, machine: &mut Machine<Table, Guest>, n: u64) -> Result<(), RunError>
-        ensures exits { (d : Documents) (uid : List ℕ) (roots : Contents) → IsPolicyOf d.policy self.now → AreGiven d roots uid
-            → machine.old ≡ start_state self.now.image roots → Exits self.now.policy d n (exit_view uid (exit_state machine.new result)) }
-        ensures runs { (d : Documents) (uid : List ℕ) (roots : Contents) → IsPolicyOf d.policy self.now → AreGiven d roots uid
+        ensures exits { (d : Documents) (uid : List ℕ) (roots : Contents) → IsGateOn d.language d.policy self.now → AreGiven d roots uid
+            → machine.old ≡ start_state self.now.image roots → Exits self.now.told d n (exit_view uid (exit_state machine.new result)) }
+        ensures runs { (d : Documents) (uid : List ℕ) (roots : Contents) → IsGateOn d.language d.policy self.now → AreGiven d roots uid
             → machine.old ≡ start_state self.now.image roots → RunAgrees (exactly self.now.image) d n (exit_view uid (exit_state machine.new result)) }
     {
         starts_stand();

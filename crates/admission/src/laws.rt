@@ -2,11 +2,13 @@
 ghost use Rattle.std.specs.Prelude.{◌≡◌};
 ghost use Rattle.admission.specs.OneAnswer.{FindingsHaveOneResult, ReviewHasOneResult};
 ghost use Rattle.admission.specs.RootValues.{DocumentsHaveValues, GivenHaveValues};
+ghost use Rattle.admission.specs.WideCases.{WideCasesDecide, WideReviewsAnswer};
 
 use crate::gate::Gate;
 use bpf_machine::laws::starts_are_tables;
 use policy_glue::laws::compiles_once;
 use value_store::laws::values_are_as_said;
+use wide_policy::wide_policies_decide;
 
 /// Within the same number of steps a review has one result, its response or its refusal, unless an
 /// allocation fails.
@@ -24,6 +26,16 @@ pub fn findings_once()
     ensures { FindingsHaveOneResult }
 {
     compiles_once();
+}
+
+/// A policy in the wide language decides a review as its wide expressions mean, and a reply to the
+/// review is the one for that verdict.
+#[tactic(auto, using(crate::proofs::WideCases::cases_decide, crate::proofs::WideCases::reviews_answer))]
+pub fn wide_cases_decide()
+    ensures decides { WideCasesDecide }
+    ensures answers { WideReviewsAnswer }
+{
+    wide_policies_decide();
 }
 
 /// Five documents that are not refused give roots with values on which the program of a policy

@@ -4,6 +4,7 @@
 
 mod decision;
 mod gate;
+mod language;
 pub mod laws;
 mod policy_and_image;
 mod policy_refusal;
@@ -12,9 +13,12 @@ mod reviewing;
 mod root_values;
 pub mod rows;
 mod run_error;
+mod wide_gate;
+mod wide_refusal;
 
 pub use decision::Decision;
 pub use gate::Gate;
+pub use language::Language;
 pub use policy_and_image::{PolicyAndImage, compile_document};
 pub use policy_glue::{Finding, Reason};
 pub use policy_refusal::PolicyRefusal;
@@ -22,3 +26,6 @@ pub use reply::Reply;
 pub use reviewing::review;
 pub use root_values::roots;
 pub use run_error::RunError;
+pub use wide_gate::WideGate;
+pub use wide_policy::{LeftOut, MessageRule};
+pub use wide_refusal::WideRefusal;

@@ -3,8 +3,10 @@ use Rattle.std.specs.Prelude.{◌≡◌, ℕ, List, [], Option, Some, None, Resu
 use Rattle.std.specs.declared.alloc.Global.{Global}
 use Rattle.loader.specs.Format.{file_of}
 use Rattle.policy_glue.specs.OneImage.{OneImage}
-use Rattle.admission.specs.Deciding.{CompilesDocument, Documents, IsPolicyOf, Reply, Reviews}
+use Rattle.admission.specs.Deciding.{CompilesDocument, Documents, IsGateOn, IsPolicyOf, OpensGate, Reply, Reviews}
+use Rattle.admission.specs.GatePolicies.{GatePolicy}
 use Rattle.admission.specs.Standing.{exactly, Images, RunAgrees}
+use Rattle.admission.specs.declared.language.Language.TheVariants.{Profile}
 use Rattle.admission.specs.declared.policy_and_image.PolicyAndImage.{PolicyAndImage}
 use Rattle.admission.specs.declared.policy_refusal.PolicyRefusal.{PolicyRefusal}
 use Rattle.admission.specs.declared.run_error.RunError.{RunError}
@@ -25,22 +27,22 @@ given document = if length document == 0 then None else Some document
 -- the documents of a policy and of a review under it
 abbrev pub documents_of : List ℕ → List ℕ → List ℕ → List ℕ → Documents
 documents_of policy review namespace params =
-    record { policy = policy; review = review; namespace = given namespace; params = given params }
+    record { language = Profile; policy = policy; review = review; namespace = given namespace; params = given params }
 
 -- ---- gates
 
 -- the place holds a gate of the policy in this document
-abbrev pub Holds : List ℕ → Option PolicyAndImage → Type 0
+abbrev pub Holds : List ℕ → Option GatePolicy → Type 0
 Holds document None = ⊥
-Holds document (Some gate) = IsPolicyOf document gate
+Holds document (Some gate) = IsGateOn Profile document gate
 
 -- the gate in a box
-abbrev pub gate_view : Result (Box PolicyAndImage Global) PolicyRefusal → Result PolicyAndImage PolicyRefusal
+abbrev pub gate_view : Result (Box GatePolicy Global) PolicyRefusal → Result GatePolicy PolicyRefusal
 gate_view (Ok b) = Ok b.value
 gate_view (Err e) = Err e
 
 -- the place, the status and the text after a gate was made or the policy was refused
-abbrev pub LeavesGate : Result PolicyAndImage PolicyRefusal → Option PolicyAndImage → Option PolicyAndImage → ℕ
+abbrev pub LeavesGate : Result GatePolicy PolicyRefusal → Option GatePolicy → Option GatePolicy → ℕ
     → List ℕ → List ℕ → ℕ → Type 0
 LeavesGate (Ok gate) old new status before after n =
     OneImage gate.policy gate.image × (new ≡ Some gate) × (status ≡ 0) × Writes [] before after n
@@ -48,14 +50,14 @@ LeavesGate (Err e) old new status before after n =
     (new ≡ old) × (status ≡ policy_status e) × Writes (refusal_line (policy_refusal_of e)) before after n
 
 -- the place gets the gate of the policy in a document; or the document is refused, and the place is unchanged
-abbrev pub MakesGate : List ℕ → Option PolicyAndImage → Option PolicyAndImage → ℕ → List ℕ → List ℕ → ℕ → Type 0
+abbrev pub MakesGate : List ℕ → Option GatePolicy → Option GatePolicy → ℕ → List ℕ → List ℕ → ℕ → Type 0
 MakesGate document old new status before after n =
-    (made : Result PolicyAndImage PolicyRefusal) × CompilesDocument document made × LeavesGate made old new status before after n
+    (made : Result GatePolicy PolicyRefusal) × OpensGate document made × LeavesGate made old new status before after n
 
 -- ---- results
 
 -- the image of the gate in a place
-abbrev pub image_held : Option PolicyAndImage → Images
+abbrev pub image_held : Option GatePolicy → Images
 image_held (Some gate) = exactly gate.image
 image_held None = λ p image. ⊥
 

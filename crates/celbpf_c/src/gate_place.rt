@@ -1,6 +1,6 @@
 //! The place for a gate, in the caller's memory.
 ghost use Rattle.std.specs.Prelude.{◌≡◌, option_map, Option, Some, None};
-ghost use Rattle.admission.specs.declared.policy_and_image.PolicyAndImage.{PolicyAndImage};
+ghost use Rattle.admission.specs.GatePolicies.{GatePolicy};
 ghost use Rattle.celbpf_c.specs.Places.{owned_by_place};
 
 use crate::box_parts::BoxParts;
@@ -15,7 +15,7 @@ use std::ptr::null_mut;
 pub struct GatePlace {
     at: *mut u8,
     alloc: Global,
-    pub ghost gate: { Option PolicyAndImage },
+    pub ghost gate: { Option GatePolicy },
 }
 
 impl Model for GatePlace {

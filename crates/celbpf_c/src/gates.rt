@@ -1,7 +1,8 @@
 //! The calls on a gate that the caller holds in its own memory.
 ghost use Rattle.std.specs.Prelude.{◌≡◌, ℕ, List, [], None, IfOk};
 ghost use Rattle.policy_glue.specs.OneImage.{OneImage};
-ghost use Rattle.admission.specs.Deciding.{answer_view, CompilesDocument, IsPolicyOf, Reviews};
+ghost use Rattle.admission.specs.Deciding.{answer_view, IsGateOn, OpensGate, Reviews};
+ghost use Rattle.admission.specs.declared.language.Language.TheVariants.{Profile};
 ghost use Rattle.celbpf_c.specs.Calls.{documents_of, gate_view, image_held, Answers, Holds, MakesGate};
 ghost use Rattle.admission.specs.Standing.{exactly, RunAgrees};
 ghost use Rattle.celbpf_c.specs.Output.{Writes};
@@ -76,7 +77,7 @@ pub extern "C" fn celbpf_gate_free(alloc: Global, place: &mut GatePlace)
 
 /// Compiles a policy to a gate on the heap.
 fn boxed_gate(alloc: Global, policy: &[u8]) -> Result<Box<Gate>, PolicyRefusal>
-    ensures compiles { CompilesDocument policy.now (gate_view result) }
+    ensures compiles { OpensGate policy.now (gate_view result) }
     ensures one { IfOk (gate_view result) (λ g. OneImage g.policy g.image) }
 {
     let gate = Gate::new(alloc, policy)?;
@@ -102,8 +103,8 @@ fn decided(
     params: &[u8],
     steps: u64,
 ) -> Result<Reply, RunError>
-    ensures reviews { (policy : List ℕ) → IsPolicyOf policy gate.now → Reviews (documents_of policy review.now namespace.now params.now) steps (answer_view result) }
-    ensures runs { (policy : List ℕ) → IsPolicyOf policy gate.now → RunAgrees (exactly gate.now.image) (documents_of policy review.now namespace.now params.now) steps (answer_view result) }
+    ensures reviews { (policy : List ℕ) → IsGateOn Profile policy gate.now → Reviews (documents_of policy review.now namespace.now params.now) steps (answer_view result) }
+    ensures runs { (policy : List ℕ) → IsGateOn Profile policy gate.now → RunAgrees (exactly gate.now.image) (documents_of policy review.now namespace.now params.now) steps (answer_view result) }
 {
     gate.decide(review, given(namespace), given(params), steps)
 }

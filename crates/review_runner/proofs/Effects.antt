@@ -1,5 +1,5 @@
 -- The effect of an order but for a session is the effect of the command that gives it.
-use Rattle.review_runner.proofs.Prelude.{◌≡◌, ℕ, ◌+◌, ◌*◌, ◌<◌, ◌∷◌, ◌++◌, ◌⊎◌, Bool, true, false, List, [], Option}
+use Rattle.review_runner.proofs.Prelude.{◌≡◌, ◌∙◌, ℕ, ◌+◌, ◌*◌, ◌<◌, ◌∷◌, ◌++◌, ◌⊎◌, Bool, true, false, List, [], Option}
 use Rattle.review_runner.proofs.Prelude.{Result, Ok, Err, Some, refl, sym, ap, subst, codes, if◌then◌else◌, Row, Text}
 use Rattle.review_runner.proofs.Prelude.{LoadError, image_in, image_from, First, Source, IsUtf8, run_of, run_of_file}
 use Rattle.review_runner.proofs.Prelude.{start_of, started_on, Reply, Documents, FileSystem, IsReading, FileRead}
@@ -20,6 +20,8 @@ use Rattle.admission.specs.Reviews.{contents_given, uid_in}
 use Rattle.admission.specs.Standing.{Images, RunAgrees, RunHasStatus}
 use Rattle.admission.specs.declared.run_error.RunError.TheVariants as run_error
 use Rattle.admission.proofs.OneReview.{cases_once}
+use Rattle.admission.proofs.Said.{profile_said, profile_told}
+use Rattle.admission.specs.declared.language.Language.TheVariants.{Profile}
 use Rattle.bpf_machine.specs.declared.status.Status.{Status}
 use Rattle.cel_macros.specs.Environment.{Roots}
 use Rattle.expression_code.specs.Limits.{charge_per_unit, steps_per_visit}
@@ -68,11 +70,11 @@ moved once d c e P given =
     subst (λ (p : Policy). P p e.policy.trees e.roots) same.0
     (subst (λ (t : PolicyTree). P c.policy.parsed t e.roots) same.1 (subst (λ (r : Roots). P c.policy.parsed c.policy.trees r) same.2 given))
 
-pub run_of_review : (chosen : Images) (d : Documents) (n : ℕ) (due : Verdict → Status) → RunHasStatus chosen d n due
+pub run_of_review : (chosen : Images) (d : Documents) (n : ℕ) (due : Verdict → Status) → d.language ≡ Profile → RunHasStatus chosen d n due
     → ReviewRun chosen n d.policy d.review d.namespace d.params due
-run_of_review chosen d n due has = record {
+run_of_review chosen d n due profile has = record {
   policy = has.run.case.policy.parsed;
-  is_policy = has.run.case.policy.is_said;
+  is_policy = profile_said d has.run.case.policy.told has.run.case.policy.parsed profile has.run.case.policy.is_said;
   trees = has.run.case.policy.trees;
   compiles = has.run.case.policy.compiles;
   image = has.run.image;
@@ -159,36 +161,38 @@ module _ (chosen : Images) (rows : List Row) (old : Option FileSystem) where
   run new (Ok file) is same = of_run new file (image_in file) is refl same
   run new (Err e) is same = unread new (codes "run-image") e (fails_at old [] [] [] (Some (value (codes "IMAGE") rows)) e tt is) same
 
-  pub replied : CompileHasOneResult → (new : Option FileSystem) (d : Documents) (answer : Result Reply RunError) → Holds d → Reviews d (steps_of rows) answer
+  pub replied : CompileHasOneResult → (new : Option FileSystem) (d : Documents) (answer : Result Reply RunError) → d.language ≡ Profile → Holds d → Reviews d (steps_of rows) answer
       → RunAgrees chosen d (steps_of rows) answer → new ≡ old → Has new (codes "review") (seen (review_outcome answer))
   unfolding run_of_review
-  replied once new d (Ok reply) hold reviews agrees same =
-      let run = run_of_review chosen d (steps_of rows) _ agrees in
-      let due = moved once d reviews.case agrees.run.case (λ p t r. reply ≡ answer_of p (decision_of p.failure_policy t r) (uid_in d.review)) reviews.answer_is in
+  replied once new d (Ok reply) profile hold reviews agrees same =
+      let run = run_of_review chosen d (steps_of rows) _ profile agrees in
+      let own = reviews.case.policy in
+      let as_compiled = reviews.answer_is ∙ ap (λ (p : Policy). answer_of p (decision reviews.case) (uid_in d.review)) (profile_told d own.told own.parsed profile own.is_said) in
+      let due = moved once d reviews.case agrees.run.case (λ p t r. reply ≡ answer_of p (decision_of p.failure_policy t r) (uid_in d.review)) as_compiled in
       subst (λ (r : Reply). Has new (codes "review") (Ok (answer_status r.allowed, r.response ++ 10 ∷ []))) (sym due)
       (subst (λ (n : ℕ). Has new (codes "review") (Ok (n, response_of run.policy run.verdict (uid_in d.review) ++ 10 ∷ [])))
       (status_is (is_allowed run.verdict.outcome)) (effect.given hold (effect.replied run) same))
-  replied once new d (Err (run_error.PolicyRefused e)) hold refused agrees same = effect.given hold (effect.no_policy {others = Some d.review ∷ d.namespace ∷ d.params ∷ []} refused) same
-  replied once new d (Err run_error.ReviewRefused) hold both agrees same =
-      effect.given hold (effect.no_review both.0.is_said both.0.compiles both.1) same
-  replied once new d (Err run_error.NamespaceOrParamsRefused) hold both agrees same =
-      effect.given hold (effect.no_review both.0.is_said both.0.compiles both.1) same
-  replied once new d (Err run_error.OutOfSteps) hold unended agrees same =
-      effect.given hold (effect.unended (run_of_review chosen d (steps_of rows) _ agrees)
+  replied once new d (Err (run_error.PolicyRefused e)) profile hold refused agrees same = effect.given hold (effect.no_policy {others = Some d.review ∷ d.namespace ∷ d.params ∷ []} refused.1) same
+  replied once new d (Err run_error.ReviewRefused) profile hold both agrees same =
+      effect.given hold (effect.no_review (profile_said d both.0.told both.0.parsed profile both.0.is_said) both.0.compiles both.1) same
+  replied once new d (Err run_error.NamespaceOrParamsRefused) profile hold both agrees same =
+      effect.given hold (effect.no_review (profile_said d both.0.told both.0.parsed profile both.0.is_said) both.0.compiles both.1) same
+  replied once new d (Err run_error.OutOfSteps) profile hold unended agrees same =
+      effect.given hold (effect.unended (run_of_review chosen d (steps_of rows) _ profile agrees)
       (moved once d unended.case agrees.run.case (λ p t r. steps_of rows < steps_per_visit * policy_work p.failure_policy t r) unended.early)) same
-  replied once new d (Err run_error.OverLimit) hold stopped agrees same =
-      effect.given hold (effect.stopped (run_of_review chosen d (steps_of rows) _ agrees)
+  replied once new d (Err run_error.OverLimit) profile hold stopped agrees same =
+      effect.given hold (effect.stopped (run_of_review chosen d (steps_of rows) _ profile agrees)
       (moved once d stopped.case agrees.run.case
       (λ p t r. (charge_limit < (started r).charge + charge_per_unit * policy_spent p.failure_policy t r) ⊎ IsDeepPolicy p.failure_policy t r) stopped.beyond)) same
-  replied once new d (Err run_error.Memory) hold reviews agrees same = effect.no_memory same
+  replied once new d (Err run_error.Memory) profile hold reviews agrees same = effect.no_memory same
 
   pub reviewed : CompileHasOneResult → (new : Option FileSystem) (files : DocumentFiles) (policy : List ℕ) (held : Result Documents FileError) (outcome : OrderOutcome)
       → names_of policy files ≡ files_read (codes "review") rows → FilesBy old policy files (held_of_review held)
       → ReviewsHeld chosen (steps_of rows) held outcome → new ≡ old → Has new (codes "review") (seen outcome)
   reviewed once new files policy (Err e) outcome names hold policy_files.unread same =
       unread new (codes "review") e (subst (λ (n : List (Option Text)). Fails old n e) names hold) same
-  reviewed once new files policy (Ok d) outcome names hold (policy_files.reviewed answer reviews agrees) same =
-      replied once new d answer
+  reviewed once new files policy (Ok d) outcome names hold (policy_files.reviewed answer profile reviews agrees) same =
+      replied once new d answer profile
       (subst (λ (n : List (Option Text)). Hold old n (Some d.policy ∷ Some d.review ∷ d.namespace ∷ d.params ∷ [])) names hold) reviews agrees same
 
   pub of_refusal : Result State Refusal → Result (ℕ × List ℕ) Refusal

@@ -7,6 +7,8 @@ use Rattle.review_runner.specs.Debugging as debugging
 use Rattle.admission.proofs.Decided.{compiled_length, few_findings}
 use Rattle.review_runner.proofs.ImageKept.{image_of_start}
 use Rattle.admission.proofs.OneReview.{roots_once}
+use Rattle.admission.proofs.Said.{profile_said}
+use Rattle.admission.specs.declared.language.Language.TheVariants.{Profile}
 use Rattle.review_runner.proofs.ToldLines as lines
 
 -- ---- the number of findings
@@ -41,7 +43,7 @@ version_is : (f : FailurePolicy) (t : PolicyTree) (image : loader.Image) (values
     → version_number (state_after k (start_state image values)).image.version ≡ 2
 version_is f t image values k program = ap (λ (i : loader.Image). version_number i.version) (image_of_start image values k) ∙ ap version_number program.version
 
-module _ (have : GivenHaveValues) (d : Documents) (run : PolicyRun d) where
+module _ (have : GivenHaveValues) (d : Documents) (run : PolicyRun d) (profile : d.language ≡ Profile) where
   has : HasValues run.case.roots (started run.case.roots)
   has =
       let own = have (Some d.review) d.namespace d.params (started run.case.roots) run.case.are_given in
@@ -51,7 +53,7 @@ module _ (have : GivenHaveValues) (d : Documents) (run : PolicyRun d) where
   few =
       let trees = run.case.policy.trees in
       let many = compiled_length run.case.policy.parsed (Ok trees) trees run.case.policy.compiles refl in
-      omega (arith, few_findings run.case.policy.parsed.failure_policy trees run.case.roots, many, few_validations d.policy run.case.policy.parsed run.case.policy.is_said)
+      omega (arith, few_findings run.case.policy.parsed.failure_policy trees run.case.roots, many, few_validations d.policy run.case.policy.parsed (profile_said d run.case.policy.told run.case.policy.parsed profile run.case.policy.is_said))
 
   told : (seen : List Line) → (session_state_after run seen).ended ≡ false → Decides run.case.policy.parsed.failure_policy run.case.policy.trees run.case.roots (started run.case.roots) (shown_after run seen) → TellsVerdict run seen
   told seen on (OutOfBudget is why) = TellsVerdict.over is why
@@ -77,4 +79,4 @@ starts : (d : Documents) (run : PolicyRun d) (file : List ℕ) → image_in file
 starts d run file holds = ap (λ (r : Result loader.Image LoadError). started_on (opened_by r) (held_with file d)) holds ∙ ap (debugging.started run.image) run.case.are_given
 
 pub verdict_is_told : GivenHaveValues → VerdictIsTold
-verdict_is_told have = record { starts = starts; tells = tells have }
+verdict_is_told have = record { starts = starts; tells = λ d run lines profile. tells have d run profile lines }

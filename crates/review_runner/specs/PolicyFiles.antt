@@ -13,6 +13,7 @@ use Rattle.review_runner.specs.Output.{OrderOutcome, Report}
 use Rattle.cli.specs.Refusals.{file_refusal, run_refusal}
 use Rattle.admission.specs.Standing.{Images, RunAgrees}
 use Rattle.host.specs.declared.file_error.FileError.{FileError}
+use Rattle.admission.specs.declared.language.Language.TheVariants.{Profile}
 use Rattle.admission.specs.declared.policy_refusal.PolicyRefusal.{PolicyRefusal}
 use Rattle.cli.specs.declared.refusal.Refusal.{Refusal, TheVariants.Policy as CodePolicy}
 use Rattle.admission.specs.declared.run_error.RunError.{RunError}
@@ -59,10 +60,10 @@ abbrev pub review_outcome : Result Reply RunError → OrderOutcome
 review_outcome (Ok a) = Ok (answer_report a)
 review_outcome (Err e) = Err (run_refusal e)
 
--- the result of a review with these documents
+-- the result of a review with these documents, of a policy in the language that is compiled
 pub data ReviewsHeld (chosen : Images) (n : ℕ) : Result Documents FileError → OrderOutcome → Type 0 where
   unread : {e : FileError} → ReviewsHeld chosen n (Err e) (Err (file_refusal e))
-  reviewed : {d : Documents} (answer : Result Reply RunError) → Reviews d n answer → RunAgrees chosen d n answer
+  reviewed : {d : Documents} (answer : Result Reply RunError) → d.language ≡ Profile → Reviews d n answer → RunAgrees chosen d n answer
       → ReviewsHeld chosen n (Ok d) (review_outcome answer)
 
 -- `review`, for any contents of its files

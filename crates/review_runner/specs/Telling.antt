@@ -14,6 +14,7 @@ use Rattle.debugger.specs.Answers.{Line, SessionState}
 use Rattle.debugger.specs.Session.{granted, dialogue_of}
 use Rattle.debugger.specs.Verdict.{word_line}
 use Rattle.admission.specs.Deciding.{Documents, IsBeyond, decision, started, work}
+use Rattle.admission.specs.declared.language.Language.TheVariants.{Profile}
 use Rattle.review_runner.specs.Debugging.{start_of}
 use Rattle.review_runner.specs.PolicyFiles.{held_with}
 use Rattle.admission.specs.Standing.{PolicyRun, stands}
@@ -81,4 +82,4 @@ module _ {d : Documents} (run : PolicyRun d) where
 pub record VerdictIsTold : Type 0 where
   pub starts : (d : Documents) (run : PolicyRun d) (file : List ℕ) → image_in file ≡ Ok run.image
       → start_of (Ok (held_with file d)) ≡ Ok (start run)
-  pub tells : (d : Documents) (run : PolicyRun d) (lines : List Line) → IsDecided run lines → TellsVerdict run lines
+  pub tells : (d : Documents) (run : PolicyRun d) (lines : List Line) → d.language ≡ Profile → IsDecided run lines → TellsVerdict run lines

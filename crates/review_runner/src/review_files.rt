@@ -3,6 +3,7 @@ ghost use Rattle.std.specs.Prelude.{◌≡◌, Ok, IfOk, IsSome};
 ghost use Rattle.policy_glue.specs.OneImage.{OneImage};
 ghost use Rattle.review_runner.specs.Debugging.{held_view};
 ghost use Rattle.admission.specs.Deciding.{Documents};
+ghost use Rattle.admission.specs.declared.language.Language.TheVariants.{Profile};
 ghost use Rattle.review_runner.specs.Order.{review, review_files_view};
 ghost use Rattle.review_runner.specs.Output.{outcome_of, report_of};
 ghost use Rattle.review_runner.specs.Performing.{PerformsBy};
@@ -42,7 +43,7 @@ pub fn review_files<F: Files>(
 /// Decides the review in these documents.
 fn review_held(alloc: Global, held: &HeldFiles, steps: u64) -> Result<Report, Refusal>
     requires { IsSome (held_view held.now).review }
-    ensures { (d : Documents) → held_with d.policy d ≡ held_view held.now → ReviewsHeld OneImage steps (Ok d) (outcome_of result) }
+    ensures { (d : Documents) → d.language ≡ Profile → held_with d.policy d ≡ held_view held.now → ReviewsHeld OneImage steps (Ok d) (outcome_of result) }
 {
     let Some(document) = &held.review else {
         unreachable!();

@@ -3,5 +3,8 @@
 use Rattle.admission.proofs.Standing.{of_one}
 use Rattle.admission.proofs.reviewing.review.Goals as goal
 
+pub returns-clause-reviews : goal.returns-clause-reviews
+returns-clause-reviews c = c.decide.ensures.reviews _ _ c.in_ok-gate.ensures.compiles
+
 pub returns-clause-runs : goal.returns-clause-runs
-returns-clause-runs c = of_one _ _ _ _ _ c.in_ok-gate.ensures.compiles.0 c.in_ok-gate.ensures.one (c.decide.ensures.runs _ c.in_ok-gate.ensures.compiles)
+returns-clause-runs c = of_one _ _ _ _ _ _ c.in_ok-gate.ensures.compiles.0 c.in_ok-gate.ensures.one (c.decide.ensures.runs _ _ c.in_ok-gate.ensures.compiles)

@@ -30,8 +30,9 @@ returns c =
     let start = rw (← c.self.view_is) at c.in_ok-machine.ensures in
     let exits = rw (← c.self.view_is) at c.in_ok-run.ensures.exits in
     let runs = rw (← c.self.view_is) at c.in_ok-run.ensures.runs in
+    let of_told = rw (rw (← c.self.view_is) at c.told.ensures) at c.in_ok-reply.ensures in
     rw (← c.self.view_is)
     (record {
-      reviews = λ d of given. answered _ _ _ _ (exits d c.args.uid.now _ of given start) c.in_ok-reply.ensures;
+      reviews = λ d of given. answered _ _ _ _ (exits d c.args.uid.now _ of given start) of_told;
       runs = λ d of given. runs d c.args.uid.now _ of given start;
     })

@@ -31,8 +31,9 @@ returns c =
     let start = rw (← c.self.view_is) at c.in_ok-machine.ensures in
     let exits = rw (← c.self.view_is) at c.in_ok-run.ensures.exits in
     let runs = rw (← c.self.view_is) at c.in_ok-run.ensures.runs in
+    let of_told = rw (rw (← c.self.view_is) at c.told.ensures) at c.in_ok-findings_of_verdict.ensures in
     rw (← c.self.view_is)
     (record {
-      finds = λ d of given. found_so _ _ _ _ (exits d (uid_in d.review) _ of (record { contents = given; uid_is = refl }) start) c.in_ok-findings_of_verdict.ensures;
+      finds = λ d of given. found_so _ _ _ _ (exits d (uid_in d.review) _ of (record { contents = given; uid_is = refl }) start) of_told;
       runs = λ d of given. runs d (uid_in d.review) _ of (record { contents = given; uid_is = refl }) start;
     })

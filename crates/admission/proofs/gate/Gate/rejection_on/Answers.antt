@@ -31,9 +31,10 @@ returns c =
     let start = rw (← c.self.view_is) at c.in_ok-machine.ensures in
     let exits = rw (← c.self.view_is) at c.in_ok-run.ensures.exits in
     let runs = rw (← c.self.view_is) at c.in_ok-run.ensures.runs in
+    let of_told = rw (rw (← c.self.view_is) at c.told.ensures) at c.in_ok-rejection_of_verdict.ensures in
     rw (← c.self.view_is)
     (record {
       says = λ d uid of given. said_so _ _ _ _ (exits d uid _ of given start)
-          (λ v memory few layout. ap (λ (o : Option Rejection). said_by o uid) (c.in_ok-rejection_of_verdict.ensures v memory few layout));
+          (λ v memory few layout. ap (λ (o : Option Rejection). said_by o uid) (of_told v memory few layout));
       runs = λ d uid of given. runs d uid _ of given start;
     })
