@@ -125,11 +125,11 @@ kept_by : (key other k : List ℕ) (d : json.Data) (ms : json.Members) (b : Bool
 kept_by key other k d ms b is apart later = grind (arith, either, is_eq-slice_cmp, bytes_eq-Decides)
 
 -- the other keys keep their values
-member_kept : (key other : List ℕ) (ms : json.Members) → bytes_eq other key ≡ false → get_member other (others key ms) ≡ get_member other ms
+pub member_kept : (key other : List ℕ) (ms : json.Members) → bytes_eq other key ≡ false → get_member other (others key ms) ≡ get_member other ms
 member_kept key other json.no_members apart = refl
 member_kept key other (json.member k d ms) apart = kept_by key other k d ms (bytes_eq key k) refl apart (member_kept key other ms apart)
 
-null_apart : (b : Bool) (key other : List ℕ) (ms : json.Members) → bytes_eq other key ≡ false → get_member other (if b then others key ms else ms) ≡ get_member other ms
+pub null_apart : (b : Bool) (key other : List ℕ) (ms : json.Members) → bytes_eq other key ≡ false → get_member other (if b then others key ms else ms) ≡ get_member other ms
 null_apart true key other ms apart = member_kept key other ms apart
 null_apart false key other ms apart = refl
 
@@ -155,11 +155,11 @@ null_by key ms (Some (json.object es)) is = is
 put_apart : (key other : List ℕ) (d : json.Data) (ms : json.Members) → bytes_eq other key ≡ false → get_member other (json.put key d ms) ≡ get_member other ms
 put_apart key other d ms apart = get_member-put_other other key d ms (λ same. absurd (true≢false (sym ((bytes_eq-Decides other key).1 same) ∙ apart)))
 
-changed_apart : (key other : List ℕ) (o : Option json.Data) (ms : json.Members) → bytes_eq other key ≡ false → get_member other (put_if key o ms) ≡ get_member other ms
+pub changed_apart : (key other : List ℕ) (o : Option json.Data) (ms : json.Members) → bytes_eq other key ≡ false → get_member other (put_if key o ms) ≡ get_member other ms
 changed_apart key other None ms apart = refl
 changed_apart key other (Some d) ms apart = put_apart key other d ms apart
 
-changed_here : (key : List ℕ) (f : json.Data → json.Data) (ms : json.Members) (o : Option json.Data) → get_member key ms ≡ o → get_member key (put_if key (option_map f o) ms) ≡ option_map f o
+pub changed_here : (key : List ℕ) (f : json.Data → json.Data) (ms : json.Members) (o : Option json.Data) → get_member key ms ≡ o → get_member key (put_if key (option_map f o) ms) ≡ option_map f o
 changed_here key f ms None is = is
 changed_here key f ms (Some d) is = get_member-put key (f d) ms
 
@@ -176,17 +176,21 @@ spec_compiled (json.object ms) =
     changed_here (codes "spec") (in_object spec_members) (others (codes "status") ms) _ refl
     ∙ ap (option_map (in_object spec_members)) (member_kept (codes "status") (codes "spec") ms refl)
 
-failure_in_members : (ms : json.Members) → get_member (codes "failurePolicy") (spec_members ms) ≡ present (get_member (codes "failurePolicy") ms)
+-- the failure policy is absent if it is null
+pub failure_left : (ms : json.Members) → get_member (codes "failurePolicy") (without_nulls (codes "auditAnnotations" ∷ spec_keys) ms) ≡ present (get_member (codes "failurePolicy") ms)
 unfolding spec_keys
-failure_in_members ms =
+failure_left ms =
     let name = codes "failurePolicy" in
     let first = without_null (codes "auditAnnotations") ms in
     let second = without_null name first in
     let rest = codes "matchConditions" ∷ codes "matchConstraints" ∷ codes "paramKind" ∷ codes "validations" ∷ codes "variables" ∷ [] in
-    changed_apart (codes "validations") name _ (without_nulls rest second) refl
-    ∙ nulls_apart name rest second refl
+    nulls_apart name rest second refl
     ∙ null_by name first (get_member name first) refl
     ∙ ap present (null_apart _ (codes "auditAnnotations") name ms refl)
+
+failure_in_members : (ms : json.Members) → get_member (codes "failurePolicy") (spec_members ms) ≡ present (get_member (codes "failurePolicy") ms)
+failure_in_members ms =
+    changed_apart (codes "validations") (codes "failurePolicy") _ (without_nulls (codes "auditAnnotations" ∷ spec_keys) ms) refl ∙ failure_left ms
 
 -- its failure policy is absent if it is null
 pub failure_compiled : (d : json.Data) → get (codes "failurePolicy") (in_object spec_members d) ≡ present (get (codes "failurePolicy") d)

@@ -14,7 +14,13 @@ use Rattle.policy_glue.specs.declared.failure_policy.FailurePolicy.{FailurePolic
 use Rattle.policy_glue.specs.declared.policy_error.PolicyError.{PolicyError, TheVariants.InvalidField, TheVariants.MessageWithLineBreak, TheVariants.NoValidations, TheVariants.NotAPolicy, TheVariants.NotJson, TheVariants.TooManyParts}
 use Rattle.admission_documents.specs.Documents.{field, field_of, present}
 use Rattle.cluster_plan.specs.Steps.{fails_closed}
+use Rattle.value_store.specs.Documents.{document_of}
+use Rattle.wide_policy.specs.WideDocuments.{has_audit_annotations, normal_document, normal_spec, of_object, wide_policy_in, wide_policy_of, with_read_error}
+use Rattle.wide_policy.specs.declared.wide_policy_error.WidePolicyError.TheVariants.{HasAuditAnnotations, Unread}
+use Rattle.admission.specs.Deciding.{IsSaid}
+use Rattle.admission.specs.declared.language.Language.{Language, TheVariants.Profile, TheVariants.Wide}
 use Rattle.cluster_gate.proofs.Compiled.{failure_compiled, spec_compiled}
+use Rattle.cluster_gate.proofs.Normal.{failure_normal, spec_normal}
 use Rattle.cluster_gate.proofs.SameReading.{compiled_shallow}
 use Rattle.cluster_gate.specs.Laws.{FailsClosedAsCompiled, denies_errors}
 use Rattle.cluster_gate.specs.CompiledDocuments.{compiled_document, in_object, spec_members}
@@ -82,25 +88,6 @@ failure_is d q e =
     first_part (failure_in (get (codes "failurePolicy") d)) (named_list_in NotEmpty (get (codes "matchConditions") d))
     (named_list_in Identifier (get (codes "variables") d)) (list_in validation_in (get (codes "validations") d)) q e
 
--- the specification that is compiled is that of the document, which is present
-record IsSpecIn (o : Option json.Data) (compiled : json.Data) : Type 0 where
-  spec : json.Data
-  is : o ≡ Some spec
-  compiled_is : in_object spec_members spec ≡ compiled
-
-spec_in_state : (o : Option json.Data) (compiled : json.Data) → option_map (in_object spec_members) o ≡ Some compiled → IsSpecIn o compiled
-spec_in_state None compiled e = absurd (cc)
-spec_in_state (Some d) compiled e = record { spec = d; is = refl; compiled_is = cc }
-
-shown : (d : json.Data) → has_spec_form (in_object spec_members d) ≡ true → present (Some d) ≡ Some d
-unfolding has_spec_form
-shown json.null e = absurd (cc)
-shown (json.boolean b) e = refl
-shown (json.number n) e = refl
-shown (json.string s) e = refl
-shown (json.array ds) e = refl
-shown (json.object ms) e = refl
-
 named : (a b : Bool) (f : FailurePolicy) → (if a then Some Fail else (if b then Some Ignore else None)) ≡ Some f → (a ≡ true → b ≡ false) → not b ≡ denies_errors f
 named true true f e h = let no = h refl in absurd (cc)
 named true false f e h = let same : Fail ≡ f = cc in ap denies_errors same
@@ -119,18 +106,102 @@ denies_alike (Some (json.string s)) f e = named (bytes_eq s (codes "Fail")) (byt
 denies_alike (Some (json.array ds)) f e = absurd (cc)
 denies_alike (Some (json.object ms)) f e = absurd (cc)
 
+-- ---- documents that are read
+
+-- the specification that is read is made of that of the document, with the same failure policy unless it is null
+module _ (F : json.Data → json.Data) (keeps : (s : json.Data) → get (codes "failurePolicy") (F s) ≡ present (get (codes "failurePolicy") s))
+    (shows : (s : json.Data) → has_spec_form (F s) ≡ true → present (Some s) ≡ Some s) where
+  record IsSpecIn (o : Option json.Data) (compiled : json.Data) : Type 0 where
+    spec : json.Data
+    is : o ≡ Some spec
+    compiled_is : F spec ≡ compiled
+
+  spec_in_state : (o : Option json.Data) (compiled : json.Data) → option_map F o ≡ Some compiled → IsSpecIn o compiled
+  spec_in_state None compiled e = absurd (cc)
+  spec_in_state (Some d) compiled e = record { spec = d; is = refl; compiled_is = cc }
+
+  closed_by : (d e : json.Data) (q : Policy) → get (codes "spec") e ≡ option_map F (get (codes "spec") d) → policy_of e ≡ Ok q → fails_closed d ≡ denies_errors q.failure_policy
+  unfolding fails_closed field
+  closed_by d e q made read =
+      let spec = read_spec e q read in
+      let found = spec_in_state (get (codes "spec") d) spec.spec (sym made ∙ spec.is) in
+      let ignores = λ (o : Option json.Data). not (equals_string (field_of (codes "failurePolicy") o) (codes "Ignore")) in
+      let form : has_spec_form (F found.spec) ≡ true = ap has_spec_form found.compiled_is ∙ spec.form in
+      let failure : failure_in (present (get (codes "failurePolicy") found.spec)) ≡ Some q.failure_policy =
+      ap failure_in (sym (keeps found.spec) ∙ ap (get (codes "failurePolicy")) found.compiled_is) ∙ failure_is spec.spec q spec.parts in
+      ap (λ (o : Option json.Data). ignores (present o)) found.is
+      ∙ ap ignores (shows found.spec form)
+      ∙ denies_alike (present (get (codes "failurePolicy") found.spec)) q.failure_policy failure
+
+shown : (d : json.Data) → has_spec_form (in_object spec_members d) ≡ true → present (Some d) ≡ Some d
+unfolding has_spec_form
+shown json.null e = absurd (cc)
+shown (json.boolean b) e = refl
+shown (json.number n) e = refl
+shown (json.string s) e = refl
+shown (json.array ds) e = refl
+shown (json.object ms) e = refl
+
+-- ---- the wide language
+
+-- the specification as it is read
+abbrev wide_spec : json.Data → json.Data
+wide_spec s = of_object normal_spec (in_object spec_members s)
+
+wide_shown : (d : json.Data) → has_spec_form (wide_spec d) ≡ true → present (Some d) ≡ Some d
+unfolding has_spec_form
+wide_shown json.null e = absurd (cc)
+wide_shown (json.boolean b) e = refl
+wide_shown (json.number n) e = refl
+wide_shown (json.string s) e = refl
+wide_shown (json.array ds) e = refl
+wide_shown (json.object ms) e = refl
+
+present_twice : (o : Option json.Data) → present (present o) ≡ present o
+present_twice None = refl
+present_twice (Some json.null) = refl
+present_twice (Some (json.boolean b)) = refl
+present_twice (Some (json.number n)) = refl
+present_twice (Some (json.string s)) = refl
+present_twice (Some (json.array ds)) = refl
+present_twice (Some (json.object ms)) = refl
+
+wide_keeps : (s : json.Data) → get (codes "failurePolicy") (wide_spec s) ≡ present (get (codes "failurePolicy") s)
+wide_keeps s =
+    failure_normal (in_object spec_members s) ∙ ap present (failure_compiled s) ∙ present_twice (get (codes "failurePolicy") s)
+
+option_map_twice : (f g : json.Data → json.Data) (o : Option json.Data) → option_map f (option_map g o) ≡ option_map (λ (d : json.Data). f (g d)) o
+option_map_twice f g None = refl
+option_map_twice f g (Some d) = refl
+
+wide_made : (d : json.Data) → get (codes "spec") (normal_document (compiled_document d)) ≡ option_map wide_spec (get (codes "spec") d)
+wide_made d =
+    spec_normal (compiled_document d) ∙ ap (option_map (of_object normal_spec)) (spec_compiled d)
+    ∙ option_map_twice (of_object normal_spec) (in_object spec_members) (get (codes "spec") d)
+
+taken_by : (b : Bool) (r : Result Policy PolicyError) (q : Policy) → (if b then Err HasAuditAnnotations else with_read_error r) ≡ Ok q → r ≡ Ok q
+taken_by true r q e = absurd (cc)
+taken_by false (Ok p) q e = let same : p ≡ q = cc in ap Ok same
+taken_by false (Err x) q e = absurd (cc)
+
+wide_read : (d : json.Data) (q : Policy) → wide_policy_of d ≡ Ok q → policy_of (normal_document d) ≡ Ok q
+unfolding wide_policy_of
+wide_read d q e = taken_by (has_audit_annotations d) (policy_of (normal_document d)) q e
+
+-- ---- the law
+
+closed_as_said : (l : Language) (d : json.Data) (text : List ℕ) (told parsed : Policy) → document_of text ≡ Some (compiled_document d) → IsSaid l text told parsed
+    → fails_closed d ≡ denies_errors parsed.failure_policy
+unfolding policy_in wide_policy_in
+closed_as_said Profile d text told parsed reads said =
+    closed_by (in_object spec_members) failure_compiled shown d (compiled_document d) parsed (spec_compiled d)
+    (subst (λ (o : Option json.Data). option_map_or policy_of o (Err NotJson) ≡ Ok parsed) reads said.0)
+closed_as_said (Wide rule) d text told parsed reads said =
+    let q = said.1.parsed in
+    let read = subst (λ (o : Option json.Data). option_map_or wide_policy_of o (Err (Unread NotJson)) ≡ Ok q) reads said.1.is_said in
+    closed_by wide_spec wide_keeps wide_shown d (normal_document (compiled_document d)) q (wide_made d) (wide_read (compiled_document d) q read)
+    ∙ ap (λ (p : Policy). denies_errors p.failure_policy) (sym said.1.profile)
+
 pub fails_closed_as_compiled : FailsClosedAsCompiled
-unfolding fails_closed field policy_in
-fails_closed_as_compiled p names c shallow =
-    let q = c.is_policy.parsed in
-    let reads = c.has_text.reads (compiled_shallow p.document shallow) in
-    let read : policy_of (compiled_document p.document) ≡ Ok q = subst (λ (o : Option json.Data). option_map_or policy_of o (Err NotJson) ≡ Ok q) reads c.is_policy.is_said in
-    let spec = read_spec (compiled_document p.document) q read in
-    let found = spec_in_state (get (codes "spec") p.document) spec.spec (sym (spec_compiled p.document) ∙ spec.is) in
-    let ignores = λ (o : Option json.Data). not (equals_string (field_of (codes "failurePolicy") o) (codes "Ignore")) in
-    let form : has_spec_form (in_object spec_members found.spec) ≡ true = ap has_spec_form found.compiled_is ∙ spec.form in
-    let failure : failure_in (present (get (codes "failurePolicy") found.spec)) ≡ Some q.failure_policy =
-    ap failure_in (sym (failure_compiled found.spec) ∙ ap (get (codes "failurePolicy")) found.compiled_is) ∙ failure_is spec.spec q spec.parts in
-    ap (λ (o : Option json.Data). ignores (present o)) found.is
-    ∙ ap ignores (shown found.spec form)
-    ∙ denies_alike (present (get (codes "failurePolicy") found.spec)) q.failure_policy failure
+fails_closed_as_compiled l p names c shallow =
+    closed_as_said l p.document c.text c.is_policy.told c.is_policy.parsed (c.has_text.reads (compiled_shallow p.document shallow)) c.is_policy.is_said

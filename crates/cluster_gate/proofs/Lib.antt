@@ -10,6 +10,7 @@ pub mod Requested
 pub mod Opened
 pub mod Allowed
 pub mod Compiled
+mod Normal
 pub mod SameReading
 pub mod JudgedOnce
 pub mod ShallowSteps

@@ -1,16 +1,25 @@
 -- Documents whose texts are read as the same values decide alike.
-use Rattle.cluster_gate.proofs.Prelude.{◌≡◌, ◌∙◌, ◌≤◌, ℕ, Bool, true, false, List, Option, Some, None, Result, Ok, Err, ap, arith, refl, sym}
+use Rattle.cluster_gate.proofs.Prelude.{◌≡◌, ◌∙◌, ◌≤◌, ℕ, Bool, true, false, List, Option, Some, None, Result, Ok, Err, ap, arith, refl, subst, sym}
 use Rattle.std.specs.Option.{option_map_or}
 use Rattle.serde_json.specs.Data as json
 use Rattle.value_store.specs.Documents.{document_given, document_of}
 use Rattle.value_store.specs.Reviews.{parts_given}
 use Rattle.policy_glue.specs.Findings.{PolicyFinding}
+use Rattle.policy_glue.specs.Policy.{Policy}
 use Rattle.policy_glue.specs.Reading.{policy_in, policy_of}
 use Rattle.policy_glue.specs.declared.policy_error.PolicyError.{TheVariants.NotJson}
-use Rattle.admission.specs.Deciding.{Case, Documents, HasNoResponse, IsPolicy, IsPolicyRefused, values_given}
+use Rattle.wide_policy.specs.Reading.{IsWidePolicy}
+use Rattle.wide_policy.specs.WideDocuments.{wide_policy_in, wide_policy_of}
+use Rattle.wide_policy.specs.declared.message_rule.MessageRule.{MessageRule}
+use Rattle.wide_policy.specs.declared.policy.WidePolicy.{WidePolicy}
+use Rattle.wide_policy.specs.declared.wide_policy_error.WidePolicyError.TheVariants as wide_error
+use Rattle.admission.specs.Deciding.{Case, Documents, HasNoResponse, IsPolicy, IsPolicyRefused, IsSaid, IsWideRefused, values_given}
 use Rattle.admission.specs.Findings.{FindsReview}
 use Rattle.admission.specs.Reviews.{contents_from, contents_given, documents_from, documents_given}
 use Rattle.admission.specs.Standing.{Images, RunAgrees, RunHasStatus}
+use Rattle.admission.specs.declared.language.Language.{Language, TheVariants.Profile, TheVariants.Wide}
+use Rattle.admission.specs.declared.wide_refusal.WideRefusal.{WideRefusal}
+use Rattle.admission.specs.declared.wide_refusal.WideRefusal.TheVariants as wide_refusal
 use Rattle.admission.specs.declared.policy_refusal.PolicyRefusal.{PolicyRefusal, TheVariants.Unread, TheVariants.Uncompiled}
 use Rattle.admission.specs.declared.policy_refusal.PolicyRefusal.TheVariants as policy_refusal
 use Rattle.admission.specs.declared.run_error.RunError.{RunError, TheVariants.PolicyRefused, TheVariants.ReviewRefused, TheVariants.NamespaceOrParamsRefused, TheVariants.OutOfSteps, TheVariants.OverLimit, TheVariants.Memory}
@@ -44,6 +53,26 @@ pub same_policy : (t u : List ℕ) → document_of t ≡ document_of u → polic
 unfolding policy_in
 same_policy t u is = ap (λ o. option_map_or policy_of o (Err NotJson)) is
 
+pub same_wide : (t u : List ℕ) → document_of t ≡ document_of u → wide_policy_in t ≡ wide_policy_in u
+unfolding wide_policy_in
+same_wide t u is = ap (λ o. option_map_or wide_policy_of o (Err (wide_error.Unread NotJson))) is
+
+wide_moved : (rule : MessageRule) (t u : List ℕ) (p : WidePolicy) → document_of t ≡ document_of u → IsWidePolicy rule t p → IsWidePolicy rule u p
+wide_moved rule t u p same is = record {
+  parsed = is.parsed;
+  is_said = sym (same_wide t u same) ∙ is.is_said;
+  parts = is.parts;
+  end = is.end;
+  source = is.source;
+  profile = is.profile;
+  left_out = is.left_out;
+}
+
+-- a policy of one text is one of the other, in each language
+pub said_moved : (l : Language) (t u : List ℕ) (told parsed : Policy) → document_of t ≡ document_of u → IsSaid l t told parsed → IsSaid l u told parsed
+said_moved Profile t u told parsed same is = (sym (same_policy t u same) ∙ is.0, is.1)
+said_moved (Wide rule) t u told parsed same is = (is.0, wide_moved rule t u _ same is.1)
+
 pub same_contents : (r s : List ℕ) (n m p q : Option (List ℕ)) → r ≡ s → document_given n ≡ document_given m → document_given p ≡ document_given q
     → contents_given (Some r) n p ≡ contents_given (Some s) m q
 unfolding contents_given documents_given
@@ -60,7 +89,8 @@ compiled_shallow d shallow = let fewer = compiled_depth d in omega arith
 
 -- the documents are read as the same
 pub record SameReading (d e : Documents) : Type 0 where
-  pub policy : policy_in d.policy ≡ policy_in e.policy
+  pub language : d.language ≡ e.language
+  pub policy : document_of d.policy ≡ document_of e.policy
   pub values : values_given d ≡ values_given e
 
 -- a refusal of one text is one of the other
@@ -69,13 +99,30 @@ refused_moved t u same (Unread x) is = sym same ∙ is
 refused_moved t u same (Uncompiled x) (p, is, compiles) = (p, sym same ∙ is, compiles)
 refused_moved t u same policy_refusal.Memory is = is
 
+pub wide_refused_moved : (rule : MessageRule) (t u : List ℕ) → document_of t ≡ document_of u → (r : WideRefusal) → IsWideRefused rule t r → IsWideRefused rule u r
+wide_refused_moved rule t u same (wide_refusal.Unread (wide_error.Unread x)) is = sym (same_wide t u same) ∙ is
+wide_refused_moved rule t u same (wide_refusal.Unread wide_error.HasAuditAnnotations) is = sym (same_wide t u same) ∙ is
+wide_refused_moved rule t u same (wide_refusal.Unread (wide_error.InvalidExpression k n x)) (p, is, ends) = (p, sym (same_wide t u same) ∙ is, ends)
+wide_refused_moved rule t u same (wide_refusal.Unread wide_error.Memory) is = is
+wide_refused_moved rule t u same (wide_refusal.Uncompiled x) (told, parsed, said, compiles) = (told, parsed, said_moved (Wide rule) t u told parsed same said, compiles)
+wide_refused_moved rule t u same wide_refusal.Memory is = is
+
 module _ (d e : Documents) (same : SameReading d e) where
-  policy_moved : IsPolicy d.policy → IsPolicy e.policy
-  policy_moved p = record { parsed = p.parsed; is_said = sym same.policy ∙ p.is_said; trees = p.trees; compiles = p.compiles }
+  said_here : (told parsed : Policy) → IsSaid d.language d.policy told parsed → IsSaid e.language e.policy told parsed
+  said_here told parsed is = subst (λ (l : Language). IsSaid l e.policy told parsed) same.language (said_moved d.language d.policy e.policy told parsed same.policy is)
+
+  policy_moved : IsPolicy d.language d.policy → IsPolicy e.language e.policy
+  policy_moved p = record { told = p.told; parsed = p.parsed; is_said = said_here p.told p.parsed p.is_said; trees = p.trees; compiles = p.compiles }
 
   case_moved : Case d → Case e
   case_moved c = record {
-    policy = record { parsed = c.policy.parsed; is_said = sym same.policy ∙ c.policy.is_said; trees = c.policy.trees; compiles = c.policy.compiles };
+    policy = record {
+      told = c.policy.told;
+      parsed = c.policy.parsed;
+      is_said = said_here c.policy.told c.policy.parsed c.policy.is_said;
+      trees = c.policy.trees;
+      compiles = c.policy.compiles;
+    };
     roots = c.roots;
     are_given = sym same.values ∙ c.are_given;
   }
@@ -83,7 +130,7 @@ module _ (d e : Documents) (same : SameReading d e) where
   -- if one has no response for this reason, neither has the other
   pub no_response_moved : (n : ℕ) (x : RunError) → HasNoResponse d n x → HasNoResponse e n x
   unfolding case_moved
-  no_response_moved n (PolicyRefused r) is = refused_moved d.policy e.policy same.policy r is
+  no_response_moved n (PolicyRefused r) is = (sym same.language ∙ is.0, refused_moved d.policy e.policy (same_policy d.policy e.policy same.policy) r is.1)
   no_response_moved n ReviewRefused is = (policy_moved is.0, sym same.values ∙ is.1)
   no_response_moved n NamespaceOrParamsRefused is = (policy_moved is.0, sym same.values ∙ is.1)
   no_response_moved n OutOfSteps is = record { case = case_moved is.case; early = is.early }

@@ -14,6 +14,7 @@ use Rattle.cluster_plan.specs.Steps.{PlannedStep, PolicyBlock, fails_closed, pol
 use Rattle.admission.specs.Deciding.{Documents}
 use Rattle.admission.specs.Findings.{FindsReview}
 use Rattle.admission.specs.Standing.{Images, RunAgrees}
+use Rattle.admission.specs.declared.language.Language.{Language}
 use Rattle.admission.specs.declared.run_error.RunError.{RunError}
 use Rattle.admission.specs.declared.run_error.RunError.TheVariants as run_error
 use Rattle.cluster_response.specs.Events.{Event, configuration_event, findings_events}
@@ -66,17 +67,6 @@ undecided_event p r = event.refuses (record { policy = p.name; fails_closed = fa
 abbrev pub FindsWith : Type 1
 FindsWith = Option json.Data → Option json.Data → Result (List PolicyFinding) RunError → Type 0
 
--- what the policy finds against the request of a review, within n steps of its program
-pub record EvaluatesPolicy (chosen : Images) (review : List ℕ) (n : ℕ) (p : BoundPolicy) (params namespace : Option json.Data)
-    (result : Result (List PolicyFinding) RunError) : Type 0 where
-  pub documents : Documents
-  pub policy : IsJsonTextOf (compiled_document p.document) documents.policy
-  pub review_is : documents.review ≡ review
-  pub namespace_text : IsJsonTextIf namespace documents.namespace
-  pub params_text : IsJsonTextIf params documents.params
-  pub finds : FindsReview documents n result
-  pub runs : RunAgrees chosen documents n result
-
 -- ---- steps
 
 -- the events of the steps of a policy under one of its bindings, and whether they end the dispatch. A step that refuses is
@@ -110,24 +100,38 @@ pub data RunsBindings (p : BoundPolicy) (finds : FindsWith) : List (List Planned
 
 -- ---- the dispatch
 
--- the events of one policy, and whether they end the dispatch
-pub record AsksPolicy (chosen : Images) (s : ClusterState) (review : List ℕ) (n : ℕ) (q : Request) (p : BoundPolicy) (es : List Event)
-    (ended : Bool) : Type 0 where
-  pub cause : Option BlockCause
-  pub judged : IsJudged s p cause
-  pub runs : RunsBindings p (EvaluatesPolicy chosen review n p) (policy_steps s (asked_policy s p) (option_map block_of cause) q) es ended
+-- The policies are read in this language.
+module _ (l : Language) where
+  -- what the policy finds against the request of a review, within n steps of its program
+  pub record EvaluatesPolicy (chosen : Images) (review : List ℕ) (n : ℕ) (p : BoundPolicy) (params namespace : Option json.Data)
+      (result : Result (List PolicyFinding) RunError) : Type 0 where
+    pub documents : Documents
+    pub language : documents.language ≡ l
+    pub policy : IsJsonTextOf (compiled_document p.document) documents.policy
+    pub review_is : documents.review ≡ review
+    pub namespace_text : IsJsonTextIf namespace documents.namespace
+    pub params_text : IsJsonTextIf params documents.params
+    pub finds : FindsReview documents n result
+    pub runs : RunAgrees chosen documents n result
 
--- the events of policies, one after another
-pub data Dispatches (chosen : Images) (s : ClusterState) (review : List ℕ) (n : ℕ) (q : Request) : List BoundPolicy
-    → List Event → Type 0 where
-  no_policies : Dispatches chosen s review n q [] []
-  next : {p : BoundPolicy} {ps : List BoundPolicy} {es more : List Event} → AsksPolicy chosen s review n q p es false
-      → Dispatches chosen s review n q ps more → Dispatches chosen s review n q (p ∷ ps) (es ++ more)
-  last : {p : BoundPolicy} {ps : List BoundPolicy} {es : List Event} → AsksPolicy chosen s review n q p es true
-      → Dispatches chosen s review n q (p ∷ ps) es
+  -- the events of one policy, and whether they end the dispatch
+  pub record AsksPolicy (chosen : Images) (s : ClusterState) (review : List ℕ) (n : ℕ) (q : Request) (p : BoundPolicy) (es : List Event)
+      (ended : Bool) : Type 0 where
+    pub cause : Option BlockCause
+    pub judged : IsJudged l s p cause
+    pub runs : RunsBindings p (EvaluatesPolicy chosen review n p) (policy_steps s (asked_policy s p) (option_map block_of cause) q) es ended
 
--- the text that answers a review, which depends on the state and the review alone; none for bytes that are no review
-pub data DecidesInCluster (chosen : Images) (s : ClusterState) (review : List ℕ) (n : ℕ) : Option (List ℕ) → Type 0 where
-  no_review : request_given review ≡ None → DecidesInCluster chosen s review n None
-  decided : {q : Request} {es : List Event} → request_given review ≡ Some q → Dispatches chosen s review n q (policies_asked s q) es
-      → DecidesInCluster chosen s review n (Some (cluster_response q (uid_in review) es))
+  -- the events of policies, one after another
+  pub data Dispatches (chosen : Images) (s : ClusterState) (review : List ℕ) (n : ℕ) (q : Request) : List BoundPolicy
+      → List Event → Type 0 where
+    no_policies : Dispatches chosen s review n q [] []
+    next : {p : BoundPolicy} {ps : List BoundPolicy} {es more : List Event} → AsksPolicy chosen s review n q p es false
+        → Dispatches chosen s review n q ps more → Dispatches chosen s review n q (p ∷ ps) (es ++ more)
+    last : {p : BoundPolicy} {ps : List BoundPolicy} {es : List Event} → AsksPolicy chosen s review n q p es true
+        → Dispatches chosen s review n q (p ∷ ps) es
+
+  -- the text that answers a review, which depends on the state and the review alone; none for bytes that are no review
+  pub data DecidesInCluster (chosen : Images) (s : ClusterState) (review : List ℕ) (n : ℕ) : Option (List ℕ) → Type 0 where
+    no_review : request_given review ≡ None → DecidesInCluster chosen s review n None
+    decided : {q : Request} {es : List Event} → request_given review ≡ Some q → Dispatches chosen s review n q (policies_asked s q) es
+        → DecidesInCluster chosen s review n (Some (cluster_response q (uid_in review) es))

@@ -7,6 +7,7 @@ use Rattle.value_store.specs.Reviews.{uid_in}
 use Rattle.policy_glue.specs.OneImage.{OneImage}
 use Rattle.policy_glue.specs.Rejections.{response_text}
 use Rattle.policy_glue.specs.declared.failure_policy.FailurePolicy.{FailurePolicy, TheVariants.Fail, TheVariants.Ignore}
+use Rattle.admission.specs.declared.language.Language.{Language}
 use Rattle.admission_match.specs.Matching.{match_answer}
 use Rattle.admission_match.specs.Requests.{is_exempt}
 use Rattle.admission_match.specs.declared.answer.Answer.TheVariants.{No}
@@ -23,8 +24,8 @@ use Rattle.cluster_gate.specs.Gates.{IsCompiledPolicy}
 
 -- a request that no policy is asked about is allowed
 abbrev pub ExemptIsAllowed : Type 0
-ExemptIsAllowed = (s : ClusterState) (review : List ℕ) (n : ℕ) (q : Request) (o : Option (List ℕ)) → request_given review ≡ Some q
-    → is_exempt q.attributes.resource ≡ true → DecidesInCluster OneImage s review n o → o ≡ Some (response_text None (uid_in review))
+ExemptIsAllowed = (l : Language) (s : ClusterState) (review : List ℕ) (n : ℕ) (q : Request) (o : Option (List ℕ))
+    → request_given review ≡ Some q → is_exempt q.attributes.resource ≡ true → DecidesInCluster l OneImage s review n o → o ≡ Some (response_text None (uid_in review))
 
 -- the constraints of none of these policies match
 abbrev pub NoneMatches : ClusterState → Request → List BoundPolicy → Type 0
@@ -33,8 +34,8 @@ NoneMatches s q (p ∷ ps) = (match_answer p.constraints (namespace_labels s.obj
 
 -- a request that no policy matches is allowed
 abbrev pub UnmatchedIsAllowed : Type 0
-UnmatchedIsAllowed = (s : ClusterState) (review : List ℕ) (n : ℕ) (q : Request) (o : Option (List ℕ)) → request_given review ≡ Some q
-    → NoneMatches s q s.policies → DecidesInCluster OneImage s review n o → o ≡ Some (response_text None (uid_in review))
+UnmatchedIsAllowed = (l : Language) (s : ClusterState) (review : List ℕ) (n : ℕ) (q : Request) (o : Option (List ℕ))
+    → request_given review ≡ Some q → NoneMatches s q s.policies → DecidesInCluster l OneImage s review n o → o ≡ Some (response_text None (uid_in review))
 
 -- ---- one answer
 
@@ -53,8 +54,8 @@ StatesAreShallow = (lists : List json.Data) (s : ClusterState) → All IsShallow
 
 -- a review has one answer in a cluster, if no document is nested deeper than JSON texts that are read
 abbrev pub ReviewsHaveOneAnswer : Type 0
-ReviewsHaveOneAnswer = (s : ClusterState) (review : List ℕ) (n : ℕ) (a b : Option (List ℕ)) → HasShallowDocuments s
-    → DecidesInCluster OneImage s review n a → DecidesInCluster OneImage s review n b → a ≡ b
+ReviewsHaveOneAnswer = (l : Language) (s : ClusterState) (review : List ℕ) (n : ℕ) (a b : Option (List ℕ)) → HasShallowDocuments s
+    → DecidesInCluster l OneImage s review n a → DecidesInCluster l OneImage s review n b → a ≡ b
 
 -- ---- the failure policy
 
@@ -65,5 +66,5 @@ denies_errors Ignore = false
 
 -- the failure policy that the steps of a compiled policy use is the compiled policy's
 abbrev pub FailsClosedAsCompiled : Type 0
-FailsClosedAsCompiled = (p : BoundPolicy) (names : Bool) (c : IsCompiledPolicy p names) → IsShallow p.document
+FailsClosedAsCompiled = (l : Language) (p : BoundPolicy) (names : Bool) (c : IsCompiledPolicy l p names) → IsShallow p.document
     → fails_closed p.document ≡ denies_errors c.is_policy.parsed.failure_policy

@@ -6,6 +6,7 @@ use Rattle.value_store.specs.Reviews.{uid_in}
 use Rattle.policy_glue.specs.OneImage.{OneImage}
 use Rattle.admission.specs.Deciding.{Documents, Reply}
 use Rattle.admission.specs.OneAnswer.{IsAnswerTo}
+use Rattle.admission.specs.declared.language.Language.{Language}
 use Rattle.admission.specs.declared.run_error.RunError.{RunError}
 use Rattle.admission.specs.declared.run_error.RunError.TheVariants as run_error
 use Rattle.admission_documents.specs.Requests.{Request}
@@ -29,7 +30,7 @@ use Rattle.cluster_gate.specs.Texts.{IsJsonTextIf, IsJsonTextOf}
 
 -- the state has one policy, without params, and one binding of it that denies; both match the request, whose namespace is
 -- found, if it needs one. No match condition names the namespace
-pub record HasOnePolicy (s : ClusterState) (q : Request) (p : BoundPolicy) (b : Binding) : Type 0 where
+pub record HasOnePolicy (l : Language) (s : ClusterState) (q : Request) (p : BoundPolicy) (b : Binding) : Type 0 where
   pub policies : s.policies ≡ p ∷ []
   pub bindings : s.bindings ≡ b ∷ []
   pub bound : b.policy_name ≡ p.name
@@ -39,7 +40,7 @@ pub record HasOnePolicy (s : ClusterState) (q : Request) (p : BoundPolicy) (b : 
   pub policy_matches : match_answer p.constraints (namespace_labels s.objects) q.attributes ≡ Yes
   pub binding_matches : match_answer b.resources (namespace_labels s.objects) q.attributes ≡ Yes
   pub found : namespace_object s.objects q.kind q.attributes.namespace ≢ missing
-  pub unnamed : IsCompiledPolicy p true → ⊥
+  pub unnamed : IsCompiledPolicy l p true → ⊥
 
 -- the namespace that the policy sees
 abbrev pub namespace_seen : NamespaceObject → Option json.Data
@@ -48,7 +49,8 @@ namespace_seen no_object = None
 namespace_seen missing = None
 
 -- the documents of a review under that policy: its text without `status` and nulls, the review, the namespace and no params
-pub record AreDocumentsOf (s : ClusterState) (review : List ℕ) (q : Request) (p : BoundPolicy) (d : Documents) : Type 0 where
+pub record AreDocumentsOf (l : Language) (s : ClusterState) (review : List ℕ) (q : Request) (p : BoundPolicy) (d : Documents) : Type 0 where
+  pub language : d.language ≡ l
   pub policy : IsJsonTextOf (compiled_document p.document) d.policy
   pub review_is : d.review ≡ review
   pub namespace : IsJsonTextIf (namespace_seen (namespace_object s.objects q.kind q.attributes.namespace)) d.namespace
@@ -63,8 +65,8 @@ IsSameDecision p uid (Err e) answer =
 
 -- a cluster with one such policy decides as a review under the policy
 abbrev pub OnePolicyIsReview : Type 0
-OnePolicyIsReview = (s : ClusterState) (review : List ℕ) (n : ℕ) (q : Request) (p : BoundPolicy) (b : Binding) (d : Documents)
-    (result : Result Reply RunError) (text : List ℕ)
-    → HasShallowDocuments s → request_given review ≡ Some q → HasOnePolicy s q p b → AreDocumentsOf s review q p d
-    → result ≢ Err run_error.Memory → IsAnswerTo d n result → DecidesInCluster OneImage s review n (Some text)
+OnePolicyIsReview = (l : Language) (s : ClusterState) (review : List ℕ) (n : ℕ) (q : Request) (p : BoundPolicy) (b : Binding)
+    (d : Documents) (result : Result Reply RunError) (text : List ℕ)
+    → HasShallowDocuments s → request_given review ≡ Some q → HasOnePolicy l s q p b → AreDocumentsOf l s review q p d
+    → result ≢ Err run_error.Memory → IsAnswerTo d n result → DecidesInCluster l OneImage s review n (Some text)
     → (answer : json.Data) × (text ≡ compact_text answer) × IsSameDecision p (uid_in review) result answer

@@ -7,6 +7,7 @@ use Rattle.policy_glue.specs.OneImage.{OneImage}
 use Rattle.policy_glue.specs.declared.finding.Finding.{Finding}
 use Rattle.admission.specs.Findings.{findings_view}
 use Rattle.admission.specs.Standing.{Images}
+use Rattle.admission.specs.declared.language.Language.{Language}
 use Rattle.admission.specs.declared.run_error.RunError.{RunError}
 use Rattle.admission_match.specs.declared.trouble.Trouble.{Trouble}
 use Rattle.admission_documents.specs.Requests.{Request}
@@ -31,28 +32,11 @@ abbrev pub HasFound : Result (Vec Finding Global) RunError → Result (Vec Findi
 HasFound due (Ok fs) = findings_view due ≡ Ok (map finding_view fs.items)
 HasFound due (Err r) = (e : RunError) × (findings_view due ≡ Err e) × (error_refusal e ≡ Some r)
 
--- what an evaluation finds, or the refusal instead
-abbrev pub FindsOrRefuses : Images → List ℕ → ℕ → BoundPolicy → Option json.Data → Option json.Data
-    → Result (Vec Finding Global) ClusterRefusal → Type 0
-FindsOrRefuses chosen review n p params namespace (Ok fs) =
-    EvaluatesPolicy chosen review n p params namespace (Ok (map finding_view fs.items))
-FindsOrRefuses chosen review n p params namespace (Err r) =
-    (e : RunError) × EvaluatesPolicy chosen review n p params namespace (Err e) × (error_refusal e ≡ Some r)
-
 -- ---- steps
 
 -- these events are added
 abbrev pub Adds : CodeEvents → CodeEvents → List Event → Type 0
 Adds before after more = (es : List Event) → KeepsEvents before es → KeepsEvents after (es ++ more)
-
--- the code's run is of this policy
-pub record IsRunOf (p : BoundPolicy) (run : PolicyRun) : Type 0 where
-  pub policy : policy_view run.policy.now ≡ p
-  pub gate : IsAskedGate p run.gate.now
-
--- what the policy of a run finds
-abbrev pub finds_of : BoundPolicy → PolicyRun → FindsWith
-finds_of p run params namespace result = EvaluatesPolicy OneImage run.case.now.review.now run.case.now.steps p params namespace result
 
 -- the events of a step, followed by those of other steps unless the binding or the dispatch ends
 abbrev pub StepRuns : BoundPolicy → FindsWith → Progress → PlannedStep → List Event → Type 0
@@ -61,43 +45,7 @@ StepRuns p finds NextStep step fs = (steps : List PlannedStep) (es : List Event)
 StepRuns p finds NextBinding step fs = (steps : List PlannedStep) → RunsSteps p finds (step ∷ steps) fs false
 StepRuns p finds End step fs = (steps : List PlannedStep) → RunsSteps p finds (step ∷ steps) fs true
 
--- the events of a step are added
-abbrev pub AddsStep : BoundPolicy → PolicyRun → PlannedStep → CodeEvents → CodeEvents → Progress → Type 0
-AddsStep p run step before after progress =
-    (more : List Event) × Adds before after more × StepRuns p (finds_of p run) progress step more
-
--- the events of steps are added
-abbrev pub AddsSteps : BoundPolicy → PolicyRun → List PlannedStep → CodeEvents → CodeEvents → Bool → Type 0
-AddsSteps p run steps before after ended =
-    (more : List Event) × Adds before after more × RunsSteps p (finds_of p run) steps more ended
-
--- the events of the first steps are added, and those of the others come after them
-abbrev pub AddedBefore : BoundPolicy → PolicyRun → List PlannedStep → List PlannedStep → CodeEvents → CodeEvents → Type 0
-AddedBefore p run all rest before now =
-    (more : List Event) × Adds before now more
-    × ((es : List Event) (ended : Bool) → RunsSteps p (finds_of p run) rest es ended
-    → RunsSteps p (finds_of p run) all (more ++ es) ended)
-
--- ---- bindings
-
--- the events of bindings with these steps are added
-abbrev pub AddsBindings : BoundPolicy → PolicyRun → List (List PlannedStep) → CodeEvents → CodeEvents → Bool → Type 0
-AddsBindings p run all before after ended =
-    (more : List Event) × Adds before after more × RunsBindings p (finds_of p run) all more ended
-
--- the events of the first bindings are added, and those of the others come after them
-abbrev pub BoundBefore : BoundPolicy → PolicyRun → List (List PlannedStep) → List (List PlannedStep) → CodeEvents → CodeEvents → Type 0
-BoundBefore p run all rest before now =
-    (more : List Event) × Adds before now more
-    × ((es : List Event) (ended : Bool) → RunsBindings p (finds_of p run) rest es ended
-    → RunsBindings p (finds_of p run) all (more ++ es) ended)
-
 -- ---- policies
-
--- the events of a policy are added
-abbrev pub AddsPolicy : Images → ClusterState → List ℕ → ℕ → Request → BoundPolicy → CodeEvents → CodeEvents → Bool → Type 0
-AddsPolicy chosen s review n q p before after ended =
-    (more : List Event) × Adds before after more × AsksPolicy chosen s review n q p more ended
 
 -- the event of an error, which denies if the policy fails closed
 abbrev pub error_events : Bool → List ℕ → List ℕ → List Event
@@ -109,29 +57,88 @@ abbrev pub AddsTrouble : BoundPolicy → Request → Trouble → CodeEvents → 
 AddsTrouble p q t before after =
     Adds before after (error_events (fails_closed p.document) p.name (trouble_text t q.attributes.namespace))
 
--- the events of a policy whose constraints match are added
-abbrev pub AddsMatched : Images → ClusterState → List ℕ → ℕ → Request → BoundPolicy → CodeEvents → CodeEvents → Bool → Type 0
-AddsMatched chosen s review n q p before after ended =
-    (more : List Event) × Adds before after more
-    × (cause : Option BlockCause) × IsJudged s p cause
-    × RunsBindings p (EvaluatesPolicy chosen review n p) (by_block s (asked_policy s p) q (option_map block_of cause)) more ended
+-- ---- policies in a language
 
--- the events of the bindings of a run's policy are added
-abbrev pub AddsRun : ClusterState → Request → BoundPolicy → PolicyRun → CodeEvents → CodeEvents → Bool → Type 0
-AddsRun s q p run before after ended =
-    AddsBindings p run (bindings_steps s (asked_policy s p) q s.bindings) before after ended
+-- The policies are read in this language.
+module _ (l : Language) where
+  -- what an evaluation finds, or the refusal instead
+  abbrev pub FindsOrRefuses : Images → List ℕ → ℕ → BoundPolicy → Option json.Data → Option json.Data
+      → Result (Vec Finding Global) ClusterRefusal → Type 0
+  FindsOrRefuses chosen review n p params namespace (Ok fs) =
+      EvaluatesPolicy l chosen review n p params namespace (Ok (map finding_view fs.items))
+  FindsOrRefuses chosen review n p params namespace (Err r) =
+      (e : RunError) × EvaluatesPolicy l chosen review n p params namespace (Err e) × (error_refusal e ≡ Some r)
 
--- the code keeps the events of these policies
-abbrev pub GivesEvents : Images → ClusterState → List ℕ → ℕ → Request → List BoundPolicy → CodeEvents → Type 0
-GivesEvents chosen s review n q ps e = (es : List Event) × KeepsEvents e es × Dispatches chosen s review n q ps es
+  -- the code's run is of this policy
+  pub record IsRunOf (p : BoundPolicy) (run : PolicyRun) : Type 0 where
+    pub policy : policy_view run.policy.now ≡ p
+    pub gate : IsAskedGate l p run.gate.now
 
--- the code keeps the events of the first policies, and those of the others come after them
-abbrev pub GivesBefore : Images → ClusterState → List ℕ → ℕ → Request → List BoundPolicy → List BoundPolicy → CodeEvents → Type 0
-GivesBefore chosen s review n q all rest e =
-    (es : List Event) × KeepsEvents e es
-    × ((more : List Event) → Dispatches chosen s review n q rest more → Dispatches chosen s review n q all (es ++ more))
+  -- what the policy of a run finds
+  abbrev pub finds_of : BoundPolicy → PolicyRun → FindsWith
+  finds_of p run params namespace result = EvaluatesPolicy l OneImage run.case.now.review.now run.case.now.steps p params namespace result
 
--- the text is the answer to a request with this uid
-abbrev pub AnswersCase : Images → ClusterState → List ℕ → ℕ → Request → List ℕ → List ℕ → Type 0
-AnswersCase chosen s review n q uid text =
-    (es : List Event) × Dispatches chosen s review n q (policies_asked s q) es × (text ≡ cluster_response q uid es)
+  -- the events of a step are added
+  abbrev pub AddsStep : BoundPolicy → PolicyRun → PlannedStep → CodeEvents → CodeEvents → Progress → Type 0
+  AddsStep p run step before after progress =
+      (more : List Event) × Adds before after more × StepRuns p (finds_of p run) progress step more
+
+  -- the events of steps are added
+  abbrev pub AddsSteps : BoundPolicy → PolicyRun → List PlannedStep → CodeEvents → CodeEvents → Bool → Type 0
+  AddsSteps p run steps before after ended =
+      (more : List Event) × Adds before after more × RunsSteps p (finds_of p run) steps more ended
+
+  -- the events of the first steps are added, and those of the others come after them
+  abbrev pub AddedBefore : BoundPolicy → PolicyRun → List PlannedStep → List PlannedStep → CodeEvents → CodeEvents → Type 0
+  AddedBefore p run all rest before now =
+      (more : List Event) × Adds before now more
+      × ((es : List Event) (ended : Bool) → RunsSteps p (finds_of p run) rest es ended
+      → RunsSteps p (finds_of p run) all (more ++ es) ended)
+
+  -- ---- bindings
+
+  -- the events of bindings with these steps are added
+  abbrev pub AddsBindings : BoundPolicy → PolicyRun → List (List PlannedStep) → CodeEvents → CodeEvents → Bool → Type 0
+  AddsBindings p run all before after ended =
+      (more : List Event) × Adds before after more × RunsBindings p (finds_of p run) all more ended
+
+  -- the events of the first bindings are added, and those of the others come after them
+  abbrev pub BoundBefore : BoundPolicy → PolicyRun → List (List PlannedStep) → List (List PlannedStep) → CodeEvents → CodeEvents → Type 0
+  BoundBefore p run all rest before now =
+      (more : List Event) × Adds before now more
+      × ((es : List Event) (ended : Bool) → RunsBindings p (finds_of p run) rest es ended
+      → RunsBindings p (finds_of p run) all (more ++ es) ended)
+
+  -- ---- policies
+
+  -- the events of a policy are added
+  abbrev pub AddsPolicy : Images → ClusterState → List ℕ → ℕ → Request → BoundPolicy → CodeEvents → CodeEvents → Bool → Type 0
+  AddsPolicy chosen s review n q p before after ended =
+      (more : List Event) × Adds before after more × AsksPolicy l chosen s review n q p more ended
+
+  -- the events of a policy whose constraints match are added
+  abbrev pub AddsMatched : Images → ClusterState → List ℕ → ℕ → Request → BoundPolicy → CodeEvents → CodeEvents → Bool → Type 0
+  AddsMatched chosen s review n q p before after ended =
+      (more : List Event) × Adds before after more
+      × (cause : Option BlockCause) × IsJudged l s p cause
+      × RunsBindings p (EvaluatesPolicy l chosen review n p) (by_block s (asked_policy s p) q (option_map block_of cause)) more ended
+
+  -- the events of the bindings of a run's policy are added
+  abbrev pub AddsRun : ClusterState → Request → BoundPolicy → PolicyRun → CodeEvents → CodeEvents → Bool → Type 0
+  AddsRun s q p run before after ended =
+      AddsBindings p run (bindings_steps s (asked_policy s p) q s.bindings) before after ended
+
+  -- the code keeps the events of these policies
+  abbrev pub GivesEvents : Images → ClusterState → List ℕ → ℕ → Request → List BoundPolicy → CodeEvents → Type 0
+  GivesEvents chosen s review n q ps e = (es : List Event) × KeepsEvents e es × Dispatches l chosen s review n q ps es
+
+  -- the code keeps the events of the first policies, and those of the others come after them
+  abbrev pub GivesBefore : Images → ClusterState → List ℕ → ℕ → Request → List BoundPolicy → List BoundPolicy → CodeEvents → Type 0
+  GivesBefore chosen s review n q all rest e =
+      (es : List Event) × KeepsEvents e es
+      × ((more : List Event) → Dispatches l chosen s review n q rest more → Dispatches l chosen s review n q all (es ++ more))
+
+  -- the text is the answer to a request with this uid
+  abbrev pub AnswersCase : Images → ClusterState → List ℕ → ℕ → Request → List ℕ → List ℕ → Type 0
+  AnswersCase chosen s review n q uid text =
+      (es : List Event) × Dispatches l chosen s review n q (policies_asked s q) es × (text ≡ cluster_response q uid es)

@@ -3,6 +3,7 @@ use Rattle.std.specs.Prelude.{◌≡◌, ℕ, Bool, true, false, List, [], ◌�
 use Rattle.std.specs.List.{list_any}
 use Rattle.policy_glue.specs.OneImage.{OneImage}
 use Rattle.admission.specs.Standing.{Images}
+use Rattle.admission.specs.declared.language.Language.{Language}
 use Rattle.admission_documents.specs.Requests.{Request}
 use Rattle.admission_match.specs.Laws.{server_answer}
 use Rattle.admission_match.specs.Matching.{MatchResources}
@@ -54,32 +55,32 @@ abbrev pub server_answers : List GroupVersionResource → ClusterState → Reque
 server_answers served s q m = server_answer served m (namespace_labels s.objects) q.attributes
 
 -- the events of one policy on that server, and whether they end the dispatch
-pub record ServerAsksPolicy (served : List GroupVersionResource) (chosen : Images) (s : ClusterState) (review : List ℕ) (n : ℕ)
-    (q : Request) (p : BoundPolicy) (es : List Event) (ended : Bool) : Type 0 where
+pub record ServerAsksPolicy (l : Language) (served : List GroupVersionResource) (chosen : Images) (s : ClusterState) (review : List ℕ)
+    (n : ℕ) (q : Request) (p : BoundPolicy) (es : List Event) (ended : Bool) : Type 0 where
   pub cause : Option BlockCause
-  pub judged : IsJudged s p cause
-  pub runs : RunsBindings p (EvaluatesPolicy chosen review n p)
+  pub judged : IsJudged l s p cause
+  pub runs : RunsBindings p (EvaluatesPolicy l chosen review n p)
       (policy_steps_by (server_answers served s q) s (asked_policy s p) (option_map block_of cause) q) es ended
 
 -- the events of policies, one after another
-pub data ServerDispatches (served : List GroupVersionResource) (chosen : Images) (s : ClusterState) (review : List ℕ) (n : ℕ) (q : Request)
-    : List BoundPolicy → List Event → Type 0 where
-  no_policies : ServerDispatches served chosen s review n q [] []
-  next : {p : BoundPolicy} {ps : List BoundPolicy} {es more : List Event} → ServerAsksPolicy served chosen s review n q p es false
-      → ServerDispatches served chosen s review n q ps more → ServerDispatches served chosen s review n q (p ∷ ps) (es ++ more)
-  last : {p : BoundPolicy} {ps : List BoundPolicy} {es : List Event} → ServerAsksPolicy served chosen s review n q p es true
-      → ServerDispatches served chosen s review n q (p ∷ ps) es
+pub data ServerDispatches (l : Language) (served : List GroupVersionResource) (chosen : Images) (s : ClusterState) (review : List ℕ) (n : ℕ)
+    (q : Request) : List BoundPolicy → List Event → Type 0 where
+  no_policies : ServerDispatches l served chosen s review n q [] []
+  next : {p : BoundPolicy} {ps : List BoundPolicy} {es more : List Event} → ServerAsksPolicy l served chosen s review n q p es false
+      → ServerDispatches l served chosen s review n q ps more → ServerDispatches l served chosen s review n q (p ∷ ps) (es ++ more)
+  last : {p : BoundPolicy} {ps : List BoundPolicy} {es : List Event} → ServerAsksPolicy l served chosen s review n q p es true
+      → ServerDispatches l served chosen s review n q (p ∷ ps) es
 
 -- if each policy decides, every server has the same events and so the same answer, for any resources that it may store
 -- in the same place as the request's
 abbrev pub EquivalentsAreFree : Type 0
-EquivalentsAreFree = (served : List GroupVersionResource) (s : ClusterState) (review : List ℕ) (n : ℕ) (q : Request) (es fs : List Event)
-    → HasShallowDocuments s → All (λ c. is_candidate q.attributes.resource c ≡ true) served → list_any is_refusal es ≡ false
-    → Dispatches OneImage s review n q (policies_asked s q) es → ServerDispatches served OneImage s review n q (policies_asked s q) fs
+EquivalentsAreFree = (l : Language) (served : List GroupVersionResource) (s : ClusterState) (review : List ℕ) (n : ℕ) (q : Request)
+    (es fs : List Event) → HasShallowDocuments s → All (λ c. is_candidate q.attributes.resource c ≡ true) served → list_any is_refusal es ≡ false
+    → Dispatches l OneImage s review n q (policies_asked s q) es → ServerDispatches l served OneImage s review n q (policies_asked s q) fs
     → fs ≡ es
 
 -- if each policy decides, the server has these events
 abbrev pub ServersHaveAnswers : Type 0
-ServersHaveAnswers = (served : List GroupVersionResource) (s : ClusterState) (review : List ℕ) (n : ℕ) (q : Request) (es : List Event)
-    → All (λ c. is_candidate q.attributes.resource c ≡ true) served → list_any is_refusal es ≡ false
-    → Dispatches OneImage s review n q (policies_asked s q) es → ServerDispatches served OneImage s review n q (policies_asked s q) es
+ServersHaveAnswers = (l : Language) (served : List GroupVersionResource) (s : ClusterState) (review : List ℕ) (n : ℕ) (q : Request)
+    (es : List Event) → All (λ c. is_candidate q.attributes.resource c ≡ true) served → list_any is_refusal es ≡ false
+    → Dispatches l OneImage s review n q (policies_asked s q) es → ServerDispatches l served OneImage s review n q (policies_asked s q) es

@@ -7,6 +7,7 @@ ghost use Rattle.cluster_state.specs.Policies.{policy_view, BoundPolicy};
 ghost use Rattle.cluster_state.specs.State.{state_view, ClusterState};
 ghost use Rattle.cluster_state.specs.Bindings.{binding_view};
 ghost use Rattle.cluster_plan.specs.Steps.{asked_view, binding_steps};
+ghost use Rattle.admission.specs.declared.language.Language.{Language};
 ghost use Rattle.cluster_gate.specs.Gates.{asked_policy, IsGateFor};
 ghost use Rattle.cluster_gate.specs.Beside.{IsBesideIf};
 ghost use Rattle.cluster_gate.specs.Running.{AddsBindings, AddsMatched, AddsPolicy, AddsRun, AddsSteps, AddsTrouble, IsRunOf};
@@ -32,8 +33,8 @@ pub(crate) fn ask<'a>(
     events: &mut Events,
 ) -> Result<bool, AllocError>
     requires { IsBesideIf case.now.opened case.now.place (namespace_named (request_view case.now.request.now).attributes.namespace (state_view state.now).objects) }
-    ensures { IfOk result (λ ended. (s : ClusterState) (p : BoundPolicy) → state_view state.now ≡ s → IsGateFor s p gate.now
-        → AddsPolicy OneImage s case.now.review.now case.now.steps (request_view case.now.request.now) p events.old events.new ended) }
+    ensures { IfOk result (λ ended. (l : Language) (s : ClusterState) (p : BoundPolicy) → state_view state.now ≡ s → IsGateFor l s p gate.now
+        → AddsPolicy l OneImage s case.now.review.now case.now.steps (request_view case.now.request.now) p events.old events.new ended) }
 {
     let policy = gate.asked.policy;
     let request = case.request;
@@ -79,8 +80,8 @@ fn ask_matched<'a>(
     events: &mut Events,
 ) -> Result<bool, AllocError>
     requires { IsBesideIf case.now.opened case.now.place (namespace_named (request_view case.now.request.now).attributes.namespace (state_view state.now).objects) }
-    ensures { IfOk result (λ ended. (s : ClusterState) (p : BoundPolicy) → state_view state.now ≡ s → IsGateFor s p gate.now
-        → AddsMatched OneImage s case.now.review.now case.now.steps (request_view case.now.request.now) p events.old events.new ended) }
+    ensures { IfOk result (λ ended. (l : Language) (s : ClusterState) (p : BoundPolicy) → state_view state.now ≡ s → IsGateFor l s p gate.now
+        → AddsMatched l OneImage s case.now.review.now case.now.steps (request_view case.now.request.now) p events.old events.new ended) }
 {
     let policy = gate.asked.policy;
     match &gate.standing {
@@ -109,8 +110,8 @@ impl<'a> PolicyRun<'_, '_, '_, '_, 'a> {
         events: &mut Events,
     ) -> Result<bool, AllocError>
         requires { IsBesideIf self.now.case.now.opened self.now.case.now.place (namespace_named (request_view self.now.case.now.request.now).attributes.namespace (state_view state.now).objects) }
-        ensures { IfOk result (λ ended. (s : ClusterState) (p : BoundPolicy) → state_view state.now ≡ s → asked_view asked.now ≡ asked_policy s p
-            → IsRunOf p self.now → AddsRun s (request_view self.now.case.now.request.now) p self.now events.old events.new ended) }
+        ensures { IfOk result (λ ended. (l : Language) (s : ClusterState) (p : BoundPolicy) → state_view state.now ≡ s → asked_view asked.now ≡ asked_policy s p
+            → IsRunOf l p self.now → AddsRun l s (request_view self.now.case.now.request.now) p self.now events.old events.new ended) }
     {
         let bindings = state.bindings_of(self.alloc, asked.policy.name)?;
         self.run_each(state, asked, bindings, events)
@@ -125,8 +126,8 @@ impl<'a> PolicyRun<'_, '_, '_, '_, 'a> {
         events: &mut Events,
     ) -> Result<bool, AllocError>
         requires { IsBesideIf self.now.case.now.opened self.now.case.now.place (namespace_named (request_view self.now.case.now.request.now).attributes.namespace (state_view state.now).objects) }
-        ensures { IfOk result (λ ended. (p : BoundPolicy) → IsRunOf p self.now
-            → AddsBindings p self.now (map (λ b. binding_steps (state_view state.now) (asked_view asked.now) (request_view self.now.case.now.request.now) (binding_view b.now)) bindings.entry.items) events.old events.new ended) }
+        ensures { IfOk result (λ ended. (l : Language) (p : BoundPolicy) → IsRunOf l p self.now
+            → AddsBindings l p self.now (map (λ b. binding_steps (state_view state.now) (asked_view asked.now) (request_view self.now.case.now.request.now) (binding_view b.now)) bindings.entry.items) events.old events.new ended) }
     {
         for binding in bindings {
             if self.run_binding(state, asked, binding, events)? {
@@ -145,8 +146,8 @@ impl<'a> PolicyRun<'_, '_, '_, '_, 'a> {
         events: &mut Events,
     ) -> Result<bool, AllocError>
         requires { IsBesideIf self.now.case.now.opened self.now.case.now.place (namespace_named (request_view self.now.case.now.request.now).attributes.namespace (state_view state.now).objects) }
-        ensures { IfOk result (λ ended. (p : BoundPolicy) → IsRunOf p self.now
-            → AddsSteps p self.now (binding_steps (state_view state.now) (asked_view asked.now) (request_view self.now.case.now.request.now) (binding_view binding.now)) events.old events.new ended) }
+        ensures { IfOk result (λ ended. (l : Language) (p : BoundPolicy) → IsRunOf l p self.now
+            → AddsSteps l p self.now (binding_steps (state_view state.now) (asked_view asked.now) (request_view self.now.case.now.request.now) (binding_view binding.now)) events.old events.new ended) }
     {
         let case = self.case;
         let steps = asked.binding_steps(self.alloc, state, case.request, binding)?;

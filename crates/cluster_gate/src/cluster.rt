@@ -2,6 +2,7 @@
 ghost use Rattle.std.specs.Prelude.{IfOk, option_map};
 ghost use Rattle.admission_documents.specs.Requests.{request_view};
 ghost use Rattle.policy_glue.specs.OneImage.{OneImage};
+ghost use Rattle.admission.specs.declared.language.Language.{Language as InLanguage};
 ghost use Rattle.cluster_state.specs.Params.{namespace_named};
 ghost use Rattle.cluster_state.specs.State.{state_view, ClusterState};
 ghost use Rattle.cluster_gate.specs.Dispatch.{policies_asked, DecidesInCluster};
@@ -19,6 +20,7 @@ use crate::kept_bases::KeptBases;
 use crate::opening::open_gates;
 use crate::policy_gate::PolicyGate;
 use crate::review_request::review_request;
+use admission::Language;
 use admission_documents::Request;
 use cluster_response::{Events, response};
 use cluster_state::{State, parse};
@@ -37,8 +39,9 @@ pub struct Cluster<'s, 'a> {
 }
 
 impl<'s, 'a> Cluster<'s, 'a> {
-    /// Compiles the policies of the state that have a binding. With `partial` those that are blocked
-    /// stay, and the requests that their constraints match are not decided, unless they are denied.
+    /// Compiles the policies of the state that have a binding, each read in this language. With
+    /// `partial` those that are blocked stay, and the requests that their constraints match are not
+    /// decided, unless they are denied.
     ///
     /// # Errors
     ///
@@ -47,11 +50,12 @@ impl<'s, 'a> Cluster<'s, 'a> {
     pub fn new(
         alloc: Global,
         state: &'s State<'a>,
+        language: Language,
         partial: bool,
     ) -> Result<Cluster<'s, 'a>, ClusterError>
-        ensures { ClusterOpens (state_view state.now) partial result }
+        ensures { ClusterOpens language (state_view state.now) partial result }
     {
-        let gates = open_gates(alloc, state, partial)?;
+        let gates = open_gates(alloc, state, language, partial)?;
         Ok(Cluster {
             alloc,
             state,
@@ -62,7 +66,7 @@ impl<'s, 'a> Cluster<'s, 'a> {
 
     /// The bound policies, in the order of their names.
     pub fn policies(&self) -> &[PolicyGate<'s, 'a>]
-        ensures { (s : ClusterState) → IsClusterFor s self.now → AreGatesFor s s.policies result.now }
+        ensures { (l : InLanguage) (s : ClusterState) → IsClusterFor l s self.now → AreGatesFor l s s.policies result.now }
     {
         self.gates.as_slice()
     }
@@ -71,7 +75,7 @@ impl<'s, 'a> Cluster<'s, 'a> {
     /// evaluation of a policy may take at most `n` steps; none if the bytes are no review. The
     /// error is a failed allocation, which implies nothing about the review.
     pub fn decide(&self, review: &[u8], n: u64) -> Result<Option<Vec<u8>>, AllocError>
-        ensures { IfOk result (λ o. (s : ClusterState) → IsClusterFor s self.now → DecidesInCluster OneImage s review.now n (option_map (λ b. b.items) o)) }
+        ensures { IfOk result (λ o. (l : InLanguage) (s : ClusterState) → IsClusterFor l s self.now → DecidesInCluster l OneImage s review.now n (option_map (λ b. b.items) o)) }
     {
         match parse(self.alloc, review)? {
             Some(document) => self.decide_document(review, &document, n),
@@ -86,8 +90,8 @@ impl<'s, 'a> Cluster<'s, 'a> {
         document: &'x Value,
         n: u64,
     ) -> Result<Option<Vec<u8>>, AllocError>
-        ensures { IfOk result (λ o. (s : ClusterState) → IsClusterFor s self.now → document_of review.now ≡ Some (view document.now)
-            → DecidesInCluster OneImage s review.now n (option_map (λ b. b.items) o)) }
+        ensures { IfOk result (λ o. (l : InLanguage) (s : ClusterState) → IsClusterFor l s self.now → document_of review.now ≡ Some (view document.now)
+            → DecidesInCluster l OneImage s review.now n (option_map (λ b. b.items) o)) }
     {
         match review_request(document) {
             None => Ok(None),
@@ -112,7 +116,7 @@ impl<'s, 'a> Cluster<'s, 'a> {
     /// The answer to a request with this uid.
     fn answer(&self, case: &Case<'_, '_, 'a>, uid: &str) -> Result<Vec<u8>, AllocError>
         requires { IsBesideIf case.now.opened case.now.place (namespace_named (request_view case.now.request.now).attributes.namespace (state_view self.now.state.now).objects) }
-        ensures { IfOk result (λ b. (s : ClusterState) → IsClusterFor s self.now → AnswersCase OneImage s case.now.review.now case.now.steps (request_view case.now.request.now) uid.now b.items) }
+        ensures { IfOk result (λ b. (l : InLanguage) (s : ClusterState) → IsClusterFor l s self.now → AnswersCase l OneImage s case.now.review.now case.now.steps (request_view case.now.request.now) uid.now b.items) }
     {
         let events = self.events(case)?;
         self.keep_wanted(case);
@@ -123,8 +127,8 @@ impl<'s, 'a> Cluster<'s, 'a> {
     /// The events of the dispatch of a request.
     fn events(&self, case: &Case<'_, '_, 'a>) -> Result<Events, AllocError>
         requires { IsBesideIf case.now.opened case.now.place (namespace_named (request_view case.now.request.now).attributes.namespace (state_view self.now.state.now).objects) }
-        ensures { IfOk result (λ e. (s : ClusterState) → IsClusterFor s self.now
-            → GivesEvents OneImage s case.now.review.now case.now.steps (request_view case.now.request.now) (policies_asked s (request_view case.now.request.now)) e) }
+        ensures { IfOk result (λ e. (l : InLanguage) (s : ClusterState) → IsClusterFor l s self.now
+            → GivesEvents l OneImage s case.now.review.now case.now.steps (request_view case.now.request.now) (policies_asked s (request_view case.now.request.now)) e) }
     {
         let request = case.request;
         if request.attributes.resource.is_exempt() {
@@ -137,8 +141,8 @@ impl<'s, 'a> Cluster<'s, 'a> {
     /// The events of all policies, up to the one that ends the dispatch.
     fn dispatch(&self, case: &Case<'_, '_, 'a>) -> Result<Events, AllocError>
         requires { IsBesideIf case.now.opened case.now.place (namespace_named (request_view case.now.request.now).attributes.namespace (state_view self.now.state.now).objects) }
-        ensures { IfOk result (λ e. (s : ClusterState) → IsClusterFor s self.now
-            → GivesEvents OneImage s case.now.review.now case.now.steps (request_view case.now.request.now) s.policies e) }
+        ensures { IfOk result (λ e. (l : InLanguage) (s : ClusterState) → IsClusterFor l s self.now
+            → GivesEvents l OneImage s case.now.review.now case.now.steps (request_view case.now.request.now) s.policies e) }
     {
         let mut events = Events::new(self.alloc);
         let gates = self.gates.as_slice();

@@ -3,10 +3,11 @@ ghost use Rattle.std.specs.Prelude.{ℕ, List, Option, option_map, IfOk};
 ghost use Rattle.serde_json.specs.Data.{Data};
 ghost use Rattle.serde_json.specs.View.{view};
 ghost use Rattle.policy_glue.specs.OneImage.{OneImage};
-ghost use Rattle.admission.specs.Deciding.{Documents, IsPolicyOf};
+ghost use Rattle.admission.specs.Deciding.{Documents, IsGateOn};
 ghost use Rattle.admission.specs.Findings.{findings_view, FindsReview};
-ghost use Rattle.admission.specs.Lent.{documents_lent};
+ghost use Rattle.admission.specs.Lent.{documents_in};
 ghost use Rattle.admission.specs.Standing.{RunAgrees};
+ghost use Rattle.admission.specs.declared.language.Language.{Language};
 ghost use Rattle.cluster_state.specs.Policies.{BoundPolicy};
 ghost use Rattle.cluster_gate.specs.Gates.{IsAskedGate};
 ghost use Rattle.cluster_gate.specs.Beside.{IsBesideIf};
@@ -35,8 +36,8 @@ pub(crate) fn evaluate<'a>(
     namespace: Option<&'a Value>,
 ) -> Result<Result<Vec<Finding>, ClusterRefusal>, AllocError>
     requires { IsBesideIf case.now.opened case.now.place (option_map (λ v. view v.now) namespace) }
-    ensures { IfOk result (λ r. (p : BoundPolicy) → IsAskedGate p gate.now
-        → FindsOrRefuses OneImage case.now.review.now case.now.steps p (option_map (λ v. view v.now) params.entry) (option_map (λ v. view v.now) namespace.entry) r) }
+    ensures { IfOk result (λ r. (l : Language) (p : BoundPolicy) → IsAskedGate l p gate.now
+        → FindsOrRefuses l OneImage case.now.review.now case.now.steps p (option_map (λ v. view v.now) params.entry) (option_map (λ v. view v.now) namespace.entry) r) }
 {
     let Some(opened) = case.opened else {
         return evaluate_alone(alloc, gate, case, params, namespace);
@@ -61,8 +62,8 @@ fn evaluate_on(
     case: &Case<'_, '_, '_>,
     table: Result<Table, ReviewError>,
 ) -> Result<Result<Vec<Finding>, ClusterRefusal>, AllocError>
-    ensures { IfOk result (λ r. (p : BoundPolicy) (params namespace : Option Data) → IsAskedGate p gate.now → GivesTable case.now.review.now params namespace table
-        → FindsOrRefuses OneImage case.now.review.now case.now.steps p params namespace r) }
+    ensures { IfOk result (λ r. (l : Language) (p : BoundPolicy) (params namespace : Option Data) → IsAskedGate l p gate.now → GivesTable case.now.review.now params namespace table
+        → FindsOrRefuses l OneImage case.now.review.now case.now.steps p params namespace r) }
 {
     found(findings_on(gate, case, table))
 }
@@ -73,8 +74,8 @@ fn findings_on(
     case: &Case<'_, '_, '_>,
     table: Result<Table, ReviewError>,
 ) -> Result<Vec<Finding>, RunError>
-    ensures finds { (d : Documents) → IsPolicyOf d.policy gate.now → IsTableOf d table → FindsReview d case.now.steps (findings_view result) }
-    ensures runs { (d : Documents) → IsPolicyOf d.policy gate.now → OneImage gate.now.policy gate.now.image → IsTableOf d table
+    ensures finds { (d : Documents) → IsGateOn d.language d.policy gate.now → IsTableOf d table → FindsReview d case.now.steps (findings_view result) }
+    ensures runs { (d : Documents) → IsGateOn d.language d.policy gate.now → OneImage gate.now.policy gate.now.image → IsTableOf d table
         → RunAgrees OneImage d case.now.steps (findings_view result) }
 {
     let table = table?;
@@ -89,8 +90,8 @@ fn evaluate_alone(
     params: Option<&Value>,
     namespace: Option<&Value>,
 ) -> Result<Result<Vec<Finding>, ClusterRefusal>, AllocError>
-    ensures { IfOk result (λ r. (p : BoundPolicy) → IsAskedGate p gate.now
-        → FindsOrRefuses OneImage case.now.review.now case.now.steps p (option_map (λ v. view v.now) params.entry) (option_map (λ v. view v.now) namespace.entry) r) }
+    ensures { IfOk result (λ r. (l : Language) (p : BoundPolicy) → IsAskedGate l p gate.now
+        → FindsOrRefuses l OneImage case.now.review.now case.now.steps p (option_map (λ v. view v.now) params.entry) (option_map (λ v. view v.now) namespace.entry) r) }
 {
     let params = text_if(alloc, params)?;
     let namespace = text_if(alloc, namespace)?;
@@ -105,10 +106,10 @@ fn findings_with(
     params: Option<&[u8]>,
     namespace: Option<&[u8]>,
 ) -> Result<Vec<Finding>, RunError>
-    ensures finds { (policy : List ℕ) → IsPolicyOf policy gate.now
-        → FindsReview (documents_lent policy case.now.review.now namespace.entry params.entry) case.now.steps (findings_view result) }
-    ensures runs { (policy : List ℕ) → IsPolicyOf policy gate.now → OneImage gate.now.policy gate.now.image
-        → RunAgrees OneImage (documents_lent policy case.now.review.now namespace.entry params.entry) case.now.steps (findings_view result) }
+    ensures finds { (l : Language) (policy : List ℕ) → IsGateOn l policy gate.now
+        → FindsReview (documents_in l policy case.now.review.now namespace.entry params.entry) case.now.steps (findings_view result) }
+    ensures runs { (l : Language) (policy : List ℕ) → IsGateOn l policy gate.now → OneImage gate.now.policy gate.now.image
+        → RunAgrees OneImage (documents_in l policy case.now.review.now namespace.entry params.entry) case.now.steps (findings_view result) }
 {
     let (table, _uid) = Table::of_review(alloc, case.review, namespace, params)?;
     gate.findings_on(table, case.steps)

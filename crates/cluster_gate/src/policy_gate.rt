@@ -1,6 +1,7 @@
 //! Policies with their gates.
 
 use crate::standing::Standing;
+use admission::LeftOut;
 use cluster_plan::AskedPolicy;
 
 /// A bound policy, and whether it is asked.
@@ -8,4 +9,6 @@ use cluster_plan::AskedPolicy;
 pub struct PolicyGate<'s, 'a> {
     pub asked: AskedPolicy<'s, 'a>,
     pub standing: Standing,
+    /// The message expressions that are left out of the policy, in order.
+    pub left_out: Vec<LeftOut>,
 }

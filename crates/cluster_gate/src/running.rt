@@ -2,6 +2,7 @@
 ghost use Rattle.std.specs.List.{All};
 ghost use Rattle.std.specs.Prelude.{◌≡◌, [], ◌∷◌, map, option_map, IfOk};
 ghost use Rattle.serde_json.specs.View.{view};
+ghost use Rattle.admission.specs.declared.language.Language.{Language};
 ghost use Rattle.cluster_plan.specs.Steps.{evaluates, step_view};
 ghost use Rattle.cluster_state.specs.Bindings.{binding_view};
 ghost use Rattle.cluster_state.specs.Policies.{policy_view, BoundPolicy};
@@ -29,7 +30,7 @@ impl<'a> PolicyRun<'_, '_, '_, '_, 'a> {
         steps: &[Step<'_, 'a>],
     ) -> Result<bool, AllocError>
         requires { All (HasKnownNamespace self.now.case.now.opened self.now.case.now.place) (map step_view steps.now) }
-        ensures { IfOk result (λ ended. (p : BoundPolicy) → IsRunOf p self.now → AddsSteps p self.now (map step_view steps.now) events.old events.new ended) }
+        ensures { IfOk result (λ ended. (l : Language) (p : BoundPolicy) → IsRunOf l p self.now → AddsSteps l p self.now (map step_view steps.now) events.old events.new ended) }
     {
         for step in steps {
             match self.run_step(events, step)? {
@@ -44,7 +45,7 @@ impl<'a> PolicyRun<'_, '_, '_, '_, 'a> {
     /// Adds the events of a step. Returns how the dispatch goes on.
     fn run_step(&self, events: &mut Events, step: &Step<'_, 'a>) -> Result<Progress, AllocError>
         requires { HasKnownNamespace self.now.case.now.opened self.now.case.now.place (step_view step.now) }
-        ensures { IfOk result (λ progress. (p : BoundPolicy) → IsRunOf p self.now → AddsStep p self.now (step_view step.now) events.old events.new progress) }
+        ensures { IfOk result (λ progress. (l : Language) (p : BoundPolicy) → IsRunOf l p self.now → AddsStep l p self.now (step_view step.now) events.old events.new progress) }
     {
         match step {
             Step::Denial { binding, message } => {
@@ -74,8 +75,8 @@ impl<'a> PolicyRun<'_, '_, '_, '_, 'a> {
         namespace: Option<&'a Value>,
     ) -> Result<Progress, AllocError>
         requires { IsBesideIf self.now.case.now.opened self.now.case.now.place (option_map (λ v. view v.now) namespace) }
-        ensures { IfOk result (λ progress. (p : BoundPolicy) → IsRunOf p self.now
-            → AddsStep p self.now (evaluates (binding_view binding.now) (option_map (λ v. view v.now) params.entry) (option_map (λ v. view v.now) namespace.entry)) events.old events.new progress) }
+        ensures { IfOk result (λ progress. (l : Language) (p : BoundPolicy) → IsRunOf l p self.now
+            → AddsStep l p self.now (evaluates (binding_view binding.now) (option_map (λ v. view v.now) params.entry) (option_map (λ v. view v.now) namespace.entry)) events.old events.new progress) }
     {
         match evaluate(self.alloc, self.gate, self.case, params, namespace)? {
             Ok(findings) => {

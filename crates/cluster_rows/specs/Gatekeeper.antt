@@ -11,6 +11,7 @@ use Rattle.policy_glue.specs.declared.reason.Reason.TheVariants.{Forbidden, Inva
 use Rattle.streams.specs.declared.session_error.SessionError.TheVariants as session_error
 use Rattle.cli.specs.declared.refusal.Refusal.TheVariants as refusal
 use Rattle.admission.specs.Decisions.{Decision}
+use Rattle.admission.specs.declared.language.Language.TheVariants.{Profile}
 use Rattle.admission.specs.declared.policy_refusal.PolicyRefusal.TheVariants.{Unread}
 use Rattle.admission.specs.declared.run_error.RunError.{RunError}
 use Rattle.admission.specs.declared.run_error.RunError.TheVariants as run_error
@@ -74,7 +75,7 @@ rejects message reason = record { message = message; reason = reason }
 
 -- the policy in this file, which has no name, with its result
 abbrev pub result_of : List ℕ → Result Decision RunError → PolicyResult
-result_of file result = record { policy = record { file = file; document = codes "{}" }; result = result }
+result_of file result = record { policy = record { file = file; language = Profile; document = codes "{}" }; result = result }
 
 abbrev pub allowing : PolicyResult
 allowing = result_of (codes "a.json") (Ok (record { rejection = None; uid = codes "u1" }))
@@ -89,7 +90,7 @@ endless file = result_of file (Err run_error.OutOfSteps)
 -- a policy under Ignore in this file does not end in its steps
 abbrev pub ignoring : List ℕ → PolicyResult
 ignoring file = record {
-  policy = record { file = file; document = codes "{\"spec\":{\"failurePolicy\":\"Ignore\"}}" };
+  policy = record { file = file; language = Profile; document = codes "{\"spec\":{\"failurePolicy\":\"Ignore\"}}" };
   result = Err run_error.OutOfSteps;
 }
 

@@ -3,7 +3,9 @@ use Rattle.std.specs.Prelude.{◌≡◌, true, false, List, [], ◌∷◌, ◌++
 use Rattle.clap.specs.Words.{Text}
 use Rattle.host.specs.declared.order_error.OrderError.TheVariants.{InvalidArguments}
 use Rattle.gatekeeper_runner.specs.About.{text_asked}
-use Rattle.gatekeeper_runner.specs.Orders.{by_cluster, by_policies, entered, faults, has_status, is_partial, is_verbose, order_from}
+use Rattle.gatekeeper_runner.specs.Orders.{by_cluster, by_policies, entered, faults, has_status, is_partial, is_profile, is_verbose, leaves_messages, order_from}
+use Rattle.wide_policy.specs.declared.message_rule.MessageRule.TheVariants.{Required, LeftOut}
+use Rattle.admission.specs.declared.language.Language.TheVariants.{Profile, Wide}
 
 -- gatekeeper --policy a.json
 abbrev pub under_policy : List Text
@@ -22,6 +24,7 @@ pub record CommandOrdersHold : Type 0 where
   pub policy : order_from (entered under_policy)
       ≡ by_policies (record {
         policies = codes "a.json" ∷ [];
+        language = Wide Required;
         namespace = None;
         params = None;
         steps = 10000000;
@@ -34,6 +37,7 @@ pub record CommandOrdersHold : Type 0 where
       ++ codes "--policy" ∷ codes "b.json" ∷ codes "--namespace" ∷ codes "n.json" ∷ codes "--steps" ∷ codes "5" ∷ []))
       ≡ by_policies (record {
         policies = codes "a.json" ∷ codes "b.json" ∷ [];
+        language = Wide Required;
         namespace = Some (codes "n.json");
         params = None;
         steps = 5;
@@ -42,12 +46,29 @@ pub record CommandOrdersHold : Type 0 where
         status = false;
       })
   pub cluster : order_from (entered as_cluster)
-      ≡ by_cluster (record { files = codes "c.json" ∷ []; partial = false; steps = 10000000; max_line = 16777216; verbose = false; status = false })
+      ≡ by_cluster (record {
+        files = codes "c.json" ∷ [];
+        language = Wide Required;
+        partial = false;
+        steps = 10000000;
+        max_line = 16777216;
+        verbose = false;
+        status = false;
+      })
   pub partial : order_from (entered (as_cluster ++ codes "--partial" ∷ []))
-      ≡ by_cluster (record { files = codes "c.json" ∷ []; partial = true; steps = 10000000; max_line = 16777216; verbose = false; status = false })
+      ≡ by_cluster (record {
+        files = codes "c.json" ∷ [];
+        language = Wide Required;
+        partial = true;
+        steps = 10000000;
+        max_line = 16777216;
+        verbose = false;
+        status = false;
+      })
   pub verbose : order_from (entered (under_policy ++ codes "--verbose" ∷ []))
       ≡ by_policies (record {
         policies = codes "a.json" ∷ [];
+        language = Wide Required;
         namespace = None;
         params = None;
         steps = 10000000;
@@ -56,10 +77,19 @@ pub record CommandOrdersHold : Type 0 where
         status = false;
       })
   pub verbose_cluster : order_from (entered (codes "gatekeeper" ∷ codes "--verbose" ∷ codes "--cluster" ∷ codes "c.json" ∷ []))
-      ≡ by_cluster (record { files = codes "c.json" ∷ []; partial = false; steps = 10000000; max_line = 16777216; verbose = true; status = false })
+      ≡ by_cluster (record {
+        files = codes "c.json" ∷ [];
+        language = Wide Required;
+        partial = false;
+        steps = 10000000;
+        max_line = 16777216;
+        verbose = true;
+        status = false;
+      })
   pub status : order_from (entered (under_policy ++ codes "--status" ∷ []))
       ≡ by_policies (record {
         policies = codes "a.json" ∷ [];
+        language = Wide Required;
         namespace = None;
         params = None;
         steps = 10000000;
@@ -68,7 +98,46 @@ pub record CommandOrdersHold : Type 0 where
         status = true;
       })
   pub status_cluster : order_from (entered (as_cluster ++ codes "--status" ∷ codes "--verbose" ∷ []))
-      ≡ by_cluster (record { files = codes "c.json" ∷ []; partial = false; steps = 10000000; max_line = 16777216; verbose = true; status = true })
+      ≡ by_cluster (record {
+        files = codes "c.json" ∷ [];
+        language = Wide Required;
+        partial = false;
+        steps = 10000000;
+        max_line = 16777216;
+        verbose = true;
+        status = true;
+      })
+  pub profile : order_from (entered (under_policy ++ codes "--profile" ∷ []))
+      ≡ by_policies (record {
+        policies = codes "a.json" ∷ [];
+        language = Profile;
+        namespace = None;
+        params = None;
+        steps = 10000000;
+        max_line = 16777216;
+        verbose = false;
+        status = false;
+      })
+  pub profile_cluster : order_from (entered (as_cluster ++ codes "--profile" ∷ []))
+      ≡ by_cluster (record {
+        files = codes "c.json" ∷ [];
+        language = Profile;
+        partial = false;
+        steps = 10000000;
+        max_line = 16777216;
+        verbose = false;
+        status = false;
+      })
+  pub leave_messages : order_from (entered (as_cluster ++ codes "--leave-messages" ∷ []))
+      ≡ by_cluster (record {
+        files = codes "c.json" ∷ [];
+        language = Wide LeftOut;
+        partial = false;
+        steps = 10000000;
+        max_line = 16777216;
+        verbose = false;
+        status = false;
+      })
 
 -- words that go together, and others
 pub record FaultRowsHold : Type 0 where
@@ -92,6 +161,14 @@ pub record FaultRowsHold : Type 0 where
   pub status_twice : faults (under_policy ++ codes "--status" ∷ codes "--status" ∷ []) ≡ [] → ⊥
   pub status_value : faults (under_policy ++ codes "--status" ∷ codes "1" ∷ []) ≡ [] → ⊥
   pub no_status : has_status [] ≡ false
+  -- --profile and --leave-messages are switches, of which the second goes with --cluster alone, without the first
+  pub profile_taken : faults (under_policy ++ codes "--profile" ∷ []) ≡ []
+  pub profile_twice : faults (under_policy ++ codes "--profile" ∷ codes "--profile" ∷ []) ≡ [] → ⊥
+  pub not_profile : is_profile [] ≡ false
+  pub leave_messages_taken : faults (as_cluster ++ codes "--leave-messages" ∷ []) ≡ []
+  pub leave_messages_policy : faults (under_policy ++ codes "--leave-messages" ∷ []) ≡ [] → ⊥
+  pub leave_messages_profile : faults (as_cluster ++ codes "--leave-messages" ∷ codes "--profile" ∷ []) ≡ [] → ⊥
+  pub keeps_messages : leaves_messages [] ≡ false
   -- a line may have 1 to 16,777,216 bytes
   pub longest : faults (with_line (codes "16777216")) ≡ []
   pub longer : faults (with_line (codes "16777217")) ≡ [] → ⊥
@@ -101,8 +178,9 @@ pub record FaultRowsHold : Type 0 where
 -- the usage that the program prints
 abbrev pub usage : Text
 usage =
-    codes "usage: gatekeeper --policy F [--policy F ..] [--namespace F] [--params F]\n                  [--steps N] [--max-line N] [--verbose] [--status]\n"
-    ++ (codes "       gatekeeper --cluster F [--cluster F ..] [--partial]\n                  [--steps N] [--max-line N] [--verbose] [--status]\n\n"
+    codes "usage: gatekeeper --policy F [--policy F ..] [--namespace F] [--params F]\n                  [--profile] [--steps N] [--max-line N] [--verbose] [--status]\n"
+    ++ (codes "       gatekeeper --cluster F [--cluster F ..] [--partial]\n                  [--profile | --leave-messages] [--steps N] [--max-line N]\n"
+    ++ (codes "                  [--verbose] [--status]\n\n"
     ++ (codes "Compiles the policies, and answers each review on standard input, a JSON document\n"
     ++ (codes "a line, with a line on standard output.\n\n"
     ++ (codes "  --policy F     a ValidatingAdmissionPolicy; once or more\n  --namespace F  the namespace of the requests\n"
@@ -110,11 +188,14 @@ usage =
     ++ (codes "  --cluster F    a List of what a cluster holds, as kubectl get -o json prints it;\n                 once or more\n"
     ++ (codes "  --partial      a policy of the cluster that is refused does not end the start;\n"
     ++ (codes "                 the requests that it matches are refused, if none denies them\n"
+    ++ (codes "  --profile      policies are read in the language that is compiled, as celbpf reads\n"
+    ++ (codes "                 them, and not as clusters store them\n"
+    ++ (codes "  --leave-messages\n                 a message expression that is refused is left out of its policy\n"
     ++ (codes "  --steps N      the most steps of a policy's program; 10000000 if not given\n"
     ++ (codes "  --max-line N   the most bytes of a line; 16777216 if not given\n"
     ++ (codes "  --verbose      tells of each refused line on standard error, with its number\n"
     ++ (codes "  --status       ends with status 1 if an answer is a denial or a refusal\n"
-    ++ codes "  --help         prints this text\n  --version      prints the version\n"))))))))))))
+    ++ codes "  --help         prints this text\n  --version      prints the version\n"))))))))))))))))
 
 -- the first word after the program's name asks for a text
 pub record HelpRowsHold : Type 0 where

@@ -12,6 +12,7 @@ use Rattle.clap.specs.Words.{Text}
 use Rattle.host.specs.FileSystem.{FileSystem}
 use Rattle.value_store.specs.Documents.{document_of}
 use Rattle.line_answers.proofs.OneAnswer.{HasOneText, answers_same}
+use Rattle.admission.specs.declared.language.Language.{Language}
 use Rattle.cluster_state.specs.State.{ClusterState}
 use Rattle.cluster_gate.specs.Laws.{HasShallowDocuments, IsShallow, ReviewsHaveOneAnswer, StatesAreShallow}
 use Rattle.gatekeeper_runner.specs.ClusterLines.{DecidesClusterLine, decides, decision_text}
@@ -35,11 +36,11 @@ lists_shallow known _ _ (next {names = names} {lists = lists} {list = list} {tex
 
 -- ---- lines
 
-text_once : ReviewsHaveOneAnswer → (s : ClusterState) (steps most : ℕ) (line : List ℕ) → HasShallowDocuments s → HasOneText most too_long_text (DecidesClusterLine OneImage s steps) line
-text_once one s steps most line shallow _ _ (decides {decision = x} by) (decides {decision = y} also) =
-    ap (decision_text line) (one s line steps x y shallow by also)
+text_once : ReviewsHaveOneAnswer → (l : Language) (s : ClusterState) (steps most : ℕ) (line : List ℕ) → HasShallowDocuments s → HasOneText most too_long_text (DecidesClusterLine l OneImage s steps) line
+text_once one l s steps most line shallow _ _ (decides {decision = x} by) (decides {decision = y} also) =
+    ap (decision_text line) (one l s line steps x y shallow by also)
 
 pub cluster_lines_once : ReviewsHaveOneAnswer → StatesAreShallow → ClusterLinesHaveOneAnswer
 cluster_lines_once one shallow known order _ line a b (ready {lists = lists} {s = s} hold is opens) some other first second =
-    answers_same order.max_line too_long_text (DecidesClusterLine OneImage s order.steps) line
-    (text_once one s order.steps order.max_line line (shallow lists s (lists_shallow known order.files lists hold) is)) a b some other first second
+    answers_same order.max_line too_long_text (DecidesClusterLine order.language OneImage s order.steps) line
+    (text_once one order.language s order.steps order.max_line line (shallow lists s (lists_shallow known order.files lists hold) is)) a b some other first second

@@ -14,6 +14,7 @@ use Rattle.value_table.specs.ReviewTable.{ReviewTableReturns}
 use Rattle.value_table.specs.declared.review_error.ReviewError.{ReviewError}
 use Rattle.value_table.specs.declared.review_error.ReviewError.TheVariants as review_error
 use Rattle.admission.specs.Reviews.{table_refusal}
+use Rattle.admission.specs.declared.language.Language.TheVariants.{Profile}
 use Rattle.admission.specs.declared.run_error.RunError.TheVariants.{Memory}
 use Rattle.admission.proofs.RootTables.{refused_as, table_due}
 use Rattle.gatekeeper_runner.specs.Together.{no_values}
@@ -41,7 +42,7 @@ refused_first t review contents e refused opened some is =
 -- ---- the policies
 
 no_file : PolicyFile
-no_file = record { file = []; document = [] }
+no_file = record { file = []; language = Profile; document = [] }
 
 as_many : (policies : List PolicyFile) (gates : List NamedGate) → AreGates policies gates → length policies ≡ length gates
 as_many [] [] are = refl
@@ -79,7 +80,7 @@ module _ (t : Gatekeeper) (review : List ℕ) (asked : List PolicyFile) (gates :
     unfolding policy
     its_policy = subst (IsGateOf (get_or asked i no_file)) (sym is) (gate_at asked gates i gate are within)
 
-    pub tallied_more : (result : Result Decision RunError) (after : Tally) → ((p : PolicyFile) → IsGateOf p gate → DecidesAlone OneImage t p.document review result)
+    pub tallied_more : (result : Result Decision RunError) (after : Tally) → ((p : PolicyFile) → IsGateOf p gate → DecidesAlone OneImage t p review result)
         → AddsResult (label_view gate.label) result before after → AreTallied OneImage t review (take (i + 1) asked) after
     unfolding policy
     tallied_more result after decides adds = record {
@@ -106,7 +107,7 @@ last_gate (g ∷ gs) last = last_gate gs last
 pub tallied_last : (t : Gatekeeper) (review : List ℕ) (others : List NamedGate) (last : NamedGate)
     → AreGates t.policies (others ++ last ∷ []) → (before after : Tally)
     → ((asked : List PolicyFile) → AreGates asked others → AreTallied OneImage t review asked before)
-    → (result : Result Decision RunError) → ((p : PolicyFile) → IsGateOf p last → DecidesAlone OneImage t p.document review result)
+    → (result : Result Decision RunError) → ((p : PolicyFile) → IsGateOf p last → DecidesAlone OneImage t p review result)
     → AddsResult (label_view last.label) result before after → AreTallied OneImage t review t.policies after
 tallied_last t review others last are before after so_far result decides adds =
     let all = others ++ last ∷ [] in

@@ -14,5 +14,6 @@ mod ClusterOnce
 mod Ends
 mod Lists
 mod Told
+mod Noted
 mod Counted
 pub mod Prelude

@@ -1,16 +1,29 @@
 -- The policies are opened one after the other.
-use Rattle.gatekeeper_runner.proofs.Prelude.{◌≡◌, ℕ, suc, ◌+◌, ◌<◌, List, [], ◌∷◌, ◌++◌, drop, length, map, take, Option, Ok, Err, String, string_bytes, sym, ap, ◌∙◌, get_or, Global, map-append, take_more, split_at, Text, CompilesDocument, IsPolicy, FileSystem, IsReading, policy_refusal_of, PolicyRefusal, Refusal, IsUnopened, OneUnopened, Opens, OpensGate, refused, AreGates, IsGateOf, NamedGate, PolicyFile}
-use Rattle.admission.specs.declared.policy_refusal.PolicyRefusal.TheVariants.{Memory}
-use Rattle.gatekeeper_runner.specs.Starting.{next, no_memory}
+use Rattle.gatekeeper_runner.proofs.Prelude.{◌≡◌, ℕ, suc, ◌+◌, ◌<◌, List, [], ◌∷◌, ◌++◌, drop, length, map, take, Option, Ok, Err, String, string_bytes, sym, ap, ◌∙◌, get_or, Global, map-append, take_more, split_at, Text, CompilesDocument, IsPolicy, FileSystem, IsReading, policy_refusal_of, PolicyRefusal, IsUnopened, OneUnopened, Opens, refl, refused, AreGates, IsGateOf, NamedGate, PolicyFile}
+use Rattle.wide_policy.specs.declared.message_rule.MessageRule.{MessageRule}
+use Rattle.admission.specs.Deciding.{OpensWideGate}
+use Rattle.admission.specs.declared.language.Language.{Language, TheVariants.Profile, TheVariants.Wide}
+use Rattle.admission.specs.declared.policy_refusal.PolicyRefusal.TheVariants.{Unread, Uncompiled}
+use Rattle.admission.specs.declared.policy_refusal.PolicyRefusal.TheVariants as policy_refusal
+use Rattle.admission.specs.declared.wide_refusal.WideRefusal.{WideRefusal}
+use Rattle.admission.specs.declared.wide_refusal.WideRefusal.TheVariants as wide_refusal
+use Rattle.gatekeeper_runner.specs.ClusterStarting.{refusal_of_wide}
+use Rattle.gatekeeper_runner.specs.Starting.{OpensIn, OpensNamed, next, no_memory, refused_wide}
+use Rattle.gatekeeper_runner.specs.declared.start_refusal.StartRefusal.{StartRefusal, TheVariants.Plain}
 
 -- why a policy that was read gives no gate
-pub unopened_by : (known : Option FileSystem) (name : Text) (document : List ℕ) (e : PolicyRefusal) → IsReading known name (Ok document)
-    → CompilesDocument document (Err e) → IsUnopened known name (policy_refusal_of e)
-unopened_by known name document Memory reading why = no_memory
-unopened_by known name document e reading why = refused {e = e} reading why
+pub unopened_by : (document : List ℕ) (e : PolicyRefusal) → CompilesDocument document (Err e) → OpensIn Profile document (Err (Plain (policy_refusal_of e)))
+unopened_by document policy_refusal.Memory why = λ known name reading. no_memory
+unopened_by document (Unread e) why = λ known name reading. refused refl reading why
+unopened_by document (Uncompiled e) why = λ known name reading. refused refl reading why
 
-is_policy : (p : PolicyFile) (g : NamedGate) → IsGateOf p g → IsPolicy p.document
-is_policy p g of = record { parsed = g.gate.policy; is_said = of.policy.0; trees = of.policy.1.trees; compiles = of.policy.1.compiles }
+pub untaken_by : (rule : MessageRule) (document : List ℕ) (e : WideRefusal) → OpensWideGate rule document (Err e) → OpensIn (Wide rule) document (Err (refusal_of_wide e))
+untaken_by rule document wide_refusal.Memory why = λ known name reading. no_memory
+untaken_by rule document (wide_refusal.Unread e) why = λ known name reading. refused_wide refl reading why
+untaken_by rule document (wide_refusal.Uncompiled e) why = λ known name reading. refused_wide refl reading why
+
+is_policy : (p : PolicyFile) (g : NamedGate) → IsGateOf p g → IsPolicy p.language p.document
+is_policy p g of = record { told = g.gate.told; parsed = g.gate.policy; is_said = of.policy.0; trees = of.policy.1.trees; compiles = of.policy.1.compiles }
 
 gates_more : (policies : List PolicyFile) (gates : List NamedGate) (policy : PolicyFile) (gate : NamedGate) → AreGates policies gates
     → IsGateOf policy gate → AreGates (policies ++ policy ∷ []) (gates ++ gate ∷ [])
@@ -19,25 +32,25 @@ gates_more (p ∷ ps) (g ∷ gs) policy gate are of = (are.0, gates_more ps gs p
 gates_more policies gates policy gate are of = absurd are
 
 -- the policies in the files with these names are opened
-abbrev pub Opened : Option FileSystem → List Text → List NamedGate → Type 0
-Opened known names gates = (policies : List PolicyFile) × AreGates policies gates × Opens known names policies
+abbrev pub Opened : Option FileSystem → Language → List Text → List NamedGate → Type 0
+Opened known language names gates = (policies : List PolicyFile) × AreGates policies gates × Opens known language names policies
 
 -- the loop is at a word, and the policies in the files of the earlier words are opened
-module _ (known : Option FileSystem) (words : List (String Global)) (i : ℕ) (word : String Global) (gates : List NamedGate) (within : i < length words) (is : word ≡ get_or words i word)
-    (opened : Opened known (map string_bytes (take i words)) gates) where
+module _ (known : Option FileSystem) (language : Language) (words : List (String Global)) (i : ℕ) (word : String Global) (gates : List NamedGate) (within : i < length words) (is : word ≡ get_or words i word)
+    (opened : Opened known language (map string_bytes (take i words)) gates) where
   one_more : take (i + 1) words ≡ take i words ++ word ∷ []
   one_more = take_more words i word within ∙ ap (λ (w : String Global). take i words ++ w ∷ []) (sym is)
 
-  pub opened_more : (more : List NamedGate) (gate : NamedGate) → OpensGate known (string_bytes word) (Ok gate) → more ≡ gates ++ gate ∷ []
-      → Opened known (map string_bytes (take (i + 1) words)) more
+  pub opened_more : (more : List NamedGate) (gate : NamedGate) → OpensNamed known language (string_bytes word) (Ok gate) → more ≡ gates ++ gate ∷ []
+      → Opened known language (map string_bytes (take (i + 1) words)) more
   opened_more more gate opens grown =
-      let policy : PolicyFile = record { file = string_bytes word; document = opens.0 } in (
+      let policy : PolicyFile = record { file = string_bytes word; language = language; document = opens.0 } in (
         opened.0 ++ policy ∷ [],
         rw grown (gates_more opened.0 gates policy gate opened.1 opens.2),
         rw (one_more, map-append) (next opened.2 opens.1 (is_policy policy gate opens.2)),
       )
 
-  pub unopened : (r : Refusal) → IsUnopened known (string_bytes word) r → OneUnopened known (map string_bytes words) r
+  pub unopened : (r : StartRefusal) → IsUnopened known language (string_bytes word) r → OneUnopened known language (map string_bytes words) r
   unopened r why = record {
     before = map string_bytes (take i words);
     name = string_bytes word;

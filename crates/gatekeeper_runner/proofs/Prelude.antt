@@ -39,7 +39,7 @@ pub use Rattle.gatekeeper_runner.specs.Lines.{DecidesLine, answer_text, decides,
 pub use Rattle.gatekeeper_runner.specs.Orders.{GatekeeperOrderReturns, choice_faults, go_together, lines_order_view}
 pub use Rattle.gatekeeper_runner.specs.Program.{AsksGatekeeper}
 pub use Rattle.gatekeeper_runner.specs.SameAnswers.{LinesHaveOneAnswer}
-pub use Rattle.gatekeeper_runner.specs.Starting.{GatesFrom, IsUnopened, OneUnopened, Opens, OpensGate, no_namespace}
+pub use Rattle.gatekeeper_runner.specs.Starting.{GatesFrom, IsUnopened, OneUnopened, Opens, no_namespace}
 pub use Rattle.gatekeeper_runner.specs.Starting.{no_params, no_policy, ready, refused, unread}
 pub use Rattle.gatekeeper_runner.specs.Together.{AreGates, AreResults, AreValuesOf, DecideTogether, DecidesAlone}
 pub use Rattle.gatekeeper_runner.specs.Together.{Gatekeeper, IsGateOf, IsResult, RefusingPolicy, PolicyFile, PolicyResult, Refused}
@@ -52,5 +52,5 @@ pub use Rattle.gatekeeper_runner.specs.declared.order.Order.{Order}
 pub use Rattle.gatekeeper_runner.specs.declared.tally.Tally.{Tally}
 unfoldable pub use Rattle.gatekeeper_runner.specs.Lines.{refusal_text}
 unfoldable pub use Rattle.gatekeeper_runner.specs.Orders.{entered, faults, files_rule, gatekeeper_app, max_line_rule}
-unfoldable pub use Rattle.gatekeeper_runner.specs.Orders.{partial_rule, policies_app, status_rule, verbose_rule}
+unfoldable pub use Rattle.gatekeeper_runner.specs.Orders.{leave_messages_rule, lines_app, partial_rule, policies_app, profile_rule, status_rule, verbose_rule}
 pub use Rattle.gatekeeper_runner.specs.declared.start_refusal.StartRefusal.{StartRefusal}

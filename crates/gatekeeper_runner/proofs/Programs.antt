@@ -7,11 +7,11 @@ use Rattle.gatekeeper_runner.specs.ClusterEnding as cluster
 use Rattle.gatekeeper_runner.specs.ClusterEnding.{TellsStart}
 use Rattle.gatekeeper_runner.specs.ClusterStarting.{no_list}
 use Rattle.gatekeeper_runner.specs.Orders.{GatekeeperOrder, by_policies}
-use Rattle.gatekeeper_runner.specs.Program.{AnswersUnder, GatekeeperEffect, GatekeeperResult, IsNotBegun, IsTaskOf, PerformsTask, ReadsNothing, ServesReviews, TellsText, all, answers, as_cluster, lines, no_lists, no_order, no_policies, not_started, nothing, part, serves, telling, tells, tells_part, under_policies}
+use Rattle.gatekeeper_runner.specs.Program.{AnswersUnder, GatekeeperEffect, GatekeeperResult, IsNotBegun, IsTaskOf, PerformsTask, ReadsNothing, ServesReviews, TellsText, all, answers, as_cluster, lines, no_lists, no_order, no_policies, not_started, not_taken, nothing, part, serves, telling, tells, tells_part, under_policies}
 use Rattle.gatekeeper_runner.specs.Starting.{GatekeeperStarts}
 use Rattle.gatekeeper_runner.specs.Together.{Gatekeeper, gatekeeper_of}
 use Rattle.gatekeeper_runner.specs.declared.gatekeeper.Gatekeeper.{Gatekeeper as CodeGatekeeper}
-use Rattle.gatekeeper_runner.specs.declared.start_refusal.StartRefusal.{StartRefusal}
+use Rattle.gatekeeper_runner.specs.declared.start_refusal.StartRefusal.{StartRefusal, TheVariants.Plain, TheVariants.Cluster}
 use Rattle.gatekeeper_runner.specs.declared.task.Task.{Task}
 use Rattle.gatekeeper_runner.specs.declared.task.Task.TheVariants as task
 
@@ -67,7 +67,8 @@ module _ (given : Given) (old new : System) (e e_after : Stream) (status : ℕ) 
       → GatekeeperResult OneImage given old new e e_after status
   not_begun r none (no_order {r = why} refused) same said =
       under_policies (record { ending = Err why; does = serves none (nothing refused same); status_is = said.0; says = said.1 })
-  not_begun r none (no_policies {r = why} asked starts) same said =
+  not_begun r none (no_policies {r = Plain why} asked starts) same said =
       under_policies (record { ending = Err why; does = serves none (not_started asked starts same); status_is = said.0; says = said.1 })
+  not_begun r none (no_policies {r = Cluster fault} asked starts) same said = not_taken none asked starts same said
   not_begun r none (no_lists asked why) same said =
       as_cluster none asked (λ i. (same i).files) (cluster.not_started (no_list why) (λ i. (same i).input) (λ i. (same i).output) said)

@@ -1,5 +1,6 @@
 -- A policy has one result for a review.
 use Rattle.gatekeeper_runner.proofs.Prelude.{◌≡◌, ◌≢◌, ℕ, Result, Ok, Err, refl, sym, ap, ◌∙◌, decision_of, OneImage, Reply, Documents, answer_of, decision, ReviewHasOneResult, IsAnswerTo, uid_in, IsDecisionOf, Decision, DecidesReview, decision_from_verdict, RunAgrees, RunError, Memory, cases_once, refused_so}
+use Rattle.admission.proofs.OneReview.{told_once}
 use Rattle.policy_glue.specs.OneAnswer as policy
 
 -- the error is not `Memory`
@@ -20,13 +21,14 @@ module _ (compiles_once : policy.CompileHasOneResult) (reviews_once : ReviewHasO
   said_same : (x y : Decision) → IsDecisionOf d x → IsDecisionOf d y → x ≡ y
   said_same x y is also =
       let same = cases_once compiles_once d is.case also.case in
-      let both : decision_from_verdict is.case.policy.parsed (decision is.case) (uid_in d.review) ≡ decision_from_verdict also.case.policy.parsed (decision also.case) (uid_in d.review) =
-      λ i. decision_from_verdict (same.0 i) (decision_of (same.0 i).failure_policy (same.1 i) (same.2 i)) (uid_in d.review) in
+      let told = told_once d is.case also.case in
+      let both : decision_from_verdict is.case.policy.told (decision is.case) (uid_in d.review) ≡ decision_from_verdict also.case.policy.told (decision also.case) (uid_in d.review) =
+      λ i. decision_from_verdict (told i) (decision_of (same.0 i).failure_policy (same.1 i) (same.2 i)) (uid_in d.review) in
       is.decision_is ∙ both ∙ sym also.decision_is
 
   -- a review with a decision has an answer
   answered : (x : Decision) → IsTrue (Ok x) → (a : Reply) × IsAnswerTo d n (Ok a)
-  answered x is = (answer_of is.0.case.policy.parsed (decision is.0.case) (uid_in d.review), record { reviews = record { case = is.0.case; answer_is = refl }; runs = is.1 })
+  answered x is = (answer_of is.0.case.policy.told (decision is.0.case) (uid_in d.review), record { reviews = record { case = is.0.case; answer_is = refl }; runs = is.1 })
 
   -- a review with an error has this error as its result
   refused : (e : RunError) → IsTrue (Err e) → IsAnswerTo d n (Err e)

@@ -66,7 +66,7 @@ EndsAsCluster true reports chosen c r r_after w w_after e e_after status =
 pub record TellsAndAnswers (chosen : Images) (c : AnsweringCluster) (verbose reports : Bool)
     (r r_after w w_after e e_after : Stream) (status : ℕ) : Type 0 where
   pub text : List ℕ
-  pub policies : TellsPolicies c.lists c.state c.state.policies text
+  pub policies : TellsPolicies c.language c.lists c.state c.state.policies text
   pub told : Stream
   pub tells : TellsCluster e told text
   pub ends : EndsAsCluster verbose reports chosen c r r_after w w_after told e_after status

@@ -5,6 +5,7 @@ use Rattle.line_answers.specs.Lines.{AnswersInputLine, LineTexts}
 use Rattle.policy_glue.specs.Documents.{document_of}
 use Rattle.cli.specs.declared.refusal.Refusal.TheVariants.{Memory}
 use Rattle.admission.specs.Standing.{Images}
+use Rattle.admission.specs.declared.language.Language.{Language}
 use Rattle.admission.specs.declared.run_error.RunError.{TheVariants.ReviewRefused}
 use Rattle.cluster_state.specs.State.{ClusterState}
 use Rattle.cluster_gate.specs.Dispatch.{DecidesInCluster}
@@ -26,34 +27,41 @@ abbrev pub decision_text : List ℕ → Option (List ℕ) → List ℕ
 decision_text line (Some text) = text
 decision_text line None = no_review_text line
 
--- a line that is read and is not blank, and its text by what the cluster decides
-pub data DecidesClusterLine (chosen : Images) (s : ClusterState) (steps : ℕ) (line : List ℕ) : List ℕ → Type 0 where
-  decides : {decision : Option (List ℕ)} → DecidesInCluster chosen s line steps decision
-      → DecidesClusterLine chosen s steps line (decision_text line decision)
+-- a line that is read and is not blank, and its text by what the cluster decides, whose policies are read in this language
+pub data DecidesClusterLine (l : Language) (chosen : Images) (s : ClusterState) (steps : ℕ) (line : List ℕ) : List ℕ → Type 0 where
+  decides : {decision : Option (List ℕ)} → DecidesInCluster l chosen s line steps decision
+      → DecidesClusterLine l chosen s steps line (decision_text line decision)
 
 -- a line, and what is written for it, which depends on the cluster's state and this line alone
 abbrev pub AnswersClusterLine : Images → AnsweringCluster → LineTexts
-AnswersClusterLine chosen c = AnswersInputLine c.max_line too_long_text (DecidesClusterLine chosen c.state c.steps)
+AnswersClusterLine chosen c = AnswersInputLine c.max_line too_long_text (DecidesClusterLine c.language chosen c.state c.steps)
 
 -- ---- the code's
 
 -- the line is decided by the state of the code's cluster
 abbrev pub DecidesAsCluster : Images → ClusterKeeper → List ℕ → List ℕ → Type 0
-DecidesAsCluster chosen k line text = (s : ClusterState) → IsClusterFor s k.cluster → DecidesClusterLine chosen s k.steps line text
+DecidesAsCluster chosen k line text =
+    (l : Language) (s : ClusterState) → IsClusterFor l s k.cluster → DecidesClusterLine l chosen s k.steps line text
 
 -- the code's cluster, and its lines on the policies, are these
 pub record IsKeeperOf (c : AnsweringCluster) (k : ClusterKeeper) : Type 0 where
-  pub of_state : IsClusterFor c.state k.cluster
+  pub of_state : IsClusterFor c.language c.state k.cluster
   pub steps : k.steps ≡ c.steps
   pub max_line : k.max_line ≡ c.max_line
-  pub told : TellsPolicies c.lists c.state c.state.policies k.told.items
+  pub told : TellsPolicies c.language c.lists c.state c.state.policies k.told.items
 
 -- a cluster with this state is opened, or the first blocked policy is the refusal
 abbrev pub OpensKeeper : List json.Data → ClusterOrder → ClusterState → Result ClusterKeeper StartRefusal → Type 0
 OpensKeeper lists order s (Ok k) =
-    IsKeeperOf (record { lists = lists; state = s; steps = order.steps; max_line = order.max_line }) k
-    × (order.partial ≡ false → NoneIsBlocked s s.policies)
+    IsKeeperOf (record {
+      lists = lists;
+      language = order.language;
+      state = s;
+      steps = order.steps;
+      max_line = order.max_line;
+    }) k
+    × (order.partial ≡ false → NoneIsBlocked order.language s s.policies)
 OpensKeeper lists order s (Err (Plain r)) = r ≡ Memory
 OpensKeeper lists order s (Err (Cluster (Blocked name cause))) =
-    (order.partial ≡ false) × FirstIsBlocked s s.policies (string_bytes name) cause
+    (order.partial ≡ false) × FirstIsBlocked order.language s s.policies (string_bytes name) cause
 OpensKeeper lists order s (Err (Cluster _)) = ⊥

@@ -18,17 +18,22 @@ use Rattle.cluster_state.specs.declared.state_error.StateError.TheVariants as st
 use Rattle.cluster_response.specs.Refusals.{cluster_refusal_code}
 use Rattle.cluster_gate.specs.Dispatch.{block_refusal}
 use Rattle.cluster_gate.specs.Gates.{FirstIsBlocked, NoneIsBlocked, block_of}
-use Rattle.cluster_gate.specs.declared.block_cause.BlockCause.{BlockCause, TheVariants.Refused, TheVariants.NamesNamespace, TheVariants.UnknownParamKind}
+use Rattle.cluster_gate.specs.declared.block_cause.BlockCause.{BlockCause, TheVariants.Refused, TheVariants.RefusedWide, TheVariants.NamesNamespace, TheVariants.UnknownParamKind}
 use Rattle.cluster_gate.specs.declared.cluster_error.ClusterError.{ClusterError, TheVariants.BlockedPolicy}
 use Rattle.cluster_gate.specs.declared.cluster_error.ClusterError.TheVariants as cluster_error
+use Rattle.admission.specs.declared.language.Language.{Language}
+use Rattle.admission.specs.declared.wide_refusal.WideRefusal.{WideRefusal}
+use Rattle.admission.specs.declared.wide_refusal.WideRefusal.TheVariants as wide_refusal
 use Rattle.gatekeeper_runner.specs.Orders.{ClusterOrder}
-use Rattle.gatekeeper_runner.specs.declared.cluster_fault.ClusterFault.{ClusterFault, TheVariants.NoList, TheVariants.NoState, TheVariants.Blocked}
+use Rattle.gatekeeper_runner.specs.WideTexts.{wide_text}
+use Rattle.gatekeeper_runner.specs.declared.cluster_fault.ClusterFault.{ClusterFault, TheVariants.NoList, TheVariants.NoState, TheVariants.Blocked, TheVariants.Untaken}
 use Rattle.gatekeeper_runner.specs.declared.start_refusal.StartRefusal.{StartRefusal, TheVariants.Plain, TheVariants.Cluster}
 
--- what every line is answered under: the lists and the state in them, the most steps of a policy's program, the most
--- bytes of a line
+-- what every line is answered under: the lists and the state in them, the language of its policies, the most steps of a
+-- policy's program, the most bytes of a line
 pub record AnsweringCluster : Type 0 where
   pub lists : List json.Data
+  pub language : Language
   pub state : ClusterState
   pub steps : ℕ
   pub max_line : ℕ
@@ -76,12 +81,18 @@ pub data ClusterStarts (known : Option FileSystem) (order : ClusterOrder) : Resu
   no_state : {lists : List json.Data} (e : StateError) → HoldLists known order.files lists → IsNoState lists e
       → ClusterStarts known order (Err (Cluster (NoState e)))
   is_blocked : {lists : List json.Data} {s : ClusterState} (name : String Global) (cause : BlockCause) → HoldLists known order.files lists
-      → state_of lists ≡ Ok s → order.partial ≡ false → FirstIsBlocked s s.policies (string_bytes name) cause
+      → state_of lists ≡ Ok s → order.partial ≡ false → FirstIsBlocked order.language s s.policies (string_bytes name) cause
       → ClusterStarts known order (Err (Cluster (Blocked name cause)))
   no_memory : ClusterStarts known order (Err (Plain Memory))
   ready : {lists : List json.Data} {s : ClusterState} → HoldLists known order.files lists → state_of lists ≡ Ok s
-      → (order.partial ≡ false → NoneIsBlocked s s.policies)
-      → ClusterStarts known order (Ok (record { lists = lists; state = s; steps = order.steps; max_line = order.max_line }))
+      → (order.partial ≡ false → NoneIsBlocked order.language s s.policies)
+      → ClusterStarts known order (Ok (record {
+        lists = lists;
+        language = order.language;
+        state = s;
+        steps = order.steps;
+        max_line = order.max_line;
+      }))
 
 -- ---- the line of a start that is refused
 
@@ -98,6 +109,7 @@ state_text state_error.Memory = codes "memory"
 -- what the line on a blocked policy has after its code
 abbrev pub cause_text : BlockCause → List ℕ
 cause_text (Refused e) = codes " " ++ policy_text e
+cause_text (RefusedWide e) = codes " " ++ wide_text e
 cause_text NamesNamespace = codes " namespaceObject"
 cause_text UnknownParamKind = []
 
@@ -113,6 +125,7 @@ code_and_name code name = code ++ (codes " " ++ name)
 abbrev pub fault_text : ClusterFault → List ℕ
 fault_text (NoList name) = code_and_name (codes "C1") (string_bytes name)
 fault_text (NoState e) = state_text e
+fault_text (Untaken e) = wide_text e
 fault_text (Blocked name cause) = code_and_name (cause_code cause) (string_bytes name) ++ cause_text cause
 
 -- the line of standard error on a fault
@@ -125,6 +138,11 @@ fault_line fault = codes "celbpf: " ++ (fault_text fault ++ 10 ∷ [])
 abbrev pub refusal_of_state : StateError → StartRefusal
 refusal_of_state state_error.Memory = Plain Memory
 refusal_of_state e = Cluster (NoState e)
+
+-- the refusal of a policy in the wide language; out of memory likewise
+abbrev pub refusal_of_wide : WideRefusal → StartRefusal
+refusal_of_wide wide_refusal.Memory = Plain Memory
+refusal_of_wide e = Cluster (Untaken e)
 
 -- the refusal of a cluster with a blocked policy; out of memory likewise
 abbrev pub refusal_of_cluster : ClusterError → StartRefusal

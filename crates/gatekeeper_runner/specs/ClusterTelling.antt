@@ -4,14 +4,17 @@ use Rattle.std.specs.Option.{option_map_or}
 use Rattle.std.specs.List.{flat_map}
 use Rattle.serde_json.specs.Data as json
 use Rattle.admission_documents.specs.Documents.{field, text_of}
+use Rattle.wide_policy.specs.declared.left_out.LeftOut.{LeftOut}
+use Rattle.admission.specs.declared.language.Language.{Language}
 use Rattle.cluster_state.specs.Items.{array_of}
 use Rattle.cluster_state.specs.Policies.{BoundPolicy, ParamKind}
 use Rattle.cluster_state.specs.State.{ClusterState}
 use Rattle.cluster_plan.specs.Steps.{bindings_of}
-use Rattle.cluster_gate.specs.Gates.{IsJudged}
+use Rattle.cluster_gate.specs.Gates.{IsJudged, LeavesOut}
 use Rattle.cluster_gate.specs.declared.block_cause.BlockCause.{BlockCause}
 use Rattle.cluster_gate.specs.declared.standing.Standing.{Standing, TheVariants.Asked, TheVariants.Blocked}
 use Rattle.gatekeeper_runner.specs.ClusterStarting.{cause_code, cause_text}
+use Rattle.gatekeeper_runner.specs.WideTexts.{wide_cause_text}
 
 -- names, each after a space
 abbrev pub spaced : List (List ℕ) → List ℕ
@@ -58,11 +61,21 @@ policy_line lists s p cause =
     codes "celbpf: policy " ++ (p.name ++ (codes ", bindings" ++ (spaced (binding_names s p)
     ++ (params_text lists p.param_kind ++ (block_text cause ++ 10 ∷ [])))))
 
--- the lines of policies
-pub data TellsPolicies (lists : List json.Data) (s : ClusterState) : List BoundPolicy → List ℕ → Type 0 where
-  none : TellsPolicies lists s [] []
-  next : {policies : List BoundPolicy} {text : List ℕ} (p : BoundPolicy) (cause : Option BlockCause) → TellsPolicies lists s policies text
-      → IsJudged s p cause → TellsPolicies lists s (policies ++ p ∷ []) (text ++ policy_line lists s p cause)
+-- the line on a message expression that is left out: the policy, the place of the validation, counted from 0, and why
+abbrev pub note_line : List ℕ → LeftOut → List ℕ
+note_line name note =
+    codes "celbpf: policy " ++ (name ++ (codes ", left out message " ++ (decimal note.validation
+    ++ (codes " " ++ (wide_cause_text note.cause ++ 10 ∷ [])))))
+
+abbrev pub note_lines : List ℕ → List LeftOut → List ℕ
+note_lines name notes = flat_map (note_line name) notes
+
+-- the lines of policies that are read in this language, each with those on what is left out of it
+pub data TellsPolicies (l : Language) (lists : List json.Data) (s : ClusterState) : List BoundPolicy → List ℕ → Type 0 where
+  none : TellsPolicies l lists s [] []
+  next : {policies : List BoundPolicy} {text : List ℕ} (p : BoundPolicy) (cause : Option BlockCause) (notes : List LeftOut)
+      → TellsPolicies l lists s policies text → IsJudged l s p cause → LeavesOut l p notes
+      → TellsPolicies l lists s (policies ++ p ∷ []) (text ++ (policy_line lists s p cause ++ note_lines p.name notes))
 
 -- ---- the code's
 

@@ -9,6 +9,7 @@ pub mod AnsweredLines
 pub mod Orders
 pub mod Starting
 pub mod About
+pub mod WideTexts
 pub mod ClusterStarting
 pub mod ClusterTelling
 pub mod Counts

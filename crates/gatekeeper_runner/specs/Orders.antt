@@ -12,6 +12,8 @@ use Rattle.cli.specs.Number.{number_of}
 use Rattle.cli.specs.Parsing.{TakesWords}
 use Rattle.cli.specs.Limits.{default_steps}
 use Rattle.host.specs.declared.order_error.OrderError.{OrderError}
+use Rattle.wide_policy.specs.declared.message_rule.MessageRule.TheVariants.{Required, LeftOut}
+use Rattle.admission.specs.declared.language.Language.{Language, TheVariants.Profile, TheVariants.Wide}
 use Rattle.gatekeeper_runner.specs.declared.cluster_order.ClusterOrder.{ClusterOrder as CodeClusterOrder}
 use Rattle.gatekeeper_runner.specs.declared.order.Order.{Order as CodeOrder}
 use Rattle.gatekeeper_runner.specs.declared.order.Order.TheVariants as code
@@ -33,6 +35,14 @@ verbose_rule = record (option_rule (codes "verbose")) { action = Some arg_action
 unfoldable pub status_rule : Rule
 status_rule = record (option_rule (codes "status")) { action = Some arg_action.SetTrue }
 
+-- --profile, a switch
+unfoldable pub profile_rule : Rule
+profile_rule = record (option_rule (codes "profile")) { action = Some arg_action.SetTrue }
+
+-- --leave-messages, a switch
+unfoldable pub leave_messages_rule : Rule
+leave_messages_rule = record (option_rule (codes "leave-messages")) { action = Some arg_action.SetTrue }
+
 -- the largest value of --max-line, and its default
 abbrev pub longest_line : ℕ
 longest_line = 16777216
@@ -50,10 +60,14 @@ unfoldable pub policies_app : App
 policies_app = with_documents (with_rule (new_app (codes "gatekeeper")) (files_rule (codes "policy")))
 
 -- the arguments under policies, and [--cluster F ..] [--partial] [--steps N] [--max-line N] [--verbose] [--status]
-unfoldable pub gatekeeper_app : App
-gatekeeper_app =
+unfoldable pub lines_app : App
+lines_app =
     with_rule (with_rule (with_rule (with_rule (with_rule (with_rule policies_app (files_rule (codes "cluster"))) partial_rule)
     steps_rule) max_line_rule) verbose_rule) status_rule
+
+-- these, and [--profile] [--leave-messages]
+unfoldable pub gatekeeper_app : App
+gatekeeper_app = with_rule (with_rule lines_app profile_rule) leave_messages_rule
 
 -- ---- words that go together
 
@@ -73,12 +87,22 @@ is_verbose rows = option_map_or (λ t. bytes_eq t (codes "true")) (first_of (cod
 abbrev pub has_status : List Row → Bool
 has_status rows = option_map_or (λ t. bytes_eq t (codes "true")) (first_of (codes "status") rows) false
 
--- with --cluster there is no --policy, --namespace or --params; without it there is --policy, and no --partial
+-- --profile was given
+abbrev pub is_profile : List Row → Bool
+is_profile rows = option_map_or (λ t. bytes_eq t (codes "true")) (first_of (codes "profile") rows) false
+
+-- --leave-messages was given
+abbrev pub leaves_messages : List Row → Bool
+leaves_messages rows = option_map_or (λ t. bytes_eq t (codes "true")) (first_of (codes "leave-messages") rows) false
+
+-- with --cluster there is no --policy, --namespace or --params, and not both of --profile and --leave-messages; without it
+-- there is --policy, and no --partial or --leave-messages
 abbrev pub go_together : List Row → Bool
 go_together rows =
     if is_named (codes "cluster") rows
-    then not (is_named (codes "policy") rows) && (not (is_named (codes "namespace") rows) && not (is_named (codes "params") rows))
-    else is_named (codes "policy") rows && not (is_partial rows)
+    then not (is_named (codes "policy") rows) && (not (is_named (codes "namespace") rows) && (not (is_named (codes "params") rows)
+    && not (is_profile rows && leaves_messages rows)))
+    else is_named (codes "policy") rows && (not (is_partial rows) && not (leaves_messages rows))
 
 -- the reason to refuse arguments that do not go together
 abbrev pub choice_faults : List Row → Kinds
@@ -94,10 +118,11 @@ faults words = fault_of gatekeeper_app words ++ choice_faults (entered words)
 
 -- ---- what they ask for
 
--- the names of the files, the policies in the order of the words, the most steps, the most bytes of a line, whether
--- refused lines are reported, and whether the status reports answers that do not allow
+-- the names of the files, the policies in the order of the words and their language, the most steps, the most bytes of a
+-- line, whether refused lines are reported, and whether the status reports answers that do not allow
 pub record GatekeeperOrder : Type 0 where
   pub policies : List Text
+  pub language : Language
   pub namespace : Option Text
   pub params : Option Text
   pub steps : ℕ
@@ -105,11 +130,12 @@ pub record GatekeeperOrder : Type 0 where
   pub verbose : Bool
   pub status : Bool
 
--- the names of the files of a cluster's state in the order of the words, whether a policy may be refused, the most
--- steps, the most bytes of a line, whether refused lines are reported, and whether the status reports answers that do not
--- allow
+-- the names of the files of a cluster's state in the order of the words, the language of its policies, whether a policy
+-- may be refused, the most steps, the most bytes of a line, whether refused lines are reported, and whether the status
+-- reports answers that do not allow
 pub record ClusterOrder : Type 0 where
   pub files : List Text
+  pub language : Language
   pub partial : Bool
   pub steps : ℕ
   pub max_line : ℕ
@@ -133,10 +159,15 @@ steps_from rows = unwrap_or (number_of (one_of (codes "steps") rows)) default_st
 abbrev pub max_line_from : List Row → ℕ
 max_line_from rows = unwrap_or (number_of (one_of (codes "max-line") rows)) longest_line
 
+-- the language of the policies: the wide one, unless --profile is given
+abbrev pub language_from : List Row → Language
+language_from rows = if is_profile rows then Profile else Wide (if leaves_messages rows then LeftOut else Required)
+
 -- from the values of the arguments
 unfoldable pub policies_from : List Row → GatekeeperOrder
 policies_from rows = record {
   policies = texts_of (codes "policy") rows;
+  language = language_from rows;
   namespace = first_of (codes "namespace") rows;
   params = first_of (codes "params") rows;
   steps = steps_from rows;
@@ -149,6 +180,7 @@ policies_from rows = record {
 unfoldable pub cluster_from : List Row → ClusterOrder
 cluster_from rows = record {
   files = texts_of (codes "cluster") rows;
+  language = language_from rows;
   partial = is_partial rows;
   steps = steps_from rows;
   max_line = max_line_from rows;
@@ -166,6 +198,7 @@ order_from rows = if is_named (codes "cluster") rows then by_cluster (cluster_fr
 abbrev pub order_view : CodePolicyOrder → GatekeeperOrder
 order_view o = record {
   policies = map string_bytes o.policies.items;
+  language = o.language;
   namespace = option_map string_bytes o.namespace;
   params = option_map string_bytes o.params;
   steps = o.steps;
@@ -177,6 +210,7 @@ order_view o = record {
 abbrev pub cluster_order_view : CodeClusterOrder → ClusterOrder
 cluster_order_view o = record {
   files = map string_bytes o.files.items;
+  language = o.language;
   partial = o.partial;
   steps = o.steps;
   max_line = o.max_line;

@@ -14,10 +14,11 @@ use Rattle.gatekeeper_runner.specs.Orders.{ClusterOrder, GatekeeperOrder, LinesO
 use Rattle.gatekeeper_runner.specs.Starting.{GatekeeperStarts, KeepsFrom}
 use Rattle.gatekeeper_runner.specs.Together.{Gatekeeper}
 use Rattle.gatekeeper_runner.specs.AnsweredLines.{AnswersLines, UnderPolicies}
-use Rattle.gatekeeper_runner.specs.ClusterEnding.{ClusterEnds, TellsRefused, ending_of}
+use Rattle.gatekeeper_runner.specs.ClusterEnding.{ClusterEnds, TellsRefused, TellsStart, ending_of}
 use Rattle.gatekeeper_runner.specs.Lines.{AnswersReviewLine}
 use Rattle.gatekeeper_runner.specs.ClusterStarting.{HoldLists, OneIsNoList}
-use Rattle.gatekeeper_runner.specs.declared.start_refusal.StartRefusal.{StartRefusal, TheVariants.Plain}
+use Rattle.gatekeeper_runner.specs.declared.cluster_fault.ClusterFault.{ClusterFault}
+use Rattle.gatekeeper_runner.specs.declared.start_refusal.StartRefusal.{StartRefusal, TheVariants.Plain, TheVariants.Cluster}
 use Rattle.gatekeeper_runner.specs.declared.task.Task.{Task}
 use Rattle.gatekeeper_runner.specs.declared.task.Task.TheVariants as task
 
@@ -29,7 +30,7 @@ AsksGatekeeper given order = Asks faults (λ words. order_from (entered words)) 
 pub data ServesReviews (chosen : Images) (given : Given) (old new : System) : Ending → Type 0 where
   nothing : {r : Refusal} → AsksNothing faults given r → new ≡ old → ServesReviews chosen given old new (Err r)
   not_started : {order : GatekeeperOrder} {r : Refusal} → AsksGatekeeper given (by_policies order)
-      → GatekeeperStarts old.files order (Err r)
+      → GatekeeperStarts old.files order (Err (Plain r))
       → new ≡ old → ServesReviews chosen given old new (Err r)
   answers : {order : GatekeeperOrder} {keeper : Gatekeeper} (result : Result Bool SessionError)
       → AsksGatekeeper given (by_policies order) → order.verbose ≡ false → GatekeeperStarts old.files order (Ok keeper)
@@ -55,6 +56,10 @@ pub data GatekeeperEffect (chosen : Images) (given : Given) (old new : System) :
 pub data GatekeeperResult (chosen : Images) (given : Given) (old new : System) (errors errors_after : Stream) (status : ℕ) : Type 0 where
   under_policies : ProgramEnds (GatekeeperEffect chosen given old new) errors errors_after status
       → GatekeeperResult chosen given old new errors errors_after status
+  -- a policy in the wide language is refused
+  not_taken : {order : GatekeeperOrder} {fault : ClusterFault} → text_asked given ≡ None → AsksGatekeeper given (by_policies order)
+      → GatekeeperStarts old.files order (Err (Cluster fault)) → new ≡ old → TellsStart errors errors_after status (Cluster fault)
+      → GatekeeperResult chosen given old new errors errors_after status
   -- with --verbose
   telling : {order : GatekeeperOrder} {keeper : Gatekeeper} → text_asked given ≡ None → AsksGatekeeper given (by_policies order)
       → order.verbose ≡ true → GatekeeperStarts old.files order (Ok keeper) → new.files ≡ old.files
@@ -69,8 +74,8 @@ pub data GatekeeperResult (chosen : Images) (given : Given) (old new : System) (
 -- why no task is begun: by the words, by a policy's start, or by a file of a cluster's state
 pub data IsNotBegun (given : Given) (known : Option FileSystem) : StartRefusal → Type 0 where
   no_order : {r : Refusal} → AsksNothing faults given r → IsNotBegun given known (Plain r)
-  no_policies : {order : GatekeeperOrder} {r : Refusal} → AsksGatekeeper given (by_policies order) → GatekeeperStarts known order (Err r)
-      → IsNotBegun given known (Plain r)
+  no_policies : {order : GatekeeperOrder} {r : StartRefusal} → AsksGatekeeper given (by_policies order)
+      → GatekeeperStarts known order (Err r) → IsNotBegun given known r
   no_lists : {order : ClusterOrder} {r : StartRefusal} → AsksGatekeeper given (by_cluster order) → OneIsNoList known order.files r
       → IsNotBegun given known r
 

@@ -7,11 +7,12 @@ use Rattle.value_store.specs.Placing.{Contents}
 use Rattle.policy_glue.specs.Documents.{document_of}
 use Rattle.policy_glue.specs.OneImage.{OneImage}
 use Rattle.policy_glue.specs.Rejections.{Rejection}
-use Rattle.admission.specs.Deciding.{Documents, IsPolicyOf}
+use Rattle.admission.specs.Deciding.{Documents, IsGateOn}
 use Rattle.admission.specs.Decisions.{Decision, DecidesReview, decision_value}
 use Rattle.admission.specs.Reviews.{contents_given, uid_in}
 use Rattle.admission.specs.Standing.{Images, RunAgrees}
 use Rattle.admission.specs.declared.decision.Decision.{Decision as CodeDecision}
+use Rattle.admission.specs.declared.language.Language.{Language}
 use Rattle.admission.specs.declared.run_error.RunError.{RunError, TheVariants.Memory}
 use Rattle.cluster_response.specs.Firsts.{told_of}
 use Rattle.gatekeeper_runner.specs.Texts.{text_at}
@@ -22,9 +23,10 @@ use Rattle.gatekeeper_runner.specs.declared.refused.Refused.{Refused as CodeRefu
 
 -- ---- policies
 
--- the name of a policy's file, and its document
+-- the name of a policy's file, its language, and its document
 pub record PolicyFile : Type 0 where
   pub file : List ℕ
+  pub language : Language
   pub document : List ℕ
 
 -- what every line is decided under: the policies in order, the other documents, the limit of steps for a policy's
@@ -51,11 +53,17 @@ label_of p = record {
 -- ---- one policy
 
 -- the documents for a review under one of the policies
-abbrev pub under : Gatekeeper → List ℕ → List ℕ → Documents
-under t policy review = record { policy = policy; review = review; namespace = t.namespace; params = t.params }
+abbrev pub under : Gatekeeper → PolicyFile → List ℕ → Documents
+under t policy review = record {
+  language = policy.language;
+  policy = policy.document;
+  review = review;
+  namespace = t.namespace;
+  params = t.params;
+}
 
 -- the result of one policy for a review, and the matching state of its program's run
-abbrev pub DecidesAlone : Images → Gatekeeper → List ℕ → List ℕ → Result Decision RunError → Type 0
+abbrev pub DecidesAlone : Images → Gatekeeper → PolicyFile → List ℕ → Result Decision RunError → Type 0
 DecidesAlone chosen t policy review result =
     DecidesReview (under t policy review) t.steps result × RunAgrees chosen (under t policy review) t.steps result
 
@@ -66,7 +74,7 @@ pub record PolicyResult : Type 0 where
 
 -- this is the result of the policy, and no allocation failed
 pub record IsResult (chosen : Images) (t : Gatekeeper) (review : List ℕ) (r : PolicyResult) : Type 0 where
-  pub decides : DecidesAlone chosen t r.policy.document review r.result
+  pub decides : DecidesAlone chosen t r.policy review r.result
   pub no_memory : r.result ≢ Err Memory
 
 abbrev pub AreResults : Images → Gatekeeper → List ℕ → List PolicyResult → Type 0
@@ -170,7 +178,7 @@ together_view (Err refused) = Err (refused_view refused)
 
 -- the gate belongs to this policy
 pub record IsGateOf (p : PolicyFile) (g : NamedGate) : Type 0 where
-  pub policy : IsPolicyOf p.document g.gate
+  pub policy : IsGateOn p.language p.document g.gate
   pub image : OneImage g.gate.policy g.gate.image
   pub label : label_view g.label ≡ label_of p
 

@@ -36,9 +36,10 @@ fn help_text() -> &'static str
     ensures { result.now ≡ help_text }
 {
     "usage: gatekeeper --policy F [--policy F ..] [--namespace F] [--params F]
-                  [--steps N] [--max-line N] [--verbose] [--status]
+                  [--profile] [--steps N] [--max-line N] [--verbose] [--status]
        gatekeeper --cluster F [--cluster F ..] [--partial]
-                  [--steps N] [--max-line N] [--verbose] [--status]
+                  [--profile | --leave-messages] [--steps N] [--max-line N]
+                  [--verbose] [--status]
 
 Compiles the policies, and answers each review on standard input, a JSON document
 a line, with a line on standard output.
@@ -50,6 +51,10 @@ a line, with a line on standard output.
                  once or more
   --partial      a policy of the cluster that is refused does not end the start;
                  the requests that it matches are refused, if none denies them
+  --profile      policies are read in the language that is compiled, as celbpf reads
+                 them, and not as clusters store them
+  --leave-messages
+                 a message expression that is refused is left out of its policy
   --steps N      the most steps of a policy's program; 10000000 if not given
   --max-line N   the most bytes of a line; 16777216 if not given
   --verbose      tells of each refused line on standard error, with its number

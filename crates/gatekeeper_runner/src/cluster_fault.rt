@@ -1,9 +1,10 @@
-//! Why the state of a cluster is refused.
+//! Why a cluster or a policy is refused.
 
+use admission::WideRefusal;
 use cluster_gate::BlockCause;
 use cluster_state::StateError;
 
-/// Why the state of a cluster is refused, and no line is read.
+/// Why the state of a cluster, or a policy in the wide language, is refused, and no line is read.
 #[derive(Drop)]
 pub enum ClusterFault {
     /// The file of this name holds no List.
@@ -12,4 +13,6 @@ pub enum ClusterFault {
     NoState(StateError),
     /// The policy of this name is blocked.
     Blocked(String, BlockCause),
+    /// A policy in the wide language is refused.
+    Untaken(WideRefusal),
 }

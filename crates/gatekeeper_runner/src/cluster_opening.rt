@@ -28,7 +28,7 @@ pub fn open_cluster<'s, 'a>(
 ) -> Result<ClusterKeeper<'s, 'a>, StartRefusal>
     ensures { OpensKeeper (map view task.now.lists.items) (cluster_order_view task.now.order) (state_view state.now) result }
 {
-    let cluster = Cluster::new(task.alloc, state, task.order.partial)?;
+    let cluster = Cluster::new(task.alloc, state, task.order.language, task.order.partial)?;
     let told = policies_text(task.alloc, &task.lists, state, cluster.policies())?;
     Ok(ClusterKeeper {
         alloc: task.alloc,

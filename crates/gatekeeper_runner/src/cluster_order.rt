@@ -1,10 +1,14 @@
 //! A cluster's state that the words name.
 
+use admission::Language;
+
 /// The names of files, and numbers.
 #[derive(Drop)]
 pub struct ClusterOrder {
     /// The files with lists of a cluster's state, in the order of the words.
     pub files: Vec<String>,
+    /// The language of the policies.
+    pub language: Language,
     /// Whether a policy may be refused, with each request that it matches.
     pub partial: bool,
     /// The most steps of a policy's program.

@@ -2,7 +2,7 @@
 ghost use Rattle.std.specs.Prelude.{◌≡◌, codes, map, IfOk, false};
 ghost use Rattle.clap.specs.Words.{app_of, fault_of, found_of, rows_of, rule_of};
 ghost use Rattle.cli.specs.Parsing.{TakesWords};
-ghost use Rattle.gatekeeper_runner.specs.Orders.{entered, files_rule, gatekeeper_app, max_line_rule, partial_rule, policies_app, status_rule, verbose_rule};
+ghost use Rattle.gatekeeper_runner.specs.Orders.{entered, files_rule, gatekeeper_app, leave_messages_rule, lines_app, max_line_rule, partial_rule, policies_app, profile_rule, status_rule, verbose_rule};
 
 use crate::limits::LONGEST_LINE;
 use clap::{Arg, ArgAction, ArgMatches, Command, value_parser};
@@ -58,6 +58,24 @@ fn status_argument<'a>(alloc: Global) -> Arg<'a>
     option_argument(alloc, "status").action(ArgAction::SetTrue)
 }
 
+// --profile, a switch
+#[tactic(auto, unfolding(crate::specs::Orders::profile_rule))]
+fn profile_argument<'a>(alloc: Global) -> Arg<'a>
+    ensures rule { rule_of result ≡ profile_rule }
+    ensures local { result.global ≡ false }
+{
+    option_argument(alloc, "profile").action(ArgAction::SetTrue)
+}
+
+// --leave-messages, a switch
+#[tactic(auto, unfolding(crate::specs::Orders::leave_messages_rule))]
+fn leave_messages_argument<'a>(alloc: Global) -> Arg<'a>
+    ensures rule { rule_of result ≡ leave_messages_rule }
+    ensures local { result.global ≡ false }
+{
+    option_argument(alloc, "leave-messages").action(ArgAction::SetTrue)
+}
+
 fn policies_command<'a>(alloc: Global) -> Result<Command<'a>, AllocError>
     ensures { IfOk result (λ c. app_of c ≡ policies_app) }
 {
@@ -65,8 +83,8 @@ fn policies_command<'a>(alloc: Global) -> Result<Command<'a>, AllocError>
     with_documents(alloc, command)
 }
 
-fn gatekeeper_command<'a>(alloc: Global) -> Result<Command<'a>, AllocError>
-    ensures { IfOk result (λ c. app_of c ≡ gatekeeper_app) }
+fn lines_command<'a>(alloc: Global) -> Result<Command<'a>, AllocError>
+    ensures { IfOk result (λ c. app_of c ≡ lines_app) }
 {
     let command = policies_command(alloc)?.arg(files_argument(alloc, "cluster"))?;
     let command = command
@@ -75,6 +93,13 @@ fn gatekeeper_command<'a>(alloc: Global) -> Result<Command<'a>, AllocError>
     let command = command.arg(max_line_argument(alloc))?;
     let command = command.arg(verbose_argument(alloc))?;
     command.arg(status_argument(alloc))
+}
+
+fn gatekeeper_command<'a>(alloc: Global) -> Result<Command<'a>, AllocError>
+    ensures { IfOk result (λ c. app_of c ≡ gatekeeper_app) }
+{
+    let command = lines_command(alloc)?.arg(profile_argument(alloc))?;
+    command.arg(leave_messages_argument(alloc))
 }
 
 /// The arguments that `clap` finds in the words, or its error. The program's name comes first.

@@ -4,6 +4,7 @@ ghost use Rattle.gatekeeper_runner.specs.ClusterStarting.{code_and_name, fault_l
 
 use crate::cluster_fault::ClusterFault;
 use crate::telling::{add_cause, add_number};
+use crate::wide_texts::add_wide;
 use cluster_state::StateError;
 use std::alloc::{AllocError, Global};
 
@@ -26,8 +27,9 @@ fn add_fault(alloc: Global, line: &mut Vec<u8>, fault: &ClusterFault) -> Result<
         ClusterFault::NoState(error) => add_state(line, error),
         ClusterFault::Blocked(name, cause) => {
             add_named(line, cause.refusal().code(), name.as_str())?;
-            add_cause(alloc, line, *cause)
+            add_cause(alloc, line, cause)
         }
+        ClusterFault::Untaken(error) => add_wide(alloc, line, error),
     }
 }
 

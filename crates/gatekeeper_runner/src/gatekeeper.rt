@@ -103,7 +103,7 @@ impl Gatekeeper {
     fn rejection_by(&self, gate: &NamedGate, table: Table) -> Result<Option<Rejection>, RunError>
         ensures { (policies : List PolicyFile) (policy : PolicyFile) (review uid : List ℕ) → IsGateOf policy gate.now
             → AreValuesOf (gatekeeper_of policies self.now) review (held_contents table) uid
-            → DecidesAlone OneImage (gatekeeper_of policies self.now) policy.document review (said_view uid result) }
+            → DecidesAlone OneImage (gatekeeper_of policies self.now) policy review (said_view uid result) }
     {
         gate.gate.rejection_on(table, self.steps)
     }

@@ -1,5 +1,6 @@
 //! Labels of policies, read from their documents.
 ghost use Rattle.std.specs.Prelude.{◌≡◌, IfOk};
+ghost use Rattle.admission.specs.declared.language.Language.{Language};
 ghost use Rattle.gatekeeper_runner.specs.Together.{label_of, label_view};
 
 use crate::policy_label::PolicyLabel;
@@ -9,7 +10,7 @@ use std::alloc::{AllocError, Global};
 
 /// The label of the policy in this document. `file` is the name of its file.
 pub fn label_of(alloc: Global, file: &str, document: &[u8]) -> Result<PolicyLabel, AllocError>
-    ensures { IfOk result (λ l. label_view l ≡ label_of (record { file = file.now; document = document.now })) }
+    ensures { (language : Language) → IfOk result (λ l. label_view l ≡ label_of (record { file = file.now; language = language; document = document.now })) }
 {
     let parsed = parse_document(alloc, document)?;
     let name = text_at(&parsed, "metadata", "name").unwrap_or(file);

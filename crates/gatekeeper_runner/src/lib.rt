@@ -39,6 +39,7 @@ mod task;
 mod telling;
 mod texts;
 mod verbose;
+mod wide_texts;
 
 pub use answering::answer_lines;
 pub use gatekeeper::Gatekeeper;

@@ -1,13 +1,14 @@
 //! Reads the command line.
 ghost use Rattle.std.specs.Prelude.{◌≡◌, codes, map, string_bytes, IfOk};
 ghost use Rattle.clap.specs.Words.{found_of, rows_of};
-ghost use Rattle.gatekeeper_runner.specs.Orders.{cluster_from, cluster_order_view, go_together, has_status, is_named, is_partial, is_verbose, lines_order_view, max_line_from, order_from, order_view, policies_from, texts_of, GatekeeperOrderReturns};
+ghost use Rattle.gatekeeper_runner.specs.Orders.{cluster_from, cluster_order_view, go_together, has_status, is_named, is_partial, is_profile, is_verbose, language_from, leaves_messages, lines_order_view, max_line_from, order_from, order_view, policies_from, texts_of, GatekeeperOrderReturns};
 
 use crate::cluster_order::ClusterOrder;
 use crate::command_line::gatekeeper_matches;
 use crate::limits::LONGEST_LINE;
 use crate::order::Order;
 use crate::policy_order::PolicyOrder;
+use admission::{Language, MessageRule};
 use clap::ArgMatches;
 use cli::{name_in, number_in, steps_in, text_in};
 use host::OrderError;
@@ -37,8 +38,9 @@ fn go_together(matches: &ArgMatches) -> bool
         !is_named(matches, "policy")
             && !is_named(matches, "namespace")
             && !is_named(matches, "params")
+            && !(is_profile(matches) && leaves_messages(matches))
     } else {
-        is_named(matches, "policy") && !is_partial(matches)
+        is_named(matches, "policy") && !is_partial(matches) && !leaves_messages(matches)
     }
 }
 
@@ -79,6 +81,39 @@ fn has_status(matches: &ArgMatches) -> bool
     }
 }
 
+/// Whether policies are read in the language that is compiled.
+fn is_profile(matches: &ArgMatches) -> bool
+    ensures { result ≡ is_profile (rows_of (found_of matches.now)) }
+{
+    match text_in(matches, "profile") {
+        Some(text) => text == "true",
+        None => false,
+    }
+}
+
+/// Whether message expressions that are refused are left out.
+fn leaves_messages(matches: &ArgMatches) -> bool
+    ensures { result ≡ leaves_messages (rows_of (found_of matches.now)) }
+{
+    match text_in(matches, "leave-messages") {
+        Some(text) => text == "true",
+        None => false,
+    }
+}
+
+/// The language of the policies.
+fn language_in(matches: &ArgMatches) -> Language
+    ensures { result ≡ language_from (rows_of (found_of matches.now)) }
+{
+    if is_profile(matches) {
+        Language::Profile
+    } else if leaves_messages(matches) {
+        Language::Wide(MessageRule::LeftOut)
+    } else {
+        Language::Wide(MessageRule::Required)
+    }
+}
+
 fn order_from(alloc: Global, matches: &ArgMatches) -> Result<Order, AllocError>
     ensures { IfOk result (λ o. lines_order_view o ≡ order_from (rows_of (found_of matches.now))) }
 {
@@ -94,6 +129,7 @@ fn policies_from(alloc: Global, matches: &ArgMatches) -> Result<PolicyOrder, All
     ensures { IfOk result (λ o. order_view o ≡ policies_from (rows_of (found_of matches.now))) }
 {
     let policies = names_in(alloc, matches, "policy")?;
+    let language = language_in(matches);
     let namespace = name_in(alloc, matches, "namespace")?;
     let params = name_in(alloc, matches, "params")?;
     let steps = steps_in(matches);
@@ -102,6 +138,7 @@ fn policies_from(alloc: Global, matches: &ArgMatches) -> Result<PolicyOrder, All
     let status = has_status(matches);
     Ok(PolicyOrder {
         policies,
+        language,
         namespace,
         params,
         steps,
@@ -116,6 +153,7 @@ fn cluster_from(alloc: Global, matches: &ArgMatches) -> Result<ClusterOrder, All
     ensures { IfOk result (λ o. cluster_order_view o ≡ cluster_from (rows_of (found_of matches.now))) }
 {
     let files = names_in(alloc, matches, "cluster")?;
+    let language = language_in(matches);
     let partial = is_partial(matches);
     let steps = steps_in(matches);
     let max_line = max_line_in(matches);
@@ -123,6 +161,7 @@ fn cluster_from(alloc: Global, matches: &ArgMatches) -> Result<ClusterOrder, All
     let status = has_status(matches);
     Ok(ClusterOrder {
         files,
+        language,
         partial,
         steps,
         max_line,

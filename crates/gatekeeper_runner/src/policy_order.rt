@@ -1,10 +1,14 @@
 //! Policies that the words name.
 
+use admission::Language;
+
 /// The names of files, and numbers.
 #[derive(Drop)]
 pub struct PolicyOrder {
     /// The files of the policies, in the order of the words.
     pub policies: Vec<String>,
+    /// The language of the policies.
+    pub language: Language,
     pub namespace: Option<String>,
     pub params: Option<String>,
     /// The most steps of a policy's program.

@@ -1,13 +1,14 @@
 //! Prepares the gatekeeper before the first line.
 ghost use Rattle.std.specs.Prelude.{◌≡◌, map, string_bytes, ℕ, List};
 ghost use Rattle.gatekeeper_runner.specs.Orders.{order_view};
-ghost use Rattle.gatekeeper_runner.specs.Starting.{GatesFrom, KeepsFrom, OpensGate};
+ghost use Rattle.gatekeeper_runner.specs.Starting.{GatesFrom, KeepsFrom, OpensIn, OpensNamed};
 
 use crate::gatekeeper::Gatekeeper;
 use crate::labeling::label_of;
 use crate::named_gate::NamedGate;
 use crate::policy_order::PolicyOrder;
-use admission::Gate;
+use crate::start_refusal::StartRefusal;
+use admission::{Gate, Language, WideGate};
 use cli::{Refusal, read_given};
 use host::Files;
 use std::alloc::Global;
@@ -24,11 +25,11 @@ pub fn start<F: Files>(
     alloc: Global,
     order: &PolicyOrder,
     files: &mut F,
-) -> Result<Gatekeeper, Refusal>
+) -> Result<Gatekeeper, StartRefusal>
     ensures keeps { KeepsFrom (F.known files.old) (order_view order.now) result }
     ensures known { F.known files.new ≡ F.known files.old }
 {
-    let gates = open_each(alloc, order.policies.as_slice(), files)?;
+    let gates = open_each(alloc, order.policies.as_slice(), order.language, files)?;
     let namespace = read_given(alloc, &order.namespace, files)?;
     let params = read_given(alloc, &order.params, files)?;
     let documents = SharedDocuments::new(alloc, namespace, params);
@@ -41,33 +42,55 @@ pub fn start<F: Files>(
     })
 }
 
-/// Compiles the policies in the files with these names.
+/// Compiles the policies of this language in the files with these names.
 fn open_each<F: Files>(
     alloc: Global,
     names: &[String],
+    language: Language,
     files: &mut F,
-) -> Result<Vec<NamedGate>, Refusal>
-    ensures gates { GatesFrom (F.known files.old) (map string_bytes names.now) result }
+) -> Result<Vec<NamedGate>, StartRefusal>
+    ensures gates { GatesFrom (F.known files.old) language (map string_bytes names.now) result }
     ensures known { F.known files.new ≡ F.known files.old }
 {
     let mut gates = Vec::new(alloc);
     for name in names {
-        let gate = open(alloc, name.as_str(), files)?;
+        let gate = open(alloc, name.as_str(), language, files)?;
         match gates.push(gate) {
             Ok(()) => {}
-            Err(_) => return Err(Refusal::Memory),
+            Err(_) => return Err(StartRefusal::Plain(Refusal::Memory)),
         }
     }
     Ok(gates)
 }
 
-/// Compiles the policy in the file with this name.
-fn open<F: Files>(alloc: Global, name: &str, files: &mut F) -> Result<NamedGate, Refusal>
-    ensures gate { OpensGate (F.known files.old) name.now result }
+/// Compiles the policy of this language in the file with this name.
+fn open<F: Files>(
+    alloc: Global,
+    name: &str,
+    language: Language,
+    files: &mut F,
+) -> Result<NamedGate, StartRefusal>
+    ensures gate { OpensNamed (F.known files.old) language name.now result }
     ensures known { F.known files.new ≡ F.known files.old }
 {
     let document = files.read(alloc, name)?;
-    let gate = Gate::new(alloc, document.as_slice())?;
+    let gate = gate_of(alloc, document.as_slice(), language)?;
     let label = label_of(alloc, name, document.as_slice())?;
     Ok(NamedGate { gate, label })
+}
+
+/// The gate of the policy of this language in a document.
+fn gate_of(alloc: Global, document: &[u8], language: Language) -> Result<Gate, StartRefusal>
+    ensures { OpensIn language document.now result }
+{
+    match language {
+        Language::Profile => {
+            let gate = Gate::new(alloc, document)?;
+            Ok(gate)
+        }
+        Language::Wide(rule) => {
+            let opened = WideGate::new(alloc, document, rule)?;
+            Ok(opened.gate)
+        }
+    }
 }

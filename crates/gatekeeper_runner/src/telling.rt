@@ -1,16 +1,17 @@
 //! The lines on a cluster that go to standard error.
-ghost use Rattle.std.specs.Prelude.{◌≡◌, ◌-◌, ◌++◌, ◌≤◌, decimal, drop, length, map, option_map, take, IfOk, OnOk};
+ghost use Rattle.std.specs.Prelude.{◌≡◌, ◌++◌, decimal, map, option_map, IfOk, OnOk};
+ghost use Rattle.admission.specs.declared.language.Language.{Language};
 ghost use Rattle.serde_json.specs.View.{view};
-ghost use Rattle.cli.specs.Refusals.{policy_text};
 ghost use Rattle.cluster_state.specs.Policies.{param_kind_view, BoundPolicy};
 ghost use Rattle.cluster_state.specs.State.{state_view, ClusterState};
 ghost use Rattle.cluster_state.specs.Bindings.{binding_view};
 ghost use Rattle.cluster_gate.specs.Gates.{AreGatesFor, IsGateFor};
 ghost use Rattle.gatekeeper_runner.specs.ClusterStarting.{cause_code, cause_text};
-ghost use Rattle.gatekeeper_runner.specs.ClusterTelling.{block_text, cause_of, params_text, policy_line, spaced, TellsPolicies};
+ghost use Rattle.gatekeeper_runner.specs.ClusterTelling.{block_text, cause_of, note_line, note_lines, params_text, policy_line, spaced, TellsPolicies};
 
 use crate::listed::Listed;
-use cli::{Refusal, refusal_line};
+use crate::wide_texts::{add_policy, add_wide, add_wide_cause};
+use admission::LeftOut;
 use cluster_gate::{BlockCause, PolicyGate, Standing};
 use cluster_state::{Binding, ParamKind, State};
 use itoa::Buffer;
@@ -24,15 +25,30 @@ pub fn policies_text<'a>(
     state: &State<'a>,
     gates: &[PolicyGate<'_, 'a>],
 ) -> Result<Vec<u8>, AllocError>
-    ensures { IfOk result (λ t. (s : ClusterState) → state_view state.now ≡ s → AreGatesFor s s.policies gates.now → TellsPolicies (map view lists.now) s s.policies t.items) }
+    ensures { IfOk result (λ t. (l : Language) (s : ClusterState) → state_view state.now ≡ s → AreGatesFor l s s.policies gates.now → TellsPolicies l (map view lists.now) s s.policies t.items) }
 {
     let listed = Listed::new(alloc, lists)?;
     let mut text = Vec::new(alloc);
     for gate in gates {
-        let line = policy_line(alloc, &listed, state, gate)?;
-        text.extend_from_slice(line.as_slice())?;
+        let lines = gate_lines(alloc, &listed, state, gate)?;
+        text.extend_from_slice(lines.as_slice())?;
     }
     Ok(text)
+}
+
+/// The line of a policy, and those on the message expressions that are left out of it.
+fn gate_lines<'a>(
+    alloc: Global,
+    listed: &Listed<'a>,
+    state: &State<'a>,
+    gate: &PolicyGate<'_, 'a>,
+) -> Result<Vec<u8>, AllocError>
+    ensures { IfOk result (λ t. (l : Language) (s : ClusterState) (p : BoundPolicy) → state_view state.now ≡ s → IsGateFor l s p gate.now
+        → t.items ≡ policy_line (map view listed.now.lists.now) s p (cause_of gate.now.standing) ++ note_lines p.name gate.now.left_out.items) }
+{
+    let mut lines = policy_line(alloc, listed, state, gate)?;
+    add_notes(&mut lines, gate.asked.policy.name, gate.left_out.as_slice())?;
+    Ok(lines)
 }
 
 /// The line of a policy.
@@ -42,8 +58,8 @@ fn policy_line<'a>(
     state: &State<'a>,
     gate: &PolicyGate<'_, 'a>,
 ) -> Result<Vec<u8>, AllocError>
-    ensures { IfOk result (λ l. (s : ClusterState) (p : BoundPolicy) → state_view state.now ≡ s → IsGateFor s p gate.now
-        → l.items ≡ policy_line (map view listed.now.lists.now) s p (cause_of gate.now.standing)) }
+    ensures { IfOk result (λ t. (l : Language) (s : ClusterState) (p : BoundPolicy) → state_view state.now ≡ s → IsGateFor l s p gate.now
+        → t.items ≡ policy_line (map view listed.now.lists.now) s p (cause_of gate.now.standing)) }
 {
     let policy = gate.asked.policy;
     let mut line = Vec::from_slice(alloc, b"celbpf: policy ")?;
@@ -102,20 +118,23 @@ fn add_standing(alloc: Global, line: &mut Vec<u8>, standing: &Standing) -> Resul
         Standing::Blocked(cause) => {
             line.extend_from_slice(b", blocked ")?;
             line.extend_from_slice(cause.refusal().code().as_bytes())?;
-            add_cause(alloc, line, *cause)
+            add_cause(alloc, line, cause)
         }
     }
 }
 
 /// Adds what the line on a blocked policy has after its code.
-pub fn add_cause(alloc: Global, line: &mut Vec<u8>, cause: BlockCause) -> Result<(), AllocError>
-    ensures { OnOk result (line.new.items ≡ line.old.items ++ cause_text cause) }
+pub fn add_cause(alloc: Global, line: &mut Vec<u8>, cause: &BlockCause) -> Result<(), AllocError>
+    ensures { OnOk result (line.new.items ≡ line.old.items ++ cause_text cause.now) }
 {
     match cause {
         BlockCause::Refused(error) => {
-            let told = refusal_line(alloc, Refusal::Policy(error));
             line.extend_from_slice(b" ")?;
-            line.extend_from_slice(inner(told.as_slice()))?;
+            add_policy(alloc, line, *error)?;
+        }
+        BlockCause::RefusedWide(error) => {
+            line.extend_from_slice(b" ")?;
+            add_wide(alloc, line, error)?;
         }
         BlockCause::NamesNamespace => line.extend_from_slice(b" namespaceObject")?,
         BlockCause::UnknownParamKind => {}
@@ -123,10 +142,26 @@ pub fn add_cause(alloc: Global, line: &mut Vec<u8>, cause: BlockCause) -> Result
     Ok(())
 }
 
-/// The text of a refusal in its line.
-fn inner(line: &[u8]) -> &[u8]
-    requires { 9 ≤ length line.now }
-    ensures { result.now ≡ take (length line.now - 9) (drop 8 line.now) }
+/// Adds the lines on the message expressions that are left out of the policy with this name.
+fn add_notes(text: &mut Vec<u8>, name: &str, notes: &[LeftOut]) -> Result<(), AllocError>
+    ensures { OnOk result (text.new.items ≡ text.old.items ++ note_lines name.now notes.now) }
 {
-    &line[8..line.len() - 1]
+    for note in notes {
+        add_note(text, name, note)?;
+    }
+    Ok(())
+}
+
+/// Adds the line on a message expression that is left out of the policy with this name.
+fn add_note(text: &mut Vec<u8>, name: &str, note: &LeftOut) -> Result<(), AllocError>
+    ensures { OnOk result (text.new.items ≡ text.old.items ++ note_line name.now note.now) }
+{
+    text.extend_from_slice(b"celbpf: policy ")?;
+    text.extend_from_slice(name.as_bytes())?;
+    text.extend_from_slice(b", left out message ")?;
+    add_number(text, note.validation)?;
+    text.extend_from_slice(b" ")?;
+    add_wide_cause(text, &note.cause)?;
+    text.extend_from_slice(b"\n")?;
+    Ok(())
 }

@@ -26,7 +26,7 @@ const THREE_ANSWERS: &str =
 
 /// The words, the status, standard output and standard error, on the lines above.
 #[rattlefmt::skip]
-const ROWS: [(&str, u8, &str, &str); 26] = [
+const ROWS: [(&str, u8, &str, &str); 33] = [
     (BOTH, 0, THREE_ANSWERS, "celbpf: policy p, bindings b\ncelbpf: policy q, bindings c\n"),
     ("gatekeeper --cluster policies", 0, NOTHING_BOUND, ""),
     ("gatekeeper --cluster none", 3, "", "celbpf: C1 none\n"),
@@ -53,7 +53,25 @@ const ROWS: [(&str, u8, &str, &str); 26] = [
     ("gatekeeper --policy few --partial", 2, "", "celbpf: U1\n"),
     ("gatekeeper --partial", 2, "", "celbpf: U1\n"),
     ("gatekeeper --cluster", 2, "", "celbpf: U1\n"),
+    ("gatekeeper --cluster policies --cluster bindings --profile", 0, THREE_ANSWERS, "celbpf: policy p, bindings b\ncelbpf: policy q, bindings c\n"),
+    ("gatekeeper --cluster wide", 3, "", "celbpf: C7 p K6 message 1 W5 url\n"),
+    ("gatekeeper --cluster wide --leave-messages", 0, WIDE_ANSWERS, WIDE_TOLD),
+    ("gatekeeper --cluster wide --partial", 0, C7_REFUSED, "celbpf: policy p, bindings b, blocked C7 K6 message 1 W5 url\n"),
+    ("gatekeeper --cluster wide --profile", 3, "", "celbpf: C7 p K6 validation 0 P4 at 7\n"),
+    ("gatekeeper --cluster no-validations --leave-messages", 3, "", "celbpf: C7 p K4\n"),
+    ("gatekeeper --cluster wide --leave-messages --profile", 2, "", "celbpf: U1\n"),
 ];
+
+/// The answers of `wide`, whose second message expression is left out.
+const WIDE_ANSWERS: &str =
+    r#"{"apiVersion":"admission.k8s.io/v1","kind":"AdmissionReview","response":{"allowed":true,"uid":"u1"}}
+{"apiVersion":"admission.k8s.io/v1","kind":"AdmissionReview","response":{"allowed":false,"status":{"code":422,"message":"deployments.apps \"web\" is forbidden: ValidatingAdmissionPolicy 'p' with binding 'b' denied request: failed expression: object.spec.?replicas.orValue(1) <= 3","reason":"Invalid"},"uid":"u2"}}
+{"refused":"N2","uid":"u3"}
+"#;
+
+const WIDE_TOLD: &str = r#"celbpf: policy p, bindings b
+celbpf: policy p, left out message 1 W5 url
+"#;
 
 /// The answers if no policy is bound.
 const NOTHING_BOUND: &str =

@@ -39,6 +39,12 @@ const TWO_ANSWERS: &str =
 {"apiVersion":"admission.k8s.io/v1","kind":"AdmissionReview","response":{"allowed":false,"status":{"code":422,"message":"failed expression: object.spec.replicas <= 3","reason":"Invalid"},"uid":"u2"}}
 "#;
 
+/// The answers of `optional` to both: a message has the text of the policy's author.
+const OPTIONAL_ANSWERS: &str =
+    r#"{"apiVersion":"admission.k8s.io/v1","kind":"AdmissionReview","response":{"allowed":true,"uid":"u1"}}
+{"apiVersion":"admission.k8s.io/v1","kind":"AdmissionReview","response":{"allowed":false,"status":{"code":422,"message":"failed expression: object.spec.?replicas.orValue(1) <= 3","reason":"Invalid"},"uid":"u2"}}
+"#;
+
 /// The answers of `few` and `slow`, in either order: a request that the first does not deny is not decided by
 /// the second, and one that the first denies is denied.
 const ONE_REFUSED: &str =
@@ -68,7 +74,7 @@ no
 
 /// The words, the input, the status, standard output and the refusal.
 #[rattlefmt::skip]
-const ROWS: [(&str, &str, u8, &str, &str); 28] = [
+const ROWS: [(&str, &str, u8, &str, &str); 38] = [
     (FEW, TWO, 0, TWO_ANSWERS, ""),
     (
         FEW,
@@ -131,6 +137,16 @@ const ROWS: [(&str, &str, u8, &str, &str); 28] = [
     (FEW_WITH_STATUS, " \t\r\n\r\n  \n\t", 0, "", ""),
     ("gatekeeper --status --policy few --max-line 1", "ab\n", 1, "{\"refused\":\"N2\"}\n", ""),
     ("gatekeeper --policy none --status", TWO, 3, "", "K1"),
+    ("gatekeeper --policy few --profile", TWO, 0, TWO_ANSWERS, ""),
+    ("gatekeeper --policy optional", TWO, 0, OPTIONAL_ANSWERS, ""),
+    ("gatekeeper --policy optional --profile", TWO, 3, "", "K2"),
+    ("gatekeeper --policy unknown", TWO, 3, "", "K6 validation 1 W5 url"),
+    ("gatekeeper --policy unknown --profile", TWO, 3, "", "K6 validation 1 Y2"),
+    ("gatekeeper --policy few --policy no-value", TWO, 3, "", "K6 validation 0 W4"),
+    ("gatekeeper --policy bytes", TWO, 3, "", "K6 validation 0 W1 at 12"),
+    ("gatekeeper --policy few --policy none --profile", TWO, 3, "", "K1"),
+    ("gatekeeper --policy few --leave-messages", TWO, 2, "", "U1"),
+    ("gatekeeper --policy few --profile --profile", TWO, 2, "", "U1"),
     ("gatekeeper --version --policy missing", TWO, 0, "gatekeeper 0.20261129\n", ""),
 ];
 
@@ -144,7 +160,7 @@ fn ends<R: LineSource>(
     due: (u8, &[u8], &str),
 ) -> Result<bool, AllocError> {
     let mut out = [0u8; 512];
-    let mut err = [0u8; 32];
+    let mut err = [0u8; 64];
     let (front, _) = out.split_at_mut(room.min(512));
     let code = exit_code(
         alloc,

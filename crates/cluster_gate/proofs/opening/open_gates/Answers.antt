@@ -6,12 +6,12 @@ use Rattle.cluster_gate.proofs.opening.open_gates.Goals as goal
 
 pub returns-in-Err : goal.returns-in-Err
 returns-in-Err c =
-    subst (λ (ps : List BoundPolicy). GatesOpen (state_view c.args.state.now) c.args.partial ps (Err c.in-Err.error)) c.policies-policies.ensures
-    (opened_until (state_view c.args.state.now) c.args.partial c.policies-policies.result.now c.loop-policy.policy-index c.loop-policy.gates.items c.loop-policy.invariant
+    subst (λ (ps : List BoundPolicy). GatesOpen c.args.language (state_view c.args.state.now) c.args.partial ps (Err c.in-Err.error)) c.policies-policies.ensures
+    (opened_until c.args.language (state_view c.args.state.now) c.args.partial c.policies-policies.result.now c.loop-policy.policy-index c.loop-policy.gates.items c.loop-policy.invariant
     c.policy-item.result c.loop-policy-test.true c.policy-item.is c.in-Err.error c.in-Err.ensures)
 
 pub loop-policy-preserved : goal.loop-policy-preserved
 loop-policy-preserved c =
     rw c.in_ok-push-in-Ok.ensures.items
-    (opened_more (state_view c.args.state.now) c.args.partial c.policies-policies.result.now c.loop-policy.policy-index c.loop-policy.gates.items c.loop-policy.invariant
+    (opened_more c.args.language (state_view c.args.state.now) c.args.partial c.policies-policies.result.now c.loop-policy.policy-index c.loop-policy.gates.items c.loop-policy.invariant
     c.policy-item.result c.loop-policy-test.true c.policy-item.is c.in-Ok.gate c.in-Ok.ensures)

@@ -4,4 +4,4 @@ use Rattle.cluster_gate.proofs.Opened.{OpenedFirst}
 use Rattle.cluster_gate.proofs.opening.open_gates.Given as goal
 
 abbrev pub invariant-loop-policy : goal.invariant-loop-policy
-invariant-loop-policy l = OpenedFirst (state_view l.state) l.partial (map policy_view (take l.policy-index l.policies)) l.gates.items
+invariant-loop-policy l = OpenedFirst l.language (state_view l.state) l.partial (map policy_view (take l.policy-index l.policies)) l.gates.items

@@ -5,11 +5,11 @@ use Rattle.clap.proofs.OnLiterals.{clap_on_literals}
 use Rattle.cli.specs.Arguments.{option_rule, steps_rule, with_documents}
 use Rattle.cli.specs.Number.{number_of}
 use Rattle.gatekeeper_runner.specs.About.{help_text, version_text}
-use Rattle.gatekeeper_runner.specs.Orders.{cluster_from, entered, faults, files_rule, gatekeeper_app, max_line_rule, partial_rule, policies_app, policies_from, status_rule, verbose_rule}
+use Rattle.gatekeeper_runner.specs.Orders.{cluster_from, entered, faults, files_rule, gatekeeper_app, leave_messages_rule, lines_app, max_line_rule, partial_rule, policies_app, policies_from, profile_rule, status_rule, verbose_rule}
 use Rattle.cluster_rows.proofs.rows.word_rows_stand.Goals as goal
 
 pub returns-clause-orders : goal.returns-clause-orders
-unfolding clap_on_literals gatekeeper_app policies_app max_line_rule files_rule partial_rule status_rule verbose_rule with_documents option_rule steps_rule entered faults policies_from cluster_from number_of help_text version_text
+unfolding clap_on_literals gatekeeper_app lines_app policies_app max_line_rule files_rule partial_rule status_rule verbose_rule profile_rule leave_messages_rule with_documents option_rule steps_rule entered faults policies_from cluster_from number_of help_text version_text
 returns-clause-orders c = record {
   policy = refl;
   more = refl;
@@ -19,10 +19,13 @@ returns-clause-orders c = record {
   verbose_cluster = refl;
   status = refl;
   status_cluster = refl;
+  profile = refl;
+  profile_cluster = refl;
+  leave_messages = refl;
 }
 
 pub returns-clause-faults : goal.returns-clause-faults
-unfolding clap_on_literals gatekeeper_app policies_app max_line_rule files_rule partial_rule status_rule verbose_rule with_documents option_rule steps_rule entered faults policies_from cluster_from number_of help_text version_text
+unfolding clap_on_literals gatekeeper_app lines_app policies_app max_line_rule files_rule partial_rule status_rule verbose_rule profile_rule leave_messages_rule with_documents option_rule steps_rule entered faults policies_from cluster_from number_of help_text version_text
 returns-clause-faults c = record {
   policy_taken = refl;
   partial_taken = refl;
@@ -41,6 +44,13 @@ returns-clause-faults c = record {
   status_twice = λ e. cc;
   status_value = λ e. cc;
   no_status = refl;
+  profile_taken = refl;
+  profile_twice = λ e. cc;
+  not_profile = refl;
+  leave_messages_taken = refl;
+  leave_messages_policy = λ e. cc;
+  leave_messages_profile = λ e. cc;
+  keeps_messages = refl;
   longest = refl;
   longer = λ e. cc;
   shortest = refl;
@@ -48,7 +58,7 @@ returns-clause-faults c = record {
 }
 
 pub returns-clause-help : goal.returns-clause-help
-unfolding clap_on_literals gatekeeper_app policies_app max_line_rule files_rule partial_rule status_rule verbose_rule with_documents option_rule steps_rule entered faults policies_from cluster_from number_of help_text version_text
+unfolding clap_on_literals gatekeeper_app lines_app policies_app max_line_rule files_rule partial_rule status_rule verbose_rule profile_rule leave_messages_rule with_documents option_rule steps_rule entered faults policies_from cluster_from number_of help_text version_text
 returns-clause-help c = record {
   help = refl;
   help_before_others = refl;

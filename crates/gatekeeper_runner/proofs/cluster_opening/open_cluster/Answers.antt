@@ -8,7 +8,7 @@ returns c = (
     of_state = c.in_ok-cluster.ensures.0;
     steps = refl;
     max_line = refl;
-    told = rw c.deref.ensures.value at (c.in_ok-told.ensures _ refl (c.policies.ensures _ c.in_ok-cluster.ensures.0));
+    told = rw c.deref.ensures.value at (c.in_ok-told.ensures _ _ refl (c.policies.ensures _ _ c.in_ok-cluster.ensures.0));
   },
   c.in_ok-cluster.ensures.1,
 )

@@ -2,7 +2,6 @@
 
 use Rattle.gatekeeper_runner.proofs.Prelude.{unread, is_err}
 use Rattle.gatekeeper_runner.specs.Starting.{no_memory}
-use Rattle.gatekeeper_runner.proofs.Opened.{unopened_by}
 use Rattle.gatekeeper_runner.proofs.starting.open.Goals as goal
 
 pub returns-in_err-document-clause-gate : goal.returns-in_err-document-clause-gate
@@ -10,18 +9,15 @@ returns-in_err-document-clause-gate g c = rw (is_err c.from_residual.ensures.1) 
 
 pub returns-in_err-gate-clause-gate : goal.returns-in_err-gate-clause-gate
 returns-in_err-gate-clause-gate g c =
-    rw (is_err c.from_residual-in_err-gate.ensures.1) (unopened_by _ _ _ _ (rw (← c.as_slice.ensures.value) at c.in_ok-document.ensures.read) c.in_err-gate.ensures.compiles)
+    rw (is_err c.from_residual-in_err-gate.ensures.1) (c.in_err-gate.ensures _ _ (rw (← c.as_slice.ensures.value) at c.in_ok-document.ensures.read))
 
 pub returns-in_err-label-clause-gate : goal.returns-in_err-label-clause-gate
 returns-in_err-label-clause-gate g c = rw (is_err c.from_residual-in_err-label.ensures.1) no_memory
 
 pub returns-clause-gate : goal.returns-clause-gate
-returns-clause-gate g c = (
-  _,
-  c.in_ok-document.ensures.read,
-  record {
-    policy = rw c.as_slice.ensures.value at c.in_ok-gate.ensures.compiles;
-    image = c.in_ok-gate.ensures.one;
-    label = rw c.as_slice-2.ensures.value at c.in_ok-label.ensures;
-  },
-)
+returns-clause-gate g c =
+    let opens = rw c.as_slice.ensures.value at c.in_ok-gate.ensures in (
+      _,
+      c.in_ok-document.ensures.read,
+      record { policy = opens.0; image = opens.1; label = rw c.as_slice-2.ensures.value at (c.in_ok-label.ensures c.args.language) },
+    )

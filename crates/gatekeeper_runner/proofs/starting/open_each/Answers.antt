@@ -2,6 +2,7 @@
 
 use Rattle.gatekeeper_runner.proofs.Prelude.{◌∙◌, [], refl, is_err}
 use Rattle.cli.specs.declared.refusal.Refusal.TheVariants.{Memory}
+use Rattle.gatekeeper_runner.specs.declared.start_refusal.StartRefusal.TheVariants.{Plain}
 use Rattle.gatekeeper_runner.specs.Starting.{no_memory, none}
 use Rattle.gatekeeper_runner.proofs.Opened.{opened_more, unopened}
 use Rattle.gatekeeper_runner.proofs.starting.open_each.Goals as goal
@@ -12,14 +13,14 @@ loop-name-init g c = record { opened = ([], rw c.new-gates.ensures.items tt, non
 pub returns-in_err-gate-clause-gates : goal.returns-in_err-gate-clause-gates
 returns-in_err-gate-clause-gates g c =
     rw (is_err c.from_residual.ensures.1)
-    (unopened _ _ _ c.name-item.result _ c.loop-name-test.true c.name-item.is c.loop-name.invariant.opened _ (rw (c.as_str.ensures.value, c.loop-name.invariant.known) at c.in_err-gate.ensures.gate))
+    (unopened _ _ _ _ c.name-item.result _ c.loop-name-test.true c.name-item.is c.loop-name.invariant.opened _ (rw (c.as_str.ensures.value, c.loop-name.invariant.known) at c.in_err-gate.ensures.gate))
 
 pub returns-in-Err-clause-gates : goal.returns-in-Err-clause-gates
-returns-in-Err-clause-gates g c = unopened _ _ _ c.name-item.result _ c.loop-name-test.true c.name-item.is c.loop-name.invariant.opened Memory no_memory
+returns-in-Err-clause-gates g c = unopened _ _ _ _ c.name-item.result _ c.loop-name-test.true c.name-item.is c.loop-name.invariant.opened (Plain Memory) no_memory
 
 pub loop-name-preserved : goal.loop-name-preserved
 loop-name-preserved g c = record {
-  opened = opened_more _ _ _ c.name-item.result _ c.loop-name-test.true c.name-item.is c.loop-name.invariant.opened _ c.in_ok-gate.gate
+  opened = opened_more _ _ _ _ c.name-item.result _ c.loop-name-test.true c.name-item.is c.loop-name.invariant.opened _ c.in_ok-gate.gate
       (rw (c.as_str.ensures.value, c.loop-name.invariant.known) at c.in_ok-gate.ensures.gate) c.in-Ok.ensures.items;
   known = c.in_ok-gate.ensures.known ∙ c.loop-name.invariant.known;
 }

@@ -52,6 +52,12 @@ const NO_KIND: &str =
 {"apiVersion":"admissionregistration.k8s.io/v1","kind":"ValidatingAdmissionPolicy","metadata":{"name":"p"},"spec":{"matchConstraints":{"resourceRules":[{"apiGroups":["apps"],"apiVersions":["v1"],"operations":["CREATE"],"resources":["deployments"]}]},"paramKind":{"apiVersion":"example.com/v1","kind":"Limit"},"validations":[{"expression":"true"}]}},
 {"apiVersion":"admissionregistration.k8s.io/v1","kind":"ValidatingAdmissionPolicyBinding","metadata":{"name":"b"},"spec":{"policyName":"p","validationActions":["Deny"]}}]}"#;
 
+/// A policy in the wide language, whose second message expression is refused, and its binding.
+const WIDE: &str =
+    r#"{"apiVersion":"v1","kind":"List","items":[{"apiVersion":"v1","kind":"Namespace","metadata":{"name":"prod"}},
+{"apiVersion":"admissionregistration.k8s.io/v1","kind":"ValidatingAdmissionPolicy","metadata":{"name":"p"},"spec":{"matchConstraints":{"resourceRules":[{"apiGroups":["apps"],"apiVersions":["v1"],"operations":["CREATE"],"resources":["deployments"]}]},"validations":[{"expression":"object.?spec.?replicas.orValue(1) <= 9"},{"expression":"object.spec.?replicas.orValue(1) <= 3","messageExpression":"string(url('a'))"}]}},
+{"apiVersion":"admissionregistration.k8s.io/v1","kind":"ValidatingAdmissionPolicyBinding","metadata":{"name":"b"},"spec":{"policyName":"p","validationActions":["Deny"]}}]}"#;
+
 /// The lists of some clusters, each by the name of its file.
 #[derive(Drop)]
 pub struct Clusters;
@@ -75,6 +81,7 @@ impl Files for Clusters {
             "no-validations" => NO_VALIDATIONS,
             "condition" => CONDITION,
             "no-kind" => NO_KIND,
+            "wide" => WIDE,
             _ => return Err(FileError::Failed),
         };
         Ok(Vec::from_slice(alloc, text.as_bytes())?)

@@ -9,6 +9,19 @@ const FEW: &str =
 const EVEN: &str =
     r#"{"apiVersion":"admissionregistration.k8s.io/v1","kind":"ValidatingAdmissionPolicy","spec":{"validations":[{"expression":"object.spec.replicas % 2 == 0","message":"odd","reason":"Forbidden"}]}}"#;
 
+/// Policies in the wide language.
+const OPTIONAL: &str =
+    r#"{"apiVersion":"admissionregistration.k8s.io/v1beta1","kind":"ValidatingAdmissionPolicy","metadata":{"name":"optional"},"spec":{"validations":[{"expression":" object.spec.?replicas.orValue(1) <= 3 ","message":null}]},"status":{}}"#;
+
+const UNKNOWN: &str =
+    r#"{"apiVersion":"admissionregistration.k8s.io/v1","kind":"ValidatingAdmissionPolicy","spec":{"validations":[{"expression":"true"},{"expression":"url('a') == null"}]}}"#;
+
+const NO_VALUE: &str =
+    r#"{"apiVersion":"admissionregistration.k8s.io/v1","kind":"ValidatingAdmissionPolicy","spec":{"variables":[{"name":"a","expression":"object.?a"}],"validations":[{"expression":"variables.a"}]}}"#;
+
+const BYTES: &str =
+    r#"{"apiVersion":"admissionregistration.k8s.io/v1","kind":"ValidatingAdmissionPolicy","spec":{"validations":[{"expression":"object.a == b'a'"}]}}"#;
+
 /// A loop with 4,096 iterations of at least one step each.
 const SLOW: &str =
     r#"{"apiVersion":"admissionregistration.k8s.io/v1","kind":"ValidatingAdmissionPolicy","metadata":{"name":"slow-one"},"spec":{"failurePolicy":"Ignore","validations":[{"expression":"[1,2,3,4,5,6,7,8,9,10,11,12,13,14,15,16].all(x, [1,2,3,4,5,6,7,8,9,10,11,12,13,14,15,16].all(y, [1,2,3,4,5,6,7,8,9,10,11,12,13,14,15,16].all(z, x + y + z > 0)))"}]}}"#;
@@ -26,7 +39,8 @@ pub const DEEP: &str =
 "validations":[{"expression":"size(variables.f) == 1"}]}}"#;
 
 /// `few` allows at most 3 replicas, `even` an even number of them, `slow` any number
-/// after many steps, `deep` is stopped, and `none` is not a policy.
+/// after many steps, `deep` is stopped, and `none` is not a policy. `optional` is as `few`, in the
+/// wide language; `unknown`, `no-value` and `bytes` are refused there.
 #[derive(Drop)]
 pub struct Policies;
 
@@ -41,6 +55,10 @@ impl Files for Policies {
             "even" => EVEN,
             "slow" => SLOW,
             "deep" => DEEP,
+            "optional" => OPTIONAL,
+            "unknown" => UNKNOWN,
+            "no-value" => NO_VALUE,
+            "bytes" => BYTES,
             "none" => "no",
             _ => return Err(FileError::Failed),
         };

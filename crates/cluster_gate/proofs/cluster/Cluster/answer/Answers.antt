@@ -2,4 +2,4 @@
 use Rattle.cluster_gate.proofs.cluster.Cluster.answer.Goals as goal
 
 pub returns : goal.returns
-returns c s is = let given = c.in_ok-events.ensures s is in (given.0, given.2, c.in_ok-text.ensures given.0 given.1)
+returns c language s is = let given = c.in_ok-events.ensures language s is in (given.0, given.2, c.in_ok-text.ensures given.0 given.1)

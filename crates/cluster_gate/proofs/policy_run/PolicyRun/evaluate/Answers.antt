@@ -5,14 +5,14 @@ use Rattle.cluster_gate.proofs.Runs.{found_step, refused_step}
 use Rattle.cluster_gate.proofs.policy_run.PolicyRun.evaluate.Goals as goal
 
 pub returns-in_ok-add_findings-in-Ok : goal.returns-in_ok-add_findings-in-Ok
-returns-in_ok-add_findings-in-Ok c p of =
-    found_step p c.args.self.now of c.args.events.now c.add_findings.new.self (binding_view c.args.binding.now) (option_map (λ v. view v.now) c.args.params) (option_map (λ v. view v.now) c.args.namespace)
-    _ c.in-Ok.findings.items c.as_slice.ensures.value c.in_ok-add_findings-in-Ok.ensures (rw c.in-Ok.is at (c.in_ok-findings.ensures p of.gate))
+returns-in_ok-add_findings-in-Ok c language p of =
+    found_step language p c.args.self.now of c.args.events.now c.add_findings.new.self (binding_view c.args.binding.now) (option_map (λ v. view v.now) c.args.params) (option_map (λ v. view v.now) c.args.namespace)
+    _ c.in-Ok.findings.items c.as_slice.ensures.value c.in_ok-add_findings-in-Ok.ensures (rw c.in-Ok.is at (c.in_ok-findings.ensures language p of.gate))
 
 pub returns-in-Err : goal.returns-in-Err
 returns-in-Err c =
     IfOk-weaker c.refuse.result _ _
-    (λ progress h p of.
-    refused_step p c.args.self.now of c.args.events.now c.refuse.new.events (binding_view c.args.binding.now) (option_map (λ v. view v.now) c.args.params) (option_map (λ v. view v.now) c.args.namespace)
-    progress _ h (rw c.in-Err.is at (c.in_ok-findings.ensures p of.gate)))
+    (λ progress h language p of.
+    refused_step language p c.args.self.now of c.args.events.now c.refuse.new.events (binding_view c.args.binding.now) (option_map (λ v. view v.now) c.args.params) (option_map (λ v. view v.now) c.args.namespace)
+    progress _ h (rw c.in-Err.is at (c.in_ok-findings.ensures language p of.gate)))
     c.refuse.ensures

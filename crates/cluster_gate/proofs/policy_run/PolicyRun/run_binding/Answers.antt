@@ -15,8 +15,8 @@ run-requires c =
 pub returns : goal.returns
 returns c =
     IfOk-weaker c.run.result _ _
-    (λ ended h p of.
-    subst (λ (steps : List PlannedStep). AddsSteps p c.args.self.now steps c.args.events.now c.run.new.events ended)
+    (λ ended h language p of.
+    subst (λ (steps : List PlannedStep). AddsSteps language p c.args.self.now steps c.args.events.now c.run.new.events ended)
     (ap (map step_view) c.as_slice.ensures.value ∙ c.in_ok-steps.ensures)
-    (h p of))
+    (h language p of))
     c.run.ensures

@@ -7,10 +7,10 @@ use Rattle.cluster_gate.proofs.policy_run.PolicyRun.run_bindings.Goals as goal
 pub returns : goal.returns
 returns c =
     IfOk-weaker c.run_each.result _ _
-    (λ ended h s p state asked of.
-    subst (λ (all : List (List PlannedStep)). AddsBindings p c.args.self.now all c.args.events.now c.run_each.new.events ended)
-    (bound_steps s (state_view c.args.state.now) (asked_view c.args.asked.now) (asked_policy s p) (request_view c.args.self.now.case.now.request.now) _ state asked
-    (steps_of_bindings (binding_steps (state_view c.args.state.now) (asked_view c.args.asked.now) (request_view c.args.self.now.case.now.request.now)) _ _ _
+    (λ ended h language s p state asked of.
+    subst (λ (all : List (List PlannedStep)). AddsBindings language p c.args.self.now all c.args.events.now c.run_each.new.events ended)
+    (bound_steps language s (state_view c.args.state.now) (asked_view c.args.asked.now) (asked_policy s p) (request_view c.args.self.now.case.now.request.now) _ state asked
+    (steps_of_bindings language (binding_steps (state_view c.args.state.now) (asked_view c.args.asked.now) (request_view c.args.self.now.case.now.request.now)) _ _ _
     refl c.in_ok-bindings.ensures))
-    (h p of))
+    (h language p of))
     c.run_each.ensures

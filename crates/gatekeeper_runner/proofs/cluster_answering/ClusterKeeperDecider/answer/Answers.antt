@@ -5,4 +5,4 @@ use Rattle.gatekeeper_runner.proofs.cluster_answering.ClusterKeeperDecider.answe
 
 pub returns : goal.returns
 returns c =
-    IfOk-weaker c.decision_text.result _ _ (λ text is s of. cluster_decided s _ _ _ _ (c.in_ok-decision.ensures s of) is) c.decision_text.ensures
+    IfOk-weaker c.decision_text.result _ _ (λ text is l s of. cluster_decided l s _ _ _ _ (c.in_ok-decision.ensures l s of) is) c.decision_text.ensures
