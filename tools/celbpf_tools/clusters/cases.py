@@ -67,9 +67,9 @@ def due(case: Case) -> Answers:
 
 
 def found(program: Any, case: Case) -> subprocess.CompletedProcess:
-    """How a gatekeeper ends."""
+    """How a gatekeeper ends that reads the profile, as the evaluator does."""
     with tempfile.TemporaryDirectory() as folder:
-        words = [Path(program).resolve(), *case.words(Path(folder))]
+        words = [Path(program).resolve(), "--profile", *case.words(Path(folder))]
         lines = b"".join(review + b"\n" for review in case.reviews)
         return subprocess.run(words, input=lines, cwd=folder, capture_output=True, timeout=SECONDS, check=False)
 

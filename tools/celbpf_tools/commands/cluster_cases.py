@@ -4,9 +4,10 @@ usage: tools/cluster-cases [--seed N] [--count N] [--reviews N] [GATEKEEPER]
        tools/cluster-cases --evaluator [--seed N] [--count N] [--reviews N]
 
 It makes N states (by default 1,000) of policies, bindings, namespaces, ConfigMaps and a custom resource, some of which
-are refused, and for each of them reviews (20) near the borders of what the state says. `gatekeeper --cluster` has to
-answer each line as tools/celbpf_tools/evaluator/cluster does, byte for byte, or to refuse the state; standard error is
-compared too. The first difference is printed whole, with a smaller state if that differs too, and ends it with status 1.
+are refused, and for each of them reviews (20) near the borders of what the state says. `gatekeeper --profile --cluster`
+has to answer each line as tools/celbpf_tools/evaluator/cluster does, byte for byte, or to refuse the state; standard
+error is compared too. The first difference is printed whole, with a smaller state if that differs too, and ends it with
+status 1.
 
 It prints how often each kind of answer was due. --evaluator asks no program, and ends with status 1 if some kind of
 answer was never due.

@@ -9,13 +9,14 @@ EXPRESSION = 4
 
 
 def words_of(refusal: str) -> str:
-    """A refusal of `compile`, such as `K6 validation 0 P4 at 7`, in words, with its code."""
+    """A refusal of a policy, such as `K6 validation 0 P4 at 7` or `K6 variable 1 W5 url`, in words, with its code."""
     parts = refusal.split()
     if parts[:1] == ["K6"] and len(parts) >= EXPRESSION:
-        _, kind, place, cause, *at = parts
+        _, kind, place, cause, *more = parts
         where = f"{'message of validation' if kind == 'message' else kind} {place}"
-        after = f" at byte {at[1]}" if at else ""
-        return f"{where}: {MEANINGS.get(cause, 'it is refused')}{after} ({cause})"
+        name = f" {more[0]}" if more and more[0] != "at" else ""
+        after = f" at byte {more[-1]}" if "at" in more else ""
+        return f"{where}: {MEANINGS.get(cause, 'it is refused')}{after} ({cause}{name})"
     return f"{MEANINGS[parts[0]]} ({refusal})" if parts and parts[0] in MEANINGS else refusal
 
 

@@ -21,6 +21,8 @@ REFUSED_START = 3
 POLICIES = {"fail": "Fail", "ignore": "Ignore"}
 # a policy that is too large, also by the literal of a result, and a program that is stopped
 TOO_LARGE = re.compile(r"\b(?:G[1-4]|K6 validation [0-9]+ P[56])\b")
+# an expression of the wide language that the gatekeeper does not translate yet; W4 is an index of an optional value
+NOT_YET = re.compile(r"\bW[45]\b")
 STOPPED = ("N4", "N5", "N8")
 PLACE = re.compile(r"\b(?:at|byte) ([0-9]+)")
 
@@ -67,10 +69,10 @@ def answer(place: int, result: Any) -> str:
     return json.dumps(whole, sort_keys=True, separators=(",", ":"))
 
 
-def run(program: Any, case: Case, due: Due) -> subprocess.CompletedProcess:
-    """How a gatekeeper ends on the policies and reviews of a case."""
+def run(program: Any, case: Case, due: Due, options: tuple = ()) -> subprocess.CompletedProcess:
+    """How a gatekeeper ends with these options on the policies and reviews of a case."""
     with tempfile.TemporaryDirectory() as folder:
-        words: list = [Path(program).resolve()]
+        words: list = [Path(program).resolve(), *options]
         documents = {f"--policy {word}": policy(case, due, word) for word in POLICIES}
         beside = {"--params params": "params", "--namespace namespace": "namespaceObject"}
         documents.update({name: case.roots[0][root] for name, root in beside.items() if case.roots[0][root]})
@@ -91,27 +93,38 @@ def names(line: str, refusal: str) -> bool:
 
 
 class Compared:
-    """Counts of what a gatekeeper answered."""
+    """Counts of what a gatekeeper with these options answered."""
 
-    def __init__(self) -> None:
-        self.expressions = self.values = self.errors = self.stopped = self.too_large = self.refused = 0
+    def __init__(self, options: tuple = ()) -> None:
+        self.options = options
+        self.expressions = self.values = self.errors = self.stopped = 0
+        self.too_large = self.refused = self.not_yet = 0
 
     def line(self) -> str:
         return (
             f"{self.expressions} expressions: {self.values} values, {self.errors} errors; "
-            f"{self.refused} refused, {self.too_large} too large, {self.stopped} reviews not decided"
+            f"{self.refused} refused, {self.not_yet} not translated yet, {self.too_large} too large, "
+            f"{self.stopped} reviews not decided"
         )
 
     def difference(self, program: Any, case: Case, due: Due) -> Optional[str]:
         """The first difference between a gatekeeper's answers and those that are due, or None."""
-        ended = run(program, case, due)
+        ended = run(program, case, due, self.options)
         errors = ended.stderr.decode()
-        if due.refusal:
+        is_refused = ended.returncode == REFUSED_START
+        if is_refused and due.refusal and names(errors, due.refusal):
             self.refused += 1
-            return None if ended.returncode == REFUSED_START and names(errors, due.refusal) else errors
-        if ended.returncode == REFUSED_START and TOO_LARGE.search(errors):
+        elif is_refused and NOT_YET.search(errors):
+            self.not_yet += 1
+        elif is_refused and not due.refusal and TOO_LARGE.search(errors):
             self.too_large += 1
-            return None
+        else:
+            return errors if due.refusal else self.answered(ended, due)
+        return None
+
+    def answered(self, ended: subprocess.CompletedProcess, due: Due) -> Optional[str]:
+        """The first difference between the lines of a gatekeeper and those that are due, or None."""
+        errors = ended.stderr.decode()
         lines = ended.stdout.decode().splitlines()
         if ended.returncode or errors or len(lines) != len(due.results):
             return f"status {ended.returncode}, {len(lines)} lines, {errors.strip()}"

@@ -1,0 +1,27 @@
+"""What vapctl says of refused policies."""
+
+import unittest
+
+from ..vapctl.refusals import why_blocked, words_of
+
+ROWS = [
+    ("K6 validation 0 P4 at 7", "validation 0: a token does not fit here, or the text ends too early at byte 7 (P4)"),
+    ("K6 variable 1 W5 url", "variable 1: it has a name or a form that is not supported (W5 url)"),
+    ("K6 message 2 W4", "message of validation 2: an optional value stands where there can be none (W4)"),
+    ("K6 condition 0 W1 at 3", "condition 0: it has a literal of bytes at byte 3 (W1)"),
+]
+
+
+class Words(unittest.TestCase):
+    def test_refusals_of_expressions(self) -> None:
+        for refusal, due in ROWS:
+            with self.subTest(refusal):
+                self.assertEqual(words_of(refusal), due)
+                self.assertEqual(why_blocked(f"C7 {refusal}"), due)
+
+    def test_a_field_that_is_not_read(self) -> None:
+        self.assertTrue(words_of("K3 auditAnnotations").endswith("(K3 auditAnnotations)"))
+
+
+if __name__ == "__main__":
+    unittest.main()
