@@ -8,7 +8,7 @@ from .home import ROOT
 
 CRATES = ROOT / "crates"
 USE = re.compile(r"(?:(?:abbrev|unfoldable|opaque|pub) )*use (Rattle\.[\w.+\-]+?)(?:\.\{(.*)\})?(?: as ([\w◌]+))?$")
-MUTUAL = re.compile(r"(?:abbrev |unfoldable )?mutual")
+BLOCK = re.compile(r"(?:(?:abbrev|unfoldable) )?mutual|module _ .* where$")
 HEAD = re.compile(r"( {2})?(?! )(?:(?:abbrev|unfoldable|opaque|pub) )*(data |record )?([^\s:(){}]+).*? :")
 CASE = re.compile(r"\s+(?:pub )?([\w◌\-'?]+)(?: \(.*\))? :")
 
@@ -70,17 +70,17 @@ class Module:
 
 def headed(lines: list, take: Callable) -> Iterator:
     """The lines of definitions: place, line, whether a sentence stands above, and the match of a head, if it is one."""
-    is_mutual = is_told = False
+    is_inside = is_told = False
     for place, line in enumerate(lines, 1):
         if use := USE.match(line):
             take(use)
-        elif MUTUAL.match(line):
-            is_mutual = True
+        elif BLOCK.match(line):
+            is_inside = True
             continue
         elif line and not line.startswith(("--", "use ", "pub mod")):
             head = HEAD.match(line)
-            head = head if head and (is_mutual or not head[1]) else None
-            is_mutual = is_mutual and not (head and not head[1])
+            head = head if head and (is_inside or not head[1]) else None
+            is_inside = is_inside and not (head and not head[1])
             yield place, line, is_told, head
         is_told = line.lstrip().startswith("--")
 
