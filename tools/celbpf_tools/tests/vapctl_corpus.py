@@ -93,12 +93,20 @@ def sent(value: Any, key: str = "") -> Any:
     return value
 
 
+def trimmed(thing: dict[str, Any]) -> dict[str, Any]:
+    """An object; of a policy, the expressions and messages have no blanks at their ends, as the gatekeeper reads them."""
+    if thing["kind"] != "ValidatingAdmissionPolicy":
+        return thing
+    validations = [{name: text.strip() for name, text in one.items()} for one in thing["spec"]["validations"]]
+    return {**thing, "spec": {**thing["spec"], "validations": validations}}
+
+
 class Corpus:
     """Policies with their bindings, and the manifests that are checked."""
 
     def __init__(self, policies: list[Path], manifests: list[Path]):
         self.files = {path: [sent(one) for one in objects(path)] for path in manifests}
-        given = [one for path in policies for one in objects(path)]
+        given = [trimmed(one) for path in policies for one in objects(path)]
         things = [one for found in self.files.values() for one in found]
         self.tables = [(IN_NAMESPACES, True), (IN_CLUSTER, False), *map(self.defined, filter(is_definition, things))]
         namespaces = [one for one in given + things if one["kind"] == "Namespace"]
