@@ -88,7 +88,7 @@ class Package(unittest.TestCase):
             self.assertIn("celbpf-as-reviews) echo '--cluster --old --namespace --user --group --skip-unknown'", text)
             self.assertIn("    vapctl) echo 'check audit state test why debug lint compile' ;;", text)
             self.assertIn("'kubectl-vap state') echo '--help --from --to --context --kubeconfig --kubectl' ;;", text)
-            self.assertRegex(text, "gatekeeper\\) echo '--policy .*--cluster --partial --help --version'")
+            self.assertRegex(text, "gatekeeper\\) echo '--policy .*--cluster --partial --leave-messages --help --version'")
 
     @unittest.skipUnless(is_checkout(), "the pages are in the repository")
     def test_completion_has_the_commands_of_the_page(self) -> None:
