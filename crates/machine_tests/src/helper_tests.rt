@@ -2,6 +2,7 @@
 
 mod rows;
 mod same_calls;
+mod searches;
 
 use guest_memory::{Guest, Regions};
 use helper_table::{HelperEnd, call};
