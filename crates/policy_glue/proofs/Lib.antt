@@ -2,6 +2,7 @@
 
 mod Compiles
 mod Distinct
+mod MessageTails
 mod Emission
 mod Escapes
 mod Found

@@ -1,7 +1,7 @@
 -- Proofs of `program::validations::put_message`: the result meets the contract.
 
 use Rattle.policy_glue.proofs.Prelude.{◌∙◌, ap, on_ok_weaker, core_view, with_expression, Emitted, with_piece, message_tail}
-use Rattle.policy_glue.proofs.Emission.{last_slot, tail_put}
+use Rattle.policy_glue.proofs.MessageTails.{last_slot, tail_put}
 use Rattle.policy_glue.proofs.program.validations.put_message.Goals as goal
 
 pub returns-clause-added : goal.returns-clause-added
