@@ -121,24 +121,24 @@ module _ (l : Language) where
   StandsIf p lacks t = (s : ClusterState) → lacks_kind s p ≡ lacks → StandsAs s p t
 
   -- the message expressions that are left out of a policy: those that its reading leaves out; none if it is refused
-  pub data LeavesOut (p : BoundPolicy) : List LeftOut → Type 0 where
-    in_profile : l ≡ Profile → LeavesOut p []
+  pub data LeavesOutMessages (p : BoundPolicy) : List LeftOut → Type 0 where
+    in_profile : l ≡ Profile → LeavesOutMessages p []
     refused : {rule : MessageRule} {text : List ℕ} (e : WideRefusal) → l ≡ Wide rule → IsJsonTextOf (compiled_document p.document) text
-        → IsWideRefused rule text e → LeavesOut p []
+        → IsWideRefused rule text e → LeavesOutMessages p []
     notes : {rule : MessageRule} {text : List ℕ} (told parsed : Policy) (left_out : Vec LeftOut Global) → l ≡ Wide rule
         → IsJsonTextOf (compiled_document p.document) text
-        → IsWidePolicy rule text (record { source = told; profile = parsed; left_out = left_out }) → LeavesOut p left_out.items
+        → IsWidePolicy rule text (record { source = told; profile = parsed; left_out = left_out }) → LeavesOutMessages p left_out.items
 
   -- a policy that is opened, and what is left out of it
   pub record HasOpened (p : BoundPolicy) (lacks : Bool) (t : Standing) (notes : List LeftOut) : Type 0 where
     pub stands : StandsIf p lacks t
-    pub leaves : LeavesOut p notes
+    pub leaves : LeavesOutMessages p notes
 
   -- the code's gate is of this policy
   pub record IsGateFor (s : ClusterState) (p : BoundPolicy) (g : PolicyGate) : Type 0 where
     pub asked : asked_view g.asked ≡ asked_policy s p
     pub stands : StandsAs s p g.standing
-    pub leaves : LeavesOut p g.left_out.items
+    pub leaves : LeavesOutMessages p g.left_out.items
 
   -- the gate of a policy, which may be blocked only if that is allowed, or what blocks it; or an allocation failed
   abbrev pub OpensGateFor : ClusterState → Bool → BoundPolicy → Result PolicyGate ClusterError → Type 0

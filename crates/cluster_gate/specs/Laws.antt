@@ -25,7 +25,8 @@ use Rattle.cluster_gate.specs.Gates.{IsCompiledPolicy}
 -- a request that no policy is asked about is allowed
 abbrev pub ExemptIsAllowed : Type 0
 ExemptIsAllowed = (l : Language) (s : ClusterState) (review : List ℕ) (n : ℕ) (q : Request) (o : Option (List ℕ))
-    → request_given review ≡ Some q → is_exempt q.attributes.resource ≡ true → DecidesInCluster l OneImage s review n o → o ≡ Some (response_text None (uid_in review))
+    → request_given review ≡ Some q → is_exempt q.attributes.resource ≡ true → DecidesInCluster l OneImage s review n o
+    → o ≡ Some (response_text None (uid_in review))
 
 -- the constraints of none of these policies match
 abbrev pub NoneMatches : ClusterState → Request → List BoundPolicy → Type 0
@@ -35,7 +36,8 @@ NoneMatches s q (p ∷ ps) = (match_answer p.constraints (namespace_labels s.obj
 -- a request that no policy matches is allowed
 abbrev pub UnmatchedIsAllowed : Type 0
 UnmatchedIsAllowed = (l : Language) (s : ClusterState) (review : List ℕ) (n : ℕ) (q : Request) (o : Option (List ℕ))
-    → request_given review ≡ Some q → NoneMatches s q s.policies → DecidesInCluster l OneImage s review n o → o ≡ Some (response_text None (uid_in review))
+    → request_given review ≡ Some q → NoneMatches s q s.policies → DecidesInCluster l OneImage s review n o
+    → o ≡ Some (response_text None (uid_in review))
 
 -- ---- one answer
 

@@ -47,10 +47,12 @@ pub record HaveInCommon (q : Request) (uid : List ℕ) (es fs : List Event) : Ty
 pub data Agree (l : Language) (s t : ClusterState) (review : List ℕ) (n : ℕ) : Option (List ℕ) → Option (List ℕ) → Type 0 where
   no_reviews : request_given review ≡ None → Agree l s t review n None None
   decisions : {q : Request} {es fs : List Event} → request_given review ≡ Some q
-      → Dispatches l OneImage s review n q (policies_asked s q) es → Dispatches l OneImage t review n q (policies_asked t q) fs → HaveInCommon q (uid_in review) es fs
+      → Dispatches l OneImage s review n q (policies_asked s q) es → Dispatches l OneImage t review n q (policies_asked t q) fs
+      → HaveInCommon q (uid_in review) es fs
       → Agree l s t review n (Some (cluster_response q (uid_in review) es)) (Some (cluster_response q (uid_in review) fs))
 
 -- the answers to a review in two orders of the policies and of the bindings agree
 abbrev pub OrderIsFree : Type 0
 OrderIsFree = (l : Language) (s t : ClusterState) (review : List ℕ) (n : ℕ) (a b : Option (List ℕ))
-    → HasShallowDocuments s → DifferInOrder s t → DecidesInCluster l OneImage s review n a → DecidesInCluster l OneImage t review n b → Agree l s t review n a b
+    → HasShallowDocuments s → DifferInOrder s t → DecidesInCluster l OneImage s review n a
+    → DecidesInCluster l OneImage t review n b → Agree l s t review n a b

@@ -75,7 +75,8 @@ pub data ServerDispatches (l : Language) (served : List GroupVersionResource) (c
 -- in the same place as the request's
 abbrev pub EquivalentsAreFree : Type 0
 EquivalentsAreFree = (l : Language) (served : List GroupVersionResource) (s : ClusterState) (review : List ℕ) (n : ℕ) (q : Request)
-    (es fs : List Event) → HasShallowDocuments s → All (λ c. is_candidate q.attributes.resource c ≡ true) served → list_any is_refusal es ≡ false
+    (es fs : List Event) → HasShallowDocuments s → All (λ c. is_candidate q.attributes.resource c ≡ true) served
+    → list_any is_refusal es ≡ false
     → Dispatches l OneImage s review n q (policies_asked s q) es → ServerDispatches l served OneImage s review n q (policies_asked s q) fs
     → fs ≡ es
 

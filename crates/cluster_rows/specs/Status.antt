@@ -22,4 +22,5 @@ is_allowed_by q es = is_none (status_of q (summary_of es)) && is_none (summary_o
 
 -- the answer of a cluster passes exactly if its events allow the request
 abbrev pub ClusterAnswersPassIfAllowed : Type 0
-ClusterAnswersPassIfAllowed = (q : Request) (uid : List ℕ) (es : List Event) → passes (line_of (cluster_response q uid es)) ≡ is_allowed_by q es
+ClusterAnswersPassIfAllowed = (q : Request) (uid : List ℕ) (es : List Event)
+    → passes (line_of (cluster_response q uid es)) ≡ is_allowed_by q es

@@ -10,7 +10,7 @@ use Rattle.cluster_state.specs.Items.{array_of}
 use Rattle.cluster_state.specs.Policies.{BoundPolicy, ParamKind}
 use Rattle.cluster_state.specs.State.{ClusterState}
 use Rattle.cluster_plan.specs.Steps.{bindings_of}
-use Rattle.cluster_gate.specs.Gates.{IsJudged, LeavesOut}
+use Rattle.cluster_gate.specs.Gates.{IsJudged, LeavesOutMessages}
 use Rattle.cluster_gate.specs.declared.block_cause.BlockCause.{BlockCause}
 use Rattle.cluster_gate.specs.declared.standing.Standing.{Standing, TheVariants.Asked, TheVariants.Blocked}
 use Rattle.gatekeeper_runner.specs.ClusterStarting.{cause_code, cause_text}
@@ -74,7 +74,7 @@ note_lines name notes = flat_map (note_line name) notes
 pub data TellsPolicies (l : Language) (lists : List json.Data) (s : ClusterState) : List BoundPolicy → List ℕ → Type 0 where
   none : TellsPolicies l lists s [] []
   next : {policies : List BoundPolicy} {text : List ℕ} (p : BoundPolicy) (cause : Option BlockCause) (notes : List LeftOut)
-      → TellsPolicies l lists s policies text → IsJudged l s p cause → LeavesOut l p notes
+      → TellsPolicies l lists s policies text → IsJudged l s p cause → LeavesOutMessages l p notes
       → TellsPolicies l lists s (policies ++ p ∷ []) (text ++ (policy_line lists s p cause ++ note_lines p.name notes))
 
 -- ---- the code's
