@@ -66,8 +66,8 @@ module _ {d : Documents} (run : PolicyRun d) where
     pub is_there : (is_running (shown_after lines).status ≡ false) ⊎ (steps_per_visit * work run.case ≤ (session_state_after lines).place)
 
   -- a further line `w` prints this text
-  abbrev pub Writes : List Line → List ℕ → Type 0
-  Writes lines text = (dialogue_of start (lines ++ granted (codes "w") ∷ [])).text ≡ (dialogue_of start lines).text ++ text
+  abbrev pub SessionWrites : List Line → List ℕ → Type 0
+  SessionWrites lines text = (dialogue_of start (lines ++ granted (codes "w") ∷ [])).text ≡ (dialogue_of start lines).text ++ text
 
   -- The program has exited with the policy's outcome, and `w` prints its verdict; or F8 stopped it, because the bound
   -- on its charge is passed or a value is too deep.
@@ -75,7 +75,7 @@ module _ {d : Documents} (run : PolicyRun d) where
     told : (references : List ℕ)
         → (shown_after lines).status ≡ Exited (outcome_word (decision run.case).outcome)
         → AreMessageReferences (shown_after lines).values.values (decision run.case).findings references
-        → Writes lines (told_text run.case.policy.parsed.failure_policy (decision run.case) references) → TellsVerdict lines
+        → SessionWrites lines (told_text run.case.policy.parsed.failure_policy (decision run.case) references) → TellsVerdict lines
     over : (shown_after lines).status ≡ Fault F8 → IsBeyond run.case → TellsVerdict lines
 
 -- this holds after any lines, with moves in both directions
