@@ -42,6 +42,6 @@ said_once (Wide rule) document t p u q is also =
 pub profile_said : (d : Documents) (told parsed : Policy) → d.language ≡ Profile → IsSaid d.language d.policy told parsed → policy_in d.policy ≡ Ok parsed
 profile_said d told parsed is said = (subst (λ (l : Language). IsSaid l d.policy told parsed) is said).0
 
--- it is told as it is compiled
+-- messages have the texts that are compiled
 pub profile_told : (d : Documents) (told parsed : Policy) → d.language ≡ Profile → IsSaid d.language d.policy told parsed → told ≡ parsed
 profile_told d told parsed is said = (subst (λ (l : Language). IsSaid l d.policy told parsed) is said).1

@@ -14,6 +14,6 @@ documents_in language policy review namespace params = record {
   params = option_map (λ b. b.now) params;
 }
 
--- the same of a policy in the language that is compiled
+-- these documents, with a policy in the language that is compiled
 abbrev pub documents_lent : List ℕ → List ℕ → Option (Bor (List ℕ)) → Option (Bor (List ℕ)) → Documents
 documents_lent policy review namespace params = documents_in Profile policy review namespace params

@@ -14,7 +14,7 @@ use Rattle.admission.specs.Deciding.{Case, Documents, Reply, Reviews, IsAnswered
 use Rattle.admission.specs.Reviews.{uid_in}
 use Rattle.admission.specs.declared.language.Language.TheVariants.{Wide as InWide}
 
--- the texts of the policy are these wide expressions, by whose meaning it decides, whatever the calls mean that
+-- the texts of the policy are these wide expressions, and it decides by their meaning, for any meaning of the calls that
 -- `wide_meaning` leaves open
 pub record DecidesAsMeant {d : Documents} (others : Wide → WideEnvironment → Outcome) (case : Case d) : Type 0 where
   pub wide : WidePolicyTree

@@ -12,7 +12,7 @@ more_values = values ++ value (list (item three no_items)) ∷ []
 abbrev pub reads : ℕ → List ℕ → ℕ
 reads number args = reads_of (pos number) args more_values constants
 
--- calls that read nothing, whatever their operands are
+-- calls that read nothing, with any operands
 pub record FreeRows : Type 0 where
   pub kind : reads 1 (5 ∷ []) ≡ 0
   pub int_of : reads 2 (4 ∷ []) ≡ 0

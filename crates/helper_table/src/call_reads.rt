@@ -1,4 +1,4 @@
-//! What a call reads, told before it by what the store knows of its operands: no value is walked.
+//! What a call reads, computed before it from what the store knows of its operands: no value is walked.
 
 ghost use Rattle.std.specs.Prelude.{◌≡◌};
 ghost use Rattle.helper_table.specs.Reads.{contains_reads, end_reads, equal_reads, index_reads, join_reads, less_reads, member_reads, put_reads, reads_at, reads_by, reads_in, reads_of, reads_of_two, reads_under, size_reads, text_const_reads};

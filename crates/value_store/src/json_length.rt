@@ -62,7 +62,7 @@ fn escaped_length(byte: u8) -> u64
     }
 }
 
-// A bracket or a comma stands before each item, and a bracket after the last.
+// A bracket or a comma precedes each item, and a bracket follows the last.
 #[cycle(text_length)]
 #[tactic(auto, using(crate::proofs::Lengths::all_items, crate::proofs::Lengths::list_long, std::proofs::lemmas::List::drop_all))]
 fn items_length(items: &Vec<Value>) -> u64
@@ -75,7 +75,7 @@ fn items_length(items: &Vec<Value>) -> u64
     length.max(2)
 }
 
-// A brace or a comma stands before each member, a colon after its key, and a brace after the last.
+// A brace or a comma precedes each member, a colon follows its key, and a brace follows the last member.
 #[cycle(text_length)]
 #[tactic(auto, using(crate::proofs::Lengths::all_members, crate::proofs::Lengths::map_long))]
 fn members_length(members: &Map<String, Value>) -> u64

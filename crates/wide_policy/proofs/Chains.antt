@@ -37,7 +37,7 @@ module _ {A B : Type 0} (Takes : List B → A → B → Type 0) (Refuses : List 
   pub refusal_holds : (ns : List A) (e : WidePolicyError) → EndsWith Takes Refuses [] ns (Err e) → Q e
   refusal_holds ns e ends = refused_by [] ns (Err e) e ends refl
 
--- the same of the parts that `policy_glue` takes, each for itself
+-- likewise, of the parts that `policy_glue` takes, each on its own
 module _ {A B : Type 0} (Takes : List B → A → B → Type 0) (Refuses : List B → A → CompileError → Type 0) (P : A → B → Type 0)
     (given : (taken : List B) (n : A) (b : B) → Takes taken n b → P n b) where
   record PairsAfter (taken : List B) (ns : List A) (out : List B) : Type 0 where

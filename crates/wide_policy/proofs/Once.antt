@@ -236,7 +236,7 @@ module _ (r : MessageRule) (variables : List (List ℕ × Kind)) where
   taken_validation place n a e is (taking.message x text f required other has why) =
       taken_message text a.message a.left_out f place required why (subst (λ (t : Option (List ℕ)). TakesWideMessage r variables t a.message a.left_out) has is.message)
 
--- the same of each pair
+-- lists of such pairs have equal values too
 same_each : {A B C : Type 0} (P : A → B → Type 0) (f : B → C) → ((a : A) (b c : B) → P a b → P a c → f b ≡ f c) → (xs : List A) (ys zs : List B) → EachPair P xs ys → EachPair P xs zs
     → map f ys ≡ map f zs
 same_each P f same [] [] [] h k = refl

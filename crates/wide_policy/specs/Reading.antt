@@ -67,8 +67,9 @@ abbrev pub HasWideTree : Policy → Type 0
 HasWideTree p = (w : WidePolicyTree) × IsWideTree p w
 
 -- if the profile's policy compiles, it decides on any roots as the source decides by what its wide expressions mean,
--- whatever the calls mean that `wide_meaning` leaves open
+-- for any meaning of the calls that `wide_meaning` leaves open
 abbrev pub DecidesAsWide : Policy → Policy → Type 0
 DecidesAsWide source profile =
-    (w : WidePolicyTree) (t : PolicyTree) (others : Wide → WideEnvironment → Outcome) (roots : Roots) → IsWideTree source w → Compiles profile (Ok t)
+    (w : WidePolicyTree) (t : PolicyTree) (others : Wide → WideEnvironment → Outcome) (roots : Roots)
+    → IsWideTree source w → Compiles profile (Ok t)
     → decision_of profile.failure_policy t roots ≡ wide_decision_of others source.failure_policy w roots

@@ -25,9 +25,10 @@ use Rattle.wide_policy.specs.declared.wide_policy_error.WidePolicyError.TheVaria
 
 -- ---- one expression
 
--- the expression of the text, and its translation; or why there is none in the place of any part
+-- the expression of the text, and its translation; or why it has none, as a part of any kind
 abbrev pub ReturnsTranslation : List (List ℕ × Kind) → List ℕ → Result Translated WideExpressionError → Type 0
-ReturnsTranslation variables text (Ok t) = (x : TakenExpression) × IsTranslated variables text x × (x.kind ≡ t.kind) × (x.tree ≡ view t.expression)
+ReturnsTranslation variables text (Ok t) =
+    (x : TakenExpression) × IsTranslated variables text x × (x.kind ≡ t.kind) × (x.tree ≡ view t.expression)
 ReturnsTranslation variables text (Err e) = e ≢ expression_error.Memory → (p : PartKind) → IsRefusedPart p variables text e
 
 -- the kind and the text of a part's translation
@@ -54,7 +55,8 @@ pub record IsAddedWide (n : NamedExpression) (old new : List (List ℕ × Kind))
   pub scope : new ≡ old ++ kind_of variable ∷ []
   pub list : after ≡ before ++ profile_named variable ∷ []
 
-abbrev pub ReturnsVariable : NamedExpression → ℕ → List (List ℕ × Kind) → List (List ℕ × Kind) → List NamedExpression → List NamedExpression → Result (Unit {0}) WidePolicyError → Type 0
+abbrev pub ReturnsVariable : NamedExpression → ℕ → List (List ℕ × Kind) → List (List ℕ × Kind)
+    → List NamedExpression → List NamedExpression → Result (Unit {0}) WidePolicyError → Type 0
 ReturnsVariable n place old new before after (Ok u) = IsAddedWide n old new before after
 ReturnsVariable n place old new before after (Err e) = e ≢ wide_error.Memory → RefusesPart Variable old place n.expression e
 
@@ -81,7 +83,8 @@ pub record IsMessageTaken (rule : MessageRule) (variables : List (List ℕ × Ki
   pub profile : option_map string_bytes m.profile ≡ option_map (λ (x : TakenExpression). printed x.tree) expression
 
 -- the message expression of the validation at this place is refused
-pub record IsMessageRefused (rule : MessageRule) (place : ℕ) (variables : List (List ℕ × Kind)) (text : Option (List ℕ)) (e : WidePolicyError) : Type 0 where
+pub record IsMessageRefused (rule : MessageRule) (place : ℕ) (variables : List (List ℕ × Kind)) (text : Option (List ℕ))
+    (e : WidePolicyError) : Type 0 where
   pub source : List ℕ
   pub is : text ≡ Some source
   pub required : rule ≡ Required
@@ -128,7 +131,8 @@ pub record IsListsOf (rs : List TakenValidation) (lists : TakenLists) : Type 0 w
   pub left_out : lists.left_out.items ≡ notes_from 0 rs
 
 abbrev pub ReturnsValidations : MessageRule → List (List ℕ × Kind) → List Validation → Result TakenLists WidePolicyError → Type 0
-ReturnsValidations rule variables ns (Ok lists) = (rs : List TakenValidation) × WideValidationsEnd rule variables ns (Ok rs) × IsListsOf rs lists
+ReturnsValidations rule variables ns (Ok lists) =
+    (rs : List TakenValidation) × WideValidationsEnd rule variables ns (Ok rs) × IsListsOf rs lists
 ReturnsValidations rule variables ns (Err e) = e ≢ wide_error.Memory → WideValidationsEnd rule variables ns (Err e)
 
 -- ---- policies

@@ -84,7 +84,8 @@ pub record RefusesPart (p : PartKind) (variables : List (List ℕ × Kind)) (pla
 pub data EndsWith {A B : Type 0} (Takes : List B → A → B → Type 0) (Refuses : List B → A → WidePolicyError → Type 0)
     : List B → List A → Result (List B) WidePolicyError → Type 0 where
   over : {taken : List B} → EndsWith Takes Refuses taken [] (Ok taken)
-  refused : {taken : List B} {n : A} {more : List A} (e : WidePolicyError) → Refuses taken n e → EndsWith Takes Refuses taken (n ∷ more) (Err e)
+  refused : {taken : List B} {n : A} {more : List A} (e : WidePolicyError) → Refuses taken n e
+      → EndsWith Takes Refuses taken (n ∷ more) (Err e)
   next : {taken : List B} {n : A} {more : List A} {end : Result (List B) WidePolicyError} (b : B) → Takes taken n b
       → EndsWith Takes Refuses (taken ++ b ∷ []) more end → EndsWith Takes Refuses taken (n ∷ more) end
 
@@ -129,7 +130,8 @@ pub record TakenValidation : Type 0 where
   pub left_out : Option WideExpressionError
 
 -- the message expression is taken, or there is none; or it is refused and left out
-abbrev pub TakesWideMessage : MessageRule → List (List ℕ × Kind) → Option (List ℕ) → Option TakenExpression → Option WideExpressionError → Type 0
+abbrev pub TakesWideMessage : MessageRule → List (List ℕ × Kind) → Option (List ℕ) → Option TakenExpression
+    → Option WideExpressionError → Type 0
 TakesWideMessage rule variables None None None = Unit {0}
 TakesWideMessage rule variables (Some text) (Some x) None = IsTakenPart Message variables text x
 TakesWideMessage rule variables (Some text) None (Some e) = (rule ≡ MayBeLeftOut) × IsRefusedPart Message variables text e
@@ -147,12 +149,16 @@ pub record TakesWideValidation (rule : MessageRule) (variables : List (List ℕ 
   pub message : TakesWideMessage rule variables n.message_expression r.message r.left_out
 
 -- the validation at this place is refused: for its expression, or else for its message expression, if that is required
-pub data RefusesWideValidation (rule : MessageRule) (variables : List (List ℕ × Kind)) (place : ℕ) (n : Validation) : WidePolicyError → Type 0 where
-  expression : (e : WidePolicyError) → RefusesPart part.Validation variables place n.expression e → RefusesWideValidation rule variables place n e
-  message : (x : TakenExpression) (text : List ℕ) (e : WidePolicyError) → rule ≡ Required → IsTakenPart part.Validation variables n.expression x
+pub data RefusesWideValidation (rule : MessageRule) (variables : List (List ℕ × Kind)) (place : ℕ) (n : Validation)
+    : WidePolicyError → Type 0 where
+  expression : (e : WidePolicyError) → RefusesPart part.Validation variables place n.expression e
+      → RefusesWideValidation rule variables place n e
+  message : (x : TakenExpression) (text : List ℕ) (e : WidePolicyError) → rule ≡ Required
+      → IsTakenPart part.Validation variables n.expression x
       → n.message_expression ≡ Some text → RefusesPart Message variables place text e → RefusesWideValidation rule variables place n e
 
-abbrev pub WideValidationsEnd : MessageRule → List (List ℕ × Kind) → List Validation → Result (List TakenValidation) WidePolicyError → Type 0
+abbrev pub WideValidationsEnd : MessageRule → List (List ℕ × Kind) → List Validation
+    → Result (List TakenValidation) WidePolicyError → Type 0
 WideValidationsEnd rule variables ns end = EndsWith (λ taken n r. TakesWideValidation rule variables n r)
     (λ taken n e. RefusesWideValidation rule variables (length taken) n e) [] ns end
 
@@ -170,8 +176,10 @@ pub data WidePartsEnd (rule : MessageRule) (p : Policy) : Result TakenParts Wide
   in_conditions : (vs : List WideStep) (e : WidePolicyError) → WideVariablesEnd p.variables (Ok vs)
       → WideConditionsEnd p.conditions (Err e) → WidePartsEnd rule p (Err e)
   in_validations : (vs cs : List WideStep) (e : WidePolicyError) → WideVariablesEnd p.variables (Ok vs)
-      → WideConditionsEnd p.conditions (Ok cs) → WideValidationsEnd rule (map kind_of vs) p.validations (Err e) → WidePartsEnd rule p (Err e)
-  taken : (vs cs : List WideStep) (rs : List TakenValidation) → WideVariablesEnd p.variables (Ok vs) → WideConditionsEnd p.conditions (Ok cs)
+      → WideConditionsEnd p.conditions (Ok cs) → WideValidationsEnd rule (map kind_of vs) p.validations (Err e)
+      → WidePartsEnd rule p (Err e)
+  taken : (vs cs : List WideStep) (rs : List TakenValidation) → WideVariablesEnd p.variables (Ok vs)
+      → WideConditionsEnd p.conditions (Ok cs)
       → WideValidationsEnd rule (map kind_of vs) p.validations (Ok rs)
       → WidePartsEnd rule p (Ok (record { variables = vs; conditions = cs; validations = rs }))
 

@@ -46,7 +46,7 @@ fn expression(
     Err(WideExpressionError::OptionalResult)
 }
 
-/// The same of the part at this place of its list.
+/// As `expression`, for the part at this place of its list.
 pub(crate) fn part_at(
     alloc: Global,
     part: PartKind,

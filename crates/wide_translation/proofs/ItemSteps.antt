@@ -151,7 +151,7 @@ item_refused s given i x f ps last h e q =
     ∙ ap (after ps last) (part_refused x.0 f (given_items s (drop (i + 1) given)))
     ∙ after_fault ps last f)
 
--- an item that may not stand there
+-- an item that is not allowed there
 pub item_misplaced : (s : WideScope) (given : List (Access × CodeWide)) (i : ℕ) (x : Access × CodeWide) (c : Carried) (f : WideFault) (ps : List (List Tree × Tree)) (last : List Tree)
     → i < length given → x ≡ get_or given i x → translated s (wide.view x.1) ≡ taken c → ((y : Parts) → one_more x.0 (taken c) y ≡ no_parts f)
     → list_translation (after ps last (given_items s (drop i given))) ≡ refused f

@@ -36,7 +36,7 @@ carried_view (code.Plain k t) = plain k (view t)
 carried_view (code.Guarded k g v) = guarded k (view g) (view v)
 carried_view (code.Listed k l) = listed k (view l)
 
--- whether an error is out of memory, which has no cause in the expression
+-- whether the error is that memory ran out
 abbrev pub is_memory : TranslationError → Bool
 is_memory error.Memory = true
 is_memory _ = false
@@ -64,7 +64,7 @@ abbrev pub IsTranslation : Translation → Result Translated TranslationError �
 IsTranslation t (Ok r) = IsTranslatedTo t r.kind (view r.expression)
 IsTranslation t (Err e) = IsRefusal t e
 
--- the same of a translation that is not finished
+-- what the code returns is the translation as it is carried, or the error of its fault
 abbrev pub ReturnsCarried : Translation → Result CodeCarried TranslationError → Type 0
 ReturnsCarried t (Ok c) = t ≡ taken (carried_view c)
 ReturnsCarried t (Err e) = IsRefusal t e

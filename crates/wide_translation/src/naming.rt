@@ -1,4 +1,4 @@
-//! Names, variables, and expressions that are told by their form.
+//! Names, variables, and expressions that are recognised by their form.
 
 ghost use Rattle.std.specs.Prelude.{◌≡◌};
 ghost use Rattle.cel_macros.specs.Environment.{lookup};
