@@ -57,7 +57,7 @@ pub trait ValueStore: Drop {
         requires { h < length (values self.now) }
         ensures { Some result ≡ option_map result_depth (slice_get (values self.now) h) };
 
-    /// Whether two values are deeply equal.
+    /// Whether two values are deeply equal. Takes no memory.
     fn equal(&mut self, a: u64, b: u64) -> bool
         requires { IsSome (equal_at (slice_get (values self.old) a) (slice_get (values self.old) b)) }
         ensures answer { Some result ≡ equal_at (slice_get (values self.old) a) (slice_get (values self.old) b) }
@@ -70,7 +70,8 @@ pub trait ValueStore: Drop {
         requires { IsSome (less_at (slice_get (values self.now) a) (slice_get (values self.now) b)) }
         ensures { Some result ≡ less_at (slice_get (values self.now) a) (slice_get (values self.now) b) };
 
-    /// Whether an item of the list `c` equals the value `x`, or the map `c` has the text `x` as a key.
+    /// Whether an item of the list `c` equals the value `x`, or the map `c` has the text `x` as a key. Takes no
+    /// memory.
     fn member(&mut self, x: u64, c: u64) -> bool
         requires { IsSome (member_at (slice_get (values self.old) x) (slice_get (values self.old) c)) }
         ensures answer { Some result ≡ member_at (slice_get (values self.old) x) (slice_get (values self.old) c) }
