@@ -1,6 +1,5 @@
 -- A text contains another exactly if the search finds it.
-use Rattle.helper_table.proofs.Prelude.{◌≡◌, ℕ, suc, List, [], ◌∷◌, length, take, Option, Some, None, true, sym, ap, ⊎_elim, arith, length-take, cases_Bool, or_cases, or_left, or_right, starts_with, is_some, nat_eq, OccursAt, FindsNeedle, OccursAt-part, OccursAt-from_part, contains}
-use Rattle.std.proofs.Common.{subst, true≢false, drop, ◌≤◌, ◌+◌, ◌∙◌}
+use Rattle.helper_table.proofs.Prelude.{◌≡◌, ◌<◌, ℕ, suc, List, [], ◌∷◌, length, take, Option, Some, None, true, false, sym, ap, ⊎_elim, arith, length-take, cases_Bool, or_cases, or_left, or_right, starts_with, is_some, nat_eq, OccursAt, FindsNeedle, OccursAt-part, OccursAt-from_part, contains}
 use lib.Pointwise.{bytes_decides}
 
 starts_at : (hay needle : List ℕ) → starts_with nat_eq hay needle ≡ true → OccursAt hay needle 0
@@ -11,9 +10,9 @@ starts_at hay needle e =
 starts_if : (hay needle : List ℕ) → OccursAt hay needle 0 → starts_with nat_eq hay needle ≡ true
 starts_if hay needle at = (bytes_decides needle (take (length needle) hay)).1 (sym (OccursAt-part hay needle 0 at))
 
-pub record Stands (hay needle : List ℕ) : Type 0 where
-  pub place : ℕ
-  pub at : OccursAt hay needle place
+record Stands (hay needle : List ℕ) : Type 0 where
+  place : ℕ
+  at : OccursAt hay needle place
 
 later : (b : ℕ) (bs needle : List ℕ) (k : ℕ) → OccursAt bs needle k → OccursAt (b ∷ bs) needle (suc k)
 later b bs needle k at = grind arith
@@ -21,20 +20,16 @@ later b bs needle k at = grind arith
 earlier : (b : ℕ) (bs needle : List ℕ) (k : ℕ) → OccursAt (b ∷ bs) needle (suc k) → OccursAt bs needle k
 earlier b bs needle k at = grind arith
 
-pub stands : (hay needle : List ℕ) → contains hay needle ≡ true → Stands hay needle
+stands : (hay needle : List ℕ) → contains hay needle ≡ true → Stands hay needle
 stands [] needle e = record { place = 0; at = starts_at [] needle e }
 stands (b ∷ bs) needle e =
     ⊎_elim (λ first. record { place = 0; at = starts_at (b ∷ bs) needle first })
     (λ rest. let found = stands bs needle rest in record { place = suc found.place; at = later b bs needle found.place found.at })
     (or_cases (starts_with nat_eq (b ∷ bs) needle) (contains bs needle) e)
 
-pub contains_if : (hay needle : List ℕ) (k : ℕ) → OccursAt hay needle k → contains hay needle ≡ true
+contains_if : (hay needle : List ℕ) (k : ℕ) → OccursAt hay needle k → contains hay needle ≡ true
 contains_if (b ∷ bs) needle (suc k) at = or_right _ _ (contains_if bs needle k (earlier b bs needle k at))
 contains_if hay needle k at = grind (arith, starts_if, or_left)
-
--- as a test of the bytes at a place finds it
-pub occurs_by : (hay needle : List ℕ) (k n : ℕ) → k + length needle ≤ length hay → n ≡ length needle → take n (drop k hay) ≡ needle → OccursAt hay needle k
-occurs_by hay needle k n fits size e = OccursAt-from_part hay needle k fits (ap (λ m. take m (drop k hay)) (sym size) ∙ e)
 
 pub finds_part : (hay needle : List ℕ) (r : Option ℕ) → FindsNeedle hay needle 0 r → is_some r ≡ contains hay needle
 finds_part hay needle (Some k) h = sym (contains_if hay needle k h.1)
@@ -42,12 +37,8 @@ finds_part hay needle None h =
     ⊎_elim (λ yes_is. let found = stands hay needle yes_is in let fits = found.at.fits in absurd (h found.place (omega arith) (omega arith) found.at))
     (λ no_is. sym no_is) (cases_Bool (contains hay needle))
 
--- a text that is as long as another, or longer, can only be at its start
-pub only_at_start : (hay needle : List ℕ) → length hay ≤ length needle → starts_with nat_eq hay needle ≡ contains hay needle
-only_at_start hay needle long =
-    ⊎_elim (λ yes_is. let found = stands hay needle yes_is in let fits = found.at.fits in
-    let first : found.place ≡ 0 = omega arith in
-    starts_if hay needle (subst (OccursAt hay needle) first found.at) ∙ sym yes_is)
-    (λ no_is. ⊎_elim (λ starts. absurd (true≢false (sym (contains_if hay needle 0 (starts_at hay needle starts)) ∙ no_is))) (λ no_start. no_start ∙ sym no_is)
-    (cases_Bool (starts_with nat_eq hay needle)))
-    (cases_Bool (contains hay needle))
+-- a longer text is no part
+pub too_long : (hay needle : List ℕ) → length hay < length needle → contains hay needle ≡ false
+too_long hay needle long =
+    ⊎_elim (λ yes_is. let found = stands hay needle yes_is in let fits = found.at.fits in absurd (omega arith))
+    (λ no_is. no_is) (cases_Bool (contains hay needle))

@@ -6,13 +6,10 @@ pub mod Maps
 pub mod Pairs
 pub mod Reading
 pub mod Finding
-pub mod Ranking
-pub mod Covering
 pub mod Bounded
 pub mod Depths
 pub mod Entering
 pub mod Performing
 pub mod Numbers
-pub mod Asking
 pub mod Tables
 pub mod Prelude

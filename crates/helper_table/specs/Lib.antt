@@ -15,6 +15,3 @@ pub mod Kinds
 pub mod Effects
 pub mod Laws
 pub mod Tables
-pub mod Answers
-pub mod Suffixes
-pub mod Kept

@@ -22,7 +22,7 @@ use value_store::{CHARGE_LIMIT, ValueStore};
 
 /// The effect of a helper's row on these arguments.
 #[tactic(auto, unfolding(crate::specs::Calls::row_of, crate::specs::Comparisons::starts_row, crate::specs::Comparisons::ends_row, crate::specs::Comparisons::contains_row))]
-pub(crate) fn effect_of<'a, V: ValueStore, M: Regions>(
+fn effect_of<'a, V: ValueStore, M: Regions>(
     helper: Helper,
     args: [u64; 5],
     table: &mut V,
@@ -83,10 +83,7 @@ fn word_of<V: ValueStore>(table: &mut V, placement: Placement<'_>) -> Result<u64
 }
 
 /// Charges for an effect and carries it out.
-pub(crate) fn perform<V: ValueStore>(
-    table: &mut V,
-    effect: HelperEffect<'_>,
-) -> Result<HelperEnd, AllocError>
+fn perform<V: ValueStore>(table: &mut V, effect: HelperEffect<'_>) -> Result<HelperEnd, AllocError>
     requires { CanDo (V.values table.old) effect.placement }
     ensures ends { let old : Contents = record { values = V.values table.old; charge = V.charge table.old } in
         CallReturns

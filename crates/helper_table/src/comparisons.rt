@@ -16,14 +16,14 @@ use guest_memory::Fault;
 use memchr::memmem;
 use value_store::{Shape, ValueStore};
 
-pub(crate) fn are_values(x: Shape<'_>, y: Shape<'_>) -> bool
+fn are_values(x: Shape<'_>, y: Shape<'_>) -> bool
     ensures { result ≡ is_value (shape_view x.entry) && is_value (shape_view y.entry) }
 {
     is_value(x) && is_value(y)
 }
 
 /// Deep equality, if both are values.
-pub(crate) fn equality<V: ValueStore>(table: &mut V, a: u64, b: u64, both: bool) -> Option<bool>
+fn equality<V: ValueStore>(table: &mut V, a: u64, b: u64, both: bool) -> Option<bool>
     requires { both ≡ is_some (equal_at (slice_get (V.values table.old) a) (slice_get (V.values table.old) b)) }
     ensures answer { result ≡ equal_at (slice_get (V.values table.old) a) (slice_get (V.values table.old) b) }
     ensures values { V.values table.new ≡ V.values table.old }
@@ -131,14 +131,13 @@ pub(crate) fn member<V: ValueStore>(
     Ok(HelperEffect::truth(truth))
 }
 
-/// Whether a text contains a part. A part that is as long as the text, or longer, can only be at its start, and is not
-/// read before a search.
-#[tactic(auto, using(crate::proofs::Finding::finds_part, crate::proofs::Finding::only_at_start))]
+/// Whether a text contains a part. A longer part is not read, as it would be before a search.
+#[tactic(auto, using(crate::proofs::Finding::finds_part, crate::proofs::Finding::too_long))]
 fn contains(text: &[u8], part: &[u8]) -> bool
     ensures { result ≡ contains text.now part.now }
 {
-    if part.len() >= text.len() {
-        return text.starts_with(part);
+    if part.len() > text.len() {
+        return false;
     }
     memmem::find(text, part).is_some()
 }
