@@ -25,7 +25,7 @@ push_pair a b s t h k = grind arith
 
 -- ---- two texts or two lists, joined
 
-pub join_length : (is js : Items) → length (list_of is) + length (list_of js) ≡ length (list_of (items_join is js))
+join_length : (is js : Items) → length (list_of is) + length (list_of js) ≡ length (list_of (items_join is js))
 join_length no_items js = omega arith
 join_length (item v is) js = grind (arith, join_length is js)
 

@@ -54,12 +54,6 @@ charged (Gives word vs cost) charge =
     else Halts F8
 charged (Stops f) charge = Halts f
 
--- what an outcome adds to the charge of 1; nothing if the call is stopped
-abbrev pub added_by : RowOutcome → ℕ
-added_by (Plain word added) = added
-added_by (Named v added) = added
-added_by (Refused f) = 0
-
 -- whether the outcome is a value to be placed
 abbrev pub is_named : RowOutcome → Bool
 is_named (Named v added) = true

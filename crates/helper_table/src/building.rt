@@ -22,7 +22,7 @@ use value_store::{Shape, ValueStore};
 const DEPTH_LIMIT: u64 = 255;
 
 /// Whether these are two texts or two lists.
-pub(crate) fn can_join(x: Shape<'_>, y: Shape<'_>) -> bool
+fn can_join(x: Shape<'_>, y: Shape<'_>) -> bool
     ensures { result ≡ can_join (shape_view x.entry) (shape_view y.entry) }
 {
     matches!(
@@ -32,7 +32,7 @@ pub(crate) fn can_join(x: Shape<'_>, y: Shape<'_>) -> bool
 }
 
 /// The number of bytes, items or entries.
-pub(crate) fn size(shape: Shape<'_>) -> u64
+fn size(shape: Shape<'_>) -> u64
     ensures { result ≡ seen_size (shape_view shape.entry) }
 {
     match shape {

@@ -11,7 +11,6 @@ mod helper_effect;
 mod helper_end;
 pub mod laws;
 mod lookups;
-mod operand_reads;
 mod operands;
 mod placement;
 mod text_test;
