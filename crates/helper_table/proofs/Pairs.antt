@@ -1,4 +1,5 @@
 -- The operand pairs that the tests of the store are defined for.
+use Rattle.value_store.specs.Calls.{equal_at}
 use Rattle.helper_table.proofs.Prelude.{◌≡◌, Option, Some, None, Bool, false, ◌&&◌, arith, ◌+◌, length, true, length-append, option_map, is_some, less_at, member_at, pushed, joined, Seen, outcome_view, seen_size, ValueOrError, Value, Items, no_items, item, list_of, items_join, is_value, is_list, have_order, may_be_in, can_join, sequence, named}
 
 pub nothing : (o : Option Bool) → false ≡ is_some o → None ≡ o
@@ -7,6 +8,12 @@ nothing o e = grind arith
 -- what holds of the outlines holds of the values
 pair : {A : Type 0} (test : Seen → Seen → Bool) (at : Option ValueOrError → Option ValueOrError → Option A) → ((x y : ValueOrError) → test (outcome_view x) (outcome_view y) ≡ is_some (at (Some x) (Some y))) → (a b : Option ValueOrError) (s t : Seen) → option_map outcome_view a ≡ Some s → option_map outcome_view b ≡ Some t → test s t ≡ is_some (at a b)
 pair test at same a b s t e f = grind arith
+
+equal_same : (x y : ValueOrError) → (is_value (outcome_view x) && is_value (outcome_view y)) ≡ is_some (equal_at (Some x) (Some y))
+equal_same x y = grind arith
+
+pub equal_pair : (a b : Option ValueOrError) (s t : Seen) → option_map outcome_view a ≡ Some s → option_map outcome_view b ≡ Some t → (is_value s && is_value t) ≡ is_some (equal_at a b)
+equal_pair = pair (λ s t. is_value s && is_value t) equal_at equal_same
 
 less_same : (x y : ValueOrError) → have_order (outcome_view x) (outcome_view y) ≡ is_some (less_at (Some x) (Some y))
 less_same x y = grind arith

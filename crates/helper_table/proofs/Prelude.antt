@@ -20,8 +20,7 @@ pub use Rattle.std.specs.Ordering.{is_eq, nat_cmp}
 pub use Rattle.std.specs.Str.{IsUtf8}
 pub use Rattle.std.specs.declared.alloc.AllocError.{AllocError}
 pub use Rattle.std.specs.declared.cmp.Ordering.TheVariants.{Equal}
-unfoldable pub use Rattle.std.specs.Fmt.{digits}
-unfoldable pub use Rattle.std.specs.Str.{chars, is_utf8}
+unfoldable pub use Rattle.std.specs.Str.{is_utf8}
 pub use Rattle.guest_memory.specs.declared.fault.Fault.TheVariants.{F8}
 unfoldable pub use Rattle.guest_memory.specs.Access.{constants_of}
 unfoldable pub use Rattle.guest_memory.specs.Memory.{start_memory}

@@ -4,11 +4,6 @@ use Rattle.value_store.specs.Lookup.{has_key}
 use Rattle.value_store.specs.Seen.{Seen, sees_error, sees_bool, sees_int, sees_text, sees_list, sees_map}
 use Rattle.value_store.specs.Value.{Entries}
 
--- a map, whose entries can be looked up
-abbrev pub has_entries : Seen → Bool
-has_entries (sees_map n) = true
-has_entries _ = false
-
 -- a value, and not the error
 abbrev pub is_value : Seen → Bool
 is_value sees_error = false
@@ -43,8 +38,3 @@ abbrev pub is_new_key : Option Entries → Option (List ℕ) → Bool
 is_new_key (Some es) (Some key) = not (has_key key es)
 is_new_key (Some es) None = false
 is_new_key None key = false
-
--- the test was made and failed
-abbrev pub is_absent : Option Bool → Bool
-is_absent (Some b) = not b
-is_absent None = false

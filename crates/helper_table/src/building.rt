@@ -1,9 +1,9 @@
 //! The helpers that make texts, lists and maps.
-ghost use Rattle.std.specs.Prelude.{◌≡◌, ◌&&◌, ◌+◌, ◌<◌, ◌≤◌, ◌^◌, List, Some, true, max, nat_le, option_map, slice_get, length, if◌then◌else◌};
+ghost use Rattle.std.specs.Prelude.{◌≡◌, ◌&&◌, ◌+◌, ◌<◌, ◌^◌, List, Some, true, max, nat_le, option_map, slice_get, length, if◌then◌else◌};
 ghost use Rattle.guest_memory.specs.declared.fault.Fault.TheVariants.{F8};
 ghost use Rattle.helper_table.specs.Building.{sequence, depth_at, depth_limit, join_row, list_new_row, map_new_row, push_row, put_row};
 ghost use Rattle.helper_table.specs.Calls.{on_value, on_values};
-ghost use Rattle.helper_table.specs.Kinds.{can_join, is_list, is_value, is_absent, is_new_key};
+ghost use Rattle.helper_table.specs.Kinds.{can_join, is_list, is_value, is_new_key};
 ghost use Rattle.helper_table.specs.Operands.{text_part};
 ghost use Rattle.helper_table.specs.Outcome.{Plain, Refused};
 ghost use Rattle.helper_table.specs.Effects.{means, CanFollow, outcome_by, CanDo};
@@ -12,8 +12,7 @@ ghost use Rattle.value_store.specs.Seen.{outcome_view, shape_view, seen_size};
 ghost use Rattle.value_store.specs.Value.{ValueOrError};
 
 use crate::helper_effect::HelperEffect;
-use crate::lookups::has_key;
-use crate::operands::{is_value, operand};
+use crate::operands::{is_map, is_value, operand};
 use crate::placement::Placement;
 use guest_memory::Fault;
 use value_store::{Shape, ValueStore};
@@ -151,20 +150,14 @@ pub(crate) fn push<V: ValueStore>(table: &V, l: u64, x: u64) -> Result<HelperEff
 }
 
 /// Whether this is a text that is not yet a key of the map.
+#[tactic(auto, using(value_store::proofs::Places::has_key_place))]
 fn is_new_key<V: ValueStore>(table: &V, m: u64, key: Shape<'_>) -> bool
     ensures { result ≡ is_new_key (entries_at (slice_get (V.values table.now) m)) (text_part (shape_view key.entry)) }
 {
     match key {
-        Shape::Text(text) => is_absent(has_key(table, m, text.as_bytes())),
+        Shape::Text(text) if is_map(table, m) => table.find(m, text.as_bytes()).is_none(),
         _ => false,
     }
-}
-
-/// Whether the test was made and failed.
-fn is_absent(test: Option<bool>) -> bool
-    ensures { result ≡ is_absent test }
-{
-    matches!(test, Some(false))
 }
 
 /// Whether these are a map, a text that is not yet one of its keys, and a value.

@@ -1,39 +1,20 @@
 //! The helpers that compare two values, and return a bool.
-ghost use Rattle.std.specs.Prelude.{◌≡◌, ◌&&◌, slice_get, is_some};
+ghost use Rattle.std.specs.Prelude.{◌≡◌};
 ghost use Rattle.helper_table.specs.Calls.{on_values};
-ghost use Rattle.helper_table.specs.Comparisons.{contains, equal_row, less_row, member_row, on_texts, test_of, text_row};
-ghost use Rattle.helper_table.specs.Kinds.{is_value, have_order, may_be_in};
-ghost use Rattle.helper_table.specs.Operands.{text_part};
+ghost use Rattle.helper_table.specs.Comparisons.{contains, equal_row, less_row, member_row, test_of, text_row};
+ghost use Rattle.helper_table.specs.Kinds.{have_order, may_be_in};
 ghost use Rattle.helper_table.specs.Effects.{means, CanFollow};
-ghost use Rattle.value_store.specs.Calls.{equal_at, less_at, member_at};
 ghost use Rattle.value_store.specs.Seen.{shape_view};
 
 use crate::helper_effect::HelperEffect;
 use crate::operands::{is_value, operand};
-use crate::placement::Placement;
 use crate::text_test::TextTest;
 use guest_memory::Fault;
 use memchr::memmem;
 use value_store::{Shape, ValueStore};
 
-fn are_values(x: Shape<'_>, y: Shape<'_>) -> bool
-    ensures { result ≡ is_value (shape_view x.entry) && is_value (shape_view y.entry) }
-{
-    is_value(x) && is_value(y)
-}
-
-/// Deep equality, if both are values.
-fn equality<V: ValueStore>(table: &mut V, a: u64, b: u64, both: bool) -> Option<bool>
-    requires { both ≡ is_some (equal_at (slice_get (V.values table.old) a) (slice_get (V.values table.old) b)) }
-    ensures answer { result ≡ equal_at (slice_get (V.values table.old) a) (slice_get (V.values table.old) b) }
-    ensures values { V.values table.new ≡ V.values table.old }
-    ensures charge { V.charge table.new ≡ V.charge table.old }
-{
-    if both { Some(table.equal(a, b)) } else { None }
-}
-
 /// Helper 9: whether two values are equal.
-#[tactic(auto, unfolding(crate::specs::Comparisons::equal_row))]
+#[tactic(auto, using(crate::proofs::Pairs::equal_pair, crate::proofs::Pairs::nothing), unfolding(crate::specs::Comparisons::equal_row))]
 pub(crate) fn equal<V: ValueStore>(
     table: &mut V,
     a: u64,
@@ -46,9 +27,10 @@ pub(crate) fn equal<V: ValueStore>(
 {
     let x = operand(table, a)?;
     let y = operand(table, b)?;
-    let both = are_values(x, y);
-    let truth = equality(table, a, b, both);
-    Ok(HelperEffect::truth(truth))
+    if is_value(x) && is_value(y) {
+        return Ok(HelperEffect::truth(Some(table.equal(a, b))));
+    }
+    Ok(HelperEffect::truth(None))
 }
 
 /// Whether these are two ints, two texts or two bools.
@@ -63,28 +45,18 @@ fn have_order(x: Shape<'_>, y: Shape<'_>) -> bool
     )
 }
 
-/// Whether the first operand is less than the second, if they have an order.
-fn order<V: ValueStore>(table: &V, a: u64, b: u64, ordered: bool) -> Option<bool>
-    requires { ordered ≡ is_some (less_at (slice_get (V.values table.now) a) (slice_get (V.values table.now) b)) }
-    ensures { result ≡ less_at (slice_get (V.values table.now) a) (slice_get (V.values table.now) b) }
-{
-    if ordered {
-        Some(table.less(a, b))
-    } else {
-        None
-    }
-}
-
 /// Helper 10: whether the first of two values is less than the second.
-#[tactic(auto, using(crate::proofs::Pairs::less_pair), unfolding(crate::specs::Comparisons::less_row))]
+#[tactic(auto, using(crate::proofs::Pairs::less_pair, crate::proofs::Pairs::nothing), unfolding(crate::specs::Comparisons::less_row))]
 pub(crate) fn less<V: ValueStore>(table: &V, a: u64, b: u64) -> Result<HelperEffect<'static>, Fault>
     ensures means { means (V.values table.now) result ≡ on_values (V.values table.now) a b less_row }
     ensures can { CanFollow (V.values table.now) result }
 {
     let x = operand(table, a)?;
     let y = operand(table, b)?;
-    let truth = order(table, a, b, have_order(x, y));
-    Ok(HelperEffect::truth(truth))
+    if have_order(x, y) {
+        return Ok(HelperEffect::truth(Some(table.less(a, b))));
+    }
+    Ok(HelperEffect::truth(None))
 }
 
 /// Whether these are a value and a list, or a text and a map.
@@ -98,22 +70,8 @@ fn may_be_in(x: Shape<'_>, c: Shape<'_>) -> bool
     }
 }
 
-/// Membership, if the second operand can contain the first.
-fn membership<V: ValueStore>(table: &mut V, x: u64, c: u64, may_be: bool) -> Option<bool>
-    requires { may_be ≡ is_some (member_at (slice_get (V.values table.old) x) (slice_get (V.values table.old) c)) }
-    ensures answer { result ≡ member_at (slice_get (V.values table.old) x) (slice_get (V.values table.old) c) }
-    ensures values { V.values table.new ≡ V.values table.old }
-    ensures charge { V.charge table.new ≡ V.charge table.old }
-{
-    if may_be {
-        Some(table.member(x, c))
-    } else {
-        None
-    }
-}
-
 /// Helper 15: whether a value is an item of a list, or a text is a key of a map.
-#[tactic(auto, using(crate::proofs::Pairs::member_pair), unfolding(crate::specs::Comparisons::member_row))]
+#[tactic(auto, using(crate::proofs::Pairs::member_pair, crate::proofs::Pairs::nothing), unfolding(crate::specs::Comparisons::member_row))]
 pub(crate) fn member<V: ValueStore>(
     table: &mut V,
     x: u64,
@@ -126,9 +84,10 @@ pub(crate) fn member<V: ValueStore>(
 {
     let item = operand(table, x)?;
     let container = operand(table, c)?;
-    let may_be = may_be_in(item, container);
-    let truth = membership(table, x, c, may_be);
-    Ok(HelperEffect::truth(truth))
+    if may_be_in(item, container) {
+        return Ok(HelperEffect::truth(Some(table.member(x, c))));
+    }
+    Ok(HelperEffect::truth(None))
 }
 
 /// Whether a text contains a part. A longer part is not read, as it would be before a search.
@@ -153,20 +112,6 @@ fn holds(test: TextTest, text: &[u8], part: &[u8]) -> bool
     }
 }
 
-/// The result of a test, if both are texts.
-fn on_texts(test: TextTest, x: Shape<'_>, y: Shape<'_>) -> Option<bool>
-    ensures { result ≡ on_texts (test_of test) (text_part (shape_view x.entry)) (text_part (shape_view y.entry)) }
-{
-    match (x, y) {
-        (Shape::Text(text), Shape::Text(part)) => Some(holds(
-            test,
-            text.as_bytes(),
-            part.as_bytes(),
-        )),
-        _ => None,
-    }
-}
-
 /// Helpers 12 to 14: whether a text starts with another, ends with it, or contains it.
 pub(crate) fn test_texts<V: ValueStore>(
     table: &V,
@@ -179,5 +124,11 @@ pub(crate) fn test_texts<V: ValueStore>(
 {
     let text = operand(table, a)?;
     let part = operand(table, b)?;
-    Ok(HelperEffect::truth(on_texts(test, text, part)))
+    match (text, part) {
+        (Shape::Text(text), Shape::Text(part)) => {
+            let truth = holds(test, text.as_bytes(), part.as_bytes());
+            Ok(HelperEffect::truth(Some(truth)))
+        }
+        _ => Ok(HelperEffect::truth(None)),
+    }
 }

@@ -1,9 +1,8 @@
 //! The helpers for the kind of a value, and for conversions between words, texts and bools.
-ghost use Rattle.std.specs.Prelude.{◌≡◌, not, option_map, List};
+ghost use Rattle.std.specs.Prelude.{◌≡◌, List};
 ghost use Rattle.helper_table.specs.Calls.{on_value, on_range};
-ghost use Rattle.helper_table.specs.Conversions.{kind_number, int_word, decimal_of, kind_row, int_of_row, int_new_row, text_const_row, text_of_int_row, not_row};
-ghost use Rattle.helper_table.specs.Operands.{int_part, truth_part};
-ghost use Rattle.helper_table.specs.Effects.{means, CanFollow, outcome_by, CanDo};
+ghost use Rattle.helper_table.specs.Conversions.{kind_number, kind_row, int_of_row, int_new_row, text_const_row, text_of_int_row, not_row};
+ghost use Rattle.helper_table.specs.Effects.{means, CanFollow};
 ghost use Rattle.value_store.specs.Seen.{shape_view};
 ghost use Rattle.value_store.specs.Value.{ValueOrError};
 
@@ -39,23 +38,16 @@ pub(crate) fn kind<V: ValueStore>(table: &V, h: u64) -> Result<HelperEffect<'sta
     Ok(HelperEffect::word(kind_number(shape)))
 }
 
-fn int_word(shape: Shape<'_>) -> u64
-    ensures { result ≡ int_word (int_part (shape_view shape.entry)) }
-{
-    match shape {
-        Shape::Int(n) => n.cast_unsigned(),
-        _ => 0,
-    }
-}
-
 /// Helper 2: an int as a word.
 #[tactic(auto, unfolding(crate::specs::Conversions::int_of_row))]
 pub(crate) fn int_of<V: ValueStore>(table: &V, h: u64) -> Result<HelperEffect<'static>, Fault>
     ensures means { means (V.values table.now) result ≡ on_value (V.values table.now) h int_of_row }
     ensures can { CanFollow (V.values table.now) result }
 {
-    let shape = operand(table, h)?;
-    Ok(HelperEffect::word(int_word(shape)))
+    match operand(table, h)? {
+        Shape::Int(n) => Ok(HelperEffect::word(n.cast_unsigned())),
+        _ => Ok(HelperEffect::word(0)),
+    }
 }
 
 /// Helper 3: the word as an int, read as signed.
@@ -64,27 +56,11 @@ pub(crate) fn int_new(word: u64) -> Result<HelperEffect<'static>, Fault>
     ensures means { (vs : List ValueOrError) → means vs result ≡ int_new_row word }
     ensures can { (vs : List ValueOrError) → CanFollow vs result }
 {
-    Ok(HelperEffect {
-        placement: Placement::Int(word.cast_signed()),
-        added: 0,
-    })
-}
-
-#[tactic(auto, using(crate::proofs::Seeing::no_text, crate::proofs::Seeing::text_of_utf8))]
-fn text_plan(bytes: &[u8]) -> HelperEffect<'_>
-    ensures means { (vs : List ValueOrError) → outcome_by vs result.placement result.added ≡ text_const_row bytes.now }
-    ensures can { (vs : List ValueOrError) → CanDo vs result.placement }
-{
-    match std::str::from_utf8(bytes) {
-        Ok(text) => HelperEffect {
-            placement: Placement::Text(text),
-            added: text.len() as u64,
-        },
-        Err(_) => HelperEffect::word(0),
-    }
+    Ok(HelperEffect::int(word.cast_signed()))
 }
 
 /// Helper 4: the text in a range of constants.
+#[tactic(auto, using(crate::proofs::Seeing::by_lent, crate::proofs::Seeing::no_text, crate::proofs::Seeing::text_of_utf8))]
 pub(crate) fn text_const<M: Regions>(
     memory: &M,
     addr: u64,
@@ -94,19 +70,12 @@ pub(crate) fn text_const<M: Regions>(
     ensures can { (vs : List ValueOrError) → CanFollow vs result }
 {
     let bytes = range(memory, addr, len)?;
-    Ok(text_plan(bytes))
-}
-
-fn decimal_plan(shape: Shape<'_>) -> HelperEffect<'static>
-    ensures means { (vs : List ValueOrError) → outcome_by vs result.placement result.added ≡ decimal_of (int_part (shape_view shape.entry)) }
-    ensures can { (vs : List ValueOrError) → CanDo vs result.placement }
-{
-    match shape {
-        Shape::Int(n) => HelperEffect {
-            placement: Placement::Decimal(n),
-            added: Buffer::new().format(n).len() as u64,
-        },
-        _ => HelperEffect::word(0),
+    match std::str::from_utf8(bytes) {
+        Ok(text) => Ok(HelperEffect {
+            placement: Placement::Text(text),
+            added: text.len() as u64,
+        }),
+        Err(_) => Ok(HelperEffect::word(0)),
     }
 }
 
@@ -116,16 +85,12 @@ pub(crate) fn text_of_int<V: ValueStore>(table: &V, h: u64) -> Result<HelperEffe
     ensures means { means (V.values table.now) result ≡ on_value (V.values table.now) h text_of_int_row }
     ensures can { CanFollow (V.values table.now) result }
 {
-    let shape = operand(table, h)?;
-    Ok(decimal_plan(shape))
-}
-
-fn other_truth(shape: Shape<'_>) -> Option<bool>
-    ensures { result ≡ option_map not (truth_part (shape_view shape.entry)) }
-{
-    match shape {
-        Shape::Bool(truth) => Some(!truth),
-        _ => None,
+    match operand(table, h)? {
+        Shape::Int(n) => Ok(HelperEffect {
+            placement: Placement::Decimal(n),
+            added: Buffer::new().format(n).len() as u64,
+        }),
+        _ => Ok(HelperEffect::word(0)),
     }
 }
 
@@ -135,6 +100,8 @@ pub(crate) fn not<V: ValueStore>(table: &V, h: u64) -> Result<HelperEffect<'stat
     ensures means { means (V.values table.now) result ≡ on_value (V.values table.now) h not_row }
     ensures can { CanFollow (V.values table.now) result }
 {
-    let shape = operand(table, h)?;
-    Ok(HelperEffect::truth(other_truth(shape)))
+    match operand(table, h)? {
+        Shape::Bool(truth) => Ok(HelperEffect::truth(Some(!truth))),
+        _ => Ok(HelperEffect::truth(None)),
+    }
 }

@@ -32,6 +32,14 @@ impl<'a> HelperEffect<'a> {
         HelperEffect::free(Placement::Word(word))
     }
 
+    /// An int, with nothing added to the charge.
+    pub(crate) fn int(n: i64) -> HelperEffect<'a>
+        ensures placement { result.placement ≡ placement.Int n }
+        ensures added { result.added ≡ 0 }
+    {
+        HelperEffect::free(Placement::Int(n))
+    }
+
     /// The reference of a bool, or of the error if there is none.
     pub(crate) fn truth(answer: Option<bool>) -> HelperEffect<'a>
         ensures placement { result.placement ≡ placement.Word (truth_word answer) }

@@ -1,13 +1,12 @@
 //! The helpers that look up a part of a map, a list or a text.
-ghost use Rattle.std.specs.Prelude.{◌≡◌, ◌<◌, ◌^◌, ℕ, Some, IfSome, List, is_some, option_and_then, option_map, slice_get};
+ghost use Rattle.std.specs.Prelude.{◌≡◌, Some, List, is_some, option_and_then, option_map, slice_get};
 ghost use Rattle.helper_table.specs.Calls.{on_value, on_values, on_range};
-ghost use Rattle.helper_table.specs.Lookups.{value_under, part_by, size_part, size_found, item_or_key, count_word, field_row, has_row, index_row, size_row, item_row, count_row};
-ghost use Rattle.helper_table.specs.Operands.{count_part, place_part};
+ghost use Rattle.helper_table.specs.Lookups.{value_under, field_row, has_row, index_row, size_row, item_row, count_row};
 ghost use Rattle.helper_table.specs.Outcome.{found};
 ghost use Rattle.helper_table.specs.Effects.{means, CanFollow, outcome_by, CanDo};
 ghost use Rattle.value_store.specs.Calls.{entries_at, part_at, key_at};
-ghost use Rattle.value_store.specs.Lookup.{has_key, place_of_key};
-ghost use Rattle.value_store.specs.Seen.{outcome_view, shape_view, seen_size, sees_list, sees_map};
+ghost use Rattle.value_store.specs.Lookup.{place_of_key};
+ghost use Rattle.value_store.specs.Seen.{outcome_view, sees_list, sees_map};
 ghost use Rattle.value_store.specs.Value.{ValueOrError};
 
 use crate::helper_effect::HelperEffect;
@@ -56,20 +55,8 @@ pub(crate) fn field<V: ValueStore, M: Regions>(
     Ok(part_under(table, m, key))
 }
 
-/// Whether a map has a key.
-#[tactic(auto, using(value_store::proofs::Places::has_key_place))]
-pub(crate) fn has_key<V: ValueStore>(table: &V, m: u64, key: &[u8]) -> Option<bool>
-    ensures { result ≡ option_map (has_key key.now) (entries_at (slice_get (V.values table.now) m)) }
-{
-    if is_map(table, m) {
-        Some(table.find(m, key).is_some())
-    } else {
-        None
-    }
-}
-
 /// Helper 6: whether a map has a key in the constants.
-#[tactic(auto, unfolding(crate::specs::Lookups::has_row))]
+#[tactic(auto, using(crate::proofs::Seeing::by_lent, value_store::proofs::Places::has_key_place), unfolding(crate::specs::Lookups::has_row))]
 pub(crate) fn has<V: ValueStore, M: Regions>(
     table: &V,
     memory: &M,
@@ -82,7 +69,10 @@ pub(crate) fn has<V: ValueStore, M: Regions>(
 {
     let _shape = operand(table, m)?;
     let key = range(memory, addr, len)?;
-    Ok(HelperEffect::truth(has_key(table, m, key)))
+    if is_map(table, m) {
+        return Ok(HelperEffect::truth(Some(table.find(m, key).is_some())));
+    }
+    Ok(HelperEffect::truth(None))
 }
 
 /// A list's item at a position, to be placed.
@@ -112,27 +102,6 @@ fn key_plan(m: u64, count: u64, i: u64) -> HelperEffect<'static>
     }
 }
 
-/// A list's item at an int, or a map's value at a text, to be placed.
-fn part_plan<V: ValueStore>(
-    table: &V,
-    x: u64,
-    container: Shape<'_>,
-    place: Shape<'_>,
-) -> HelperEffect<'static>
-    requires { option_map outcome_view (slice_get (V.values table.now) x) ≡ Some (shape_view container) }
-    ensures means { outcome_by (V.values table.now) result.placement result.added ≡ found (part_by (shape_view container.entry) (shape_view place.entry) (slice_get (V.values table.now) x)) }
-    ensures can { CanDo (V.values table.now) result.placement }
-{
-    match container {
-        Shape::List(count) => item_plan(x, count, place_part(place)),
-        Shape::Map(_) => match place {
-            Shape::Text(key) => part_under(table, x, key.as_bytes()),
-            _ => HelperEffect::word(0),
-        },
-        _ => HelperEffect::word(0),
-    }
-}
-
 /// Helper 7: a list's item at an int, or a map's value at a text.
 #[tactic(auto, using(crate::proofs::Seeing::by_operands), unfolding(crate::specs::Lookups::index_row))]
 pub(crate) fn index<V: ValueStore>(
@@ -145,56 +114,24 @@ pub(crate) fn index<V: ValueStore>(
 {
     let container = operand(table, x)?;
     let place = operand(table, k)?;
-    Ok(part_plan(table, x, container, place))
-}
-
-/// The number of code points, items or entries.
-#[tactic(auto, using(crate::proofs::Maps::few_code_points))]
-fn size_part(shape: Shape<'_>) -> Option<u64>
-    requires { seen_size (shape_view shape) < 2 ^ 63 }
-    ensures size { result ≡ size_part (shape_view shape.entry) }
-    ensures short { IfSome result (λ n. n < 2 ^ 63) }
-{
-    match shape {
-        Shape::Text(text) => Some(code_points(text.as_bytes()) as u64),
-        Shape::List(count) => Some(count),
-        Shape::Map(count) => Some(count),
-        _ => None,
-    }
-}
-
-fn size_plan(size: Option<u64>) -> HelperEffect<'static>
-    requires { IfSome size (λ n. n < 2 ^ 63) }
-    ensures means { (vs : List ValueOrError) → outcome_by vs result.placement result.added ≡ size_found size }
-    ensures can { (vs : List ValueOrError) → CanDo vs result.placement }
-{
-    match size {
-        Some(size) => HelperEffect::free(Placement::Int(size as i64)),
-        None => HelperEffect::word(0),
+    match (container, place) {
+        (Shape::List(count), _) => Ok(item_plan(x, count, place_part(place))),
+        (Shape::Map(_), Shape::Text(key)) => Ok(part_under(table, x, key.as_bytes())),
+        _ => Ok(HelperEffect::word(0)),
     }
 }
 
 /// Helper 8: the number of code points, items or entries, as an int.
-#[tactic(auto, unfolding(crate::specs::Lookups::size_row))]
+#[tactic(auto, using(crate::proofs::Maps::few_code_points), unfolding(crate::specs::Lookups::size_row))]
 pub(crate) fn size<V: ValueStore>(table: &V, h: u64) -> Result<HelperEffect<'static>, Fault>
     ensures means { means (V.values table.now) result ≡ on_value (V.values table.now) h size_row }
     ensures can { CanFollow (V.values table.now) result }
 {
-    let shape = operand(table, h)?;
-    Ok(size_plan(size_part(shape)))
-}
-
-/// A list's item, or a map's key, at a position, to be placed.
-fn item_or_key_plan(h: u64, shape: Shape<'_>, i: u64) -> HelperEffect<'static>
-    ensures means { (vs : List ValueOrError)
-        → option_map outcome_view (slice_get vs h) ≡ Some (shape_view shape.entry)
-        → outcome_by vs result.placement result.added ≡ found (item_or_key (shape_view shape.entry) i (slice_get vs h)) }
-    ensures can { (vs : List ValueOrError) → option_map outcome_view (slice_get vs h) ≡ Some (shape_view shape.entry) → CanDo vs result.placement }
-{
-    match shape {
-        Shape::List(count) => item_plan(h, count, Some(i)),
-        Shape::Map(count) => key_plan(h, count, i),
-        _ => HelperEffect::word(0),
+    match operand(table, h)? {
+        Shape::Text(text) => Ok(HelperEffect::int(code_points(text.as_bytes()) as i64)),
+        Shape::List(count) => Ok(HelperEffect::int(count as i64)),
+        Shape::Map(count) => Ok(HelperEffect::int(count as i64)),
+        _ => Ok(HelperEffect::word(0)),
     }
 }
 
@@ -204,17 +141,10 @@ pub(crate) fn item<V: ValueStore>(table: &V, h: u64, i: u64) -> Result<HelperEff
     ensures means { means (V.values table.now) result ≡ on_value (V.values table.now) h (λ x. item_row x i) }
     ensures can { CanFollow (V.values table.now) result }
 {
-    let shape = operand(table, h)?;
-    Ok(item_or_key_plan(h, shape, i))
-}
-
-fn count_word(shape: Shape<'_>) -> u64
-    ensures { result ≡ count_word (count_part (shape_view shape.entry)) }
-{
-    match shape {
-        Shape::List(count) => count,
-        Shape::Map(count) => count,
-        _ => u64::MAX,
+    match operand(table, h)? {
+        Shape::List(count) => Ok(item_plan(h, count, Some(i))),
+        Shape::Map(count) => Ok(key_plan(h, count, i)),
+        _ => Ok(HelperEffect::word(0)),
     }
 }
 
@@ -224,6 +154,9 @@ pub(crate) fn count<V: ValueStore>(table: &V, h: u64) -> Result<HelperEffect<'st
     ensures means { means (V.values table.now) result ≡ on_value (V.values table.now) h count_row }
     ensures can { CanFollow (V.values table.now) result }
 {
-    let shape = operand(table, h)?;
-    Ok(HelperEffect::word(count_word(shape)))
+    match operand(table, h)? {
+        Shape::List(count) => Ok(HelperEffect::word(count)),
+        Shape::Map(count) => Ok(HelperEffect::word(count)),
+        _ => Ok(HelperEffect::word(u64::MAX)),
+    }
 }

@@ -2,7 +2,7 @@
 ghost use Rattle.std.specs.Prelude.{◌≡◌, ◌<◌, ◌^◌, IfOk, OnOk, MatchResult, is_some, slice_get, length};
 ghost use Rattle.guest_memory.specs.declared.fault.Fault.TheVariants.{F3};
 ghost use Rattle.helper_table.specs.Calls.{bytes_at};
-ghost use Rattle.helper_table.specs.Kinds.{has_entries, is_value};
+ghost use Rattle.helper_table.specs.Kinds.{is_value};
 ghost use Rattle.helper_table.specs.Operands.{place_of, place_part};
 ghost use Rattle.helper_table.specs.Effects.{Sees};
 ghost use Rattle.value_store.specs.Calls.{entries_at};
@@ -33,16 +33,7 @@ pub(crate) fn range<M: Regions>(memory: &M, addr: u64, len: u64) -> Result<&[u8]
 pub(crate) fn is_map<V: ValueStore>(table: &V, h: u64) -> bool
     ensures { result ≡ is_some (entries_at (slice_get (V.values table.now) h)) }
 {
-    match table.at(h) {
-        Some(shape) => has_entries(shape),
-        None => false,
-    }
-}
-
-pub(crate) fn has_entries(shape: Shape<'_>) -> bool
-    ensures { result ≡ has_entries (shape_view shape.entry) }
-{
-    matches!(shape, Shape::Map(_))
+    matches!(table.at(h), Some(Shape::Map(_)))
 }
 
 /// The position that an int denotes, if the operand is one.
