@@ -1,10 +1,8 @@
 -- A heap after a cell is added, and after its backings have grown.
-use Rattle.value_table.proofs.Prelude.{◌≡◌, ℕ, ◌+◌, ◌<◌, ◌≤◌, List, [], ◌∷◌, ◌++◌, length, refl, sym, ap, ◌∙◌, arith, length-append, append-nil, slice_get, subst, Option, Some, Ok, get_or_append_left, slice_get-get_or, slice_index_or, vec_capacity, Value, meaning, grown, AreSame, ExtendsBackings, heap_values, content_at, IsHeap, IsUnchangedHeap, Gains, AreIndexes, AreFingerprints, Heap, Cell, Content, Backings}
+use Rattle.value_table.proofs.Prelude.{◌≡◌, ℕ, ◌+◌, ◌<◌, ◌≤◌, List, [], ◌∷◌, ◌++◌, length, refl, sym, ap, ◌∙◌, arith, length-append, append-nil, slice_get, Option, Some, Ok, get_or_append_left, slice_get-get_or, slice_index_or, vec_capacity, Value, meaning, grown, AreSame, ExtendsBackings, heap_values, content_at, IsHeap, IsUnchangedHeap, Gains, Heap, Cell, Content, Backings}
 use Rattle.value_store.specs.Value as kind
 use Rattle.value_table.specs.declared.content.Content.TheVariants as cell
 use Rattle.value_table.proofs.Growth.{grown_kept, cells_kept, grown_one, cells_one, count_values}
-use Rattle.value_table.proofs.Indexed.{indexes_kept}
-use Rattle.value_table.proofs.Mixed.{fingerprints_more}
 use Rattle.value_table.proofs.Listed.{Made}
 
 get_front : (vs ws : List Value) (r : ℕ) → r < length vs → slice_get (vs ++ ws) r ≡ slice_get vs r
@@ -24,18 +22,17 @@ extends_same bs = record { bytes = ([], sym (append-nil bs.bytes)); keys = ([], 
 -- ---- a call that reserves capacity first
 
 -- the allocation fails
-pub heap_before : (old new : Heap) → IsHeap old → IsUnchangedHeap old new → vec_capacity old.same ≤ vec_capacity new.same → new.indexes ≡ old.indexes → new.fingerprints ≡ old.fingerprints → IsHeap new
-heap_before old new h b longer indexes fingerprints = grind arith
+pub heap_before : (old new : Heap) → IsHeap old → IsUnchangedHeap old new → vec_capacity old.same ≤ vec_capacity new.same → IsHeap new
+heap_before old new h b longer = grind arith
 
 -- only the backings have grown
 pub values_grown : (old : Heap) (bs : Backings) (cells : List Cell) → IsHeap old → ExtendsBackings old.backings bs → cells ≡ old.cells → grown bs [] cells ≡ heap_values old
 values_grown old bs cells h e same = ap (grown bs []) same ∙ grown_kept old.backings bs [] old.cells e h.cells
 
-pub heap_grown : (old new : Heap) → IsHeap old → ExtendsBackings old.backings new.backings → new.cells ≡ old.cells → new.same ≡ old.same → new.indexes ≡ old.indexes → new.fingerprints ≡ old.fingerprints → IsHeap new
-heap_grown old new h e cells same indexes fingerprints =
+pub heap_grown : (old new : Heap) → IsHeap old → ExtendsBackings old.backings new.backings → new.cells ≡ old.cells → new.same ≡ old.same → IsHeap new
+heap_grown old new h e cells same =
     let kept = values_grown old new.backings new.cells h e cells in
-    let all = subst (λ vs. AreIndexes new.backings vs old.indexes.all.items) (append-nil (heap_values old)) (indexes_kept old.backings new.backings (heap_values old) [] old.indexes.all.items e h.indexes) in
-    record { cells = rw cells (cells_kept old.backings new.backings [] old.cells e h.cells); same = rw (kept, same) h.same; room = rw (cells, same) h.room; indexes = rw (kept, indexes) all; fingerprints = rw (kept, fingerprints) (subst (λ vs. AreFingerprints new.backings.bytes vs old.fingerprints) (append-nil (heap_values old)) (fingerprints_more old.backings.bytes new.backings.bytes (heap_values old) [] old.fingerprints e.bytes h.fingerprints)) }
+    record { cells = rw cells (cells_kept old.backings new.backings [] old.cells e h.cells); same = rw (kept, same) h.same; room = rw (cells, same) h.room }
 
 -- cell c is added at place i to the cells `mid`, which were there once capacity was reserved; nothing else changed
 pub record IsAppended (old new : Heap) (mid : List Cell) (c : Cell) (i : ℕ) : Type 0 where
@@ -44,8 +41,6 @@ pub record IsAppended (old new : Heap) (mid : List Cell) (c : Cell) (i : ℕ) : 
   pub same : mid ≡ old.cells
   pub cells : new.cells ≡ mid ++ c ∷ []
   pub at : i ≡ length mid
-  pub indexes : new.indexes ≡ old.indexes
-  pub fingerprints : new.fingerprints ≡ old.fingerprints
 
 -- the allocation succeeds
 pub gained : (old new : Heap) (mid : List Cell) (c : Cell) (i : ℕ) (due : Option Value) → IsHeap old → ExtendsBackings old.backings new.backings
@@ -56,8 +51,6 @@ gained old new mid c i due h e appended made =
     let same = appended.same in
     let cells = appended.cells in
     let at = appended.at in
-    let indexes = appended.indexes in
-    let fingerprints = appended.fingerprints in
     let kept = grown_kept old.backings new.backings [] old.cells e h.cells in
     let v = meaning new.backings (heap_values old) c.content in
     let all : new.cells ≡ old.cells ++ c ∷ [] = cells ∙ ap (λ xs. xs ++ c ∷ []) same in
@@ -67,8 +60,6 @@ gained old new mid c i due h e appended made =
         cells = rw all (cells_one new.backings [] old.cells c (cells_kept old.backings new.backings [] old.cells e h.cells) (rw kept made.cell));
         same = rw (put, words) (same_more (heap_values old) (v ∷ []) old.same.items h.same);
         room = omega (arith, length-append old.cells (c ∷ []), ap length all, fits);
-        indexes = rw (put, indexes) (indexes_kept old.backings new.backings (heap_values old) (v ∷ []) old.indexes.all.items e h.indexes);
-        fingerprints = rw (put, fingerprints) (fingerprints_more old.backings.bytes new.backings.bytes (heap_values old) (v ∷ []) old.fingerprints e.bytes h.fingerprints);
       };
       added = rw made.value (at ∙ ap length same ∙ sym (count_values old.backings old.cells), put);
       kept = tt;

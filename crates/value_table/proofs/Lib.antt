@@ -18,7 +18,6 @@ pub mod Walks
 pub mod Rows
 pub mod Classes
 pub mod Comparisons
-pub mod Indexed
 pub mod Searches
 pub mod Lookups
 pub mod Mapped
@@ -40,5 +39,3 @@ pub mod MemberTexts
 mod Membered
 mod FirstBytes
 mod Inserted
-mod Tabled
-mod Mixed

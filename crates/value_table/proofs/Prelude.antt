@@ -70,8 +70,6 @@ pub use Rattle.value_table.specs.Chunks.{AreChunks, AreFull, joined}
 pub use Rattle.value_table.specs.Entries.{HoldsKeys, put_values, with_one}
 pub use Rattle.value_table.specs.Equality.{AreContents, AreMeanings, AreOneClass, ClassesStay, Compares, Finds}
 pub use Rattle.value_table.specs.Equality.{IsRoot, LeadDown, Shortens, way_down}
-pub use Rattle.value_table.specs.Fingerprints.{AreFingerprints, AreCellPrints, IsTextPrint, bytes_mixed, entries_mixed, fingerprint, head_number}
-pub use Rattle.value_table.specs.Fingerprints.{items_mixed, keys_mixed, text_number}
 pub use Rattle.value_table.specs.Growing.{Enters, HasGrown, IsValueAt}
 pub use Rattle.value_table.specs.Heads.{Head, built, entries, entries_of, head, items, parts, simple, texts_of}
 pub use Rattle.value_table.specs.Heads.{values_at}
@@ -79,7 +77,6 @@ pub use Rattle.value_table.specs.Heap.{Gains, IsUnchangedHeap, IsHeap, content_a
 pub use Rattle.value_table.specs.Heaps.{AddsValue, AreBelow, AreCells, AreKeys, AreSame, AreTexts, ExtendsBackings}
 pub use Rattle.value_table.specs.Heaps.{CellFound, HoldsItems, IsCell, IsContent, IsRange, IsText}
 pub use Rattle.value_table.specs.Held.{Held}
-pub use Rattle.value_table.specs.Index.{AreIndexes, AreKnown, Covers, IsIndex, IsIndexed, fingerprints_at, first_place}
 pub use Rattle.value_table.specs.Lengths.{commas, json_length}
 pub use Rattle.value_table.specs.Meaning.{entries_at, grown, items_at, key_in, keys_at, meaning, part_of}
 pub use Rattle.value_table.specs.Meaning.{reference_of, refs_at, value_in}
@@ -92,10 +89,6 @@ pub use Rattle.value_table.specs.Tokens.{row_tokens, value_tokens}
 pub use Rattle.value_table.specs.declared.backings.Backings.{Backings}
 pub use Rattle.value_table.specs.declared.cell.Cell.{Cell}
 pub use Rattle.value_table.specs.declared.content.Content.{Content}
-pub use Rattle.value_table.specs.declared.fingerprints.Fingerprints.{Fingerprints}
 pub use Rattle.value_table.specs.declared.heap.Heap.{Heap}
-pub use Rattle.value_table.specs.declared.index.Index.{Index}
 pub use Rattle.value_table.specs.declared.measure.Measure.{Measure}
 pub use Rattle.value_table.specs.declared.part.Part.{Part}
-pub use Rattle.value_table.specs.declared.text_print.TextPrint.{TextPrint}
-unfoldable pub use Rattle.value_table.specs.Fingerprints.{mixed, turned}

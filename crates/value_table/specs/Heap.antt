@@ -5,8 +5,6 @@ use Rattle.std.specs.declared.alloc.AllocError.{AllocError}
 use Rattle.value_store.specs.Value.{Value}
 use Rattle.value_table.specs.Meaning.{grown}
 use Rattle.value_table.specs.Heaps.{AreCells, AreSame, AddsValue}
-use Rattle.value_table.specs.Index.{AreIndexes}
-use Rattle.value_table.specs.Fingerprints.{AreFingerprints}
 use Rattle.value_table.specs.declared.cell.Cell.{Cell}
 use Rattle.value_table.specs.declared.content.Content.{Content}
 use Rattle.value_table.specs.declared.content.Content.TheVariants as cell
@@ -20,8 +18,6 @@ pub record IsHeap (h : Heap) : Type 0 where
   pub same : AreSame (heap_values h) h.same.items
   -- there is capacity for a word of each cell, so that comparisons allocate nothing
   pub room : length h.cells ≤ vec_capacity h.same
-  pub indexes : AreIndexes h.backings (heap_values h) h.indexes.all.items
-  pub fingerprints : AreFingerprints h.backings.bytes (heap_values h) h.fingerprints
 
 -- the heap has the same cells, backings and words
 pub record IsUnchangedHeap (old new : Heap) : Type 0 where

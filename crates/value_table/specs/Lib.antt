@@ -9,10 +9,8 @@ pub mod Heap
 pub mod References
 pub mod Heads
 pub mod Equality
-pub mod Fingerprints
+pub mod Known
 pub mod Search
-pub mod PlaceTable
-pub mod Index
 pub mod Entries
 pub mod Growing
 pub mod Held

@@ -11,11 +11,8 @@ use crate::backings::Backings;
 use crate::cell::Cell;
 use crate::chunks::{Chunks, SPARE};
 use crate::content::Content;
-use crate::fingerprints::Fingerprints;
-use crate::indexes::Indexes;
 use crate::lengths::int_length;
 use crate::sequence::Sequence;
-use crate::text_reads::TextReads;
 use std::alloc::{AllocError, Global};
 
 /// Values, each identified by the place of its cell. A value never changes.
@@ -26,12 +23,6 @@ pub(crate) struct Heap {
     /// For each cell, the place of an equal value, as far as is known: itself or an earlier cell. A
     /// cell without a word refers to itself. Capacity for the words of all cells is reserved.
     pub(crate) same: Vec<u64>,
-    /// Indexes of the items of lists. A copy starts without them.
-    pub(crate) indexes: Indexes,
-    /// What comparisons of texts have read. A copy starts anew.
-    pub(crate) reads: TextReads,
-    /// Fingerprints of values. A copy starts without them.
-    pub(crate) fingerprints: Fingerprints,
 }
 
 impl Heap {
@@ -45,9 +36,6 @@ impl Heap {
             cells: Sequence::new(alloc)?,
             backings: Backings::new(alloc)?,
             same: Vec::new(alloc),
-            indexes: Indexes::new(alloc),
-            reads: TextReads::new(),
-            fingerprints: Fingerprints::new(alloc),
         })
     }
 
@@ -69,9 +57,6 @@ impl Heap {
             cells: self.cells.copy(more)?,
             backings: self.backings.copy()?,
             same: Vec::with_capacity(self.cells.alloc(), words)?,
-            indexes: Indexes::new(self.cells.alloc()),
-            reads: TextReads::new(),
-            fingerprints: Fingerprints::new(self.cells.alloc()),
         })
     }
 

@@ -5,8 +5,8 @@ usage: tools/refused-allocations [NAME..]
 What is run stands in tools/data/refused-allocations, one driver for each name: the tokens and the tree of a text
 with every production; the expansion, the type and the code of an expression with every construct; the images of a
 short policy and of one with six variables and macros; the code and the listing of two programs with a jump; two
-sessions; the values of a review's five roots; each call of a table of values, in place and not; searches by an index
-and comparisons of lists that differ late, which never want memory; 10,000 pushes onto the newest list, which all
+sessions; the values of a review's five roots; each call of a table of values, in place and not; searches
+and comparisons of lists that differ late, which take no memory; 10,000 pushes onto the newest list, which all
 succeed with the 1,000th allocation refused; a session on the image of the short policy, with its review; the orders
 asm, list and run-image; the order review on these two, which prints no response where memory ran out; and the
 gatekeeper on two lines, of which one that wants memory says so and the other has its response. Each is built once,

@@ -12,9 +12,7 @@ use crate::cell::Cell;
 use crate::content::Content;
 use crate::equality::alike::alike;
 use crate::equality::classes::{representative, unite};
-use crate::equality::front::same_front;
 use crate::sequence::Sequence;
-use crate::text_reads::TextReads;
 
 /// Whether the values of two cells are equal. Each equal pair is remembered, so that values with
 /// shared parts take about as many steps as they have cells. The recursion is as deep as the values.
@@ -23,7 +21,6 @@ pub(crate) fn equal(
     cells: &Sequence<Cell>,
     backings: &Backings,
     same: &mut [u64],
-    reads: &mut TextReads,
     a: u64,
     b: u64,
 ) -> bool
@@ -39,13 +36,13 @@ pub(crate) fn equal(
     }
     let left = cells.at(x as usize);
     let right = cells.at(y as usize);
-    if !alike(backings, reads, left.content, right.content) {
+    if !alike(backings, left.content, right.content) {
         return false;
     }
     let xs = parts_of(backings, left.content);
     let ys = parts_of(backings, right.content);
-    for i in same_front(cells, xs, ys)..xs.len() {
-        if !equal(cells, backings, same, reads, xs[i] as u64, ys[i] as u64) {
+    for i in 0..xs.len() {
+        if !equal(cells, backings, same, xs[i] as u64, ys[i] as u64) {
             return false;
         }
     }

@@ -31,7 +31,7 @@ loop-i-init t c = λ vs m s.
     let y = c.representative-y.ensures.value vs x.0 in
     let first = c.representative-x.ensures.classes s.below in
     let found = both_found c.args.same.now c.representative-x.new.same c.representative-y.new.same c.args.a c.args.b c.representative-x.result c.representative-y.result first (c.representative-y.ensures.classes first.shorter.down) in
-    record { known = y.0; values = c.same_front-i.ensures.same _ vs m; stay = found.stay; others = found.others; root = found.root; long = c.representative-y.auto.same ∙ c.representative-x.auto.same }
+    record { known = y.0; values = refl; stay = found.stay; others = found.others; root = found.root; long = c.representative-y.auto.same ∙ c.representative-x.auto.same }
 
 pub returns-then-not-equal : goal.returns-then-not-equal
 returns-then-not-equal t c = λ vs m s.

@@ -1,26 +1,17 @@
--- Proofs of `heap::Heap::equal`: the result meets the contract.
+-- Proofs of `heap::Heap::equal`: the result meets the contract; its calls meet their requirements.
 
-use Rattle.value_table.proofs.Prelude.{◌≡◌, length, refl, sym, ap, arith, heap_values, Compares}
-use Rattle.value_table.proofs.Growth.{count_values}
-use Rattle.value_table.proofs.Comparisons.{answer_is, meanings_of}
-use Rattle.value_table.proofs.Indexed.{known_of}
+use Rattle.value_table.proofs.Prelude.{heap_values}
+use Rattle.value_table.proofs.Comparisons.{contents_of, known_of, readable}
 use Rattle.value_table.proofs.heap.Heap.equal.Goals as goal
 
-pub returns-then-are_told_apart-clause-answer : goal.returns-then-are_told_apart-clause-answer
-returns-then-are_told_apart-clause-answer c =
-    let heap = c.complete_words.new.self in
-    let vs = heap_values c.args.self.now in
-    let same : heap_values heap ≡ vs = rw (c.complete_words.ensures.backings, c.complete_words.ensures.cells) refl in
-    let is = c.complete_words.ensures.heap in
-    sym (c.are_told_apart.ensures.apart vs (rw same at (known_of heap.backings heap.cells is.cells)) (rw same at is.fingerprints) c.if-are_told_apart.true)
+pub equal_by_cells-requires-clause-left : goal.equal_by_cells-requires-clause-left
+equal_by_cells-requires-clause-left c = readable c.args.self.now.backings c.args.a c.cell-left.result.content c.cell-left.ensures.found.content
 
-pub returns-clause-answer : goal.returns-clause-answer
-returns-clause-answer c =
-    let heap = c.complete_words.new.self in
-    let vs = heap_values c.args.self.now in
-    let same : heap_values heap ≡ vs = rw (c.complete_words.ensures.backings, c.complete_words.ensures.cells) refl in
-    let n = count_values heap.backings heap.cells in
-    let after : Compares vs (length c.args.self.now.cells) heap.same.items c.equal.new.same c.args.a c.args.b c.equal.result = grind (arith, meanings_of) in
-    answer_is heap.backings vs heap.cells c.args.a c.args.b c.equal.result
-    (rw same at (meanings_of heap.backings heap.cells c.complete_words.ensures.heap.cells))
-    (omega (arith, ap length same)) (omega (arith, ap length same)) after.right
+pub equal_by_cells-requires-clause-right : goal.equal_by_cells-requires-clause-right
+equal_by_cells-requires-clause-right c = readable c.args.self.now.backings c.args.b c.cell-right.result.content c.cell-right.ensures.found.content
+
+pub returns-in-Some-clause-answer : goal.returns-in-Some-clause-answer
+returns-in-Some-clause-answer c =
+    let heap = c.args.self.now in
+    let cells = c.requires.heap.cells in
+    c.in-Some.ensures (heap_values heap) heap.cells c.args.a c.args.b (contents_of heap.backings heap.cells cells) (known_of heap.backings heap.cells cells) c.cell-left.ensures.is c.cell-right.ensures.is

@@ -1,6 +1,6 @@
 -- Proofs of `heap::Heap::join_texts`: the result meets the contract.
 
-use Rattle.value_table.proofs.Prelude.{refl, sym, Some, ◌∙◌, ap, text, meaning, heap_values}
+use Rattle.value_table.proofs.Prelude.{sym, Some, ◌∙◌, ap, text, meaning, heap_values}
 use Rattle.value_table.proofs.Adding.{gained}
 use Rattle.value_table.proofs.heap.Heap.join_texts.Goals as goal
 
@@ -8,5 +8,5 @@ pub returns : goal.returns
 returns c =
     let is = ap (meaning c.join_texts.new.self (heap_values c.args.self.now)) c.text_cell.ensures.content ∙ ap text (c.in_ok-part.ensures.part.1) in
     gained c.args.self.now _ _ _ _ _ c.requires.heap c.join_texts.ensures.grown
-    (record { words = c.room_for_cell.ensures.words; fits = c.in_ok-cells.ensures.word; same = c.in_ok-cells.ensures.cells; cells = c.append.ensures.items; at = c.append.ensures.place; indexes = refl; fingerprints = refl })
+    (record { words = c.room_for_cell.ensures.words; fits = c.in_ok-cells.ensures.word; same = c.in_ok-cells.ensures.cells; cells = c.append.ensures.items; at = c.append.ensures.place })
     (record { cell = c.text_cell.ensures.cell _ _ c.in_ok-part.ensures.part.0; value = ap Some (sym is) })

@@ -6,6 +6,6 @@ use Rattle.value_table.proofs.heap.Heap.member.Goals as goal
 
 pub has_item-requires-clause-items : goal.has_item-requires-clause-items
 has_item-requires-clause-items c =
-    let heap = c.complete_words.new.self in
+    let heap = c.args.self.now in
     let f = c.cell.ensures.found in
     widen heap.backings.lists c.args.c _ c.in-List.backing c.in-List.count (omega arith) (subst (IsContent heap.backings c.args.c) c.in-List.is f.content)

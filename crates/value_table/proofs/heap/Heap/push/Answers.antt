@@ -1,6 +1,6 @@
 -- Proofs of `heap::Heap::push`: the result meets the contract.
 
-use Rattle.value_table.proofs.Prelude.{◌≡◌, ◌+◌, [], ◌∷◌, ◌++◌, ◌∙◌, ap, arith, max, refl, subst, Some, refs_at, heap_values, HoldsItems}
+use Rattle.value_table.proofs.Prelude.{◌≡◌, ◌+◌, [], ◌∷◌, ◌++◌, ◌∙◌, ap, arith, max, subst, Some, refs_at, heap_values, HoldsItems}
 use Rattle.value_table.specs.declared.content.Content.TheVariants as cell
 use Rattle.value_table.proofs.Adding.{content_is, content_last, gained, shared_put}
 use Rattle.value_table.proofs.Counted.{counted}
@@ -19,7 +19,7 @@ returns-clause-gained c =
     let made = counted (ap (cell.List c.in_ok-pushed.pushed) c.in_ok-longer.ensures) (made_by deep c.pushed_length-json.ensures
     (list_pushed c.args.self.now.backings c.push_item.new.self _ c.args.l c.args.x c.in-List.backing c.in-List.count c.in_ok-pushed.pushed x list c.cell-item.ensures.found holds)) in
     gained c.args.self.now _ _ _ _ _ c.requires.heap c.push_item.ensures.grown
-    (record { words = c.room_for_cell.ensures.words; fits = c.in_ok-cells.ensures.word; same = c.in_ok-cells.ensures.cells; cells = c.append.ensures.items; at = c.append.ensures.place; indexes = refl; fingerprints = refl })
+    (record { words = c.room_for_cell.ensures.words; fits = c.in_ok-cells.ensures.word; same = c.in_ok-cells.ensures.cells; cells = c.append.ensures.items; at = c.append.ensures.place })
     made
 
 pub returns-clause-shared : goal.returns-clause-shared

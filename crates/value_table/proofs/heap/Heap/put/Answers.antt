@@ -1,6 +1,6 @@
 -- Proofs of `heap::Heap::put`: the result meets the contract; its calls meet their requirements.
 
-use Rattle.value_table.proofs.Prelude.{rules, refl, ◌≡◌, ◌+◌, ◌∙◌, sym, ap, ap₂, subst, arith, max, IsSome, keys_of, Ascend, part_of, value_in, keys_at, refs_at, meaning, IsContent, HoldsItems, with_one, heap_values, texts_of, IsKeyAt, IsInsertionPlace, put_values}
+use Rattle.value_table.proofs.Prelude.{rules, ◌≡◌, ◌+◌, ◌∙◌, sym, ap, ap₂, subst, arith, max, IsSome, keys_of, Ascend, part_of, value_in, keys_at, refs_at, meaning, IsContent, HoldsItems, with_one, heap_values, texts_of, IsKeyAt, IsInsertionPlace, put_values}
 use Rattle.value_store.specs.Value as kind
 use Rattle.value_table.specs.declared.content.Content.TheVariants as cell
 use Rattle.value_table.proofs.Adding.{heap_before, gained}
@@ -71,7 +71,7 @@ returns c =
     (map_put bs (heap_values heap) c.args.m c.args.k c.args.x c.put_entry.new.self c.in-Map.row c.in-Map.backing c.in-Map.count c.in_ok-entry.entry.0 c.in_ok-entry.entry.1 c.in-Err.gap c.in-Text.key put
     (record { bytes = c.put_entry.ensures.bytes; values = holds; keys = c.in_ok-entry.ensures.keys }))) in
     gained heap _ _ _ _ _ c.requires.heap c.put_entry.ensures.grown
-    (record { words = c.room_for_cell.ensures.words; fits = c.in_ok-cells.ensures.word; same = c.in_ok-cells.ensures.cells; cells = c.append.ensures.items; at = c.append.ensures.place; indexes = refl; fingerprints = refl })
+    (record { words = c.room_for_cell.ensures.words; fits = c.in_ok-cells.ensures.word; same = c.in_ok-cells.ensures.cells; cells = c.append.ensures.items; at = c.append.ensures.place })
     made
 
 pub returns-in_err-entry : goal.returns-in_err-entry
