@@ -10,9 +10,6 @@ use Rattle.value_table.proofs.Backed.{whole_behind}
 row_kept : (pool more : List ℕ) (r : Row) → IsPoolRow pool r → row_items (pool ++ more) r ≡ row_items pool r
 row_kept pool more (row.Own items) h = refl
 row_kept pool more (row.Pooled from count) h = range_kept pool more from (from + count) (omega arith) h
-row_kept pool more row.Empty h = refl
-row_kept pool more (row.One item) h = refl
-row_kept pool more (row.Two items) h = refl
 
 rows_kept : (pool more : List ℕ) (rows : List Row) → AreRows pool rows → rows_items (pool ++ more) rows ≡ rows_items pool rows
 rows_kept pool more [] h = refl
@@ -23,8 +20,8 @@ pub rows_pushed : (pool : List ℕ) (rows : List Row) (items : List ℕ) → row
 rows_pushed pool rows items = map-append (row_items pool) rows (row.Own items ∷ [])
 
 -- a row without items is added
-pub rows_begun : (pool : List ℕ) (rows : List Row) → rows_items pool (rows ++ row.Empty ∷ []) ≡ rows_items pool rows ++ [] ∷ []
-rows_begun pool rows = map-append (row_items pool) rows (row.Empty ∷ [])
+pub rows_begun : (pool : List ℕ) (rows : List Row) → rows_items pool (rows ++ row.Pooled 0 0 ∷ []) ≡ rows_items pool rows ++ [] ∷ []
+rows_begun pool rows = map-append (row_items pool) rows (row.Pooled 0 0 ∷ [])
 
 -- a row with the items that are appended to the pool is added
 pub rows_put : (pool items : List ℕ) (rows : List Row) → AreRows pool rows

@@ -1,5 +1,5 @@
--- The items of rows. A row has a vector of its own, or a range of the pool, or at most two items.
-use Rattle.std.specs.Prelude.{ℕ, ◌+◌, ◌≤◌, List, [], length, map, slice_range, ⊤}
+-- The items of rows. A row has a vector of its own, or a range of the pool.
+use Rattle.std.specs.Prelude.{ℕ, ◌+◌, ◌≤◌, List, length, map, slice_range, ⊤}
 use Rattle.std.specs.List.{AllByRecursion}
 use Rattle.value_table.specs.declared.row.Row.{Row}
 use Rattle.value_table.specs.declared.row.Row.TheVariants as row
@@ -7,9 +7,6 @@ use Rattle.value_table.specs.declared.row.Row.TheVariants as row
 abbrev pub row_items : List ℕ → Row → List ℕ
 row_items pool (row.Own items) = items
 row_items pool (row.Pooled from count) = slice_range pool from (from + count)
-row_items pool row.Empty = []
-row_items pool (row.One item) = item
-row_items pool (row.Two items) = items
 
 abbrev pub rows_items : List ℕ → List Row → List (List ℕ)
 rows_items pool rows = map (row_items pool) rows
@@ -18,9 +15,6 @@ rows_items pool rows = map (row_items pool) rows
 abbrev pub IsPoolRow : List ℕ → Row → Type 0
 IsPoolRow pool (row.Own items) = ⊤
 IsPoolRow pool (row.Pooled from count) = from + count ≤ length pool
-IsPoolRow pool row.Empty = ⊤
-IsPoolRow pool (row.One item) = ⊤
-IsPoolRow pool (row.Two items) = ⊤
 
 abbrev pub AreRows : List ℕ → List Row → Type 0
 AreRows pool rows = AllByRecursion (IsPoolRow pool) rows

@@ -19,7 +19,7 @@ use std::rc::Rc;
 #[derive(Drop)]
 pub(crate) struct Lists {
     rows: Rc<Vec<Row>>,
-    /// The items of the rows that are a range of it: those that came from documents.
+    /// The items of the rows without a vector: those that came from documents, and none.
     pool: Backing<u32>,
 }
 
@@ -93,7 +93,7 @@ impl Lists {
         ensures ok { OnOk result (self.new ≡ self.old ++ [] ∷ []) }
         ensures err { OnErr result (self.new ≡ self.old) }
     {
-        add_row(&mut self.rows, Row::Empty)
+        add_row(&mut self.rows, Row::Pooled(0, 0))
     }
 
     /// Adds a row whose items are appended to the pool.
