@@ -203,19 +203,15 @@ firsts_inserted es (suc i) d s l =
     ∙ ap (λ ns. put ns m) (firsts_inserted es i d s (omega (arith, l)))
     ∙ put_next es i d s (omega (arith, l))
 
-all_inserted : (es : List PlacedEntry) → IsStrictlySortedBy str_cmp (keys_of es) → inserted [] es ≡ es
+pub all_inserted : (es : List PlacedEntry) → IsStrictlySortedBy str_cmp (keys_of es) → inserted [] es ≡ es
 all_inserted [] s = refl
 all_inserted (m ∷ ms) s =
     let all : take (length (m ∷ ms)) (m ∷ ms) ≡ m ∷ ms = take_all (length (m ∷ ms)) (m ∷ ms) (omega arith) in
     sym (ap (inserted []) all) ∙ firsts_inserted (m ∷ ms) (length (m ∷ ms)) m s (omega arith) ∙ all
 
--- members that were moved to no others give the same entries
-pub moved : (es us ms ns all : List PlacedEntry) → us ≡ es → IsStrictlySortedBy str_cmp (keys_of us) → ns ≡ [] → ms ≡ [] → all ≡ es → inserted ms all ≡ inserted es ns
-moved es us ms ns all e s n m f = ap (λ xs. inserted xs all) m ∙ ap (inserted []) (f ∙ sym e) ∙ all_inserted us s ∙ e ∙ ap (inserted es) (sym n)
-
 -- one more member after those that were inserted
-pub one_more : (es fs ms ns all : List PlacedEntry) (m : PlacedEntry) → inserted es ms ≡ inserted fs ns → all ≡ ms ++ m ∷ [] → inserted es all ≡ insert_entry str_cmp (inserted fs ns) m.0 m.1
-one_more es fs ms ns all m e h = ap (inserted es) h ∙ inserted_more es ms (m ∷ []) ∙ ap (λ xs. put xs m) e
+pub one_more : (ms all : List PlacedEntry) (m : PlacedEntry) → all ≡ ms ++ m ∷ [] → inserted [] all ≡ insert_entry str_cmp (inserted [] ms) m.0 m.1
+one_more ms all m h = ap (inserted []) h ∙ inserted_more [] ms (m ∷ [])
 
 -- the next of many members
 pub insert_turn : (es ms : List PlacedEntry) (i : ℕ) (d m : PlacedEntry) {xs ys : List PlacedEntry} → i < length ms → xs ≡ inserted es (take i ms) → m ≡ get_or ms i d

@@ -37,5 +37,4 @@ pub mod ReviewTables
 pub mod Pools
 pub mod MemberTexts
 mod Membered
-mod FirstBytes
 mod Inserted

@@ -1,6 +1,7 @@
 -- Where a key is among members, and the members after it is put or removed.
 use Rattle.value_table.proofs.Prelude.{◌≡◌, ℕ, zero, suc, ◌<◌, ◌≤◌, List, [], ◌∷◌, ◌++◌, length, take, take_all, drop, drop_all, get_or, Bool, true, false, cond, Ordering, Less, Greater, Option, Some, None, Result, Ok, Err, refl, sym, ap, ◌∙◌, subst, arith, AllByRecursion, slice_set}
-use Rattle.std.proofs.Common.{OnOk, OnErr, ap₂, drop-cons, ◌+◌}
+use Rattle.std.proofs.Common.{OnOk, OnErr, ap₂, drop-cons, ◌+◌, ◌-◌}
+use Rattle.std.proofs.lemmas.List.{get_or_default}
 use Rattle.std.specs.declared.cmp.Ordering.TheVariants.{Equal}
 use Rattle.std.specs.Ordering.{match_ordering, MatchOrdering, is_eq, nat_cmp, ordering_reverse, ordering_then}
 use Rattle.std.specs.BTreeMap.{is_at, insert_entry}
@@ -61,6 +62,25 @@ by_first (x ∷ xs) (y ∷ ys) l m n = first_tells x y (nat_cmp x y) (slice_cmp 
 -- two texts are in the order of their first bytes if these differ
 pub first_decides : (us vs ks ls : List ℕ) (r : Ordering) → us ≡ ks → vs ≡ ls → 0 < length us → 0 < length vs → (get_or us 0 0 ≡ get_or vs 0 0 → ⊥) → r ≡ nat_cmp (get_or us 0 0) (get_or vs 0 0) → r ≡ slice_cmp nat_cmp ks ls
 first_decides us vs ks ls r e f l m n h = h ∙ by_first us vs l m n ∙ ap₂ (λ xs ys. slice_cmp nat_cmp xs ys) e f
+
+-- the order of two neighbours, wherever it is read
+pub step_at : (es : List PlacedEntry) (i k : ℕ) (d x y : PlacedEntry) → suc k ≡ i → i < length es → str_cmp (get_or es (i - 1) x).0 (get_or es i y).0 ≡ Less
+    → str_cmp (get_or es k d).0 (get_or es (suc k) d).0 ≡ Less
+step_at es i k d x y e l h =
+    let one = ap (λ n. get_or es n d) (omega (arith, e)) ∙ get_or_default es (i - 1) d x (omega (arith, e, l)) in
+    let other = ap (λ n. get_or es n d) e ∙ get_or_default es i d y l in
+    ap₂ (λ p q. str_cmp p.0 q.0) one other ∙ h
+
+-- the keys ascend if each is above the one before it
+pub sorted_by_steps : (es : List PlacedEntry) → ((k : ℕ) (d : PlacedEntry) → suc k < length es → str_cmp (get_or es k d).0 (get_or es (suc k) d).0 ≡ Less)
+    → IsStrictlySortedBy str_cmp (keys_of es)
+unfolding IsStrictlySortedBy
+sorted_by_steps [] h = tt
+sorted_by_steps (x ∷ []) h = (tt, tt)
+sorted_by_steps (x ∷ y ∷ es) h =
+    let rest = sorted_by_steps (y ∷ es) (λ k d l. h (suc k) d (omega (arith, l))) in
+    let first = h zero x (omega arith) in
+    ((first, all_less x.0 y.0 (keys_of es) first rest.0), rest)
 
 -- ---- the search from the last key
 

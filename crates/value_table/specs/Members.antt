@@ -1,5 +1,5 @@
 -- The members that are read of an object, by their keys.
-use Rattle.std.specs.Prelude.{◌≡◌, ◌<◌, ◌≤◌, ◌+◌, ◌*◌, ℕ, zero, suc, List, [], ◌∷◌, length, slice_index, Result, Ok, Err}
+use Rattle.std.specs.Prelude.{◌≡◌, ◌<◌, ◌≤◌, ℕ, zero, suc, List, [], ◌∷◌, length, Result, Ok, Err}
 use Rattle.std.specs.declared.cmp.Ordering.{Ordering}
 use Rattle.std.specs.declared.cmp.Ordering.TheVariants.{Less, Equal, Greater}
 use Rattle.std.specs.Ordering.{nat_cmp}
@@ -19,27 +19,6 @@ str_cmp x y = slice_cmp nat_cmp x.now y.now
 -- the order of a key and another
 abbrev pub key_at : List ℕ → Bor (List ℕ) → Ordering
 key_at key k = slice_cmp nat_cmp key k.now
-
--- ---- the first bytes of a key
-
--- n followed by the first k bytes, as digits in base 256; a shorter text is filled up with zeros
-abbrev pub continued : ℕ → ℕ → List ℕ → ℕ
-continued n zero bs = n
-continued n (suc k) [] = continued (n * 256) k []
-continued n (suc k) (b ∷ bs) = continued (n * 256 + b) k bs
-
--- the first eight bytes as a number, the first byte highest
-abbrev pub first_bytes : List ℕ → ℕ
-first_bytes bs = continued 0 8 bs
-
--- the bytes of a key are below 256
-abbrev pub AreKeyBytes : List ℕ → Type 0
-AreKeyBytes bs = (i : ℕ) → slice_index bs i < 256
-
--- first is the number of the first eight bytes of bs, which are bytes
-pub record HasFirstBytes (first : ℕ) (bs : List ℕ) : Type 0 where
-  pub number : first ≡ first_bytes bs
-  pub bytes : AreKeyBytes bs
 
 -- ---- the place of a key
 

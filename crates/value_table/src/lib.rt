@@ -13,7 +13,6 @@ mod document_pool;
 mod documents;
 mod entries;
 mod equality;
-mod found_member;
 mod found_members;
 mod gathering;
 mod heap;

@@ -1,6 +1,6 @@
 //! The members of an object that was read.
 
-ghost use Rattle.std.specs.Prelude.{◌≡◌, ◌≤◌, [], length, IfOk, OnErr, OnOk, option_copied};
+ghost use Rattle.std.specs.Prelude.{◌≡◌, ◌≤◌, [], length, true, IfOk, OnErr, OnOk, option_copied};
 ghost use Rattle.std.specs.BTreeMap.{insert_entry, is_at};
 ghost use Rattle.std.specs.Cmp.Lexicographic.{slice_cmp};
 ghost use Rattle.std.specs.List.{insert};
@@ -9,14 +9,10 @@ ghost use Rattle.std.specs.Map.{keys_of, lookup, remove_entry};
 ghost use Rattle.std.specs.Ordering.{nat_cmp};
 ghost use Rattle.value_table.specs.Members.{inserted, key_at, str_cmp, PlaceIs};
 
-use crate::found_member::FoundMember;
 use crate::placed::Placed;
 use std::alloc::{AllocError, Global};
 use std::cmp::Ordering;
 use std::marker::Model;
-
-/// The number of members for which a first member reserves capacity.
-const FIRST: usize = 16;
 
 /// Members in the order of their keys.
 #[derive(Drop)]
@@ -37,13 +33,25 @@ impl<'a> Model for Members<'a> {
 }
 
 impl<'a> Members<'a> {
-    /// No members.
-    pub(crate) fn new(alloc: Global) -> Members<'a>
+    // No members.
+    fn new(alloc: Global) -> Members<'a>
         ensures { result.entries ≡ [] }
     {
         Members {
             entries: Vec::new(alloc),
         }
+    }
+
+    /// These members. If a key is repeated, the last member counts. Nothing is moved if the keys ascend.
+    pub(crate) fn of(found: Vec<(&'a str, Option<Placed>)>) -> Result<Members<'a>, AllocError>
+        ensures { IfOk result (λ m. m.entries ≡ inserted [] found.entry.items) }
+    {
+        if ascend(&found[..]) {
+            return Ok(Members { entries: found });
+        }
+        let mut members = Members::new(*found.allocator());
+        members.insert_all(&found[..])?;
+        Ok(members)
     }
 
     /// The members in the order of their keys.
@@ -54,9 +62,8 @@ impl<'a> Members<'a> {
         &self.entries[..]
     }
 
-    /// Adds a member. If the key is there, its value is replaced.
-    #[inline(always)]
-    pub(crate) fn insert(&mut self, key: &'a str, value: Option<Placed>) -> Result<(), AllocError>
+    // Adds a member. If the key is there, its value is replaced.
+    fn insert(&mut self, key: &'a str, value: Option<Placed>) -> Result<(), AllocError>
         ensures { OnOk result (self.new.entries ≡ insert_entry str_cmp self.old.entries key.entry value) }
     {
         match place(&self.entries[..], key) {
@@ -68,24 +75,14 @@ impl<'a> Members<'a> {
         }
     }
 
-    /// Adds these members one after another. If they are in the order of their keys, after those that are there, none
-    /// of these is moved.
-    pub(crate) fn insert_all(&mut self, found: &[FoundMember<'a>]) -> Result<(), AllocError>
+    // Adds these members one after another.
+    fn insert_all(&mut self, found: &[(&'a str, Option<Placed>)]) -> Result<(), AllocError>
         ensures { OnOk result (self.new.entries ≡ inserted self.old.entries found.now) }
     {
-        self.entries.reserve_exact(found.len())?;
         for member in found {
-            let (key, value) = member.entry();
-            self.insert(key, value)?;
+            self.insert(member.0, member.1)?;
         }
         Ok(())
-    }
-
-    /// Removes all members.
-    pub(crate) fn clear(&mut self)
-        ensures { self.new.entries ≡ [] }
-    {
-        self.entries.clear();
     }
 
     /// The value of a key.
@@ -113,6 +110,19 @@ impl<'a> Members<'a> {
     }
 }
 
+// Whether the keys ascend, so that none is repeated.
+fn ascend(entries: &[(&str, Option<Placed>)]) -> bool
+    ensures { result ≡ true → IsStrictlySortedBy str_cmp (keys_of entries.now) }
+{
+    for i in 1..entries.len() {
+        match key_order(entries[i - 1].0, entries[i].0) {
+            Ordering::Less => {}
+            _ => return false,
+        }
+    }
+    true
+}
+
 // Where a key is, or else where it belongs. Keys often come in order, so the last one is the first
 // to be compared.
 fn place(entries: &[(&str, Option<Placed>)], key: &str) -> Result<usize, usize>
@@ -130,8 +140,8 @@ fn place(entries: &[(&str, Option<Placed>)], key: &str) -> Result<usize, usize>
     Err(0)
 }
 
-// The order of two keys. The first bytes of most keys differ.
-fn key_order(key: &str, other: &str) -> Ordering
+/// The order of two keys. The first bytes of most keys differ.
+pub(crate) fn key_order(key: &str, other: &str) -> Ordering
     ensures { result ≡ slice_cmp nat_cmp key.now other.now }
 {
     let (a, b) = (key.as_bytes(), other.as_bytes());
@@ -152,9 +162,6 @@ fn put<'a>(
     ensures ok { OnOk result (entries.new.items ≡ insert entries.old.items at entry.entry) }
     ensures err { OnErr result (entries.new.items ≡ entries.old.items) }
 {
-    if entries.is_empty() {
-        entries.reserve(FIRST)?;
-    }
     if at == entries.len() {
         entries.push(entry)?;
         return Ok(());
