@@ -16,12 +16,14 @@ pub mod Slots
 pub mod Step
 pub mod StepResults
 pub mod Trace
+pub mod Reads
 pub mod States
 pub mod Starts
 pub mod Laws
 pub mod Text
 pub mod Inside
 pub mod Rows
+pub mod ReadRows
 pub mod InstructionRows
 pub use Rattle.insn_codec.specs.Spelled
 pub use Rattle.insn_codec.specs.Candidate

@@ -3,6 +3,8 @@
 
 ghost use Rattle.bpf_machine.specs.Decoding.{DecodesSpelling};
 ghost use Rattle.bpf_machine.specs.InstructionRows.{ArithmeticRowsHold, AtomicRowsHold, CompareRowsHold, ProgramRowsHold};
+ghost use Rattle.bpf_machine.specs.ReadRows.{ReadRowsHold};
+ghost use Rattle.bpf_machine.specs.Reads.{GreaterLimitGoesOn, LimitedStopsOnce, NoLimitIsRun, SlicesAgree};
 ghost use Rattle.bpf_machine.specs.Rows.{MachineRowsHold};
 ghost use Rattle.bpf_machine.specs.Starts.{StartsAreTables};
 ghost use Rattle.bpf_machine.specs.States.{StatesAreKept, StepsAreRows};
@@ -18,9 +20,23 @@ pub fn stops_once()
     ensures { StopsOnce }
 {}
 
+/// A run with a limit of reads takes one number of steps, and no fewer within a greater limit. The greatest limit is
+/// none. A run that is cut into two takes the same steps.
+pub fn limits_hold()
+    ensures once { LimitedStopsOnce }
+    ensures none { NoLimitIsRun }
+    ensures greater { GreaterLimitGoesOn }
+    ensures slices { SlicesAgree }
+{}
+
 /// Images run by hand.
 pub fn rows_stand()
     ensures { MachineRowsHold }
+{}
+
+/// What runs read, worked out by hand.
+pub fn read_rows_stand()
+    ensures { ReadRowsHold }
 {}
 
 /// The results of single instructions, and the ends of short programs.
