@@ -13,6 +13,7 @@ mod atomics;
 mod copies;
 mod helper_calls;
 mod jumps;
+mod limits;
 mod runs;
 
 const EXIT: u64 = 0x9500_0000_0000_0000;

@@ -17,7 +17,7 @@ const KIND_OF_NOTHING: &[u64] = &[0xb701_0000_0900_0000, 0x8500_0000_0100_0000, 
 const UNKNOWN: &[u64] = &[0xb701_0000_0300_0000, 0x8500_0000_1800_0000, EXIT];
 
 /// The constants as a text, its number of code points, and that number as a word.
-const SIZE_OF_TEXT: &[u64] = &[
+pub(super) const SIZE_OF_TEXT: &[u64] = &[
     0x1801_0000_0000_0000,
     0x0000_0000_0400_0000,
     0xb702_0000_0200_0000,
@@ -42,7 +42,7 @@ const NESTS: &[u64] = &[
 ];
 
 /// The constants as a text, joined with itself repeatedly.
-const DOUBLES: &[u64] = &[
+pub(super) const DOUBLES: &[u64] = &[
     0x1801_0000_0000_0000,
     0x0000_0000_0400_0000,
     0xb702_0000_0100_0000,
