@@ -23,7 +23,8 @@ from typing import NoReturn, Optional
 
 from ..entry import Stop, usage_of
 from ..home import DATA, ROOT, TOOLS, unproved
-from ..quick.native import Differs, compiled, kit_of
+from ..quick.halves import Differs
+from ..quick.native import compiled, kit_of
 from ..quick.trying import tried
 
 NO_RT, NOT_WRITTEN, STOPPED, NOT_COMPILED = 10, 11, 12, 13
@@ -46,7 +47,7 @@ class Builder:
         self.crate = ROOT / "crates" / name
         self.program = unproved(name)
         self.record = self.program.parent / "built"
-        self.running: Optional[subprocess.Popen] = None
+        self.running: tuple = ()
         self.began = time.monotonic()
 
     def say(self, line: str) -> None:
@@ -55,31 +56,36 @@ class Builder:
     def taken(self) -> str:
         return f"{time.monotonic() - self.began:.0f} seconds"
 
-    def waited(self, running: subprocess.Popen) -> int:
-        """Waits for a process, which can be stopped meanwhile, and says now and then that it goes on; its status."""
+    def waited(self, *running: subprocess.Popen) -> int:
+        """Waits for processes, which can be stopped meanwhile, and says now and then that it goes on; the status of the
+        first that failed, or 0."""
         self.running = running
+        statuses = [self.status_of(one) for one in running]
+        self.running = ()
+        return next(filter(None, statuses), 0)
+
+    def status_of(self, running: subprocess.Popen) -> int:
         while True:
             try:
-                status = running.wait(PATIENCE)
-                self.running = None
-                return status
+                return running.wait(PATIENCE)
             except subprocess.TimeoutExpired:
                 self.say(f"still at it after {self.taken()}")
 
-    def ran(self, words: list, folder: Path, more: dict) -> tuple:
-        """The status of a command, and what it said."""
+    def ran(self, commands: list, folder: Path, more: dict) -> tuple:
+        """The status of commands that run at once, and what they said."""
         with tempfile.TemporaryFile() as said:
             how = {"stdin": subprocess.DEVNULL, "stdout": said, "stderr": said, "start_new_session": True}
-            environment = {**os.environ, **more}
-            status = self.waited(subprocess.Popen([str(word) for word in words], cwd=folder, env=environment, **how))
+            where = {"cwd": folder, "env": {**os.environ, **more}}
+            started = [subprocess.Popen([str(word) for word in words], **where, **how) for words in commands]
+            status = self.waited(*started)
             said.seek(0)
             return status, said.read().decode(errors="replace")
 
     def stop(self, *_) -> NoReturn:
         """Ends what runs, when this is told to stop."""
-        if self.running:
+        for one in self.running:
             with suppress(ProcessLookupError):
-                os.killpg(self.running.pid, signal.SIGTERM)
+                os.killpg(one.pid, signal.SIGTERM)
         raise Stop("stopped; the next run builds it", STOPPED)
 
     def made_from(self) -> tuple:
@@ -103,7 +109,7 @@ class Builder:
             raise Stop("there is no command rt in the path; it comes with the toolchain", NO_RT)
         if LOGIC not in toolchain:
             self.say(f"the toolchain is {toolchain}, and the sources were written for one with {LOGIC}")
-        self.say(f"it is {WHAT}, in two to three minutes; {HOW}")
+        self.say(f"it is {WHAT}, in some two minutes; {HOW}")
         # what is stopped may still write there
         with tempfile.TemporaryDirectory(ignore_cleanup_errors=True) as folder:
             made = compiled(self.crate, kit_of("rt"), Path(folder).resolve(), self.ran)
