@@ -1,7 +1,7 @@
-//! Searches of a part in a text, asked more often than a text is read without an index.
+//! Searches of a part in a text, of few bytes and of many.
 
-use crate::helper_tests::{memory_of_constants, nulls};
-use helper_table::{Caller, HelperEnd};
+use crate::helper_tests::{called, memory_of_constants, nulls};
+use helper_table::HelperEnd;
 use std::alloc::Global;
 use std::test::Fail;
 use value_store::ValueStore;
@@ -30,23 +30,14 @@ const SEARCHES: [Row; 15] = [
 /// Helper 14 tells whether a text contains a part.
 const CONTAINS: i32 = 14;
 
-/// How often a row is asked.
-const TIMES: usize = 12;
-
-/// Whether each of the answers is `wanted`.
+/// Whether the answer is `wanted`.
 fn answers_so(alloc: Global, text: &str, part: &str, wanted: bool) -> Result<bool, Fail> {
     let memory = memory_of_constants(alloc)?;
     let mut table = nulls(alloc)?;
     let whole = table.place_text(text)?;
     let part = table.place_text(part)?;
-    let mut caller = Caller::new(alloc, table);
-    for _ in 0..TIMES {
-        let end = caller.call(CONTAINS, [whole, part, 0, 0, 0], &memory)?;
-        if end != HelperEnd::Word(if wanted { 3 } else { 2 }) {
-            return Ok(false);
-        }
-    }
-    Ok(true)
+    let end = called(CONTAINS, [whole, part, 0], &mut table, &memory)?;
+    Ok(end == HelperEnd::Word(if wanted { 3 } else { 2 }))
 }
 
 #[test]
