@@ -1,6 +1,8 @@
 -- The results of reviews, from the states of the policies' programs.
-use Rattle.admission.proofs.Prelude.{◌≡◌, ℕ, ◌+◌, ◌*◌, ◌≤◌, ◌⊎◌, Bool, false, List, [], ◌∷◌, ◌++◌, length, Option, Some, Result, Ok, Err, refl, sym, ap, ◌∙◌, subst, arith, inl, inr, if◌then◌else◌, cases_lt, length-map, length_push, Fault as GuestFault, F8, StartIsCanonical, Contents, Roots, StartsAreTables, State, start_state, StatesAreKept, is_running, state_after, Status, Exited, Running, HasValues, TakenOrRefused, PartsEnd, policy_work, decision_of, outcome_of, outcome_word, Compiles, Verdict, Policy, Decides, OutOfBudget, LeavesByExit, PolicyTree, Finding, decided, judged_by, verdict_of, CompileError, FailurePolicy, GatePolicy, Reply, Documents, IsAnswered, IsPolicy, decision, started, values_given, IsGateOn, Exit, Exits, HasExited, IsExit, OfVerdict, IsDecisionOf, Decision, decision_from_verdict, Images, PolicyRun, RunHasStatus, RunAgrees, exactly, document_given, parts_given, uid_in, RunError, ReviewRefused, NamespaceOrParamsRefused, OutOfSteps, OverLimit}
+use Rattle.std.proofs.Common.{nat_lt}
+use Rattle.admission.proofs.Prelude.{◌≡◌, ℕ, ◌+◌, ◌*◌, ◌≤◌, ◌⊎◌, Bool, true, false, ◌&&◌, List, [], ◌∷◌, ◌++◌, length, Option, Some, Result, Ok, Err, refl, sym, ap, ◌∙◌, subst, arith, inl, inr, if◌then◌else◌, cases_lt, length-map, length_push, Fault as GuestFault, F8, StartIsCanonical, Contents, Roots, StartsAreTables, State, start_state, StatesAreKept, is_running, state_after, Status, Exited, Running, HasValues, TakenOrRefused, PartsEnd, policy_work, decision_of, outcome_of, outcome_word, Compiles, Verdict, Policy, Decides, OutOfBudget, LeavesByExit, PolicyTree, Finding, decided, judged_by, verdict_of, CompileError, FailurePolicy, GatePolicy, Reply, Documents, IsAnswered, IsPolicy, decision, started, values_given, IsGateOn, Exit, Exits, HasExited, IsExit, OfVerdict, IsDecisionOf, Decision, decision_from_verdict, Images, PolicyRun, RunEnds, RunAgrees, exactly, document_given, parts_given, uid_in, RunError, ReviewRefused, NamespaceOrParamsRefused, OutOfSteps, OverLimit, OutOfReads}
 use Rattle.bpf_machine.specs.declared.status.Status.TheVariants.{Fault}
+use Rattle.bpf_machine.specs.Reads.{no_limit, LimitedStopsOnce, IsLimitedStop}
 use Rattle.policy_glue.specs.Checking as checking
 use Rattle.policy_glue.specs.Findings.{PolicyFinding, findings_of}
 use Rattle.policy_glue.specs.Rejections.{Rejection}
@@ -13,6 +15,9 @@ use Rattle.value_table.specs.declared.review_error.ReviewError.{ReviewError}
 use Rattle.value_table.specs.declared.review_error.ReviewError.TheVariants as review_error
 use Rattle.admission.specs.Reviews.{refusal_at, table_refusal}
 use Rattle.policy_glue.specs.Layout.{IsLayout}
+use Rattle.admission.specs.Standing.{Ending, ending, ending_by, has_stopped, out_of_steps, out_of_reads, steps_taken}
+use Rattle.admission.specs.declared.limits.Limits.{Limits}
+use Rattle.admission.proofs.Ends.{below_limit, is_below, is_not_below, not_and, of_and}
 use Rattle.admission.proofs.RootTables.{refused_as}
 use Rattle.admission.proofs.Said.{same_form}
 use Rattle.admission.proofs.RootContents.{given_have_values}
@@ -47,11 +52,27 @@ few_findings f t roots = grind (arith, findings_by, length-map)
 
 -- ---- the state of the program
 
--- the laws of starts and of later states
+-- the laws of starts, of later states, and of the ends of runs
 pub record Laws : Type 0 where
   pub tables : StartsAreTables
   pub canonical : StartIsCanonical
   pub states : StatesAreKept
+  pub once : LimitedStopsOnce
+
+-- what the end of a run within limits tells, and the machine after it
+pub record IsEndOf (limits : Limits) (first machine : State) (status : Status) (held : Bool) : Type 0 where
+  pub state : machine ≡ state_after (steps_taken limits first) first
+  pub status_is : status ≡ machine.status
+  pub held_is : held ≡ (nat_lt (steps_taken limits first) limits.steps && is_running status)
+
+pub end_of : (limits : Limits) (first machine : State) (taken : ℕ) (status : Status) (held : Bool) → taken ≡ steps_taken limits first
+    → machine ≡ state_after taken first → status ≡ machine.status → held ≡ (nat_lt taken limits.steps && is_running status)
+    → IsEndOf limits first machine status held
+end_of limits first machine taken status held place state_is status_is held_is = record {
+  state = state_is ∙ ap (λ (k : ℕ). state_after k first) place;
+  status_is = status_is;
+  held_is = held_is ∙ ap (λ (k : ℕ). nat_lt k limits.steps && is_running status) place;
+}
 
 -- a refusal of the documents
 abbrev IsOfDocuments : RunError → Type 0
@@ -60,13 +81,13 @@ IsOfDocuments e = (e ≡ ReviewRefused) ⊎ (e ≡ NamespaceOrParamsRefused)
 by_test : (b : Bool) → IsOfDocuments (if b then NamespaceOrParamsRefused else ReviewRefused)
 by_test b = grind arith
 
-module _ (gate : GatePolicy) (d : Documents) (of : IsGateOn d.language d.policy gate) (n : ℕ) where
+module _ (gate : GatePolicy) (d : Documents) (of : IsGateOn d.language d.policy gate) (limits : Limits) where
   abbrev policy : IsPolicy d.language d.policy
   policy = record { told = gate.told; parsed = gate.policy; is_said = of.0; trees = of.1.trees; compiles = of.1.compiles }
 
   -- what the program left for a review, and the run of its image
   abbrev pub ExitsSo : Result Exit RunError → Type 0
-  ExitsSo result = Exits gate.told d n result × RunAgrees (exactly gate.image) d n result
+  ExitsSo result = Exits gate.told d limits result × RunAgrees (exactly gate.image) d limits result
 
   by_documents : (e : RunError) → values_given d ≡ Err e → IsOfDocuments e → ExitsSo (Err e)
   by_documents e is of = grind (arith, policy)
@@ -88,8 +109,14 @@ module _ (gate : GatePolicy) (d : Documents) (of : IsGateOn d.language d.policy 
     abbrev f : FailurePolicy
     f = gate.policy.failure_policy
 
+    abbrev first : State
+    first = start_state gate.image (started roots)
+
+    abbrev m : ℕ
+    m = steps_taken limits first
+
     abbrev s : State
-    s = state_after n (start_state gate.image (started roots))
+    s = state_after m first
 
     abbrev run : PolicyRun d
     run = record {
@@ -100,70 +127,97 @@ module _ (gate : GatePolicy) (d : Documents) (of : IsGateOn d.language d.policy 
 
     -- a stopped program has decided
     stopped : is_running s.status ≡ false → Decides f of.1.trees roots (started roots) s
-    stopped still = of.1.program.stops roots (started roots) n has still
+    stopped still = of.1.program.stops roots (started roots) m has still
 
-    decides : 128 * policy_work f of.1.trees roots ≤ n → Decides f of.1.trees roots (started roots) s
-    decides far = of.1.program.decides roots (started roots) n has far
+    decides : 128 * policy_work f of.1.trees roots ≤ m → Decides f of.1.trees roots (started roots) s
+    decides far = of.1.program.decides roots (started roots) m has far
 
     not_running : Decides f of.1.trees roots (started roots) s → s.status ≡ Running → ⊥
     not_running decided running = grind arith
 
-    standing : (due : Verdict → Status) → s.status ≡ due (decision run.case) → RunHasStatus (exactly gate.image) d n due
-    standing due is = record { run = run; is_chosen = refl; status = is }
+    stop : IsLimitedStop first limits.steps limits.reads m
+    stop = (laws.once first limits.steps limits.reads m).1 refl
 
-    unended : s.status ≡ Running → ExitsSo (Err OutOfSteps)
-    unended running =
-        elim (cases_lt n (128 * policy_work f of.1.trees roots)) [
-          | inl before ↦ (record { case = run.case; early = before }, standing (λ v. Running) running)
-          | inr not_before ↦ absurd (not_running (decides not_before) running)
+    standing : (due : Verdict → Ending) → ending limits first ≡ due (decision run.case) → RunEnds (exactly gate.image) d limits due
+    standing due is = record { run = run; is_chosen = refl; ends = is }
+
+    unended : s.status ≡ Running → nat_lt m limits.steps ≡ false → ExitsSo (Err OutOfSteps)
+    unended running all =
+        elim (cases_lt limits.steps (128 * policy_work f of.1.trees roots)) [
+          | inl before ↦ (record { case = run.case; early = before }, standing (λ v. out_of_steps) (λ i. ending_by (running i) (all i)))
+          | inr not_before ↦ absurd (not_running (decides (omega (arith, not_before, is_not_below m limits.steps all))) running)
         ]
 
+    held : s.status ≡ Running → nat_lt m limits.steps ≡ true → ExitsSo (Err OutOfReads)
+    held running left = (
+      record { case = run.case; limited = below_limit limits.reads _ (stop.ends (is_below m limits.steps left) running) },
+      standing (λ v. out_of_reads) (λ i. ending_by (running i) (left i)),
+    )
+
     stopped_by : (fault : GuestFault) → s.status ≡ Fault fault → Decides f of.1.trees roots (started roots) s → ExitsSo (Err OverLimit)
-    stopped_by fault is (OutOfBudget by why) = (record { case = run.case; beyond = why }, standing (λ v. Fault F8) by)
+    stopped_by fault is (OutOfBudget by why) =
+        (record { case = run.case; beyond = why }, standing (λ v. has_stopped (Fault F8)) (λ i. ending_by (by i) (nat_lt m limits.steps)))
     stopped_by fault is (LeavesByExit by layout) = cc
 
     exit_by : (w : ℕ) → s.status ≡ Exited w → Decides f of.1.trees roots (started roots) s → ExitsSo (Ok (record { state = s; uid = uid_in d.review }))
     exit_by w is (OutOfBudget by why) = cc
     exit_by w is (LeavesByExit by layout) =
-        let memory = (laws.states.after gate.image (started roots) n of.1.program.code of.1.program.constants has.table).memory in
+        let memory = (laws.states.after gate.image (started roots) m of.1.program.code of.1.program.constants has.table).memory in
         let many = compiled_length gate.policy (Ok of.1.trees) of.1.trees of.1.compiles refl in
         let alike = same_form d.language d.policy gate.told gate.policy of.0 in
         let few : length (decision run.case).findings ≤ length gate.told.validations = omega (arith, few_findings f of.1.trees roots, many, alike.validations) in
-        let as_told = subst (λ (g : FailurePolicy). IsLayout g (decision run.case) s.values.values s.memory.verdict) (sym alike.failure_policy) layout in
-        (record { case = run.case; of_policy = refl; is_memory = memory; few = few; layout = as_told; uid_is = refl }, standing (λ v. Exited (outcome_word v.outcome)) by)
+        let as_told = subst (λ (g : FailurePolicy). IsLayout g (decision run.case) s.values.values s.memory.verdict) (sym alike.failure_policy) layout in (
+          record { case = run.case; of_policy = refl; is_memory = memory; few = few; layout = as_told; uid_is = refl },
+          standing (λ v. has_stopped (Exited (outcome_word v.outcome))) (λ i. ending_by (by i) (nat_lt m limits.steps)),
+        )
 
-    ended : HasExited s.status (Ok tt) → ExitsSo (Ok (record { state = s; uid = uid_in d.review }))
-    ended exited = exit_by exited.0 exited.1 (stopped (ap is_running exited.1))
+    ended : (machine : State) (status : Status) (held : Bool) → IsEndOf limits first machine status held → HasExited status held (Ok tt)
+        → ExitsSo (Ok (record { state = machine; uid = uid_in d.review }))
+    ended machine status left end exited =
+        let is : s.status ≡ Exited exited.0 = ap (λ (t : State). t.status) (sym end.state) ∙ sym end.status_is ∙ exited.1 in
+        subst (λ (t : State). ExitsSo (Ok (record { state = t; uid = uid_in d.review }))) (sym end.state) (exit_by exited.0 is (stopped (ap is_running is)))
 
-    not_ended : (e : RunError) → HasExited s.status (Err e) → ExitsSo (Err e)
-    not_ended OutOfSteps running = unended running
-    not_ended OverLimit faulted = stopped_by faulted.0 faulted.1 (stopped (ap is_running faulted.1))
-    not_ended e none = absurd none
+    not_ended : (e : RunError) (status : Status) (held : Bool) → status ≡ s.status → held ≡ (nat_lt m limits.steps && is_running status) → HasExited status held (Err e)
+        → ExitsSo (Err e)
+    not_ended OutOfSteps status left same is (running, none) = unended (sym same ∙ running) (not_and _ status (sym is ∙ none) running)
+    not_ended OutOfReads status left same is (running, some) = held (sym same ∙ running) (of_and _ _ (sym is ∙ some))
+    not_ended OverLimit status left same is (fault, faulted) =
+        let by : s.status ≡ Fault fault = sym same ∙ faulted in
+        stopped_by fault by (stopped (ap is_running by))
+    not_ended e status left same is none = absurd none
 
-  module _ (laws : Laws) (values : Contents) (given : values_given d ≡ Ok values) (machine : State) (is : machine ≡ state_after n (start_state gate.image values)) where
-    -- a fact that holds for each state after a start on roots holds for the machine
-    of_machine : (P : State → Type 0) → ((roots : Roots) → values_given d ≡ Ok (started roots) → HasValues roots (started roots) → P (state_after n (start_state gate.image (started roots)))) → P machine
-    of_machine P of_roots =
+  module _ (laws : Laws) (values : Contents) (given : values_given d ≡ Ok values) where
+    -- a fact that holds for each start on roots holds for this one
+    of_values : (P : Contents → Type 0) → ((roots : Roots) → values_given d ≡ Ok (started roots) → HasValues roots (started roots) → P (started roots)) → P values
+    of_values P of_roots =
         let own = given_have_values laws.tables laws.canonical (Some d.review) d.namespace d.params values given in
-        subst P (sym is) (subst (λ (v : Contents). P (state_after n (start_state gate.image v))) (sym own.are) (of_roots own.roots (given ∙ ap Ok own.are) (subst (HasValues own.roots) own.are own.has)))
+        subst P (sym own.are) (of_roots own.roots (given ∙ ap Ok own.are) (subst (HasValues own.roots) own.are own.has))
 
-    -- the program has not exited
-    pub not_exited : (e : RunError) → HasExited machine.status (Err e) → ExitsSo (Err e)
-    not_exited e = of_machine (λ s. HasExited s.status (Err e) → ExitsSo (Err e)) (λ roots begins has. not_ended laws roots begins has e)
+    module _ (machine : State) (status : Status) (held : Bool) where
+      -- the program has not exited
+      pub not_exited : IsEndOf limits (start_state gate.image values) machine status held → (e : RunError) → HasExited status held (Err e) → ExitsSo (Err e)
+      not_exited end e why =
+          of_values (λ v. IsEndOf limits (start_state gate.image v) machine status held → ExitsSo (Err e))
+          (λ roots begins has is. not_ended laws roots begins has e status held (is.status_is ∙ ap (λ (t : State). t.status) is.state) is.held_is why)
+          end
 
-    -- the program has exited
-    pub has_exited : (uid : List ℕ) → uid ≡ uid_in d.review → HasExited machine.status (Ok tt) → ExitsSo (Ok (record { state = machine; uid = uid }))
-    has_exited uid same =
-        of_machine (λ s. HasExited s.status (Ok tt) → ExitsSo (Ok (record { state = s; uid = uid })))
-        (λ roots begins has exited. subst (λ (u : List ℕ). ExitsSo (Ok (record { state = state_after n (start_state gate.image (started roots)); uid = u }))) (sym same) (ended laws roots begins has exited))
+      -- the program has exited
+      pub has_exited : IsEndOf limits (start_state gate.image values) machine status held → (uid : List ℕ) → uid ≡ uid_in d.review → HasExited status held (Ok tt)
+          → ExitsSo (Ok (record { state = machine; uid = uid }))
+      has_exited end uid same exited =
+          of_values (λ v. IsEndOf limits (start_state gate.image v) machine status held → ExitsSo (Ok (record { state = machine; uid = uid })))
+          (λ roots begins has is. subst (λ (u : List ℕ). ExitsSo (Ok (record { state = machine; uid = u }))) (sym same) (ended laws roots begins has machine status held is exited))
+          end
 
 -- ---- the results made from it
 
 -- a refusal of a review is the same for each type of result
-pub refused_so : (A B : Type 0) (chosen : Images) (d : Documents) (n : ℕ) (e : RunError) → RunAgrees {A = A} chosen d n (Err e) → RunAgrees {A = B} chosen d n (Err e)
-refused_so A B chosen d n OutOfSteps stands = stands
-refused_so A B chosen d n OverLimit stands = stands
-refused_so A B chosen d n e stands = tt
+pub refused_so : (A B : Type 0) (chosen : Images) (d : Documents) (limits : Limits) (e : RunError) → RunAgrees {A = A} chosen d limits (Err e)
+    → RunAgrees {A = B} chosen d limits (Err e)
+refused_so A B chosen d limits OutOfSteps stands = stands
+refused_so A B chosen d limits OverLimit stands = stands
+refused_so A B chosen d limits OutOfReads stands = stands
+refused_so A B chosen d limits e stands = tt
 
 -- the word of an outcome gives back the outcome
 outcome_told : (o : Outcome) → outcome_of (outcome_word o) ≡ o

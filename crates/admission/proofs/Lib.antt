@@ -8,6 +8,7 @@ pub mod RootTables
 pub mod Decided
 pub mod Standing
 pub mod OneReview
+pub mod Ends
 pub mod WideCases
 pub mod WideGates
 pub mod Prelude

@@ -1,5 +1,5 @@
 -- A review has one result.
-use Rattle.admission.proofs.Prelude.{◌≡◌, ◌∙◌, ℕ, List, Result, Ok, Err, ap, arith, refl, sym, subst, Fault, F8, Roots, State, start_state, state_after, Status, Exited, Running, decision_of, outcome_word, OneImage, HasOneImage, Compiles, Policy, PolicyTree, Verdict, policy_in, CompileError, Reply, Case, Documents, IsAnswered, IsPolicy, decision, started, values_given, ReviewHasOneResult, RunHasStatus, RunAgrees, uid_in, Profile, RunError, ReviewRefused, NamespaceOrParamsRefused, OutOfSteps, OverLimit}
+use Rattle.admission.proofs.Prelude.{◌≡◌, ◌∙◌, ℕ, List, Result, Ok, Err, ap, arith, refl, sym, subst, Fault, F8, Roots, start_state, Exited, decision_of, outcome_word, OneImage, HasOneImage, Compiles, Policy, PolicyTree, Verdict, policy_in, CompileError, Reply, Case, Documents, IsAnswered, IsPolicy, decision, started, values_given, ReviewHasOneResult, RunEnds, RunAgrees, uid_in, Profile, RunError, ReviewRefused, NamespaceOrParamsRefused, OutOfSteps, OverLimit, OutOfReads}
 use Rattle.std.specs.Prelude.{◌≢◌}
 use Rattle.bpf_machine.specs.declared.status.Status.TheVariants as status
 use Rattle.loader.specs.Contents as loader
@@ -8,6 +8,8 @@ use Rattle.policy_glue.specs.OneAnswer as policy
 use Rattle.admission.specs.Deciding.{HasNoResponse, IsPolicyRefused, answer_of}
 use Rattle.admission.specs.Findings.{AreFindingsOf}
 use Rattle.admission.specs.OneAnswer.{FindingsHaveOneResult}
+use Rattle.admission.specs.Standing.{Ending, begins, ending, has_stopped, out_of_reads, out_of_steps}
+use Rattle.admission.specs.declared.limits.Limits.{Limits}
 use Rattle.admission.specs.declared.policy_refusal.PolicyRefusal.{PolicyRefusal}
 use Rattle.admission.specs.declared.policy_refusal.PolicyRefusal.TheVariants as policy_refusal
 use Rattle.admission.specs.declared.run_error.RunError.TheVariants.{PolicyRefused, Memory}
@@ -40,37 +42,39 @@ cases_once compiles d c e =
       roots_once c.roots e.roots (ok_values d c e),
     )
 
-module _ (compiles : policy.CompileHasOneResult) (images : HasOneImage) (d : Documents) (n : ℕ) where
+module _ (compiles : policy.CompileHasOneResult) (images : HasOneImage) (d : Documents) (limits : Limits) where
   decisions_once : (c e : Case d) → decision c ≡ decision e
   decisions_once c e = let same = cases_once compiles d c e in λ i. decision_of (same.0 i).failure_policy (same.1 i) (same.2 i)
 
-  -- the program of the one image has one status
-  status_once : (due other : Verdict → Status) (is : RunHasStatus OneImage d n due) (also : RunHasStatus OneImage d n other) → due (decision also.run.case) ≡ other (decision also.run.case)
-  status_once due other is also =
+  -- the run of the one image has one end
+  ends_once : (due other : Verdict → Ending) (is : RunEnds OneImage d limits due) (also : RunEnds OneImage d limits other) → due (decision also.run.case) ≡ other (decision also.run.case)
+  ends_once due other is also =
       let c = is.run.case in
       let e = also.run.case in
       let same = cases_once compiles d c e in
       let image : is.run.image ≡ also.run.image = images e.policy.parsed is.run.image also.run.image (subst (λ (p : Policy). OneImage p is.run.image) same.0 is.is_chosen) also.is_chosen in
-      let state : state_after n (start_state is.run.image (started c.roots)) ≡ state_after n (start_state also.run.image (started e.roots)) = λ i. state_after n (start_state (image i) (started (same.2 i))) in
-      sym (ap due (decisions_once c e)) ∙ sym is.status ∙ ap (λ (s : State). s.status) state ∙ also.status
+      let end : ending limits (begins is.run) ≡ ending limits (begins also.run) = λ i. ending limits (start_state (image i) (started (same.2 i))) in
+      sym (ap due (decisions_once c e)) ∙ sym is.ends ∙ end ∙ also.ends
 
-  -- the status that an error shows
-  data Shows : RunError → Status → Type 0 where
-    runs : Shows OutOfSteps Running
-    is_stopped : Shows OverLimit (status.Fault F8)
+  -- the end that an error shows
+  data Shows : RunError → Ending → Type 0 where
+    runs : Shows OutOfSteps out_of_steps
+    is_held : Shows OutOfReads out_of_reads
+    is_stopped : Shows OverLimit (has_stopped (status.Fault F8))
 
   -- why there is no response
   data Cause : RunError → Type 0 where
     by_policy : (e : PolicyRefusal) → d.language ≡ Profile → IsPolicyRefused d.policy e → Cause (PolicyRefused e)
     by_values : {e : RunError} → IsPolicy d.language d.policy → values_given d ≡ Err e → Cause e
-    by_run : {e : RunError} {due : Status} → RunHasStatus OneImage d n (λ v. due) → Shows e due → Cause e
+    by_run : {e : RunError} {due : Ending} → RunEnds OneImage d limits (λ v. due) → Shows e due → Cause e
 
-  cause_of : (A : Type 0) (e : RunError) → (e ≡ Memory → ⊥) → HasNoResponse d n e → RunAgrees {A = A} OneImage d n (Err e) → Cause e
+  cause_of : (A : Type 0) (e : RunError) → (e ≡ Memory → ⊥) → HasNoResponse d limits e → RunAgrees {A = A} OneImage d limits (Err e) → Cause e
   cause_of A (PolicyRefused e) some why agrees = by_policy e why.0 why.1
   cause_of A ReviewRefused some why agrees = by_values why.0 why.1
   cause_of A NamespaceOrParamsRefused some why agrees = by_values why.0 why.1
   cause_of A OutOfSteps some why agrees = by_run agrees runs
   cause_of A OverLimit some why agrees = by_run agrees is_stopped
+  cause_of A OutOfReads some why agrees = by_run agrees is_held
   cause_of A Memory some why agrees = absurd (some refl)
 
   no_policy : (e : PolicyRefusal) → d.language ≡ Profile → IsPolicyRefused d.policy e → IsPolicy d.language d.policy → ⊥
@@ -95,10 +99,15 @@ module _ (compiles : policy.CompileHasOneResult) (images : HasOneImage) (d : Doc
   refusals_once (policy_refusal.Uncompiled e) policy_refusal.Memory is also = absurd also
   refusals_once policy_refusal.Memory f is also = absurd is
 
-  shown_once : (e f : RunError) (due other : Status) → due ≡ other → Shows e due → Shows f other → e ≡ f
+  shown_once : (e f : RunError) (due other : Ending) → due ≡ other → Shows e due → Shows f other → e ≡ f
   shown_once _ _ _ _ same runs runs = refl
+  shown_once _ _ _ _ same runs is_held = absurd (cc)
   shown_once _ _ _ _ same runs is_stopped = absurd (cc)
+  shown_once _ _ _ _ same is_held runs = absurd (cc)
+  shown_once _ _ _ _ same is_held is_held = refl
+  shown_once _ _ _ _ same is_held is_stopped = absurd (cc)
   shown_once _ _ _ _ same is_stopped runs = absurd (cc)
+  shown_once _ _ _ _ same is_stopped is_held = absurd (cc)
   shown_once _ _ _ _ same is_stopped is_stopped = refl
 
   causes_once : (e f : RunError) → Cause e → Cause f → e ≡ f
@@ -110,28 +119,29 @@ module _ (compiles : policy.CompileHasOneResult) (images : HasOneImage) (d : Doc
   causes_once e _ (by_values p is) (by_run also shown) = absurd (no_values e is also.run.case)
   causes_once _ _ (by_run is shown) (by_policy f other also) = absurd (no_policy f other also is.run.case.policy)
   causes_once _ f (by_run is shown) (by_values q also) = absurd (no_values f also is.run.case)
-  causes_once e f (by_run {due = due} is shown) (by_run {due = other} also told) = shown_once e f due other (status_once (λ v. due) (λ v. other) is also) shown told
+  causes_once e f (by_run {due = due} is shown) (by_run {due = other} also told) = shown_once e f due other (ends_once (λ v. due) (λ v. other) is also) shown told
 
   -- a program that has exited has no such cause
-  no_exit : (w : ℕ) (e : RunError) (due : Status) → Exited w ≡ due → Shows e due → ⊥
+  no_exit : (w : ℕ) (e : RunError) (due : Ending) → has_stopped (Exited w) ≡ due → Shows e due → ⊥
   no_exit w _ _ same runs = absurd (cc)
+  no_exit w _ _ same is_held = absurd (cc)
   no_exit w _ _ same is_stopped = absurd (cc)
 
-  exited : (e : RunError) → RunHasStatus OneImage d n (λ v. Exited (outcome_word v.outcome)) → Cause e → ⊥
+  exited : (e : RunError) → RunEnds OneImage d limits (λ v. has_stopped (Exited (outcome_word v.outcome))) → Cause e → ⊥
   exited _ ran (by_policy e profile is) = no_policy e profile is ran.run.case.policy
   exited e ran (by_values p is) = no_values e is ran.run.case
-  exited e ran (by_run {due = due} is shown) = no_exit _ e due (status_once (λ v. Exited (outcome_word v.outcome)) (λ v. due) ran is) shown
+  exited e ran (by_run {due = due} is shown) = no_exit _ e due (ends_once (λ v. has_stopped (Exited (outcome_word v.outcome))) (λ v. due) ran is) shown
 
   module _ {A : Type 0} (Gives : A → Type 0) (once : (x y : A) → Gives x → Gives y → x ≡ y) where
     -- a value, or an error that the review may have
     abbrev Says : Result A RunError → Type 0
     Says (Ok x) = Gives x
-    Says (Err e) = HasNoResponse d n e
+    Says (Err e) = HasNoResponse d limits e
 
     some_error : (e : RunError) → ◌≢◌ {A = Result A RunError} (Err e) (Err Memory) → e ≡ Memory → ⊥
     some_error e some is = some (ap Err is)
 
-    one_result : (a b : Result A RunError) → a ≢ Err Memory → b ≢ Err Memory → Says a → RunAgrees OneImage d n a → Says b → RunAgrees OneImage d n b → a ≡ b
+    one_result : (a b : Result A RunError) → a ≢ Err Memory → b ≢ Err Memory → Says a → RunAgrees OneImage d limits a → Says b → RunAgrees OneImage d limits b → a ≡ b
     one_result (Ok x) (Ok y) some other is ran also agrees = ap Ok (once x y is also)
     one_result (Ok x) (Err f) some other is ran also agrees = absurd (exited f ran (cause_of A f (some_error f other) also agrees))
     one_result (Err e) (Ok y) some other is ran also agrees = absurd (exited e agrees (cause_of A e (some_error e some) is ran))
@@ -147,21 +157,21 @@ module _ (compiles : policy.CompileHasOneResult) (images : HasOneImage) (d : Doc
       is.findings_are ∙ (λ i. findings_of (told_once d is.case also.case i) (decisions_once is.case also.case i)) ∙ sym also.findings_are
 
 pub one_review : policy.CompileHasOneResult → HasOneImage → ReviewHasOneResult
-one_review compiles images d n (Ok x) (Ok y) some other is also =
-    one_result compiles images d n (IsAnswered d) (replies_once compiles images d n) (Ok x) (Ok y) some other is.reviews is.runs also.reviews also.runs
-one_review compiles images d n (Ok x) (Err f) some other is also =
-    one_result compiles images d n (IsAnswered d) (replies_once compiles images d n) (Ok x) (Err f) some other is.reviews is.runs also.reviews also.runs
-one_review compiles images d n (Err e) (Ok y) some other is also =
-    one_result compiles images d n (IsAnswered d) (replies_once compiles images d n) (Err e) (Ok y) some other is.reviews is.runs also.reviews also.runs
-one_review compiles images d n (Err e) (Err f) some other is also =
-    one_result compiles images d n (IsAnswered d) (replies_once compiles images d n) (Err e) (Err f) some other is.reviews is.runs also.reviews also.runs
+one_review compiles images d limits (Ok x) (Ok y) some other is also =
+    one_result compiles images d limits (IsAnswered d) (replies_once compiles images d limits) (Ok x) (Ok y) some other is.reviews is.runs also.reviews also.runs
+one_review compiles images d limits (Ok x) (Err f) some other is also =
+    one_result compiles images d limits (IsAnswered d) (replies_once compiles images d limits) (Ok x) (Err f) some other is.reviews is.runs also.reviews also.runs
+one_review compiles images d limits (Err e) (Ok y) some other is also =
+    one_result compiles images d limits (IsAnswered d) (replies_once compiles images d limits) (Err e) (Ok y) some other is.reviews is.runs also.reviews also.runs
+one_review compiles images d limits (Err e) (Err f) some other is also =
+    one_result compiles images d limits (IsAnswered d) (replies_once compiles images d limits) (Err e) (Err f) some other is.reviews is.runs also.reviews also.runs
 
 pub one_list : policy.CompileHasOneResult → HasOneImage → FindingsHaveOneResult
-one_list compiles images d n (Ok x) (Ok y) some other is also =
-    one_result compiles images d n (AreFindingsOf d) (found_once compiles images d n) (Ok x) (Ok y) some other is.finds is.runs also.finds also.runs
-one_list compiles images d n (Ok x) (Err f) some other is also =
-    one_result compiles images d n (AreFindingsOf d) (found_once compiles images d n) (Ok x) (Err f) some other is.finds is.runs also.finds also.runs
-one_list compiles images d n (Err e) (Ok y) some other is also =
-    one_result compiles images d n (AreFindingsOf d) (found_once compiles images d n) (Err e) (Ok y) some other is.finds is.runs also.finds also.runs
-one_list compiles images d n (Err e) (Err f) some other is also =
-    one_result compiles images d n (AreFindingsOf d) (found_once compiles images d n) (Err e) (Err f) some other is.finds is.runs also.finds also.runs
+one_list compiles images d limits (Ok x) (Ok y) some other is also =
+    one_result compiles images d limits (AreFindingsOf d) (found_once compiles images d limits) (Ok x) (Ok y) some other is.finds is.runs also.finds also.runs
+one_list compiles images d limits (Ok x) (Err f) some other is also =
+    one_result compiles images d limits (AreFindingsOf d) (found_once compiles images d limits) (Ok x) (Err f) some other is.finds is.runs also.finds also.runs
+one_list compiles images d limits (Err e) (Ok y) some other is also =
+    one_result compiles images d limits (AreFindingsOf d) (found_once compiles images d limits) (Err e) (Ok y) some other is.finds is.runs also.finds also.runs
+one_list compiles images d limits (Err e) (Err f) some other is also =
+    one_result compiles images d limits (AreFindingsOf d) (found_once compiles images d limits) (Err e) (Err f) some other is.finds is.runs also.finds also.runs

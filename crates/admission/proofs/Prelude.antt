@@ -3,7 +3,7 @@ pub use Rattle.std.proofs.Common.{Bool, Err, FitsSigned, IsErrAnd, List, None, O
 pub use Rattle.std.proofs.Common.{String, ℕ, [], ap, arith, bytes_eq, codes, cond, false, get_or, if◌then◌else◌, inl}
 pub use Rattle.std.proofs.Common.{inr, is_eq, length, map, nat_cmp, nat_le, option_and_then, option_map, refl}
 pub use Rattle.std.proofs.Common.{slice_get, string_bytes, subst, suc, sym, true, unwrap_or, ◌*◌, ◌++◌, ◌+◌, ◌^◌, ◌∙◌}
-pub use Rattle.std.proofs.Common.{◌∷◌, ◌≡◌, ◌≤◌, ◌⊎◌}
+pub use Rattle.std.proofs.Common.{◌∷◌, ◌≡◌, ◌≤◌, ◌⊎◌, ◌&&◌}
 pub use Rattle.std.proofs.lemmas.Bool.{cases_lt, leb-true}
 pub use Rattle.std.proofs.lemmas.List.{length-map, length_push}
 pub use Rattle.std.proofs.lemmas.Map.Text.{is_eq-slice_cmp}
@@ -68,10 +68,10 @@ pub use Rattle.admission.specs.Reviews.{is_review, member_or_null, members_in, p
 pub use Rattle.admission.specs.Reviews.{root_refusal, text_or_empty, without}
 pub use Rattle.admission.specs.RootValues.{AreOfRoots, DocumentsHaveValues, GivenHaveValues}
 pub use Rattle.admission.specs.Decisions.{IsDecisionOf, Decision, decision_from_verdict}
-pub use Rattle.admission.specs.Standing.{Images, PolicyRun, RunHasStatus, RunAgrees, exactly}
+pub use Rattle.admission.specs.Standing.{Images, PolicyRun, RunEnds, RunAgrees, exactly}
 pub use Rattle.admission.specs.declared.language.Language.{Language}
 pub use Rattle.admission.specs.declared.language.Language.TheVariants.{Profile, Wide}
 pub use Rattle.admission.specs.declared.run_error.RunError.{RunError}
 pub use Rattle.admission.specs.declared.run_error.RunError.TheVariants.{ReviewRefused, NamespaceOrParamsRefused}
-pub use Rattle.admission.specs.declared.run_error.RunError.TheVariants.{OutOfSteps, OverLimit}
+pub use Rattle.admission.specs.declared.run_error.RunError.TheVariants.{OutOfSteps, OverLimit, OutOfReads}
 unfoldable pub use Rattle.admission.specs.Reviews.{contents_given, documents_given, parts_of, uid_in}

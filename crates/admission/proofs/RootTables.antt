@@ -41,6 +41,7 @@ due_err see due run_error.ReviewRefused is = is
 due_err see due run_error.NamespaceOrParamsRefused is = is
 due_err see due run_error.OutOfSteps is = is
 due_err see due run_error.OverLimit is = is
+due_err see due run_error.OutOfReads is = is
 due_err see due run_error.Memory is = tt
 
 module _ {S : Type 0} (contents : S → Contents) where

@@ -1,6 +1,7 @@
 -- The result of a review under a policy.
 use Rattle.std.specs.Prelude.{◌≡◌, ℕ, ◌+◌, ◌*◌, ◌<◌, ◌⊎◌, Bool, true, false, List, [], ◌∷◌, ◌++◌, map, Option, Some, Result, Ok, Err, Vec}
 use Rattle.std.specs.declared.alloc.Global.{Global}
+use Rattle.bpf_machine.specs.Reads.{no_limit}
 use Rattle.value_store.specs.Placing.{Contents, charge_limit, first_values}
 use Rattle.value_store.specs.Roots.{sizes}
 use Rattle.value_store.specs.Value.{Value, value}
@@ -23,12 +24,14 @@ use Rattle.wide_policy.specs.declared.wide_policy_error.WidePolicyError.TheVaria
 use Rattle.admission.specs.GatePolicies.{GatePolicy}
 use Rattle.admission.specs.Reviews.{contents_given, uid_in}
 use Rattle.admission.specs.declared.language.Language.{Language, TheVariants.Profile, TheVariants.Wide}
+use Rattle.admission.specs.declared.limits.Limits.{Limits}
 use Rattle.admission.specs.declared.policy_and_image.PolicyAndImage.{PolicyAndImage}
 use Rattle.admission.specs.declared.policy_refusal.PolicyRefusal.{PolicyRefusal, TheVariants.Unread, TheVariants.Uncompiled}
 use Rattle.admission.specs.declared.policy_refusal.PolicyRefusal.TheVariants as policy_refusal
 use Rattle.admission.specs.declared.reply.Reply.{Reply as CodeReply}
 use Rattle.admission.specs.declared.run_error.RunError.{RunError}
-use Rattle.admission.specs.declared.run_error.RunError.TheVariants.{PolicyRefused, ReviewRefused, NamespaceOrParamsRefused, OutOfSteps, OverLimit, Memory}
+use Rattle.admission.specs.declared.run_error.RunError.TheVariants.{PolicyRefused, ReviewRefused, NamespaceOrParamsRefused}
+use Rattle.admission.specs.declared.run_error.RunError.TheVariants.{OutOfSteps, OverLimit, OutOfReads, Memory}
 use Rattle.admission.specs.declared.wide_gate.WideGate.{WideGate}
 use Rattle.admission.specs.declared.wide_refusal.WideRefusal.{WideRefusal}
 use Rattle.admission.specs.declared.wide_refusal.WideRefusal.TheVariants as wide_refusal
@@ -179,22 +182,28 @@ pub record IsUnended (d : Documents) (n : ℕ) : Type 0 where
   pub case : Case d
   pub early : n < steps_per_visit * work case
 
+-- the reads are limited
+pub record IsUnread (d : Documents) (reads : ℕ) : Type 0 where
+  pub case : Case d
+  pub limited : reads < no_limit
+
 -- the charge of the work may exceed the limit, or a value is too deep
 pub record IsStopped (d : Documents) : Type 0 where
   pub case : Case d
   pub beyond : IsBeyond case
 
--- an error that a review may have: the first refusal of the policy, of the documents, or of the program's run, which may
--- take n steps; or that an allocation failed, at any time
-abbrev pub HasNoResponse : Documents → ℕ → RunError → Type 0
-HasNoResponse d n (PolicyRefused e) = (d.language ≡ Profile) × IsPolicyRefused d.policy e
-HasNoResponse d n ReviewRefused = IsPolicy d.language d.policy × (values_given d ≡ Err ReviewRefused)
-HasNoResponse d n NamespaceOrParamsRefused = IsPolicy d.language d.policy × (values_given d ≡ Err NamespaceOrParamsRefused)
-HasNoResponse d n OutOfSteps = IsUnended d n
-HasNoResponse d n OverLimit = IsStopped d
-HasNoResponse d n Memory = Unit {0}
+-- an error that a review may have: the first refusal of the policy, of the documents, or of the program's run within the
+-- limits; or that an allocation failed, at any time
+abbrev pub HasNoResponse : Documents → Limits → RunError → Type 0
+HasNoResponse d limits (PolicyRefused e) = (d.language ≡ Profile) × IsPolicyRefused d.policy e
+HasNoResponse d limits ReviewRefused = IsPolicy d.language d.policy × (values_given d ≡ Err ReviewRefused)
+HasNoResponse d limits NamespaceOrParamsRefused = IsPolicy d.language d.policy × (values_given d ≡ Err NamespaceOrParamsRefused)
+HasNoResponse d limits OutOfSteps = IsUnended d limits.steps
+HasNoResponse d limits OverLimit = IsStopped d
+HasNoResponse d limits OutOfReads = IsUnread d limits.reads
+HasNoResponse d limits Memory = Unit {0}
 
 -- a reply or an error that a review may have; `RunAgrees` states when it is one of the run
-abbrev pub Reviews : Documents → ℕ → Result Reply RunError → Type 0
-Reviews d n (Ok answer) = IsAnswered d answer
-Reviews d n (Err e) = HasNoResponse d n e
+abbrev pub Reviews : Documents → Limits → Result Reply RunError → Type 0
+Reviews d limits (Ok answer) = IsAnswered d answer
+Reviews d limits (Err e) = HasNoResponse d limits e

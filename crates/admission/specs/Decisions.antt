@@ -7,6 +7,7 @@ use Rattle.policy_glue.specs.declared.rejection.Rejection.{Rejection as CodeReje
 use Rattle.admission.specs.Deciding.{Case, Documents, HasNoResponse, decision}
 use Rattle.admission.specs.Reviews.{uid_in}
 use Rattle.admission.specs.declared.run_error.RunError.{RunError}
+use Rattle.admission.specs.declared.limits.Limits.{Limits}
 use Rattle.admission.specs.declared.decision.Decision.{Decision as CodeDecision}
 
 -- the rejection by a policy, if it rejects, and the uid of the request
@@ -38,6 +39,6 @@ pub record IsDecisionOf (d : Documents) (said : Decision) : Type 0 where
   pub decision_is : said ≡ decision_from_verdict case.policy.told (decision case) (uid_in d.review)
 
 -- the policy's decision on a review, or an error that the review may have
-abbrev pub DecidesReview : Documents → ℕ → Result Decision RunError → Type 0
-DecidesReview d n (Ok said) = IsDecisionOf d said
-DecidesReview d n (Err e) = HasNoResponse d n e
+abbrev pub DecidesReview : Documents → Limits → Result Decision RunError → Type 0
+DecidesReview d limits (Ok said) = IsDecisionOf d said
+DecidesReview d limits (Err e) = HasNoResponse d limits e

@@ -1,5 +1,5 @@
 -- The state in which the program of a policy has exited on a review, and its verdict.
-use Rattle.std.specs.Prelude.{◌≡◌, ℕ, ◌≤◌, List, length, Result, Ok, Err}
+use Rattle.std.specs.Prelude.{◌≡◌, ℕ, ◌≤◌, Bool, true, false, List, length, Result, Ok, Err}
 use Rattle.guest_memory.specs.Memory.{IsMemory}
 use Rattle.guest_memory.specs.declared.fault.Fault as guest
 use Rattle.bpf_machine.specs.State.{State}
@@ -9,7 +9,8 @@ use Rattle.policy_glue.specs.Policy.{Policy}
 use Rattle.policy_glue.specs.Verdict.{Verdict}
 use Rattle.admission.specs.Deciding.{Case, Documents, HasNoResponse, decision}
 use Rattle.admission.specs.Reviews.{uid_in}
-use Rattle.admission.specs.declared.run_error.RunError.{RunError, TheVariants.OutOfSteps, TheVariants.OverLimit}
+use Rattle.admission.specs.declared.limits.Limits.{Limits}
+use Rattle.admission.specs.declared.run_error.RunError.{RunError, TheVariants.OutOfSteps, TheVariants.OverLimit, TheVariants.OutOfReads}
 
 -- the state after the exit, and the uid of the request
 pub record Exit : Type 0 where
@@ -37,9 +38,9 @@ pub record IsExit (p : Policy) (d : Documents) (exit : Exit) : Type 0 where
   pub uid_is : exit.uid ≡ uid_in d.review
 
 -- the state holds the verdict, or an error that the review may have
-abbrev pub Exits : Policy → Documents → ℕ → Result Exit RunError → Type 0
-Exits p d n (Ok exit) = IsExit p d exit
-Exits p d n (Err e) = HasNoResponse d n e
+abbrev pub Exits : Policy → Documents → Limits → Result Exit RunError → Type 0
+Exits p d limits (Ok exit) = IsExit p d exit
+Exits p d limits (Err e) = HasNoResponse d limits e
 
 -- ---- parts
 
@@ -48,9 +49,11 @@ abbrev pub OfVerdict : Policy → State → (Verdict → Type 0) → Type 0
 OfVerdict p s holds = (v : Verdict) → IsMemory s.memory → length v.findings ≤ length p.validations
     → IsLayout p.failure_policy v s.values.values s.memory.verdict → holds v
 
--- the program has exited, or its status says why there is no verdict; the error is never that memory is out
-abbrev pub HasExited : Status → Result (Unit {0}) RunError → Type 0
-HasExited s (Ok u) = (w : ℕ) × (s ≡ Exited w)
-HasExited s (Err OutOfSteps) = s ≡ Running
-HasExited s (Err OverLimit) = (f : guest.Fault) × (s ≡ Fault f)
-HasExited s (Err e) = ⊥
+-- the program has exited, or its status says why there is no verdict; it may still run with a step left only if the
+-- limit of reads held it; the error is never that memory is out
+abbrev pub HasExited : Status → Bool → Result (Unit {0}) RunError → Type 0
+HasExited s held (Ok u) = (w : ℕ) × (s ≡ Exited w)
+HasExited s held (Err OutOfSteps) = (s ≡ Running) × (held ≡ false)
+HasExited s held (Err OutOfReads) = (s ≡ Running) × (held ≡ true)
+HasExited s held (Err OverLimit) = (f : guest.Fault) × (s ≡ Fault f)
+HasExited s held (Err e) = ⊥

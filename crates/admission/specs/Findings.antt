@@ -1,9 +1,10 @@
 -- What a policy finds against a review.
-use Rattle.std.specs.Prelude.{◌≡◌, ℕ, List, map, Result, Ok, Err, Vec}
+use Rattle.std.specs.Prelude.{◌≡◌, List, map, Result, Ok, Err, Vec}
 use Rattle.std.specs.Global.{Global}
 use Rattle.policy_glue.specs.Findings.{PolicyFinding, finding_view, findings_of}
 use Rattle.policy_glue.specs.declared.finding.Finding.{Finding as CodeFinding}
 use Rattle.admission.specs.Deciding.{Case, Documents, HasNoResponse, decision}
+use Rattle.admission.specs.declared.limits.Limits.{Limits}
 use Rattle.admission.specs.declared.run_error.RunError.{RunError}
 
 -- the findings that the code returns
@@ -17,6 +18,6 @@ pub record AreFindingsOf (d : Documents) (found : List PolicyFinding) : Type 0 w
   pub findings_are : found ≡ findings_of case.policy.told (decision case)
 
 -- what the policy finds against a review, or an error that the review may have
-abbrev pub FindsReview : Documents → ℕ → Result (List PolicyFinding) RunError → Type 0
-FindsReview d n (Ok found) = AreFindingsOf d found
-FindsReview d n (Err e) = HasNoResponse d n e
+abbrev pub FindsReview : Documents → Limits → Result (List PolicyFinding) RunError → Type 0
+FindsReview d limits (Ok found) = AreFindingsOf d found
+FindsReview d limits (Err e) = HasNoResponse d limits e

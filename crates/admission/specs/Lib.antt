@@ -11,6 +11,7 @@ pub mod Decisions
 pub mod Findings
 pub mod Exiting
 pub mod Standing
+pub mod Endings
 pub mod WideCases
 pub mod RootRows
 pub mod RootValues

@@ -8,7 +8,8 @@ use Rattle.value_store.specs.declared.table_error.TableError.TheVariants as tabl
 use Rattle.value_table.specs.declared.review_error.ReviewError.{ReviewError}
 use Rattle.value_table.specs.declared.review_error.ReviewError.TheVariants as review_error
 use Rattle.admission.specs.declared.run_error.RunError.{RunError}
-use Rattle.admission.specs.declared.run_error.RunError.TheVariants.{PolicyRefused, ReviewRefused, NamespaceOrParamsRefused, OutOfSteps, OverLimit, Memory}
+use Rattle.admission.specs.declared.run_error.RunError.TheVariants.{PolicyRefused, ReviewRefused, NamespaceOrParamsRefused}
+use Rattle.admission.specs.declared.run_error.RunError.TheVariants.{OutOfSteps, OverLimit, OutOfReads, Memory}
 -- documents that may be absent, reviews with their parts, the roots, and the uid
 pub use Rattle.value_store.specs.Documents.{document_given, is_text, text_or_empty}
 pub use Rattle.value_store.specs.Reviews.{is_review, members_in, request_of, without, member_or_null}
@@ -72,4 +73,5 @@ ReturnsDue see due (Err ReviewRefused) = due ≡ Err ReviewRefused
 ReturnsDue see due (Err NamespaceOrParamsRefused) = due ≡ Err NamespaceOrParamsRefused
 ReturnsDue see due (Err OutOfSteps) = due ≡ Err OutOfSteps
 ReturnsDue see due (Err OverLimit) = due ≡ Err OverLimit
+ReturnsDue see due (Err OutOfReads) = due ≡ Err OutOfReads
 ReturnsDue see due (Err Memory) = Unit {0}

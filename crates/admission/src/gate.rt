@@ -1,5 +1,6 @@
 //! Policies that are compiled once to decide many reviews.
 ghost use Rattle.std.specs.Prelude.{◌≡◌, ℕ, List, map, option_map, IfOk, Ok};
+ghost use Rattle.bpf_machine.specs.Reads.{LimitedStopsOnce};
 ghost use Rattle.bpf_machine.specs.State.{start_state};
 ghost use Rattle.bpf_machine.specs.Starts.{StartsAreTables};
 ghost use Rattle.bpf_machine.specs.States.{StatesAreKept};
@@ -23,12 +24,13 @@ ghost use Rattle.admission.specs.Standing.{exactly, RunAgrees};
 ghost use Rattle.admission.specs.declared.language.Language.{Language};
 
 use crate::decision::Decision;
+use crate::limits::Limits;
 use crate::policy_and_image::compile_document;
 use crate::policy_refusal::PolicyRefusal;
 use crate::reply::Reply;
 use crate::run_error::RunError;
-use bpf_machine::laws::{starts_are_tables, states_are_kept};
-use bpf_machine::{Machine, Program, Status};
+use bpf_machine::laws::{limits_hold, starts_are_tables, states_are_kept};
+use bpf_machine::{Machine, Program, RunEnd, Status};
 use guest_memory::Guest;
 use policy_glue::{
     CompileError, Finding, Outcome, Policy, Rejection, Verdict, compile, conditions_name_namespace,
@@ -114,29 +116,30 @@ impl Gate {
     }
 
     /// The response to a review (AdmissionReview, `admission.k8s.io/v1`) under the policy, whose
-    /// program takes at most `n` steps. The root `namespaceObject` is null without a namespace,
+    /// program runs within the limits. The root `namespaceObject` is null without a namespace,
     /// `params` without params.
     ///
     /// # Errors
     ///
     /// The first refusal. `ReviewRefused` and `NamespaceOrParamsRefused` refuse the documents, as
-    /// in `roots`. `OutOfSteps`: the program still runs after `n` steps. `OverLimit`: it was stopped
-    /// within `n` steps. `Memory` if an allocation fails; the contract always allows it, and then
-    /// states nothing of the review.
+    /// in `roots`. `OutOfSteps`: the program still runs after all its steps. `OutOfReads`: it still
+    /// runs, and its next helper call would bring what it reads above the limit. `OverLimit`: it was
+    /// stopped before either. `Memory` if an allocation fails; the contract always allows it, and
+    /// then states nothing of the review.
     pub fn decide(
         &self,
         review: &[u8],
         namespace: Option<&[u8]>,
         params: Option<&[u8]>,
-        n: u64,
+        limits: Limits,
     ) -> Result<Reply, RunError>
         // A result that the review may have, for each policy document that gives this gate.
-        ensures reviews { (language : Language) (policy : List ℕ) → IsGateOn language policy self.now → Reviews (documents_in language policy review.now namespace.entry params.entry) n (answer_view result) }
+        ensures reviews { (language : Language) (policy : List ℕ) → IsGateOn language policy self.now → Reviews (documents_in language policy review.now namespace.entry params.entry) limits (answer_view result) }
         // The program's run agrees. Only one result meets both clauses, apart from `Memory`.
-        ensures runs { (language : Language) (policy : List ℕ) → IsGateOn language policy self.now → RunAgrees (exactly self.now.image) (documents_in language policy review.now namespace.entry params.entry) n (answer_view result) }
+        ensures runs { (language : Language) (policy : List ℕ) → IsGateOn language policy self.now → RunAgrees (exactly self.now.image) (documents_in language policy review.now namespace.entry params.entry) limits (answer_view result) }
     {
         let (table, uid) = Table::of_review(self.alloc, review, namespace, params)?;
-        self.decide_on(table, uid.as_str(), n)
+        self.decide_on(table, uid.as_str(), limits)
     }
 
     /// The response to the review whose roots are in the table. `uid` is the uid of its request. For
@@ -144,13 +147,13 @@ impl Gate {
     ///
     /// # Errors
     ///
-    /// `OutOfSteps`, `OverLimit` and `Memory`, as in `decide`.
-    pub fn decide_on(&self, table: Table, uid: &str, n: u64) -> Result<Reply, RunError>
-        ensures reviews { (d : Documents) → IsGateOn d.language d.policy self.now → AreGiven d (held_contents table) uid.now → Reviews d n (answer_view result) }
-        ensures runs { (d : Documents) → IsGateOn d.language d.policy self.now → AreGiven d (held_contents table) uid.now → RunAgrees (exactly self.now.image) d n (answer_view result) }
+    /// `OutOfSteps`, `OverLimit`, `OutOfReads` and `Memory`, as in `decide`.
+    pub fn decide_on(&self, table: Table, uid: &str, limits: Limits) -> Result<Reply, RunError>
+        ensures reviews { (d : Documents) → IsGateOn d.language d.policy self.now → AreGiven d (held_contents table) uid.now → Reviews d limits (answer_view result) }
+        ensures runs { (d : Documents) → IsGateOn d.language d.policy self.now → AreGiven d (held_contents table) uid.now → RunAgrees (exactly self.now.image) d limits (answer_view result) }
     {
         let mut machine = self.machine(table)?;
-        self.run(&mut machine, n)?;
+        self.run(&mut machine, limits)?;
         Ok(reply(self.alloc, self.told(), &machine, uid)?)
     }
 
@@ -158,12 +161,12 @@ impl Gate {
     ///
     /// # Errors
     ///
-    /// `OutOfSteps`, `OverLimit` and `Memory`, as in `decide`.
-    pub fn decision_on(&self, table: Table, uid: &str, n: u64) -> Result<Decision, RunError>
-        ensures says { (d : Documents) → IsGateOn d.language d.policy self.now → AreGiven d (held_contents table) uid.now → DecidesReview d n (decision_view result) }
-        ensures runs { (d : Documents) → IsGateOn d.language d.policy self.now → AreGiven d (held_contents table) uid.now → RunAgrees (exactly self.now.image) d n (decision_view result) }
+    /// `OutOfSteps`, `OverLimit`, `OutOfReads` and `Memory`, as in `decide`.
+    pub fn decision_on(&self, table: Table, uid: &str, limits: Limits) -> Result<Decision, RunError>
+        ensures says { (d : Documents) → IsGateOn d.language d.policy self.now → AreGiven d (held_contents table) uid.now → DecidesReview d limits (decision_view result) }
+        ensures runs { (d : Documents) → IsGateOn d.language d.policy self.now → AreGiven d (held_contents table) uid.now → RunAgrees (exactly self.now.image) d limits (decision_view result) }
     {
-        let rejection = self.rejection_on(table, n)?;
+        let rejection = self.rejection_on(table, limits)?;
         Ok(with_uid(self.alloc, rejection, uid)?)
     }
 
@@ -172,13 +175,13 @@ impl Gate {
     ///
     /// # Errors
     ///
-    /// `OutOfSteps`, `OverLimit` and `Memory`, as in `decide`.
-    pub fn rejection_on(&self, table: Table, n: u64) -> Result<Option<Rejection>, RunError>
-        ensures says { (d : Documents) (uid : List ℕ) → IsGateOn d.language d.policy self.now → AreGiven d (held_contents table) uid → DecidesReview d n (said_view uid result) }
-        ensures runs { (d : Documents) (uid : List ℕ) → IsGateOn d.language d.policy self.now → AreGiven d (held_contents table) uid → RunAgrees (exactly self.now.image) d n (said_view uid result) }
+    /// `OutOfSteps`, `OverLimit`, `OutOfReads` and `Memory`, as in `decide`.
+    pub fn rejection_on(&self, table: Table, limits: Limits) -> Result<Option<Rejection>, RunError>
+        ensures says { (d : Documents) (uid : List ℕ) → IsGateOn d.language d.policy self.now → AreGiven d (held_contents table) uid → DecidesReview d limits (said_view uid result) }
+        ensures runs { (d : Documents) (uid : List ℕ) → IsGateOn d.language d.policy self.now → AreGiven d (held_contents table) uid → RunAgrees (exactly self.now.image) d limits (said_view uid result) }
     {
         let mut machine = self.machine(table)?;
-        self.run(&mut machine, n)?;
+        self.run(&mut machine, limits)?;
         Ok(rejection_of_verdict(self.alloc, self.told(), &machine)?)
     }
 
@@ -186,13 +189,13 @@ impl Gate {
     ///
     /// # Errors
     ///
-    /// `OutOfSteps`, `OverLimit` and `Memory`, as in `decide`.
-    pub fn findings_on(&self, table: Table, n: u64) -> Result<Vec<Finding>, RunError>
-        ensures finds { (d : Documents) → IsGateOn d.language d.policy self.now → values_given d ≡ Ok (held_contents table) → FindsReview d n (findings_view result) }
-        ensures runs { (d : Documents) → IsGateOn d.language d.policy self.now → values_given d ≡ Ok (held_contents table) → RunAgrees (exactly self.now.image) d n (findings_view result) }
+    /// `OutOfSteps`, `OverLimit`, `OutOfReads` and `Memory`, as in `decide`.
+    pub fn findings_on(&self, table: Table, limits: Limits) -> Result<Vec<Finding>, RunError>
+        ensures finds { (d : Documents) → IsGateOn d.language d.policy self.now → values_given d ≡ Ok (held_contents table) → FindsReview d limits (findings_view result) }
+        ensures runs { (d : Documents) → IsGateOn d.language d.policy self.now → values_given d ≡ Ok (held_contents table) → RunAgrees (exactly self.now.image) d limits (findings_view result) }
     {
         let mut machine = self.machine(table)?;
-        self.run(&mut machine, n)?;
+        self.run(&mut machine, limits)?;
         Ok(findings_of_verdict(self.alloc, self.told(), &machine)?)
     }
 
@@ -211,40 +214,44 @@ impl Gate {
         Machine::of_program(self.alloc, self.program.copy()?, table)
     }
 
-    /// Runs a machine before its first step until the policy's program exits, for at most `n` steps.
+    /// Runs a machine before its first step until the policy's program exits, within the limits.
     /// The machine is borrowed, since it is large.
-    fn run(&self, machine: &mut Machine<Table, Guest>, n: u64) -> Result<(), RunError>
+    fn run(&self, machine: &mut Machine<Table, Guest>, limits: Limits) -> Result<(), RunError>
         ensures exits { (d : Documents) (uid : List ℕ) (roots : Contents) → IsGateOn d.language d.policy self.now → AreGiven d roots uid
-            → machine.old ≡ start_state self.now.image roots → Exits self.now.told d n (exit_view uid (exit_state machine.new result)) }
+            → machine.old ≡ start_state self.now.image roots → Exits self.now.told d limits (exit_view uid (exit_state machine.new result)) }
         ensures runs { (d : Documents) (uid : List ℕ) (roots : Contents) → IsGateOn d.language d.policy self.now → AreGiven d roots uid
-            → machine.old ≡ start_state self.now.image roots → RunAgrees (exactly self.now.image) d n (exit_view uid (exit_state machine.new result)) }
+            → machine.old ≡ start_state self.now.image roots → RunAgrees (exactly self.now.image) d limits (exit_view uid (exit_state machine.new result)) }
     {
         starts_stand();
-        machine.run(n)?;
-        has_exited(machine)?;
+        let end = machine.run_within(limits.steps, limits.reads)?;
+        has_exited(end)?;
         Ok(())
     }
 }
 
-/// Does nothing. Its clauses are laws of every start on roots, and of every later state.
+/// Does nothing. Its clauses are laws of every start on roots, of every later state, and of the ends
+/// of runs.
 fn starts_stand()
     ensures tables { StartsAreTables }
     ensures canonical { StartIsCanonical }
     ensures states { StatesAreKept }
+    ensures once { LimitedStopsOnce }
 {
     starts_are_tables();
     values_are_as_said();
     states_are_kept();
+    limits_hold();
 }
 
 /// Checks that the policy's program has exited; else the error says why there is no verdict.
 /// The error is never `Memory`.
-fn has_exited(machine: &Machine<Table, Guest>) -> Result<(), RunError>
-    ensures { HasExited machine.now.status result }
+fn has_exited(end: RunEnd) -> Result<(), RunError>
+    ensures { HasExited end.status end.is_held result }
 {
-    match machine.status() {
+    match end.status {
         Status::Exited(_) => Ok(()),
         Status::Fault(_) => Err(RunError::OverLimit),
+        Status::Running if end.is_held => Err(RunError::OutOfReads),
         Status::Running => Err(RunError::OutOfSteps),
     }
 }

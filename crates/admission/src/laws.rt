@@ -1,16 +1,17 @@
 //! Laws: what is proved of reviews in general. Each is the clause of a function that does nothing.
 ghost use Rattle.std.specs.Prelude.{◌≡◌};
+ghost use Rattle.admission.specs.Endings.{GreaterLimitDecides, NoLimitOfReads, OutOfReadsOnly, OutOfStepsOnly, StoppedOnly};
 ghost use Rattle.admission.specs.OneAnswer.{FindingsHaveOneResult, ReviewHasOneResult};
 ghost use Rattle.admission.specs.RootValues.{DocumentsHaveValues, GivenHaveValues};
 ghost use Rattle.admission.specs.WideCases.{WideCasesDecide, WideReviewsAnswer};
 
 use crate::gate::Gate;
-use bpf_machine::laws::starts_are_tables;
+use bpf_machine::laws::{limits_hold, starts_are_tables, stops_once};
 use policy_glue::laws::compiles_once;
 use value_store::laws::values_are_as_said;
 use wide_policy::wide_policies_decide;
 
-/// Within the same number of steps a review has one result, its response or its refusal, unless an
+/// Within the same limits a review has one result, its response or its refusal, unless an
 /// allocation fails.
 #[tactic(auto, using(crate::proofs::OneReview::one_review))]
 pub fn reviews_once()
@@ -19,13 +20,28 @@ pub fn reviews_once()
     compiles_once();
 }
 
-/// Within the same steps a review has one list of findings at most, or one refusal, apart from
+/// Within the same limits a review has one list of findings at most, or one refusal, apart from
 /// allocations that fail.
 #[tactic(auto, using(crate::proofs::OneReview::one_list))]
 pub fn findings_once()
     ensures { FindingsHaveOneResult }
 {
     compiles_once();
+}
+
+/// A run within limits has one end: the program stops, its steps are taken, or its next call would
+/// read too much. With no limit of reads the end is by the state after its steps. A greater limit of
+/// reads changes no other end.
+#[tactic(auto, using(crate::proofs::Ends::out_of_steps_only, crate::proofs::Ends::out_of_reads_only, crate::proofs::Ends::stopped_only, crate::proofs::Ends::no_limit_of_reads, crate::proofs::Ends::greater_decides))]
+pub fn runs_end_once()
+    ensures steps { OutOfStepsOnly }
+    ensures reads { OutOfReadsOnly }
+    ensures stopped { StoppedOnly }
+    ensures unlimited { NoLimitOfReads }
+    ensures greater { GreaterLimitDecides }
+{
+    limits_hold();
+    stops_once();
 }
 
 /// A policy in the wide language decides a review as its wide expressions mean, and a reply to the

@@ -1,10 +1,13 @@
 //! Reviews under policies.
+ghost use Rattle.std.specs.Prelude.{◌≢◌, Err};
 ghost use Rattle.policy_glue.specs.OneImage.{OneImage};
 ghost use Rattle.admission.specs.Deciding.{answer_view, Reviews};
 ghost use Rattle.admission.specs.Lent.{documents_lent};
-ghost use Rattle.admission.specs.Standing.{RunAgrees};
+ghost use Rattle.admission.specs.Standing.{steps_alone, RunAgrees};
+ghost use Rattle.admission.specs.declared.run_error.RunError.TheVariants as run_error;
 
 use crate::gate::Gate;
+use crate::limits::Limits;
 use crate::reply::Reply;
 use crate::run_error::RunError;
 use std::alloc::Global;
@@ -27,10 +30,12 @@ pub fn review(
     params: Option<&[u8]>,
     n: u64,
 ) -> Result<Reply, RunError>
-    ensures reviews { Reviews (documents_lent policy.now review.now namespace.entry params.entry) n (answer_view result) }
+    ensures reviews { Reviews (documents_lent policy.now review.now namespace.entry params.entry) (steps_alone n) (answer_view result) }
     // The run of the policy's one image matches the result.
-    ensures runs { RunAgrees OneImage (documents_lent policy.now review.now namespace.entry params.entry) n (answer_view result) }
+    ensures runs { RunAgrees OneImage (documents_lent policy.now review.now namespace.entry params.entry) (steps_alone n) (answer_view result) }
+    // No limit of reads ends the run.
+    ensures unlimited { result ≢ Err run_error.OutOfReads }
 {
     let gate = Gate::new(alloc, policy)?;
-    gate.decide(review, namespace, params, n)
+    gate.decide(review, namespace, params, Limits::of_steps(n))
 }

@@ -30,6 +30,10 @@ pub enum RunError {
     /// or map would be deeper than 255.
     #[error("the policy's program was stopped")]
     OverLimit,
+    /// The next helper call of the policy's program would bring what its calls read above the limit
+    /// of reads.
+    #[error("the policy's program has read too much")]
+    OutOfReads,
     /// An allocation failed.
     #[error("out of memory")]
     Memory,
@@ -39,7 +43,7 @@ impl RunError {
     ghost use Rattle.std.specs.Prelude.{◌≤◌, length};
     ghost use Rattle.admission.specs.ErrorCodes.{run_error_code};
 
-    /// The error's code, `N1` to `N5` or `memory`, without the code of the policy's refusal.
+    /// The error's code, `N1` to `N5`, `N7` or `memory`, without the code of the policy's refusal.
     pub fn code(&self) -> &'static str
         ensures text { result.now ≡ run_error_code self.now }
         ensures length { length result.now ≤ 6 }
@@ -50,6 +54,7 @@ impl RunError {
             RunError::NamespaceOrParamsRefused => "N3",
             RunError::OutOfSteps => "N4",
             RunError::OverLimit => "N5",
+            RunError::OutOfReads => "N7",
             RunError::Memory => "memory",
         }
     }

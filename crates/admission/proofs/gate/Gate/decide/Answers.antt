@@ -13,8 +13,8 @@ returns-in_err-table c =
     let documents = λ (language : Language) (policy : List ℕ). documents_in language policy c.args.review.now c.args.namespace c.args.params in
     rw (is_err c.from_residual.ensures.1)
     (record {
-      reviews = λ language policy of. (not_opened c.args.self.now (documents language policy) of c.args.n {S = Table × String Global} (λ r. record { values = r.0.values; charge = r.0.charge }) _ c.in_err-table.ensures.table).0;
-      runs = λ language policy of. refused_so Exit Reply (exactly c.args.self.now.image) (documents language policy) c.args.n _ (not_opened c.args.self.now (documents language policy) of c.args.n {S = Table × String Global} (λ r. record { values = r.0.values; charge = r.0.charge }) _ c.in_err-table.ensures.table).1;
+      reviews = λ language policy of. (not_opened c.args.self.now (documents language policy) of c.args.limits {S = Table × String Global} (λ r. record { values = r.0.values; charge = r.0.charge }) _ c.in_err-table.ensures.table).0;
+      runs = λ language policy of. refused_so Exit Reply (exactly c.args.self.now.image) (documents language policy) c.args.limits _ (not_opened c.args.self.now (documents language policy) of c.args.limits {S = Table × String Global} (λ r. record { values = r.0.values; charge = r.0.charge }) _ c.in_err-table.ensures.table).1;
     })
 
 pub returns-clause-reviews : goal.returns-clause-reviews

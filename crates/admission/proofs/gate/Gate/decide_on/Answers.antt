@@ -16,7 +16,7 @@ returns-in_err-run c =
     rw (is_err c.from_residual-in_err-run.ensures.1)
     (record {
       reviews = λ d of given. c.in_err-run.ensures.exits d c.args.uid.now _ of given c.in_ok-machine.ensures;
-      runs = λ d of given. refused_so Exit Reply (exactly c.args.self.now.image) d c.args.n c.in_err-run.field-0.0 (c.in_err-run.ensures.runs d c.args.uid.now _ of given c.in_ok-machine.ensures);
+      runs = λ d of given. refused_so Exit Reply (exactly c.args.self.now.image) d c.args.limits c.in_err-run.field-0.0 (c.in_err-run.ensures.runs d c.args.uid.now _ of given c.in_ok-machine.ensures);
     })
 
 pub returns-in_err-reply-clause-reviews : goal.returns-in_err-reply-clause-reviews

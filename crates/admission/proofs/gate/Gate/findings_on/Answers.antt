@@ -16,7 +16,7 @@ returns-in_err-run c =
     rw (is_err c.from_residual-in_err-run.ensures.1)
     (record {
       finds = λ d of given. c.in_err-run.ensures.exits d (uid_in d.review) _ of (record { contents = given; uid_is = refl }) c.in_ok-machine.ensures;
-      runs = λ d of given. refused_so Exit (List PolicyFinding) (exactly c.args.self.now.image) d c.args.n c.in_err-run.field-0.0
+      runs = λ d of given. refused_so Exit (List PolicyFinding) (exactly c.args.self.now.image) d c.args.limits c.in_err-run.field-0.0
           (c.in_err-run.ensures.runs d (uid_in d.review) _ of (record { contents = given; uid_is = refl }) c.in_ok-machine.ensures);
     })
 

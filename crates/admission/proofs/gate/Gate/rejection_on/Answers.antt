@@ -17,7 +17,7 @@ returns-in_err-run c =
     rw (is_err c.from_residual-in_err-run.ensures.1)
     (record {
       says = λ d uid of given. c.in_err-run.ensures.exits d uid _ of given c.in_ok-machine.ensures;
-      runs = λ d uid of given. refused_so Exit Decision (exactly c.args.self.now.image) d c.args.n c.in_err-run.field-0.0 (c.in_err-run.ensures.runs d uid _ of given c.in_ok-machine.ensures);
+      runs = λ d uid of given. refused_so Exit Decision (exactly c.args.self.now.image) d c.args.limits c.in_err-run.field-0.0 (c.in_err-run.ensures.runs d uid _ of given c.in_ok-machine.ensures);
     })
 
 pub returns-in_err-rejection_of_verdict-clause-says : goal.returns-in_err-rejection_of_verdict-clause-says
