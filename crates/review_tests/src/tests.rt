@@ -10,6 +10,7 @@ mod documents;
 mod expressions;
 mod files;
 mod limits;
+mod reads;
 mod refusals;
 mod reviews;
 mod roots;
