@@ -18,7 +18,7 @@ use Rattle.cluster_response.specs.Events.{Event, refuses, ends, configuration_ev
 use Rattle.cluster_response.specs.Messages.{shown_name, shown_resource}
 use Rattle.cluster_response.specs.Response.{cluster_response}
 use Rattle.cluster_response.specs.declared.cluster_refusal.ClusterRefusal.{ClusterRefusal}
-use Rattle.cluster_response.specs.declared.cluster_refusal.ClusterRefusal.TheVariants.{ReviewRefused, NamespaceOrParamsRefused, OutOfSteps, OverLimit, UnknownMatch, PolicyRefused, UnknownParamKind}
+use Rattle.cluster_response.specs.declared.cluster_refusal.ClusterRefusal.TheVariants.{ReviewRefused, NamespaceOrParamsRefused, OutOfSteps, OverLimit, OutOfReads, UnknownMatch, PolicyRefused, UnknownParamKind}
 
 -- ---- requests
 
@@ -184,6 +184,10 @@ pub record AnswerRowsHold : Type 0 where
   pub ignore_alone : answer (under_ignore (codes "q") OverLimit ∷ under_ignore (codes "r") OutOfSteps ∷ []) ≡ refused_as (codes "N5")
   pub denied_between : answer (under_ignore (codes "a") OutOfSteps ∷ under (Deny ∷ []) twice ++ under_fail (codes "q") OverLimit ∷ [])
       ≡ reviewed denied_by_m
+  pub reads_under_fail :
+      answer (under_ignore (codes "a") OutOfSteps ∷ under_fail (codes "q") OutOfReads ∷ under_fail (codes "r") OutOfSteps ∷ [])
+      ≡ refused_as (codes "N7")
+  pub reads_under_ignore : answer (under_ignore (codes "a") OutOfReads ∷ under_fail (codes "q") OutOfSteps ∷ []) ≡ refused_as (codes "N4")
   pub after_warning : answer (under (Warn ∷ Audit ∷ []) twice ++ undecided_by OverLimit ∷ []) ≡ refused_as (codes "N5")
   pub of_review : answer (undecided_by ReviewRefused ∷ []) ≡ refused_as (codes "N2")
   pub of_params : answer (undecided_by NamespaceOrParamsRefused ∷ []) ≡ refused_as (codes "N3")

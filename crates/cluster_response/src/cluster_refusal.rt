@@ -12,6 +12,8 @@ pub enum ClusterRefusal {
     OutOfSteps,
     /// The program of the policy was stopped at a limit.
     OverLimit,
+    /// The next helper call of the policy's program would read more than the limit of reads allows.
+    OutOfReads,
     /// Whether the request matches depends on what the cluster serves.
     UnknownMatch,
     /// The policy is not compiled.
@@ -23,7 +25,7 @@ pub enum ClusterRefusal {
 impl ClusterRefusal {
     ghost use Rattle.cluster_response.specs.Refusals.{cluster_refusal_code};
 
-    /// The code of the refusal: `N2` to `N6`, `C7` or `C8`.
+    /// The code of the refusal: `N2` to `N7`, `C7` or `C8`.
     pub fn code(&self) -> &'static str
         ensures { result.now ≡ cluster_refusal_code self.now }
     {
@@ -32,6 +34,7 @@ impl ClusterRefusal {
             ClusterRefusal::NamespaceOrParamsRefused => "N3",
             ClusterRefusal::OutOfSteps => "N4",
             ClusterRefusal::OverLimit => "N5",
+            ClusterRefusal::OutOfReads => "N7",
             ClusterRefusal::UnknownMatch => "N6",
             ClusterRefusal::PolicyRefused => "C7",
             ClusterRefusal::UnknownParamKind => "C8",
