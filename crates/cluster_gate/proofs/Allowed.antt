@@ -12,6 +12,7 @@ use Rattle.cluster_response.specs.Response.{cluster_response}
 use Rattle.cluster_gate.specs.Dispatch.{DecidesInCluster, FindsWith, no_review, decided, no_policies, next, last, no_bindings, next_binding, last_binding, request_given}
 use Rattle.cluster_gate.specs.Laws.{ExemptIsAllowed, NoneMatches, UnmatchedIsAllowed}
 use Rattle.admission.specs.declared.language.Language.{Language}
+use Rattle.admission.specs.declared.limits.Limits.{Limits}
 
 -- The policies are read in this language.
 module _ (language : Language) where
@@ -26,35 +27,35 @@ module _ (language : Language) where
   no_events p finds _ _ _ (next_binding r rest) e = absurd (cc)
   no_events p finds _ _ _ (last_binding r) e = absurd (cc)
 
-  none_asked : (s : ClusterState) (review : List ℕ) (n : ℕ) (q : Request) (ps : List BoundPolicy) (es : List Event)
-      → Dispatches language OneImage s review n q ps es → ps ≡ [] → es ≡ []
-  none_asked s review n q _ _ no_policies e = refl
-  none_asked s review n q _ _ (next asks rest) e = absurd (cc)
-  none_asked s review n q _ _ (last asks) e = absurd (cc)
+  none_asked : (s : ClusterState) (review : List ℕ) (limits : Limits) (q : Request) (ps : List BoundPolicy) (es : List Event)
+      → Dispatches language OneImage s review limits q ps es → ps ≡ [] → es ≡ []
+  none_asked s review limits q _ _ no_policies e = refl
+  none_asked s review limits q _ _ (next asks rest) e = absurd (cc)
+  none_asked s review limits q _ _ (last asks) e = absurd (cc)
 
   steps_none : (s : ClusterState) (p : BoundPolicy) (cause : Option PolicyBlock) (q : Request) → match_answer p.constraints (namespace_labels s.objects) q.attributes ≡ No
       → policy_steps s (asked_policy s p) cause q ≡ []
   steps_none s p cause q answer = rw answer refl
 
   -- policies that do not match have no events
-  all_silent : (s : ClusterState) (review : List ℕ) (n : ℕ) (q : Request) (ps : List BoundPolicy) (es : List Event)
-      → Dispatches language OneImage s review n q ps es → NoneMatches s q ps → es ≡ []
-  all_silent s review n q _ _ no_policies none = refl
-  all_silent s review n q _ _ (next {p = p} {ps = ps} {es = es} {more = more} asks rest) none =
+  all_silent : (s : ClusterState) (review : List ℕ) (limits : Limits) (q : Request) (ps : List BoundPolicy) (es : List Event)
+      → Dispatches language OneImage s review limits q ps es → NoneMatches s q ps → es ≡ []
+  all_silent s review limits q _ _ no_policies none = refl
+  all_silent s review limits q _ _ (next {p = p} {ps = ps} {es = es} {more = more} asks rest) none =
       let silent = no_events p _ _ es false asks.runs (steps_none s p _ q none.0) in
-      rw silent.0 (all_silent s review n q ps more rest none.1)
-  all_silent s review n q _ _ (last {p = p} {ps = ps} {es = es} asks) none =
+      rw silent.0 (all_silent s review limits q ps more rest none.1)
+  all_silent s review limits q _ _ (last {p = p} {ps = ps} {es = es} asks) none =
       let silent = (no_events p _ _ es true asks.runs (steps_none s p _ q none.0)).1 in absurd (cc)
 
   -- no events, no denial
-  allowed_by : (s : ClusterState) (review : List ℕ) (n : ℕ) (q : Request) (o : Option (List ℕ)) → request_given review ≡ Some q
-      → ((es : List Event) → Dispatches language OneImage s review n q (policies_asked s q) es → es ≡ [])
-      → DecidesInCluster language OneImage s review n o → o ≡ Some (response_text None (uid_in review))
-  allowed_by s review n q _ is silent (no_review none) = absurd (cc)
-  allowed_by s review n q _ is silent (decided {q = r} {es = es} given dispatches) =
+  allowed_by : (s : ClusterState) (review : List ℕ) (limits : Limits) (q : Request) (o : Option (List ℕ)) → request_given review ≡ Some q
+      → ((es : List Event) → Dispatches language OneImage s review limits q (policies_asked s q) es → es ≡ [])
+      → DecidesInCluster language OneImage s review limits o → o ≡ Some (response_text None (uid_in review))
+  allowed_by s review limits q _ is silent (no_review none) = absurd (cc)
+  allowed_by s review limits q _ is silent (decided {q = r} {es = es} given dispatches) =
       let both : Some r ≡ Some q = sym given ∙ is in
       let same : r ≡ q = cc in
-      let quiet = silent es (subst (λ (x : Request). Dispatches language OneImage s review n x (policies_asked s x) es) same dispatches) in
+      let quiet = silent es (subst (λ (x : Request). Dispatches language OneImage s review limits x (policies_asked s x) es) same dispatches) in
       ap (λ (l : List Event). Some (cluster_response r (uid_in review) l)) quiet ∙ ap Some (nothing_told r (uid_in review))
 
   exempt_asked : (s : ClusterState) (q : Request) → is_exempt q.attributes.resource ≡ true → policies_asked s q ≡ []
@@ -65,9 +66,9 @@ module _ (language : Language) where
   asked_match s q false e none = rw e none
 
 pub exempt_is_allowed : ExemptIsAllowed
-exempt_is_allowed language s review n q o is exempt decides =
-    allowed_by language s review n q o is (λ es dispatches. none_asked language s review n q (policies_asked s q) es dispatches (exempt_asked language s q exempt)) decides
+exempt_is_allowed language s review limits q o is exempt decides =
+    allowed_by language s review limits q o is (λ es dispatches. none_asked language s review limits q (policies_asked s q) es dispatches (exempt_asked language s q exempt)) decides
 
 pub unmatched_is_allowed : UnmatchedIsAllowed
-unmatched_is_allowed language s review n q o is none decides =
-    allowed_by language s review n q o is (λ es dispatches. all_silent language s review n q (policies_asked s q) es dispatches (asked_match language s q _ refl none)) decides
+unmatched_is_allowed language s review limits q o is none decides =
+    allowed_by language s review limits q o is (λ es dispatches. all_silent language s review limits q (policies_asked s q) es dispatches (asked_match language s q _ refl none)) decides

@@ -18,6 +18,7 @@ use Rattle.cluster_gate.specs.declared.block_cause.BlockCause.{BlockCause}
 use Rattle.cluster_gate.specs.declared.standing.Standing.{Standing}
 use Rattle.cluster_gate.specs.declared.standing.Standing.TheVariants.{Asked, Blocked}
 use Rattle.admission.specs.declared.language.Language.{Language}
+use Rattle.admission.specs.declared.limits.Limits.{Limits}
 
 -- The policies are read in this language.
 module _ (language : Language) where
@@ -43,12 +44,12 @@ module _ (language : Language) where
   pub policy_of : (s : ClusterState) (p : BoundPolicy) (g : PolicyGate) → IsGateFor language s p g → policy_view g.asked.policy.now ≡ p
   policy_of s p g is = ap (λ (a : AskedPolicy). a.policy) is.asked
 
-  module _ (s : ClusterState) (review : List ℕ) (n : ℕ) (q : Request) (p : BoundPolicy) (before after : CodeEvents) where
+  module _ (s : ClusterState) (review : List ℕ) (limits : Limits) (q : Request) (p : BoundPolicy) (before after : CodeEvents) where
     -- the events of a policy, by whether its constraints match
     pub asks_by : (answer : Answer) (es : List Event) (ended : Bool) (t : Standing) → StandsAs language s p t
         → answer ≡ match_answer p.constraints (namespace_labels s.objects) q.attributes → Adds before after es
-        → ((block : Option plan.PolicyBlock) → RunsBindings p (EvaluatesPolicy language OneImage review n p) (policy_answered s (asked_policy s p) block q answer) es ended)
-        → AddsPolicy language OneImage s review n q p before after ended
+        → ((block : Option plan.PolicyBlock) → RunsBindings p (EvaluatesPolicy language OneImage review limits p) (policy_answered s (asked_policy s p) block q answer) es ended)
+        → AddsPolicy language OneImage s review limits q p before after ended
     asks_by answer es ended t stands is adds runs =
         let j = judged_of s p t stands in (
           es,
@@ -56,20 +57,20 @@ module _ (language : Language) where
           record {
             cause = j.0;
             judged = j.1;
-            runs = subst (λ (a : Answer). RunsBindings p (EvaluatesPolicy language OneImage review n p) (policy_answered s (asked_policy s p) (option_map block_of j.0) q a) es ended) is (runs (option_map block_of j.0));
+            runs = subst (λ (a : Answer). RunsBindings p (EvaluatesPolicy language OneImage review limits p) (policy_answered s (asked_policy s p) (option_map block_of j.0) q a) es ended) is (runs (option_map block_of j.0));
           },
         )
 
     -- they match
     pub asks_matched : (ended : Bool) → matching.Yes ≡ match_answer p.constraints (namespace_labels s.objects) q.attributes
-        → AddsMatched language OneImage s review n q p before after ended → AddsPolicy language OneImage s review n q p before after ended
+        → AddsMatched language OneImage s review limits q p before after ended → AddsPolicy language OneImage s review limits q p before after ended
     asks_matched ended is (es, adds, cause, judged, runs) = (
       es,
       adds,
       record {
         cause = cause;
         judged = judged;
-        runs = subst (λ (a : Answer). RunsBindings p (EvaluatesPolicy language OneImage review n p) (policy_answered s (asked_policy s p) (option_map block_of cause) q a) es ended) is runs;
+        runs = subst (λ (a : Answer). RunsBindings p (EvaluatesPolicy language OneImage review limits p) (policy_answered s (asked_policy s p) (option_map block_of cause) q a) es ended) is runs;
       },
     )
 
@@ -81,22 +82,22 @@ module _ (language : Language) where
     -- the labels of the namespace are not known
     pub asks_in_trouble : (trouble : Trouble) (t : Standing) → StandsAs language s p t
         → matching.Trouble trouble ≡ match_answer p.constraints (namespace_labels s.objects) q.attributes → AddsTrouble p q trouble before after
-        → AddsPolicy language OneImage s review n q p before after false
+        → AddsPolicy language OneImage s review limits q p before after false
     asks_in_trouble trouble t stands is adds =
         asks_by (matching.Trouble trouble) (error_events (fails_closed p.document) p.name (trouble_text trouble q.attributes.namespace)) false t stands is adds
-        (λ block. trouble_runs (fails_closed p.document) (trouble_text trouble q.attributes.namespace) (EvaluatesPolicy language OneImage review n p))
+        (λ block. trouble_runs (fails_closed p.document) (trouble_text trouble q.attributes.namespace) (EvaluatesPolicy language OneImage review limits p))
 
     -- the event of an unknown match
     pub asks_unknown : (asked : BoundPolicy) (t : Standing) → StandsAs language s p t → asked ≡ p
         → matching.Unknown ≡ match_answer p.constraints (namespace_labels s.objects) q.attributes
-        → Adds before after (undecided_event asked refusal.UnknownMatch ∷ []) → AddsPolicy language OneImage s review n q p before after false
+        → Adds before after (undecided_event asked refusal.UnknownMatch ∷ []) → AddsPolicy language OneImage s review limits q p before after false
     asks_unknown asked t stands same is adds =
         asks_by matching.Unknown (undecided_event p refusal.UnknownMatch ∷ []) false t stands is
         (subst (λ (x : BoundPolicy). Adds before after (undecided_event x refusal.UnknownMatch ∷ [])) same adds) (λ block. next_binding not_known no_bindings)
 
     -- a policy that is blocked
     pub matched_blocked : (asked : BoundPolicy) (cause : BlockCause) → IsBlockedBy language s p cause → asked ≡ p
-        → Adds before after (undecided_event asked (block_refusal (block_of cause)) ∷ []) → AddsMatched language OneImage s review n q p before after false
+        → Adds before after (undecided_event asked (block_refusal (block_of cause)) ∷ []) → AddsMatched language OneImage s review limits q p before after false
     matched_blocked asked cause stands same adds = (
       undecided_event p (block_refusal (block_of cause)) ∷ [],
       subst (λ (x : BoundPolicy). Adds before after (undecided_event x (block_refusal (block_of cause)) ∷ [])) same adds,
@@ -108,14 +109,14 @@ module _ (language : Language) where
     -- a policy that is compiled
     pub matched_asked : (ended : Bool) (gate : GatePolicy) → StandsAs language s p (Asked gate)
         → ((more : List Event) × Adds before after more
-        × RunsBindings p (EvaluatesPolicy language OneImage review n p) (bindings_steps s (asked_policy s p) q s.bindings) more ended)
-        → AddsMatched language OneImage s review n q p before after ended
+        × RunsBindings p (EvaluatesPolicy language OneImage review limits p) (bindings_steps s (asked_policy s p) q s.bindings) more ended)
+        → AddsMatched language OneImage s review limits q p before after ended
     matched_asked ended gate stands (es, adds, runs) = (es, adds, None, (compiled_of p gate stands.0, stands.1), runs)
 
   -- the constraints do not match
-  pub asks_no : (s : ClusterState) (review : List ℕ) (n : ℕ) (q : Request) (p : BoundPolicy) (e : CodeEvents) (t : Standing) → StandsAs language s p t
-      → matching.No ≡ match_answer p.constraints (namespace_labels s.objects) q.attributes → AddsPolicy language OneImage s review n q p e e false
-  asks_no s review n q p e t stands is = asks_by s review n q p e e matching.No [] false t stands is (adds_none language e) (λ block. no_bindings)
+  pub asks_no : (s : ClusterState) (review : List ℕ) (limits : Limits) (q : Request) (p : BoundPolicy) (e : CodeEvents) (t : Standing) → StandsAs language s p t
+      → matching.No ≡ match_answer p.constraints (namespace_labels s.objects) q.attributes → AddsPolicy language OneImage s review limits q p e e false
+  asks_no s review limits q p e t stands is = asks_by s review limits q p e e matching.No [] false t stands is (adds_none language e) (λ block. no_bindings)
 
   -- ---- the code's
 

@@ -2,6 +2,7 @@
 use Rattle.cluster_gate.proofs.Prelude.{◌≡◌, ◌∙◌, ◌+◌, ◌<◌, ◌≤◌, ◌++◌, ◌∷◌, ℕ, zero, suc, List, [], true, false, ap, append-nil, append_assoc, arith, drop, get_or, length, refl, subst, sym, AddsPolicy, AreGatesFor, BoundPolicy, ClusterState, CodeEvents, Dispatches, Event, GivesBefore, GivesEvents, IsGateFor, KeepsEvents, OneImage, PolicyGate, Request}
 use Rattle.cluster_gate.specs.Dispatch.{no_policies, next, last}
 use Rattle.admission.specs.declared.language.Language.{Language}
+use Rattle.admission.specs.declared.limits.Limits.{Limits}
 
 -- The policies are read in this language.
 module _ (language : Language) where
@@ -37,35 +38,35 @@ module _ (language : Language) where
 
   -- ---- events
 
-  module _ (s : ClusterState) (review : List ℕ) (n : ℕ) (q : Request) (all : List BoundPolicy) where
+  module _ (s : ClusterState) (review : List ℕ) (limits : Limits) (q : Request) (all : List BoundPolicy) where
     -- before the first policy
-    pub gives_none : (e : CodeEvents) → KeepsEvents e [] → GivesBefore language OneImage s review n q all all e
+    pub gives_none : (e : CodeEvents) → KeepsEvents e [] → GivesBefore language OneImage s review limits q all all e
     gives_none e kept = ([], kept, λ more rest. rest)
 
     -- after the last policy
-    pub gives_all : (e : CodeEvents) (left : List BoundPolicy) → left ≡ [] → GivesBefore language OneImage s review n q all left e → GivesEvents language OneImage s review n q all e
+    pub gives_all : (e : CodeEvents) (left : List BoundPolicy) → left ≡ [] → GivesBefore language OneImage s review limits q all left e → GivesEvents language OneImage s review limits q all e
     gives_all e left are so_far =
-        let at_end = subst (λ (ps : List BoundPolicy). GivesBefore language OneImage s review n q all ps e) are so_far in (
+        let at_end = subst (λ (ps : List BoundPolicy). GivesBefore language OneImage s review limits q all ps e) are so_far in (
           at_end.0,
           at_end.1,
-          subst (λ (l : List Event). Dispatches language OneImage s review n q all l) (append-nil at_end.0) (at_end.2 [] no_policies),
+          subst (λ (l : List Event). Dispatches language OneImage s review limits q all l) (append-nil at_end.0) (at_end.2 [] no_policies),
         )
 
-    module _ (p : BoundPolicy) (rest left : List BoundPolicy) (e after : CodeEvents) (are : left ≡ p ∷ rest) (so_far : GivesBefore language OneImage s review n q all left e) where
-      here : GivesBefore language OneImage s review n q all (p ∷ rest) e
-      here = subst (λ (ps : List BoundPolicy). GivesBefore language OneImage s review n q all ps e) are so_far
+    module _ (p : BoundPolicy) (rest left : List BoundPolicy) (e after : CodeEvents) (are : left ≡ p ∷ rest) (so_far : GivesBefore language OneImage s review limits q all left e) where
+      here : GivesBefore language OneImage s review limits q all (p ∷ rest) e
+      here = subst (λ (ps : List BoundPolicy). GivesBefore language OneImage s review limits q all ps e) are so_far
 
       -- a policy that others follow
-      pub gives_more : AddsPolicy language OneImage s review n q p e after false → GivesBefore language OneImage s review n q all rest after
+      pub gives_more : AddsPolicy language OneImage s review limits q p e after false → GivesBefore language OneImage s review limits q all rest after
       unfolding here
       gives_more (fs, adds, asks) = (
         here.0 ++ fs,
         adds here.0 here.1,
         λ more others.
-            subst (λ (l : List Event). Dispatches language OneImage s review n q all l) (sym (append_assoc here.0 fs more)) (here.2 (fs ++ more) (next asks others)),
+            subst (λ (l : List Event). Dispatches language OneImage s review limits q all l) (sym (append_assoc here.0 fs more)) (here.2 (fs ++ more) (next asks others)),
       )
 
       -- the policy that ends the dispatch
-      pub gives_last : AddsPolicy language OneImage s review n q p e after true → GivesEvents language OneImage s review n q all after
+      pub gives_last : AddsPolicy language OneImage s review limits q p e after true → GivesEvents language OneImage s review limits q all after
       unfolding here
       gives_last (fs, adds, asks) = (here.0 ++ fs, adds here.0 here.1, here.2 fs (last asks))

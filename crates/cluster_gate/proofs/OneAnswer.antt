@@ -22,6 +22,7 @@ use Rattle.cluster_gate.specs.Dispatch.{DecidesInCluster, EvaluatesPolicy, Finds
 use Rattle.cluster_gate.specs.Laws.{HasShallowDocuments, IsShallow, ReviewsHaveOneAnswer}
 use Rattle.cluster_gate.specs.CompiledDocuments.{compiled_document}
 use Rattle.admission.specs.declared.language.Language.{Language}
+use Rattle.admission.specs.declared.limits.Limits.{Limits}
 
 -- The policies are read in this language.
 module _ (language : Language) where
@@ -103,9 +104,9 @@ module _ (language : Language) where
 
   -- ---- evaluations
 
-  module _ (compiles : CompileHasOneResult) (findings : FindingsHaveOneResult) (review : List ℕ) (n : ℕ) where
+  module _ (compiles : CompileHasOneResult) (findings : FindingsHaveOneResult) (review : List ℕ) (limits : Limits) where
     evaluates_once : (p : BoundPolicy) (params namespace : Option json.Data) → IsShallow p.document → IsShallowIf params → IsShallowIf namespace
-        → FindsOnce (EvaluatesPolicy language OneImage review n p) params namespace
+        → FindsOnce (EvaluatesPolicy language OneImage review limits p) params namespace
     evaluates_once p params namespace deep its own a b some other x y =
         let same : SameReading y.documents x.documents = record {
           language = y.language ∙ sym x.language;
@@ -115,12 +116,12 @@ module _ (language : Language) where
               (same_text_if namespace y.documents.namespace x.documents.namespace own y.namespace_text x.namespace_text)
               (same_text_if params y.documents.params x.documents.params its y.params_text x.params_text);
         } in
-        findings x.documents n a b some other (record { finds = x.finds; runs = x.runs }) (record {
-          finds = findings_moved y.documents x.documents same n b y.finds;
-          runs = runs_moved y.documents x.documents same OneImage n b y.runs;
+        findings x.documents limits a b some other (record { finds = x.finds; runs = x.runs }) (record {
+          finds = findings_moved y.documents x.documents same limits b y.finds;
+          runs = runs_moved y.documents x.documents same OneImage limits b y.runs;
         })
 
-    once_at : (p : BoundPolicy) → IsShallow p.document → (step : PlannedStep) → IsShallowStep step → IsOnce (EvaluatesPolicy language OneImage review n p) step
+    once_at : (p : BoundPolicy) → IsShallow p.document → (step : PlannedStep) → IsShallowStep step → IsOnce (EvaluatesPolicy language OneImage review limits p) step
     once_at p deep (plan.evaluates b params namespace) is = evaluates_once p params namespace deep is.0 is.1
     once_at p deep (plan.denies b t) is = tt
     once_at p deep plan.unknown_match is = tt
@@ -133,24 +134,24 @@ module _ (language : Language) where
       -- a policy has one list of events by its steps, for each way in which it may be blocked
       pub policy_once : (p : BoundPolicy) (steps : Option plan.PolicyBlock → List (List PlannedStep)) → ((block : Option plan.PolicyBlock) → AreShallow (steps block))
           → IsShallow p.document → (c d : Option BlockCause) (es fs : List Event) (x y : Bool) → IsJudged language s p c → IsJudged language s p d
-          → RunsBindings p (EvaluatesPolicy language OneImage review n p) (steps (option_map block_of c)) es x
-          → RunsBindings p (EvaluatesPolicy language OneImage review n p) (steps (option_map block_of d)) fs y → (es ≡ fs) × (x ≡ y)
+          → RunsBindings p (EvaluatesPolicy language OneImage review limits p) (steps (option_map block_of c)) es x
+          → RunsBindings p (EvaluatesPolicy language OneImage review limits p) (steps (option_map block_of d)) fs y → (es ≡ fs) × (x ≡ y)
       policy_once p steps deep_steps deep c d es fs x y judged other one two =
-          let finds = EvaluatesPolicy language OneImage review n p in
+          let finds = EvaluatesPolicy language OneImage review limits p in
           bindings_once p finds (steps (option_map block_of c)) es fs x y
           (All-weaker (All IsShallowStep) (All (IsOnce finds)) (All-weaker IsShallowStep (IsOnce finds) (once_at p deep)) (steps (option_map block_of c)) (deep_steps (option_map block_of c)))
           one
           (subst (λ (k : Option plan.PolicyBlock). RunsBindings p finds (steps k) fs y) (judged_once language compiles p deep s d c other judged) two)
 
-      asks_once : (p : BoundPolicy) (es fs : List Event) (x y : Bool) → IsShallow p.document → AsksPolicy language OneImage s review n q p es x
-          → AsksPolicy language OneImage s review n q p fs y → (es ≡ fs) × (x ≡ y)
+      asks_once : (p : BoundPolicy) (es fs : List Event) (x y : Bool) → IsShallow p.document → AsksPolicy language OneImage s review limits q p es x
+          → AsksPolicy language OneImage s review limits q p fs y → (es ≡ fs) × (x ≡ y)
       asks_once p es fs x y deep a b =
           policy_once p (λ block. policy_steps s (asked_policy s p) block q) (steps_are_shallow s shallow.objects (asked_policy s p) q) deep a.cause b.cause es fs x y
           a.judged b.judged a.runs b.runs
 
       -- policies have one list of events
-      pub dispatches_once : (ps : List BoundPolicy) (es fs : List Event) → All (λ (p : BoundPolicy). IsShallow p.document) ps → Dispatches language OneImage s review n q ps es
-          → Dispatches language OneImage s review n q ps fs → es ≡ fs
+      pub dispatches_once : (ps : List BoundPolicy) (es fs : List Event) → All (λ (p : BoundPolicy). IsShallow p.document) ps → Dispatches language OneImage s review limits q ps es
+          → Dispatches language OneImage s review limits q ps fs → es ≡ fs
       dispatches_once _ _ _ all no_policies no_policies = refl
       dispatches_once _ _ _ all (next {p = p} {ps = ps} {es = es} {more = more} a rest) (next {es = fs} {more = other} b left) =
           let deep = All-head (λ (r : BoundPolicy). IsShallow r.document) p ps all in
@@ -170,7 +171,7 @@ module _ (language : Language) where
     asked_shallow s true shallow = All-nil (λ (p : BoundPolicy). IsShallow p.document)
     asked_shallow s false shallow = shallow.policies
 
-    decides_once : (s : ClusterState) (a b : Option (List ℕ)) → HasShallowDocuments s → DecidesInCluster language OneImage s review n a → DecidesInCluster language OneImage s review n b
+    decides_once : (s : ClusterState) (a b : Option (List ℕ)) → HasShallowDocuments s → DecidesInCluster language OneImage s review limits a → DecidesInCluster language OneImage s review limits b
         → a ≡ b
     decides_once s _ _ shallow (no_review none) (no_review other) = refl
     decides_once s _ _ shallow (no_review none) (decided given dispatches) = let both = sym none ∙ given in absurd (cc)
@@ -178,9 +179,9 @@ module _ (language : Language) where
     decides_once s _ _ shallow (decided {q = q} {es = es} given first) (decided {q = r} {es = fs} also second) =
         let both : Some q ≡ Some r = sym given ∙ also in
         let same : r ≡ q = cc in
-        let moved = subst (λ (x : Request). Dispatches language OneImage s review n x (policies_asked s x) fs) same second in
+        let moved = subst (λ (x : Request). Dispatches language OneImage s review limits x (policies_asked s x) fs) same second in
         let events = dispatches_once s q shallow (policies_asked s q) es fs (asked_shallow s (is_exempt q.attributes.resource) shallow) first moved in
         ap (λ (l : List Event). Some (cluster_response q (uid_in review) l)) events ∙ ap (λ (x : Request). Some (cluster_response x (uid_in review) fs)) (sym same)
 
 pub one_answer : CompileHasOneResult → FindingsHaveOneResult → ReviewsHaveOneAnswer
-one_answer compiles findings language s review n a b shallow first second = decides_once language compiles findings review n s a b shallow first second
+one_answer compiles findings language s review limits a b shallow first second = decides_once language compiles findings review limits s a b shallow first second

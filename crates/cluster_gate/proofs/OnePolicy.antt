@@ -47,6 +47,7 @@ use Rattle.cluster_gate.specs.Texts.{IsJsonTextIf}
 use Rattle.cluster_gate.specs.declared.block_cause.BlockCause.{BlockCause}
 use Rattle.cluster_gate.specs.declared.block_cause.BlockCause.TheVariants.{Refused, RefusedWide, NamesNamespace, UnknownParamKind}
 use Rattle.admission.specs.declared.language.Language.{Language, TheVariants.Profile, TheVariants.Wide}
+use Rattle.admission.specs.declared.limits.Limits.{Limits}
 use Rattle.admission.specs.declared.wide_refusal.WideRefusal.{WideRefusal}
 use Rattle.wide_policy.specs.declared.message_rule.MessageRule.{MessageRule}
 
@@ -61,23 +62,24 @@ is_wide Profile text e is = absurd is
 is_wide (Wide rule) text e is = (rule, refl)
 
 -- a review under a policy in the wide language has a policy that compiles
-has_policy : (d : Documents) (n : ℕ) (rule : MessageRule) → d.language ≡ Wide rule → (r : Result Reply RunError) → r ≢ Err run_error.Memory → Reviews d n r → IsPolicy d.language d.policy
-has_policy d n rule wide (Ok reply) some is = is.case.policy
-has_policy d n rule wide (Err (run_error.PolicyRefused e)) some is = let both : Profile ≡ Wide rule = sym is.0 ∙ wide in absurd (cc)
-has_policy d n rule wide (Err run_error.ReviewRefused) some is = is.0
-has_policy d n rule wide (Err run_error.NamespaceOrParamsRefused) some is = is.0
-has_policy d n rule wide (Err run_error.OutOfSteps) some is = is.case.policy
-has_policy d n rule wide (Err run_error.OverLimit) some is = is.case.policy
-has_policy d n rule wide (Err run_error.Memory) some is = absurd (some refl)
+has_policy : (d : Documents) (limits : Limits) (rule : MessageRule) → d.language ≡ Wide rule → (r : Result Reply RunError) → r ≢ Err run_error.Memory → Reviews d limits r → IsPolicy d.language d.policy
+has_policy d limits rule wide (Ok reply) some is = is.case.policy
+has_policy d limits rule wide (Err (run_error.PolicyRefused e)) some is = let both : Profile ≡ Wide rule = sym is.0 ∙ wide in absurd (cc)
+has_policy d limits rule wide (Err run_error.ReviewRefused) some is = is.0
+has_policy d limits rule wide (Err run_error.NamespaceOrParamsRefused) some is = is.0
+has_policy d limits rule wide (Err run_error.OutOfSteps) some is = is.case.policy
+has_policy d limits rule wide (Err run_error.OverLimit) some is = is.case.policy
+has_policy d limits rule wide (Err run_error.OutOfReads) some is = is.case.policy
+has_policy d limits rule wide (Err run_error.Memory) some is = absurd (some refl)
 
 -- The policies are read in this language.
 module _ (language : Language) where
   -- ---- replies by findings
 
   -- the reply that the findings of a policy give: it allows exactly if there are none
-  pub record HasReply (d : Documents) (n : ℕ) (found : List PolicyFinding) : Type 0 where
+  pub record HasReply (d : Documents) (limits : Limits) (found : List PolicyFinding) : Type 0 where
     pub reply : Reply
-    pub answers : IsAnswerTo d n (Ok reply)
+    pub answers : IsAnswerTo d limits (Ok reply)
     pub exactly : NoneExactlyIf reply.allowed found
 
   case_found : (d : Documents) (case : Case d) → NoneExactlyIf (is_allowed (decision case).outcome) (findings_of case.policy.told (decision case))
@@ -88,8 +90,8 @@ module _ (language : Language) where
       subst (λ (f : FailurePolicy). NoneExactlyIf (is_allowed (decision_of f policy.trees case.roots).outcome) (findings_of policy.told (decision_of f policy.trees case.roots))) alike.failure_policy
       (found_or_allowed policy.told policy.trees case.roots (many ∙ sym alike.validations))
 
-  reply_by : (d : Documents) (n : ℕ) (fs : List PolicyFinding) → FindsReview d n (Ok fs) → RunAgrees {A = List PolicyFinding} OneImage d n (Ok fs) → HasReply d n fs
-  reply_by d n fs finds runs =
+  reply_by : (d : Documents) (limits : Limits) (fs : List PolicyFinding) → FindsReview d limits (Ok fs) → RunAgrees {A = List PolicyFinding} OneImage d limits (Ok fs) → HasReply d limits fs
+  reply_by d limits fs finds runs =
       let case = finds.case in
       record {
         reply = answer_of case.policy.told (decision case) (uid_in d.review);
@@ -209,17 +211,18 @@ module _ (language : Language) where
       let none : None ≡ Some r = subst (λ (x : RunError). error_refusal x ≡ Some r) same is in absurd (cc)
 
   -- if the run agrees with a refusal as one kind of result, it agrees with it as any other
-  agrees_alike : (A B : Type 0) (d : Documents) (n : ℕ) (e : RunError) → RunAgrees {A = A} OneImage d n (Err e) → RunAgrees {A = B} OneImage d n (Err e)
-  agrees_alike A B d n (run_error.PolicyRefused x) runs = runs
-  agrees_alike A B d n run_error.ReviewRefused runs = runs
-  agrees_alike A B d n run_error.NamespaceOrParamsRefused runs = runs
-  agrees_alike A B d n run_error.OutOfSteps runs = runs
-  agrees_alike A B d n run_error.OverLimit runs = runs
-  agrees_alike A B d n run_error.Memory runs = runs
+  agrees_alike : (A B : Type 0) (d : Documents) (limits : Limits) (e : RunError) → RunAgrees {A = A} OneImage d limits (Err e) → RunAgrees {A = B} OneImage d limits (Err e)
+  agrees_alike A B d limits (run_error.PolicyRefused x) runs = runs
+  agrees_alike A B d limits run_error.ReviewRefused runs = runs
+  agrees_alike A B d limits run_error.NamespaceOrParamsRefused runs = runs
+  agrees_alike A B d limits run_error.OutOfSteps runs = runs
+  agrees_alike A B d limits run_error.OverLimit runs = runs
+  agrees_alike A B d limits run_error.OutOfReads runs = runs
+  agrees_alike A B d limits run_error.Memory runs = runs
 
-  module _ (compiles : CompileHasOneResult) (reviews : ReviewHasOneResult) (exactly : AllowedExactly) (s : ClusterState) (review : List ℕ) (n : ℕ) (q : Request)
+  module _ (compiles : CompileHasOneResult) (reviews : ReviewHasOneResult) (exactly : AllowedExactly) (s : ClusterState) (review : List ℕ) (limits : Limits) (q : Request)
       (p : BoundPolicy) (b : Binding) (d : Documents) (result : Result Reply RunError) (shallow : HasShallowDocuments s) (has : HasOnePolicy language s q p b)
-      (of : AreDocumentsOf language s review q p d) (some : result ≢ Err run_error.Memory) (is : IsAnswerTo d n result) where
+      (of : AreDocumentsOf language s review q p d) (some : result ≢ Err run_error.Memory) (is : IsAnswerTo d limits result) where
     -- the answer by these events is the decision of the review
     abbrev Same : List Event → Type 0
     Same es = IsSameDecision p (uid_in review) result (answer_tree q (uid_in review) (summary_of es))
@@ -230,7 +233,7 @@ module _ (language : Language) where
     seen_deep : IsShallowIf (namespace_seen (namespace_object s.objects q.kind q.attributes.namespace))
     seen_deep = seen_shallow (namespace_object s.objects q.kind q.attributes.namespace) (namespace_is s shallow.objects (asked_policy s p) q)
 
-    same_reading : (r : Result (List PolicyFinding) RunError) (x : EvaluatesPolicy language OneImage review n p None (namespace_seen (namespace_object s.objects q.kind q.attributes.namespace)) r)
+    same_reading : (r : Result (List PolicyFinding) RunError) (x : EvaluatesPolicy language OneImage review limits p None (namespace_seen (namespace_object s.objects q.kind q.attributes.namespace)) r)
         → SameReading x.documents d
     same_reading r x = record {
       language = x.language ∙ sym of.language;
@@ -241,20 +244,20 @@ module _ (language : Language) where
           (same_text_if None x.documents.params d.params tt x.params_text (subst (λ (o : Option (List ℕ)). IsJsonTextIf None o) (sym of.no_params) tt));
     }
 
-    by_evaluation : (es : List Event) → EvaluatesOne p (EvaluatesPolicy language OneImage review n p) b None (namespace_seen (namespace_object s.objects q.kind q.attributes.namespace)) es → Same es
+    by_evaluation : (es : List Event) → EvaluatesOne p (EvaluatesPolicy language OneImage review limits p) b None (namespace_seen (namespace_object s.objects q.kind q.attributes.namespace)) es → Same es
     by_evaluation _ (it_finds {fs = fs} x) =
         let same = same_reading (Ok fs) x in
-        let told = reply_by d n fs (findings_moved x.documents d same n (Ok fs) x.finds) (runs_moved x.documents d same OneImage n (Ok fs) x.runs) in
-        let reply : result ≡ Ok told.reply = reviews d n result (Ok told.reply) some (λ e. absurd (cc)) is told.answers in
+        let told = reply_by d limits fs (findings_moved x.documents d same limits (Ok fs) x.finds) (runs_moved x.documents d same OneImage limits (Ok fs) x.runs) in
+        let reply : result ≡ Ok told.reply = reviews d limits result (Ok told.reply) some (λ e. absurd (cc)) is told.answers in
         subst (λ (r : Result Reply RunError). IsSameDecision p (uid_in review) r (answer_tree q (uid_in review) (summary_of (findings_events p.name b fs ++ [])))) (sym reply)
         (denied_events exactly q (uid_in review) p.name b fs has.actions told.reply.allowed told.exactly)
     by_evaluation _ (it_refuses {e = e} {r = r} x why) =
         let same = same_reading (Err e) x in
-        let answers : IsAnswerTo d n (Err e) = record {
-          reviews = findings_moved x.documents d same n (Err e) x.finds;
-          runs = agrees_alike (List PolicyFinding) Reply d n e (runs_moved x.documents d same {A = List PolicyFinding} OneImage n (Err e) x.runs);
+        let answers : IsAnswerTo d limits (Err e) = record {
+          reviews = findings_moved x.documents d same limits (Err e) x.finds;
+          runs = agrees_alike (List PolicyFinding) Reply d limits e (runs_moved x.documents d same {A = List PolicyFinding} OneImage limits (Err e) x.runs);
         } in
-        let refused : result ≡ Err e = reviews d n result (Err e) some (no_failure e r why) is answers in
+        let refused : result ≡ Err e = reviews d limits result (Err e) some (no_failure e r why) is answers in
         subst (λ (y : Result Reply RunError). IsSameDecision p (uid_in review) y (answer_tree q (uid_in review) (summary_of (undecided_event p r ∷ [])))) (sym refused)
         (r, why, refused_answer q (uid_in review) p r)
 
@@ -262,11 +265,11 @@ module _ (language : Language) where
     by_refusal e refuses es are =
         let why = profile_refused language refuses.text e refuses.refused in
         let same = same_policy refuses.text d.policy (one_reading language compiles p deep refuses.text d.policy refuses.has_text of.policy) in
-        let answers : IsAnswerTo d n (Err (run_error.PolicyRefused e)) = record {
+        let answers : IsAnswerTo d limits (Err (run_error.PolicyRefused e)) = record {
           reviews = (of.language ∙ why.0, refused_moved refuses.text d.policy same e why.1);
           runs = tt;
         } in
-        let refused : result ≡ Err (run_error.PolicyRefused e) = reviews d n result (Err (run_error.PolicyRefused e)) some (λ x. absurd (cc)) is answers in
+        let refused : result ≡ Err (run_error.PolicyRefused e) = reviews d limits result (Err (run_error.PolicyRefused e)) some (λ x. absurd (cc)) is answers in
         subst Same (sym are)
         (subst (λ (y : Result Reply RunError). IsSameDecision p (uid_in review) y (answer_tree q (uid_in review) (summary_of (undecided_event p refusal.PolicyRefused ∷ [])))) (sym refused)
         (refusal.PolicyRefused, refl, refused_answer q (uid_in review) p refusal.PolicyRefused))
@@ -275,41 +278,41 @@ module _ (language : Language) where
     no_wide_refusal : (e : WideRefusal) → IsRefusedPolicy language p (RefusedWide e) → ⊥
     no_wide_refusal e refuses =
         let wide = is_wide language refuses.text e refuses.refused in
-        let policy = subst (λ (l : Language). IsPolicy l d.policy) of.language (has_policy d n wide.0 (of.language ∙ wide.1) result some is.reviews) in
+        let policy = subst (λ (l : Language). IsPolicy l d.policy) of.language (has_policy d limits wide.0 (of.language ∙ wide.1) result some is.reviews) in
         compiled_or_refused language compiles p deep (conditions_name_namespace policy.trees) (RefusedWide e)
         (record { text = d.policy; has_text = of.policy; is_policy = policy; naming = refl }) refuses
 
     by_cause : (cause : Option BlockCause) → IsJudged language s p cause → (es : List Event) (ended : Bool)
-        → RunsBindings p (EvaluatesPolicy language OneImage review n p) (policy_steps s (asked_policy s p) (option_map block_of cause) q) es ended → Same es
+        → RunsBindings p (EvaluatesPolicy language OneImage review limits p) (policy_steps s (asked_policy s p) (option_map block_of cause) q) es ended → Same es
     by_cause None judged es ended runs =
-        by_evaluation es (one_evaluation p (EvaluatesPolicy language OneImage review n p) b None (namespace_seen (namespace_object s.objects q.kind q.attributes.namespace)) es ended
-        (subst (λ (l : List (List PlannedStep)). RunsBindings p (EvaluatesPolicy language OneImage review n p) l es ended) (the_steps s q p b has) runs))
+        by_evaluation es (one_evaluation p (EvaluatesPolicy language OneImage review limits p) b None (namespace_seen (namespace_object s.objects q.kind q.attributes.namespace)) es ended
+        (subst (λ (l : List (List PlannedStep)). RunsBindings p (EvaluatesPolicy language OneImage review limits p) l es ended) (the_steps s q p b has) runs))
     by_cause (Some (Refused e)) judged es ended runs =
-        by_refusal e judged es (one_block p (EvaluatesPolicy language OneImage review n p) plan.policy_refused es ended
-        (subst (λ (l : List (List PlannedStep)). RunsBindings p (EvaluatesPolicy language OneImage review n p) l es ended) (matched s q p b has (Some plan.policy_refused)) runs))
+        by_refusal e judged es (one_block p (EvaluatesPolicy language OneImage review limits p) plan.policy_refused es ended
+        (subst (λ (l : List (List PlannedStep)). RunsBindings p (EvaluatesPolicy language OneImage review limits p) l es ended) (matched s q p b has (Some plan.policy_refused)) runs))
     by_cause (Some (RefusedWide e)) judged es ended runs = absurd (no_wide_refusal e judged)
     by_cause (Some NamesNamespace) judged es ended runs = absurd (has.unnamed judged)
     by_cause (Some UnknownParamKind) judged es ended runs =
         let lacks = ap (λ (k : Option ParamKind). is_some k && is_none (kind_of s p)) has.no_params in
         let both = sym judged.1 ∙ lacks in absurd (cc)
 
-    one_dispatched : (es : List Event) → Dispatches language OneImage s review n q (p ∷ []) es → Same es
+    one_dispatched : (es : List Event) → Dispatches language OneImage s review limits q (p ∷ []) es → Same es
     one_dispatched _ (next {es = es} a no_policies) = subst Same (sym (append-nil es)) (by_cause a.cause a.judged es false a.runs)
     one_dispatched _ (last {es = es} a) = by_cause a.cause a.judged es true a.runs
 
-    pub as_review : (es : List Event) → Dispatches language OneImage s review n q (policies_asked s q) es → Same es
-    as_review es dispatches = one_dispatched es (subst (λ (ps : List BoundPolicy). Dispatches language OneImage s review n q ps es) (asked_one s q p b has) dispatches)
+    pub as_review : (es : List Event) → Dispatches language OneImage s review limits q (policies_asked s q) es → Same es
+    as_review es dispatches = one_dispatched es (subst (λ (ps : List BoundPolicy). Dispatches language OneImage s review limits q ps es) (asked_one s q p b has) dispatches)
 
   written : (q : Request) (uid : List ℕ) (es : List Event) → cluster_response q uid es ≡ compact_text (answer_tree q uid (summary_of es))
   unfolding cluster_response
   written q uid es = refl
 
 pub one_policy_is_review : CompileHasOneResult → ReviewHasOneResult → AllowedExactly → OnePolicyIsReview
-one_policy_is_review compiles reviews exactly language s review n q p b d result _ shallow given has of some is (decided {q = r} {es = es} also dispatches) =
+one_policy_is_review compiles reviews exactly language s review limits q p b d result _ shallow given has of some is (decided {q = r} {es = es} also dispatches) =
     let both : Some r ≡ Some q = sym also ∙ given in
     let same : r ≡ q = cc in
-    let ours = subst (λ (x : Request). Dispatches language OneImage s review n x (policies_asked s x) es) same dispatches in (
+    let ours = subst (λ (x : Request). Dispatches language OneImage s review limits x (policies_asked s x) es) same dispatches in (
       answer_tree q (uid_in review) (summary_of es),
       ap (λ (x : Request). cluster_response x (uid_in review) es) same ∙ written language q (uid_in review) es,
-      as_review language compiles reviews exactly s review n q p b d result shallow has of some is es ours,
+      as_review language compiles reviews exactly s review limits q p b d result shallow has of some is es ours,
     )

@@ -18,6 +18,7 @@ use Rattle.cluster_gate.proofs.OtherOrder.{also_shallow, differ_back, other_even
 use Rattle.cluster_gate.proofs.ToldSteps.{GoesOn}
 use Rattle.cluster_gate.specs.Orders.{InAnyOrder, OrderIsFree, answer, Agree, no_reviews, decisions, HaveInCommon, DifferInOrder}
 use Rattle.admission.specs.declared.language.Language.{Language}
+use Rattle.admission.specs.declared.limits.Limits.{Limits}
 
 -- The policies are read in this language.
 module _ (language : Language) where
@@ -78,19 +79,19 @@ module _ (language : Language) where
   both_end es fs true false a b left right = right b
 
   in_common : CompileHasOneResult → FindingsHaveOneResult → AllowedExactly → WarningsAreThoseOfEvents
-      → (s t : ClusterState) (review : List ℕ) (n : ℕ) (q : Request) (es fs : List Event) → HasShallowDocuments s → DifferInOrder s t
-      → Dispatches language OneImage s review n q (policies_asked s q) es → Dispatches language OneImage t review n q (policies_asked t q) fs → HaveInCommon q (uid_in review) es fs
-  in_common compiles findings exactly warn s t review n q es fs shallow differ one other =
-      let also = also_shallow language s t differ review n q shallow in
+      → (s t : ClusterState) (review : List ℕ) (limits : Limits) (q : Request) (es fs : List Event) → HasShallowDocuments s → DifferInOrder s t
+      → Dispatches language OneImage s review limits q (policies_asked s q) es → Dispatches language OneImage t review limits q (policies_asked t q) fs → HaveInCommon q (uid_in review) es fs
+  in_common compiles findings exactly warn s t review limits q es fs shallow differ one other =
+      let also = also_shallow language s t differ review limits q shallow in
       let same : GoesOn language es → InAnyOrder es fs = λ on.
-      let events = other_events language s t differ review n q es one on in
+      let events = other_events language s t differ review limits q es one on in
       subst (λ (l : List Event). InAnyOrder es l)
-      (dispatches_once language compiles findings review n t q also (policies_asked t q) events.0 fs (asked_shallow language compiles findings review n t (is_exempt q.attributes.resource) also) events.1 other)
+      (dispatches_once language compiles findings review limits t q also (policies_asked t q) events.0 fs (asked_shallow language compiles findings review limits t (is_exempt q.attributes.resource) also) events.1 other)
       events.2 in
       let reverse : GoesOn language fs → InAnyOrder fs es = λ on.
-      let events = other_events language t s (differ_back language s t differ) review n q fs other on in
+      let events = other_events language t s (differ_back language s t differ) review limits q fs other on in
       subst (λ (l : List Event). InAnyOrder fs l)
-      (dispatches_once language compiles findings review n s q shallow (policies_asked s q) events.0 es (asked_shallow language compiles findings review n s (is_exempt q.attributes.resource) shallow) events.1 one)
+      (dispatches_once language compiles findings review limits s q shallow (policies_asked s q) events.0 es (asked_shallow language compiles findings review limits s (is_exempt q.attributes.resource) shallow) events.1 one)
       events.2 in
       let end : has_end es ≡ has_end fs = both_end es fs _ _ refl refl (λ no. same_end es fs (same no)) (λ no. sym (same_end fs es (reverse no))) in
       record {
@@ -101,14 +102,14 @@ module _ (language : Language) where
       }
 
 pub order_is_free : CompileHasOneResult → FindingsHaveOneResult → AllowedExactly → WarningsAreThoseOfEvents → OrderIsFree
-order_is_free compiles findings exactly warn language s t review n _ _ shallow differ (no_review none) (no_review other) = no_reviews none
-order_is_free compiles findings exactly warn language s t review n _ _ shallow differ (no_review none) (decided given dispatches) =
+order_is_free compiles findings exactly warn language s t review limits _ _ shallow differ (no_review none) (no_review other) = no_reviews none
+order_is_free compiles findings exactly warn language s t review limits _ _ shallow differ (no_review none) (decided given dispatches) =
     let both = sym none ∙ given in absurd (cc)
-order_is_free compiles findings exactly warn language s t review n _ _ shallow differ (decided given dispatches) (no_review none) =
+order_is_free compiles findings exactly warn language s t review limits _ _ shallow differ (decided given dispatches) (no_review none) =
     let both = sym none ∙ given in absurd (cc)
-order_is_free compiles findings exactly warn language s t review n _ _ shallow differ (decided {q = q} {es = es} given one) (decided {q = r} {es = fs} also other) =
+order_is_free compiles findings exactly warn language s t review limits _ _ shallow differ (decided {q = q} {es = es} given one) (decided {q = r} {es = fs} also other) =
     let both : Some q ≡ Some r = sym given ∙ also in
     let same : r ≡ q = cc in
-    let moved = subst (λ (x : Request). Dispatches language OneImage t review n x (policies_asked t x) fs) same other in
-    subst (λ (x : Request). Agree language s t review n (Some (cluster_response q (uid_in review) es)) (Some (cluster_response x (uid_in review) fs))) (sym same)
-    (decisions given one moved (in_common language compiles findings exactly warn s t review n q es fs shallow differ one moved))
+    let moved = subst (λ (x : Request). Dispatches language OneImage t review limits x (policies_asked t x) fs) same other in
+    subst (λ (x : Request). Agree language s t review limits (Some (cluster_response q (uid_in review) es)) (Some (cluster_response x (uid_in review) fs))) (sym same)
+    (decisions given one moved (in_common language compiles findings exactly warn s t review limits q es fs shallow differ one moved))

@@ -22,6 +22,7 @@ use Rattle.cluster_gate.specs.Orders.{DifferInOrder, InAnyOrder, none, through}
 use Rattle.cluster_gate.specs.declared.block_cause.BlockCause.{BlockCause}
 use Rattle.cluster_gate.specs.declared.block_cause.BlockCause.TheVariants.{Refused, RefusedWide, NamesNamespace, UnknownParamKind}
 use Rattle.admission.specs.declared.language.Language.{Language}
+use Rattle.admission.specs.declared.limits.Limits.{Limits}
 
 -- The policies are read in this language.
 module _ (language : Language) where
@@ -33,7 +34,7 @@ module _ (language : Language) where
     kinds = λ k. sym (differ.kinds k);
   }
 
-  module _ (s t : ClusterState) (differ : DifferInOrder s t) (review : List ℕ) (n : ℕ) (q : Request) where
+  module _ (s t : ClusterState) (differ : DifferInOrder s t) (review : List ℕ) (limits : Limits) (q : Request) where
     -- ---- what the order leaves
 
     same_objects : t.objects ≡ s.objects
@@ -73,18 +74,18 @@ module _ (language : Language) where
 
     module _ (p : BoundPolicy) where
       abbrev Tells : List (List PlannedStep) → List Event → Type 0
-      Tells = Each (BindingTells language p (EvaluatesPolicy language OneImage review n p))
+      Tells = Each (BindingTells language p (EvaluatesPolicy language OneImage review limits p))
 
       bindings_alike : (es : List Event) → Tells (bindings_steps s (asked_policy s p) q s.bindings) es
           → (fs : List Event) × Tells (bindings_steps t (asked_policy t p) q t.bindings) fs × InAnyOrder es fs
       bindings_alike es told =
           let steps = binding_steps s (asked_policy s p) q in
-          let each = of_map (BindingTells language p (EvaluatesPolicy language OneImage review n p)) steps (bindings_of p.name s.bindings) es told in
+          let each = of_map (BindingTells language p (EvaluatesPolicy language OneImage review limits p)) steps (bindings_of p.name s.bindings) es told in
           let order = filtered (λ (b : Binding). bytes_eq b.policy_name p.name) s.bindings t.bindings differ.bindings in
-          let other = each_reordered (λ (b : Binding) (l : List Event). BindingTells language p (EvaluatesPolicy language OneImage review n p) (steps b) l) (bindings_of p.name s.bindings) (bindings_of p.name t.bindings) es order each in (
+          let other = each_reordered (λ (b : Binding) (l : List Event). BindingTells language p (EvaluatesPolicy language OneImage review limits p) (steps b) l) (bindings_of p.name s.bindings) (bindings_of p.name t.bindings) es order each in (
             other.now,
             subst (λ (f : Binding → List PlannedStep). Tells (map f (bindings_of p.name t.bindings)) other.now) (sym (same_steps p))
-                (to_map (BindingTells language p (EvaluatesPolicy language OneImage review n p)) steps (bindings_of p.name t.bindings) other.now other.each),
+                (to_map (BindingTells language p (EvaluatesPolicy language OneImage review limits p)) steps (bindings_of p.name t.bindings) other.now other.each),
             other.same,
           )
 
@@ -96,7 +97,7 @@ module _ (language : Language) where
       by_answer (Some b) matching.Yes es told = (es, told, as_it_is es)
       by_answer None matching.Yes es told = bindings_alike es told
 
-    policy_alike : (p : BoundPolicy) (es : List Event) → PolicyTells language s review n q p es → (fs : List Event) × PolicyTells language t review n q p fs × InAnyOrder es fs
+    policy_alike : (p : BoundPolicy) (es : List Event) → PolicyTells language s review limits q p es → (fs : List Event) × PolicyTells language t review limits q p fs × InAnyOrder es fs
     policy_alike p es (cause, judged, told) =
         let other = by_answer p (option_map block_of cause) (match_answer p.constraints (namespace_labels s.objects) q.attributes) es told in (
           other.0,
@@ -115,13 +116,13 @@ module _ (language : Language) where
     policies_alike false = differ.policies
 
     -- if the dispatch does not end, it has the same events in the other order
-    pub other_events : (es : List Event) → Dispatches language OneImage s review n q (policies_asked s q) es → GoesOn language es
-        → (fs : List Event) × Dispatches language OneImage t review n q (policies_asked t q) fs × InAnyOrder es fs
+    pub other_events : (es : List Event) → Dispatches language OneImage s review limits q (policies_asked s q) es → GoesOn language es
+        → (fs : List Event) × Dispatches language OneImage t review limits q (policies_asked t q) fs × InAnyOrder es fs
     other_events es dispatches on =
-        let told = all_dispatched language s review n q (policies_asked s q) es dispatches on in
-        let alike = each_through (PolicyTells language s review n q) (PolicyTells language t review n q) policy_alike (policies_asked s q) es told in
-        let other = each_reordered (PolicyTells language t review n q) (policies_asked s q) (policies_asked t q) alike.now (policies_alike (is_exempt q.attributes.resource)) alike.each in
-        (other.now, told_dispatched language t review n q (policies_asked t q) other.now other.each, through alike.same other.same)
+        let told = all_dispatched language s review limits q (policies_asked s q) es dispatches on in
+        let alike = each_through (PolicyTells language s review limits q) (PolicyTells language t review limits q) policy_alike (policies_asked s q) es told in
+        let other = each_reordered (PolicyTells language t review limits q) (policies_asked s q) (policies_asked t q) alike.now (policies_alike (is_exempt q.attributes.resource)) alike.each in
+        (other.now, told_dispatched language t review limits q (policies_asked t q) other.now other.each, through alike.same other.same)
 
     -- ---- documents
 

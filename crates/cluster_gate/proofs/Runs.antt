@@ -84,7 +84,7 @@ module _ (language : Language) where
     -- the event of a refusal instead of findings is added
     pub refused_step : (b : Binding) (params namespace : Option json.Data) (progress : Progress) (r : ClusterRefusal)
         → (progress ≡ NextBinding) × Adds before after (undecided_event (policy_view run.policy.now) r ∷ [])
-        → FindsOrRefuses language OneImage run.case.now.review.now run.case.now.steps p params namespace (Err r) → AddsStep language p run (plan.evaluates b params namespace) before after progress
+        → FindsOrRefuses language OneImage run.case.now.review.now run.case.now.limits p params namespace (Err r) → AddsStep language p run (plan.evaluates b params namespace) before after progress
     refused_step b params namespace progress r told finds =
         told_last (plan.evaluates b params namespace) progress r told.0 told.1 (λ steps. refused finds.1 finds.2)
 

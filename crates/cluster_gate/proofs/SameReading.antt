@@ -16,14 +16,14 @@ use Rattle.wide_policy.specs.declared.wide_policy_error.WidePolicyError.TheVaria
 use Rattle.admission.specs.Deciding.{Case, Documents, HasNoResponse, IsPolicy, IsPolicyRefused, IsSaid, IsWideRefused, values_given}
 use Rattle.admission.specs.Findings.{FindsReview}
 use Rattle.admission.specs.Reviews.{contents_from, contents_given, documents_from, documents_given}
-use Rattle.admission.specs.Standing.{Images, RunAgrees, RunHasStatus}
+use Rattle.admission.specs.Standing.{Ending, Images, RunAgrees, RunEnds}
 use Rattle.admission.specs.declared.language.Language.{Language, TheVariants.Profile, TheVariants.Wide}
+use Rattle.admission.specs.declared.limits.Limits.{Limits}
 use Rattle.admission.specs.declared.wide_refusal.WideRefusal.{WideRefusal}
 use Rattle.admission.specs.declared.wide_refusal.WideRefusal.TheVariants as wide_refusal
 use Rattle.admission.specs.declared.policy_refusal.PolicyRefusal.{PolicyRefusal, TheVariants.Unread, TheVariants.Uncompiled}
 use Rattle.admission.specs.declared.policy_refusal.PolicyRefusal.TheVariants as policy_refusal
-use Rattle.admission.specs.declared.run_error.RunError.{RunError, TheVariants.PolicyRefused, TheVariants.ReviewRefused, TheVariants.NamespaceOrParamsRefused, TheVariants.OutOfSteps, TheVariants.OverLimit, TheVariants.Memory}
-use Rattle.bpf_machine.specs.declared.status.Status.{Status}
+use Rattle.admission.specs.declared.run_error.RunError.{RunError, TheVariants.PolicyRefused, TheVariants.ReviewRefused, TheVariants.NamespaceOrParamsRefused, TheVariants.OutOfSteps, TheVariants.OverLimit, TheVariants.OutOfReads, TheVariants.Memory}
 use Rattle.policy_glue.specs.Verdict.{Verdict}
 use Rattle.cluster_gate.proofs.Compiled.{compiled_depth}
 use Rattle.cluster_gate.specs.Laws.{IsShallow}
@@ -128,35 +128,37 @@ module _ (d e : Documents) (same : SameReading d e) where
   }
 
   -- if one has no response for this reason, neither has the other
-  pub no_response_moved : (n : ℕ) (x : RunError) → HasNoResponse d n x → HasNoResponse e n x
+  pub no_response_moved : (limits : Limits) (x : RunError) → HasNoResponse d limits x → HasNoResponse e limits x
   unfolding case_moved
-  no_response_moved n (PolicyRefused r) is = (sym same.language ∙ is.0, refused_moved d.policy e.policy (same_policy d.policy e.policy same.policy) r is.1)
-  no_response_moved n ReviewRefused is = (policy_moved is.0, sym same.values ∙ is.1)
-  no_response_moved n NamespaceOrParamsRefused is = (policy_moved is.0, sym same.values ∙ is.1)
-  no_response_moved n OutOfSteps is = record { case = case_moved is.case; early = is.early }
-  no_response_moved n OverLimit is = record { case = case_moved is.case; beyond = is.beyond }
-  no_response_moved n Memory is = is
+  no_response_moved limits (PolicyRefused r) is = (sym same.language ∙ is.0, refused_moved d.policy e.policy (same_policy d.policy e.policy same.policy) r is.1)
+  no_response_moved limits ReviewRefused is = (policy_moved is.0, sym same.values ∙ is.1)
+  no_response_moved limits NamespaceOrParamsRefused is = (policy_moved is.0, sym same.values ∙ is.1)
+  no_response_moved limits OutOfSteps is = record { case = case_moved is.case; early = is.early }
+  no_response_moved limits OverLimit is = record { case = case_moved is.case; beyond = is.beyond }
+  no_response_moved limits OutOfReads is = record { case = case_moved is.case; limited = is.limited }
+  no_response_moved limits Memory is = is
 
   -- both have the same findings
-  pub findings_moved : (n : ℕ) (r : Result (List PolicyFinding) RunError) → FindsReview d n r → FindsReview e n r
+  pub findings_moved : (limits : Limits) (r : Result (List PolicyFinding) RunError) → FindsReview d limits r → FindsReview e limits r
   unfolding case_moved
-  findings_moved n (Ok found) is = record { case = case_moved is.case; findings_are = is.findings_are }
-  findings_moved n (Err x) is = no_response_moved n x is
+  findings_moved limits (Ok found) is = record { case = case_moved is.case; findings_are = is.findings_are }
+  findings_moved limits (Err x) is = no_response_moved limits x is
 
-  status_moved : (chosen : Images) (n : ℕ) (due : Verdict → Status) → RunHasStatus chosen d n due → RunHasStatus chosen e n due
+  ends_moved : (chosen : Images) (limits : Limits) (due : Verdict → Ending) → RunEnds chosen d limits due → RunEnds chosen e limits due
   unfolding case_moved
-  status_moved chosen n due is = record {
+  ends_moved chosen limits due is = record {
     run = record { case = case_moved is.run.case; image = is.run.image; program = is.run.program };
     is_chosen = is.is_chosen;
-    status = is.status;
+    ends = is.ends;
   }
 
   -- the program's run agrees with the same result for both
-  pub runs_moved : {A : Type 0} (chosen : Images) (n : ℕ) (r : Result A RunError) → RunAgrees chosen d n r → RunAgrees chosen e n r
-  runs_moved chosen n (Ok a) is = status_moved chosen n _ is
-  runs_moved chosen n (Err (PolicyRefused x)) is = is
-  runs_moved chosen n (Err ReviewRefused) is = is
-  runs_moved chosen n (Err NamespaceOrParamsRefused) is = is
-  runs_moved chosen n (Err OutOfSteps) is = status_moved chosen n _ is
-  runs_moved chosen n (Err OverLimit) is = status_moved chosen n _ is
-  runs_moved chosen n (Err Memory) is = is
+  pub runs_moved : {A : Type 0} (chosen : Images) (limits : Limits) (r : Result A RunError) → RunAgrees chosen d limits r → RunAgrees chosen e limits r
+  runs_moved chosen limits (Ok a) is = ends_moved chosen limits _ is
+  runs_moved chosen limits (Err (PolicyRefused x)) is = is
+  runs_moved chosen limits (Err ReviewRefused) is = is
+  runs_moved chosen limits (Err NamespaceOrParamsRefused) is = is
+  runs_moved chosen limits (Err OutOfSteps) is = ends_moved chosen limits _ is
+  runs_moved chosen limits (Err OverLimit) is = ends_moved chosen limits _ is
+  runs_moved chosen limits (Err OutOfReads) is = ends_moved chosen limits _ is
+  runs_moved chosen limits (Err Memory) is = is

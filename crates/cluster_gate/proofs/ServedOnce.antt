@@ -12,20 +12,21 @@ use Rattle.cluster_gate.proofs.ShallowSteps.{steps_by_are_shallow}
 use Rattle.cluster_gate.specs.Laws.{HasShallowDocuments, IsShallow}
 use Rattle.cluster_gate.specs.Servers.{EquivalentsAreFree, ServerAsksPolicy, ServerDispatches, no_policies, next, last, policy_steps_by, server_answers}
 use Rattle.admission.specs.declared.language.Language.{Language}
+use Rattle.admission.specs.declared.limits.Limits.{Limits}
 
 -- The policies are read in this language.
 module _ (language : Language) where
-  module _ (compiles : CompileHasOneResult) (findings : FindingsHaveOneResult) (served : List GroupVersionResource) (s : ClusterState) (review : List ℕ) (n : ℕ)
+  module _ (compiles : CompileHasOneResult) (findings : FindingsHaveOneResult) (served : List GroupVersionResource) (s : ClusterState) (review : List ℕ) (limits : Limits)
       (q : Request) (shallow : HasShallowDocuments s) where
-    asks_once : (p : BoundPolicy) (es fs : List Event) (x y : Bool) → IsShallow p.document → ServerAsksPolicy language served OneImage s review n q p es x
-        → ServerAsksPolicy language served OneImage s review n q p fs y → (es ≡ fs) × (x ≡ y)
+    asks_once : (p : BoundPolicy) (es fs : List Event) (x y : Bool) → IsShallow p.document → ServerAsksPolicy language served OneImage s review limits q p es x
+        → ServerAsksPolicy language served OneImage s review limits q p fs y → (es ≡ fs) × (x ≡ y)
     asks_once p es fs x y deep a b =
         let answers = server_answers served s q in
-        policy_once language compiles findings review n s q shallow p (λ block. policy_steps_by answers s (asked_policy s p) block q)
+        policy_once language compiles findings review limits s q shallow p (λ block. policy_steps_by answers s (asked_policy s p) block q)
         (steps_by_are_shallow s shallow.objects (asked_policy s p) q answers) deep a.cause b.cause es fs x y a.judged b.judged a.runs b.runs
 
-    server_once : (ps : List BoundPolicy) (es fs : List Event) → All (λ (p : BoundPolicy). IsShallow p.document) ps → ServerDispatches language served OneImage s review n q ps es
-        → ServerDispatches language served OneImage s review n q ps fs → es ≡ fs
+    server_once : (ps : List BoundPolicy) (es fs : List Event) → All (λ (p : BoundPolicy). IsShallow p.document) ps → ServerDispatches language served OneImage s review limits q ps es
+        → ServerDispatches language served OneImage s review limits q ps fs → es ≡ fs
     server_once _ _ _ all no_policies no_policies = refl
     server_once _ _ _ all (next {p = p} {ps = ps} {es = es} {more = more} a rest) (next {es = fs} {more = other} b left) =
         let deep = All-head (λ (r : BoundPolicy). IsShallow r.document) p ps all in
@@ -39,7 +40,7 @@ module _ (language : Language) where
         (asks_once p es fs true true (All-head (λ (r : BoundPolicy). IsShallow r.document) p ps all) a b).0
 
 pub equivalents_are_free : CompileHasOneResult → FindingsHaveOneResult → EveryServerAgrees → EquivalentsAreFree
-equivalents_are_free compiles findings agrees language served s review n q es fs shallow all decide ours theirs =
-    server_once language compiles findings served s review n q shallow (policies_asked s q) fs es
-    (asked_shallow language compiles findings review n s (is_exempt q.attributes.resource) shallow) theirs
-    (served_dispatch language agrees served s review n q all (policies_asked s q) es decide ours)
+equivalents_are_free compiles findings agrees language served s review limits q es fs shallow all decide ours theirs =
+    server_once language compiles findings served s review limits q shallow (policies_asked s q) fs es
+    (asked_shallow language compiles findings review limits s (is_exempt q.attributes.resource) shallow) theirs
+    (served_dispatch language agrees served s review limits q all (policies_asked s q) es decide ours)

@@ -20,6 +20,7 @@ use Rattle.cluster_gate.specs.Dispatch as dispatch
 use Rattle.cluster_gate.specs.Dispatch.{EvaluatesPolicy, FindsWith, not_known, next_binding, last_binding}
 use Rattle.cluster_gate.specs.Servers.{ServerDispatches, ServersHaveAnswers, answered_steps_by, binding_steps_by, no_policies, next, last, policy_steps_by, server_answers}
 use Rattle.admission.specs.declared.language.Language.{Language}
+use Rattle.admission.specs.declared.limits.Limits.{Limits}
 
 -- The policies are read in this language.
 module _ (language : Language) where
@@ -98,23 +99,23 @@ module _ (language : Language) where
 
   -- ---- the dispatch
 
-  pub served_dispatch : EveryServerAgrees → (served : List GroupVersionResource) (s : ClusterState) (review : List ℕ) (n : ℕ) (q : Request)
+  pub served_dispatch : EveryServerAgrees → (served : List GroupVersionResource) (s : ClusterState) (review : List ℕ) (limits : Limits) (q : Request)
       → All (λ c. is_candidate q.attributes.resource c ≡ true) served → (ps : List BoundPolicy) (es : List Event) → Decide es
-      → Dispatches language OneImage s review n q ps es → ServerDispatches language served OneImage s review n q ps es
-  served_dispatch agrees served s review n q all _ _ on dispatch.no_policies = no_policies
-  served_dispatch agrees served s review n q all _ _ on (dispatch.next {p = p} {ps = ps} {es = es} {more = more} a rest) =
+      → Dispatches language OneImage s review limits q ps es → ServerDispatches language served OneImage s review limits q ps es
+  served_dispatch agrees served s review limits q all _ _ on dispatch.no_policies = no_policies
+  served_dispatch agrees served s review limits q all _ _ on (dispatch.next {p = p} {ps = ps} {es = es} {more = more} a rest) =
       let parts = decide_parts es more on in
       next (record {
         cause = a.cause;
         judged = a.judged;
-        runs = served_runs agrees served s q all (asked_policy s p) p (EvaluatesPolicy language OneImage review n p) (option_map block_of a.cause) es false parts.0 a.runs;
-      }) (served_dispatch agrees served s review n q all ps more parts.1 rest)
-  served_dispatch agrees served s review n q all _ _ on (dispatch.last {p = p} {ps = ps} {es = es} a) =
+        runs = served_runs agrees served s q all (asked_policy s p) p (EvaluatesPolicy language OneImage review limits p) (option_map block_of a.cause) es false parts.0 a.runs;
+      }) (served_dispatch agrees served s review limits q all ps more parts.1 rest)
+  served_dispatch agrees served s review limits q all _ _ on (dispatch.last {p = p} {ps = ps} {es = es} a) =
       last (record {
         cause = a.cause;
         judged = a.judged;
-        runs = served_runs agrees served s q all (asked_policy s p) p (EvaluatesPolicy language OneImage review n p) (option_map block_of a.cause) es true on a.runs;
+        runs = served_runs agrees served s q all (asked_policy s p) p (EvaluatesPolicy language OneImage review limits p) (option_map block_of a.cause) es true on a.runs;
       })
 
 pub servers_have_answers : EveryServerAgrees → ServersHaveAnswers
-servers_have_answers agrees language served s review n q es all on dispatches = served_dispatch language agrees served s review n q all (policies_asked s q) es on dispatches
+servers_have_answers agrees language served s review limits q es all on dispatches = served_dispatch language agrees served s review limits q all (policies_asked s q) es on dispatches

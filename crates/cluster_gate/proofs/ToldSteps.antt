@@ -9,6 +9,7 @@ use Rattle.cluster_gate.proofs.Each.{Each, over_none, over_one}
 use Rattle.cluster_gate.specs.Dispatch.{EvaluatesPolicy, FindsWith, no_policies, next, last, no_bindings, next_binding, last_binding, denied, found, at_end}
 use Rattle.cluster_gate.specs.declared.block_cause.BlockCause.{BlockCause}
 use Rattle.admission.specs.declared.language.Language.{Language}
+use Rattle.admission.specs.declared.limits.Limits.{Limits}
 
 -- The policies are read in this language.
 module _ (language : Language) where
@@ -50,23 +51,23 @@ module _ (language : Language) where
 
   -- ---- policies
 
-  module _ (s : ClusterState) (review : List ℕ) (n : ℕ) (q : Request) where
+  module _ (s : ClusterState) (review : List ℕ) (limits : Limits) (q : Request) where
     -- the events of a policy that does not end the dispatch
     abbrev pub PolicyTells : BoundPolicy → List Event → Type 0
     PolicyTells p es = (cause : Option BlockCause) × IsJudged language s p cause
-        × Each (BindingTells p (EvaluatesPolicy language OneImage review n p)) (policy_steps s (asked_policy s p) (option_map block_of cause) q) es
+        × Each (BindingTells p (EvaluatesPolicy language OneImage review limits p)) (policy_steps s (asked_policy s p) (option_map block_of cause) q) es
 
-    pub all_dispatched : (ps : List BoundPolicy) (es : List Event) → Dispatches language OneImage s review n q ps es → GoesOn es → Each PolicyTells ps es
+    pub all_dispatched : (ps : List BoundPolicy) (es : List Event) → Dispatches language OneImage s review limits q ps es → GoesOn es → Each PolicyTells ps es
     all_dispatched _ _ no_policies on = over_none
     all_dispatched _ _ (next {p = p} {ps = ps} {es = es} {more = more} a rest) on =
         let parts = goes_on_parts es more on in
-        let told = all_told p (EvaluatesPolicy language OneImage review n p) _ es false a.runs parts.0 in
+        let told = all_told p (EvaluatesPolicy language OneImage review limits p) _ es false a.runs parts.0 in
         over_one (a.cause, a.judged, told.0) (all_dispatched ps more rest parts.1)
     all_dispatched _ _ (last {p = p} {es = es} a) on =
-        let told = all_told p (EvaluatesPolicy language OneImage review n p) _ es true a.runs on in
+        let told = all_told p (EvaluatesPolicy language OneImage review limits p) _ es true a.runs on in
         let no = told.1 in absurd (cc)
 
-    pub told_dispatched : (ps : List BoundPolicy) (es : List Event) → Each PolicyTells ps es → Dispatches language OneImage s review n q ps es
+    pub told_dispatched : (ps : List BoundPolicy) (es : List Event) → Each PolicyTells ps es → Dispatches language OneImage s review limits q ps es
     told_dispatched _ _ over_none = no_policies
     told_dispatched _ _ (over_one {x = p} {xs = ps} {es = es} {fs = more} told rest) =
-        next (record { cause = told.0; judged = told.1; runs = told_run p (EvaluatesPolicy language OneImage review n p) _ es told.2 }) (told_dispatched ps more rest)
+        next (record { cause = told.0; judged = told.1; runs = told_run p (EvaluatesPolicy language OneImage review limits p) _ es told.2 }) (told_dispatched ps more rest)

@@ -15,6 +15,7 @@ use Rattle.admission.specs.Deciding.{Documents}
 use Rattle.admission.specs.Findings.{FindsReview}
 use Rattle.admission.specs.Standing.{Images, RunAgrees}
 use Rattle.admission.specs.declared.language.Language.{Language}
+use Rattle.admission.specs.declared.limits.Limits.{Limits}
 use Rattle.admission.specs.declared.run_error.RunError.{RunError}
 use Rattle.admission.specs.declared.run_error.RunError.TheVariants as run_error
 use Rattle.cluster_response.specs.Events.{Event, configuration_event, findings_events}
@@ -55,6 +56,7 @@ error_refusal run_error.ReviewRefused = Some refusal.ReviewRefused
 error_refusal run_error.NamespaceOrParamsRefused = Some refusal.NamespaceOrParamsRefused
 error_refusal run_error.OutOfSteps = Some refusal.OutOfSteps
 error_refusal run_error.OverLimit = Some refusal.OverLimit
+error_refusal run_error.OutOfReads = Some refusal.OutOfReads
 error_refusal run_error.Memory = None
 
 -- the policy does not decide
@@ -102,8 +104,8 @@ pub data RunsBindings (p : BoundPolicy) (finds : FindsWith) : List (List Planned
 
 -- The policies are read in this language.
 module _ (l : Language) where
-  -- what the policy finds against the request of a review, within n steps of its program
-  pub record EvaluatesPolicy (chosen : Images) (review : List ℕ) (n : ℕ) (p : BoundPolicy) (params namespace : Option json.Data)
+  -- what the policy finds against the request of a review, if its program runs within these limits
+  pub record EvaluatesPolicy (chosen : Images) (review : List ℕ) (limits : Limits) (p : BoundPolicy) (params namespace : Option json.Data)
       (result : Result (List PolicyFinding) RunError) : Type 0 where
     pub documents : Documents
     pub language : documents.language ≡ l
@@ -111,27 +113,28 @@ module _ (l : Language) where
     pub review_is : documents.review ≡ review
     pub namespace_text : IsJsonTextIf namespace documents.namespace
     pub params_text : IsJsonTextIf params documents.params
-    pub finds : FindsReview documents n result
-    pub runs : RunAgrees chosen documents n result
+    pub finds : FindsReview documents limits result
+    pub runs : RunAgrees chosen documents limits result
 
   -- the events of one policy, and whether they end the dispatch
-  pub record AsksPolicy (chosen : Images) (s : ClusterState) (review : List ℕ) (n : ℕ) (q : Request) (p : BoundPolicy) (es : List Event)
-      (ended : Bool) : Type 0 where
+  pub record AsksPolicy (chosen : Images) (s : ClusterState) (review : List ℕ) (limits : Limits) (q : Request) (p : BoundPolicy)
+      (es : List Event) (ended : Bool) : Type 0 where
     pub cause : Option BlockCause
     pub judged : IsJudged l s p cause
-    pub runs : RunsBindings p (EvaluatesPolicy chosen review n p) (policy_steps s (asked_policy s p) (option_map block_of cause) q) es ended
+    pub runs : RunsBindings p (EvaluatesPolicy chosen review limits p)
+        (policy_steps s (asked_policy s p) (option_map block_of cause) q) es ended
 
   -- the events of policies, one after another
-  pub data Dispatches (chosen : Images) (s : ClusterState) (review : List ℕ) (n : ℕ) (q : Request) : List BoundPolicy
+  pub data Dispatches (chosen : Images) (s : ClusterState) (review : List ℕ) (limits : Limits) (q : Request) : List BoundPolicy
       → List Event → Type 0 where
-    no_policies : Dispatches chosen s review n q [] []
-    next : {p : BoundPolicy} {ps : List BoundPolicy} {es more : List Event} → AsksPolicy chosen s review n q p es false
-        → Dispatches chosen s review n q ps more → Dispatches chosen s review n q (p ∷ ps) (es ++ more)
-    last : {p : BoundPolicy} {ps : List BoundPolicy} {es : List Event} → AsksPolicy chosen s review n q p es true
-        → Dispatches chosen s review n q (p ∷ ps) es
+    no_policies : Dispatches chosen s review limits q [] []
+    next : {p : BoundPolicy} {ps : List BoundPolicy} {es more : List Event} → AsksPolicy chosen s review limits q p es false
+        → Dispatches chosen s review limits q ps more → Dispatches chosen s review limits q (p ∷ ps) (es ++ more)
+    last : {p : BoundPolicy} {ps : List BoundPolicy} {es : List Event} → AsksPolicy chosen s review limits q p es true
+        → Dispatches chosen s review limits q (p ∷ ps) es
 
   -- the text that answers a review, which depends on the state and the review alone; none for bytes that are no review
-  pub data DecidesInCluster (chosen : Images) (s : ClusterState) (review : List ℕ) (n : ℕ) : Option (List ℕ) → Type 0 where
-    no_review : request_given review ≡ None → DecidesInCluster chosen s review n None
-    decided : {q : Request} {es : List Event} → request_given review ≡ Some q → Dispatches chosen s review n q (policies_asked s q) es
-        → DecidesInCluster chosen s review n (Some (cluster_response q (uid_in review) es))
+  pub data DecidesInCluster (chosen : Images) (s : ClusterState) (review : List ℕ) (limits : Limits) : Option (List ℕ) → Type 0 where
+    no_review : request_given review ≡ None → DecidesInCluster chosen s review limits None
+    decided : {q : Request} {es : List Event} → request_given review ≡ Some q → Dispatches chosen s review limits q (policies_asked s q) es
+        → DecidesInCluster chosen s review limits (Some (cluster_response q (uid_in review) es))

@@ -8,6 +8,7 @@ use Rattle.policy_glue.specs.OneImage.{OneImage}
 use Rattle.policy_glue.specs.Rejections.{response_text}
 use Rattle.policy_glue.specs.declared.failure_policy.FailurePolicy.{FailurePolicy, TheVariants.Fail, TheVariants.Ignore}
 use Rattle.admission.specs.declared.language.Language.{Language}
+use Rattle.admission.specs.declared.limits.Limits.{Limits}
 use Rattle.admission_match.specs.Matching.{match_answer}
 use Rattle.admission_match.specs.Requests.{is_exempt}
 use Rattle.admission_match.specs.declared.answer.Answer.TheVariants.{No}
@@ -24,8 +25,8 @@ use Rattle.cluster_gate.specs.Gates.{IsCompiledPolicy}
 
 -- a request that no policy is asked about is allowed
 abbrev pub ExemptIsAllowed : Type 0
-ExemptIsAllowed = (l : Language) (s : ClusterState) (review : List ℕ) (n : ℕ) (q : Request) (o : Option (List ℕ))
-    → request_given review ≡ Some q → is_exempt q.attributes.resource ≡ true → DecidesInCluster l OneImage s review n o
+ExemptIsAllowed = (l : Language) (s : ClusterState) (review : List ℕ) (limits : Limits) (q : Request) (o : Option (List ℕ))
+    → request_given review ≡ Some q → is_exempt q.attributes.resource ≡ true → DecidesInCluster l OneImage s review limits o
     → o ≡ Some (response_text None (uid_in review))
 
 -- the constraints of none of these policies match
@@ -35,8 +36,8 @@ NoneMatches s q (p ∷ ps) = (match_answer p.constraints (namespace_labels s.obj
 
 -- a request that no policy matches is allowed
 abbrev pub UnmatchedIsAllowed : Type 0
-UnmatchedIsAllowed = (l : Language) (s : ClusterState) (review : List ℕ) (n : ℕ) (q : Request) (o : Option (List ℕ))
-    → request_given review ≡ Some q → NoneMatches s q s.policies → DecidesInCluster l OneImage s review n o
+UnmatchedIsAllowed = (l : Language) (s : ClusterState) (review : List ℕ) (limits : Limits) (q : Request) (o : Option (List ℕ))
+    → request_given review ≡ Some q → NoneMatches s q s.policies → DecidesInCluster l OneImage s review limits o
     → o ≡ Some (response_text None (uid_in review))
 
 -- ---- one answer
@@ -56,8 +57,8 @@ StatesAreShallow = (lists : List json.Data) (s : ClusterState) → All IsShallow
 
 -- a review has one answer in a cluster, if no document is nested deeper than JSON texts that are read
 abbrev pub ReviewsHaveOneAnswer : Type 0
-ReviewsHaveOneAnswer = (l : Language) (s : ClusterState) (review : List ℕ) (n : ℕ) (a b : Option (List ℕ)) → HasShallowDocuments s
-    → DecidesInCluster l OneImage s review n a → DecidesInCluster l OneImage s review n b → a ≡ b
+ReviewsHaveOneAnswer = (l : Language) (s : ClusterState) (review : List ℕ) (limits : Limits) (a b : Option (List ℕ)) → HasShallowDocuments s
+    → DecidesInCluster l OneImage s review limits a → DecidesInCluster l OneImage s review limits b → a ≡ b
 
 -- ---- the failure policy
 

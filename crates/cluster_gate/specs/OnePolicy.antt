@@ -7,6 +7,7 @@ use Rattle.policy_glue.specs.OneImage.{OneImage}
 use Rattle.admission.specs.Deciding.{Documents, Reply}
 use Rattle.admission.specs.OneAnswer.{IsAnswerTo}
 use Rattle.admission.specs.declared.language.Language.{Language}
+use Rattle.admission.specs.declared.limits.Limits.{Limits}
 use Rattle.admission.specs.declared.run_error.RunError.{RunError}
 use Rattle.admission.specs.declared.run_error.RunError.TheVariants as run_error
 use Rattle.admission_documents.specs.Requests.{Request}
@@ -65,8 +66,8 @@ IsSameDecision p uid (Err e) answer =
 
 -- a cluster with one such policy decides as a review under the policy
 abbrev pub OnePolicyIsReview : Type 0
-OnePolicyIsReview = (l : Language) (s : ClusterState) (review : List ℕ) (n : ℕ) (q : Request) (p : BoundPolicy) (b : Binding)
+OnePolicyIsReview = (l : Language) (s : ClusterState) (review : List ℕ) (limits : Limits) (q : Request) (p : BoundPolicy) (b : Binding)
     (d : Documents) (result : Result Reply RunError) (text : List ℕ)
     → HasShallowDocuments s → request_given review ≡ Some q → HasOnePolicy l s q p b → AreDocumentsOf l s review q p d
-    → result ≢ Err run_error.Memory → IsAnswerTo d n result → DecidesInCluster l OneImage s review n (Some text)
+    → result ≢ Err run_error.Memory → IsAnswerTo d limits result → DecidesInCluster l OneImage s review limits (Some text)
     → (answer : json.Data) × (text ≡ compact_text answer) × IsSameDecision p (uid_in review) result answer

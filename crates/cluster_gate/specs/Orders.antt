@@ -5,6 +5,7 @@ use Rattle.serde_json.specs.Data as json
 use Rattle.value_store.specs.Reviews.{uid_in}
 use Rattle.policy_glue.specs.OneImage.{OneImage}
 use Rattle.admission.specs.declared.language.Language.{Language}
+use Rattle.admission.specs.declared.limits.Limits.{Limits}
 use Rattle.admission_documents.specs.Requests.{Request}
 use Rattle.cluster_state.specs.Params.{known_kind}
 use Rattle.cluster_state.specs.Policies.{ParamKind}
@@ -44,15 +45,15 @@ pub record HaveInCommon (q : Request) (uid : List ℕ) (es fs : List Event) : Ty
       → (t : List ℕ) → list_any (bytes_eq t) (summary_of es).warnings ≡ list_any (bytes_eq t) (summary_of fs).warnings
 
 -- the answers in two orders: none if there is no review, else those by the events of both, with these in common
-pub data Agree (l : Language) (s t : ClusterState) (review : List ℕ) (n : ℕ) : Option (List ℕ) → Option (List ℕ) → Type 0 where
-  no_reviews : request_given review ≡ None → Agree l s t review n None None
+pub data Agree (l : Language) (s t : ClusterState) (review : List ℕ) (limits : Limits) : Option (List ℕ) → Option (List ℕ) → Type 0 where
+  no_reviews : request_given review ≡ None → Agree l s t review limits None None
   decisions : {q : Request} {es fs : List Event} → request_given review ≡ Some q
-      → Dispatches l OneImage s review n q (policies_asked s q) es → Dispatches l OneImage t review n q (policies_asked t q) fs
+      → Dispatches l OneImage s review limits q (policies_asked s q) es → Dispatches l OneImage t review limits q (policies_asked t q) fs
       → HaveInCommon q (uid_in review) es fs
-      → Agree l s t review n (Some (cluster_response q (uid_in review) es)) (Some (cluster_response q (uid_in review) fs))
+      → Agree l s t review limits (Some (cluster_response q (uid_in review) es)) (Some (cluster_response q (uid_in review) fs))
 
 -- the answers to a review in two orders of the policies and of the bindings agree
 abbrev pub OrderIsFree : Type 0
-OrderIsFree = (l : Language) (s t : ClusterState) (review : List ℕ) (n : ℕ) (a b : Option (List ℕ))
-    → HasShallowDocuments s → DifferInOrder s t → DecidesInCluster l OneImage s review n a
-    → DecidesInCluster l OneImage t review n b → Agree l s t review n a b
+OrderIsFree = (l : Language) (s t : ClusterState) (review : List ℕ) (limits : Limits) (a b : Option (List ℕ))
+    → HasShallowDocuments s → DifferInOrder s t → DecidesInCluster l OneImage s review limits a
+    → DecidesInCluster l OneImage t review limits b → Agree l s t review limits a b

@@ -8,6 +8,7 @@ use Rattle.policy_glue.specs.declared.finding.Finding.{Finding}
 use Rattle.admission.specs.Findings.{findings_view}
 use Rattle.admission.specs.Standing.{Images}
 use Rattle.admission.specs.declared.language.Language.{Language}
+use Rattle.admission.specs.declared.limits.Limits.{Limits}
 use Rattle.admission.specs.declared.run_error.RunError.{RunError}
 use Rattle.admission_match.specs.declared.trouble.Trouble.{Trouble}
 use Rattle.admission_documents.specs.Requests.{Request}
@@ -62,12 +63,12 @@ AddsTrouble p q t before after =
 -- The policies are read in this language.
 module _ (l : Language) where
   -- what an evaluation finds, or the refusal instead
-  abbrev pub FindsOrRefuses : Images → List ℕ → ℕ → BoundPolicy → Option json.Data → Option json.Data
+  abbrev pub FindsOrRefuses : Images → List ℕ → Limits → BoundPolicy → Option json.Data → Option json.Data
       → Result (Vec Finding Global) ClusterRefusal → Type 0
-  FindsOrRefuses chosen review n p params namespace (Ok fs) =
-      EvaluatesPolicy l chosen review n p params namespace (Ok (map finding_view fs.items))
-  FindsOrRefuses chosen review n p params namespace (Err r) =
-      (e : RunError) × EvaluatesPolicy l chosen review n p params namespace (Err e) × (error_refusal e ≡ Some r)
+  FindsOrRefuses chosen review limits p params namespace (Ok fs) =
+      EvaluatesPolicy l chosen review limits p params namespace (Ok (map finding_view fs.items))
+  FindsOrRefuses chosen review limits p params namespace (Err r) =
+      (e : RunError) × EvaluatesPolicy l chosen review limits p params namespace (Err e) × (error_refusal e ≡ Some r)
 
   -- the code's run is of this policy
   pub record IsRunOf (p : BoundPolicy) (run : PolicyRun) : Type 0 where
@@ -76,7 +77,7 @@ module _ (l : Language) where
 
   -- what the policy of a run finds
   abbrev pub finds_of : BoundPolicy → PolicyRun → FindsWith
-  finds_of p run params namespace result = EvaluatesPolicy l OneImage run.case.now.review.now run.case.now.steps p params namespace result
+  finds_of p run params namespace result = EvaluatesPolicy l OneImage run.case.now.review.now run.case.now.limits p params namespace result
 
   -- the events of a step are added
   abbrev pub AddsStep : BoundPolicy → PolicyRun → PlannedStep → CodeEvents → CodeEvents → Progress → Type 0
@@ -112,16 +113,16 @@ module _ (l : Language) where
   -- ---- policies
 
   -- the events of a policy are added
-  abbrev pub AddsPolicy : Images → ClusterState → List ℕ → ℕ → Request → BoundPolicy → CodeEvents → CodeEvents → Bool → Type 0
-  AddsPolicy chosen s review n q p before after ended =
-      (more : List Event) × Adds before after more × AsksPolicy l chosen s review n q p more ended
+  abbrev pub AddsPolicy : Images → ClusterState → List ℕ → Limits → Request → BoundPolicy → CodeEvents → CodeEvents → Bool → Type 0
+  AddsPolicy chosen s review limits q p before after ended =
+      (more : List Event) × Adds before after more × AsksPolicy l chosen s review limits q p more ended
 
   -- the events of a policy whose constraints match are added
-  abbrev pub AddsMatched : Images → ClusterState → List ℕ → ℕ → Request → BoundPolicy → CodeEvents → CodeEvents → Bool → Type 0
-  AddsMatched chosen s review n q p before after ended =
+  abbrev pub AddsMatched : Images → ClusterState → List ℕ → Limits → Request → BoundPolicy → CodeEvents → CodeEvents → Bool → Type 0
+  AddsMatched chosen s review limits q p before after ended =
       (more : List Event) × Adds before after more
       × (cause : Option BlockCause) × IsJudged l s p cause
-      × RunsBindings p (EvaluatesPolicy l chosen review n p) (by_block s (asked_policy s p) q (option_map block_of cause)) more ended
+      × RunsBindings p (EvaluatesPolicy l chosen review limits p) (by_block s (asked_policy s p) q (option_map block_of cause)) more ended
 
   -- the events of the bindings of a run's policy are added
   abbrev pub AddsRun : ClusterState → Request → BoundPolicy → PolicyRun → CodeEvents → CodeEvents → Bool → Type 0
@@ -129,16 +130,16 @@ module _ (l : Language) where
       AddsBindings p run (bindings_steps s (asked_policy s p) q s.bindings) before after ended
 
   -- the code keeps the events of these policies
-  abbrev pub GivesEvents : Images → ClusterState → List ℕ → ℕ → Request → List BoundPolicy → CodeEvents → Type 0
-  GivesEvents chosen s review n q ps e = (es : List Event) × KeepsEvents e es × Dispatches l chosen s review n q ps es
+  abbrev pub GivesEvents : Images → ClusterState → List ℕ → Limits → Request → List BoundPolicy → CodeEvents → Type 0
+  GivesEvents chosen s review limits q ps e = (es : List Event) × KeepsEvents e es × Dispatches l chosen s review limits q ps es
 
   -- the code keeps the events of the first policies, and those of the others come after them
-  abbrev pub GivesBefore : Images → ClusterState → List ℕ → ℕ → Request → List BoundPolicy → List BoundPolicy → CodeEvents → Type 0
-  GivesBefore chosen s review n q all rest e =
+  abbrev pub GivesBefore : Images → ClusterState → List ℕ → Limits → Request → List BoundPolicy → List BoundPolicy → CodeEvents → Type 0
+  GivesBefore chosen s review limits q all rest e =
       (es : List Event) × KeepsEvents e es
-      × ((more : List Event) → Dispatches l chosen s review n q rest more → Dispatches l chosen s review n q all (es ++ more))
+      × ((more : List Event) → Dispatches l chosen s review limits q rest more → Dispatches l chosen s review limits q all (es ++ more))
 
   -- the text is the answer to a request with this uid
-  abbrev pub AnswersCase : Images → ClusterState → List ℕ → ℕ → Request → List ℕ → List ℕ → Type 0
-  AnswersCase chosen s review n q uid text =
-      (es : List Event) × Dispatches l chosen s review n q (policies_asked s q) es × (text ≡ cluster_response q uid es)
+  abbrev pub AnswersCase : Images → ClusterState → List ℕ → Limits → Request → List ℕ → List ℕ → Type 0
+  AnswersCase chosen s review limits q uid text =
+      (es : List Event) × Dispatches l chosen s review limits q (policies_asked s q) es × (text ≡ cluster_response q uid es)

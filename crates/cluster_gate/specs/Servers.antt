@@ -4,6 +4,7 @@ use Rattle.std.specs.List.{list_any}
 use Rattle.policy_glue.specs.OneImage.{OneImage}
 use Rattle.admission.specs.Standing.{Images}
 use Rattle.admission.specs.declared.language.Language.{Language}
+use Rattle.admission.specs.declared.limits.Limits.{Limits}
 use Rattle.admission_documents.specs.Requests.{Request}
 use Rattle.admission_match.specs.Laws.{server_answer}
 use Rattle.admission_match.specs.Matching.{MatchResources}
@@ -56,32 +57,35 @@ server_answers served s q m = server_answer served m (namespace_labels s.objects
 
 -- the events of one policy on that server, and whether they end the dispatch
 pub record ServerAsksPolicy (l : Language) (served : List GroupVersionResource) (chosen : Images) (s : ClusterState) (review : List ℕ)
-    (n : ℕ) (q : Request) (p : BoundPolicy) (es : List Event) (ended : Bool) : Type 0 where
+    (limits : Limits) (q : Request) (p : BoundPolicy) (es : List Event) (ended : Bool) : Type 0 where
   pub cause : Option BlockCause
   pub judged : IsJudged l s p cause
-  pub runs : RunsBindings p (EvaluatesPolicy l chosen review n p)
+  pub runs : RunsBindings p (EvaluatesPolicy l chosen review limits p)
       (policy_steps_by (server_answers served s q) s (asked_policy s p) (option_map block_of cause) q) es ended
 
 -- the events of policies, one after another
-pub data ServerDispatches (l : Language) (served : List GroupVersionResource) (chosen : Images) (s : ClusterState) (review : List ℕ) (n : ℕ)
-    (q : Request) : List BoundPolicy → List Event → Type 0 where
-  no_policies : ServerDispatches l served chosen s review n q [] []
-  next : {p : BoundPolicy} {ps : List BoundPolicy} {es more : List Event} → ServerAsksPolicy l served chosen s review n q p es false
-      → ServerDispatches l served chosen s review n q ps more → ServerDispatches l served chosen s review n q (p ∷ ps) (es ++ more)
-  last : {p : BoundPolicy} {ps : List BoundPolicy} {es : List Event} → ServerAsksPolicy l served chosen s review n q p es true
-      → ServerDispatches l served chosen s review n q (p ∷ ps) es
+pub data ServerDispatches (l : Language) (served : List GroupVersionResource) (chosen : Images) (s : ClusterState) (review : List ℕ)
+    (limits : Limits) (q : Request) : List BoundPolicy → List Event → Type 0 where
+  no_policies : ServerDispatches l served chosen s review limits q [] []
+  next : {p : BoundPolicy} {ps : List BoundPolicy} {es more : List Event} → ServerAsksPolicy l served chosen s review limits q p es false
+      → ServerDispatches l served chosen s review limits q ps more
+      → ServerDispatches l served chosen s review limits q (p ∷ ps) (es ++ more)
+  last : {p : BoundPolicy} {ps : List BoundPolicy} {es : List Event} → ServerAsksPolicy l served chosen s review limits q p es true
+      → ServerDispatches l served chosen s review limits q (p ∷ ps) es
 
 -- if each policy decides, every server has the same events and so the same answer, for any resources that it may store
 -- in the same place as the request's
 abbrev pub EquivalentsAreFree : Type 0
-EquivalentsAreFree = (l : Language) (served : List GroupVersionResource) (s : ClusterState) (review : List ℕ) (n : ℕ) (q : Request)
-    (es fs : List Event) → HasShallowDocuments s → All (λ c. is_candidate q.attributes.resource c ≡ true) served
+EquivalentsAreFree = (l : Language) (served : List GroupVersionResource) (s : ClusterState) (review : List ℕ) (limits : Limits)
+    (q : Request) (es fs : List Event) → HasShallowDocuments s → All (λ c. is_candidate q.attributes.resource c ≡ true) served
     → list_any is_refusal es ≡ false
-    → Dispatches l OneImage s review n q (policies_asked s q) es → ServerDispatches l served OneImage s review n q (policies_asked s q) fs
+    → Dispatches l OneImage s review limits q (policies_asked s q) es
+    → ServerDispatches l served OneImage s review limits q (policies_asked s q) fs
     → fs ≡ es
 
 -- if each policy decides, the server has these events
 abbrev pub ServersHaveAnswers : Type 0
-ServersHaveAnswers = (l : Language) (served : List GroupVersionResource) (s : ClusterState) (review : List ℕ) (n : ℕ) (q : Request)
-    (es : List Event) → All (λ c. is_candidate q.attributes.resource c ≡ true) served → list_any is_refusal es ≡ false
-    → Dispatches l OneImage s review n q (policies_asked s q) es → ServerDispatches l served OneImage s review n q (policies_asked s q) es
+ServersHaveAnswers = (l : Language) (served : List GroupVersionResource) (s : ClusterState) (review : List ℕ) (limits : Limits)
+    (q : Request) (es : List Event) → All (λ c. is_candidate q.attributes.resource c ≡ true) served → list_any is_refusal es ≡ false
+    → Dispatches l OneImage s review limits q (policies_asked s q) es
+    → ServerDispatches l served OneImage s review limits q (policies_asked s q) es

@@ -2,7 +2,7 @@
 use Rattle.std.specs.Prelude.{◌≡◌, ℕ, Bool, true, false, List, [], ◌∷◌, ◌++◌, Some, None, Ok, Err, codes}
 use Rattle.serde_json.specs.Data as json
 use Rattle.policy_glue.specs.declared.reason.Reason.TheVariants.{Forbidden}
-use Rattle.admission.specs.declared.run_error.RunError.TheVariants.{OutOfSteps}
+use Rattle.admission.specs.declared.run_error.RunError.TheVariants.{OutOfReads, OutOfSteps}
 use Rattle.admission_documents.specs.Matching.{match_all}
 use Rattle.admission_documents.specs.Requests.{Request}
 use Rattle.cluster_state.specs.Params.{param_error_text}
@@ -18,9 +18,11 @@ use Rattle.cluster_response.specs.declared.cluster_refusal.ClusterRefusal.{Clust
 use Rattle.cluster_response.specs.declared.cluster_refusal.ClusterRefusal.TheVariants as refusal
 use Rattle.cluster_gate.specs.Dispatch.{FindsWith, RunsBindings, RunsSteps, undecided_event}
 
--- a policy that finds its params as a message; without params it does not end in its steps
+-- a policy that finds its params as a message; with null as params it reads too much, without params it does not end in
+-- its steps
 abbrev pub finds_params : FindsWith
 finds_params (Some (json.string t)) namespace result = result ≡ Ok (found 0 t Forbidden ∷ [])
+finds_params (Some json.null) namespace result = result ≡ Err OutOfReads
 finds_params _ namespace result = result ≡ Err OutOfSteps
 
 -- the policy p, under Fail
@@ -45,6 +47,9 @@ evaluation t = evaluates (bound (Deny ∷ [])) (Some (json.string t)) None
 
 abbrev pub endless : PlannedStep
 endless = evaluates (bound (Deny ∷ [])) None None
+
+abbrev pub reads_much : PlannedStep
+reads_much = evaluates (bound (Deny ∷ [])) (Some json.null) None
 
 -- a denial with this message
 abbrev pub denial : List ℕ → Event
@@ -73,6 +78,8 @@ pub record EventRowsHold : Type 0 where
       (undecided_by refusal.UnknownMatch ∷ denial (codes "m") ∷ []) false
   pub other_params_of_binding : RunsEach ((endless ∷ evaluation (codes "m") ∷ []) ∷ (evaluation (codes "n") ∷ []) ∷ [])
       (undecided_by refusal.OutOfSteps ∷ denial (codes "n") ∷ []) false
+  pub next_binding_after_reads : RunsEach ((reads_much ∷ evaluation (codes "m") ∷ []) ∷ (evaluation (codes "n") ∷ []) ∷ [])
+      (undecided_by refusal.OutOfReads ∷ denial (codes "n") ∷ []) false
   pub not_found_after_refusal : RunsEach ((endless ∷ []) ∷ (ends ∷ []) ∷ (evaluation (codes "m") ∷ []) ∷ [])
       (undecided_by refusal.OutOfSteps ∷ event.ends ∷ []) true
   -- a namespace that is not found ends the dispatch

@@ -34,7 +34,7 @@ pub(crate) fn ask<'a>(
 ) -> Result<bool, AllocError>
     requires { IsBesideIf case.now.opened case.now.place (namespace_named (request_view case.now.request.now).attributes.namespace (state_view state.now).objects) }
     ensures { IfOk result (λ ended. (l : Language) (s : ClusterState) (p : BoundPolicy) → state_view state.now ≡ s → IsGateFor l s p gate.now
-        → AddsPolicy l OneImage s case.now.review.now case.now.steps (request_view case.now.request.now) p events.old events.new ended) }
+        → AddsPolicy l OneImage s case.now.review.now case.now.limits (request_view case.now.request.now) p events.old events.new ended) }
 {
     let policy = gate.asked.policy;
     let request = case.request;
@@ -81,7 +81,7 @@ fn ask_matched<'a>(
 ) -> Result<bool, AllocError>
     requires { IsBesideIf case.now.opened case.now.place (namespace_named (request_view case.now.request.now).attributes.namespace (state_view state.now).objects) }
     ensures { IfOk result (λ ended. (l : Language) (s : ClusterState) (p : BoundPolicy) → state_view state.now ≡ s → IsGateFor l s p gate.now
-        → AddsMatched l OneImage s case.now.review.now case.now.steps (request_view case.now.request.now) p events.old events.new ended) }
+        → AddsMatched l OneImage s case.now.review.now case.now.limits (request_view case.now.request.now) p events.old events.new ended) }
 {
     let policy = gate.asked.policy;
     match &gate.standing {

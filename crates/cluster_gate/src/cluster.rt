@@ -20,7 +20,7 @@ use crate::kept_bases::KeptBases;
 use crate::opening::open_gates;
 use crate::policy_gate::PolicyGate;
 use crate::review_request::review_request;
-use admission::Language;
+use admission::{Language, Limits};
 use admission_documents::Request;
 use cluster_response::{Events, response};
 use cluster_state::{State, parse};
@@ -72,13 +72,13 @@ impl<'s, 'a> Cluster<'s, 'a> {
     }
 
     /// The text that answers a review (AdmissionReview, `admission.k8s.io/v1`), in which each
-    /// evaluation of a policy may take at most `n` steps; none if the bytes are no review. The
-    /// error is a failed allocation, which implies nothing about the review.
-    pub fn decide(&self, review: &[u8], n: u64) -> Result<Option<Vec<u8>>, AllocError>
-        ensures { IfOk result (λ o. (l : InLanguage) (s : ClusterState) → IsClusterFor l s self.now → DecidesInCluster l OneImage s review.now n (option_map (λ b. b.items) o)) }
+    /// evaluation of a policy has limits of its own; none if the bytes are no review. The error is
+    /// a failed allocation, which implies nothing about the review.
+    pub fn decide(&self, review: &[u8], limits: Limits) -> Result<Option<Vec<u8>>, AllocError>
+        ensures { IfOk result (λ o. (l : InLanguage) (s : ClusterState) → IsClusterFor l s self.now → DecidesInCluster l OneImage s review.now limits (option_map (λ b. b.items) o)) }
     {
         match parse(self.alloc, review)? {
-            Some(document) => self.decide_document(review, &document, n),
+            Some(document) => self.decide_document(review, &document, limits),
             None => Ok(None),
         }
     }
@@ -88,10 +88,10 @@ impl<'s, 'a> Cluster<'s, 'a> {
         &self,
         review: &'x [u8],
         document: &'x Value,
-        n: u64,
+        limits: Limits,
     ) -> Result<Option<Vec<u8>>, AllocError>
         ensures { IfOk result (λ o. (l : InLanguage) (s : ClusterState) → IsClusterFor l s self.now → document_of review.now ≡ Some (view document.now)
-            → DecidesInCluster l OneImage s review.now n (option_map (λ b. b.items) o)) }
+            → DecidesInCluster l OneImage s review.now limits (option_map (λ b. b.items) o)) }
     {
         match review_request(document) {
             None => Ok(None),
@@ -103,7 +103,7 @@ impl<'s, 'a> Cluster<'s, 'a> {
                     let case = Case {
                         review,
                         request: &request,
-                        steps: n,
+                        limits,
                         opened,
                         place: self.place(&request, opened),
                     };
@@ -116,7 +116,7 @@ impl<'s, 'a> Cluster<'s, 'a> {
     /// The answer to a request with this uid.
     fn answer(&self, case: &Case<'_, '_, 'a>, uid: &str) -> Result<Vec<u8>, AllocError>
         requires { IsBesideIf case.now.opened case.now.place (namespace_named (request_view case.now.request.now).attributes.namespace (state_view self.now.state.now).objects) }
-        ensures { IfOk result (λ b. (l : InLanguage) (s : ClusterState) → IsClusterFor l s self.now → AnswersCase l OneImage s case.now.review.now case.now.steps (request_view case.now.request.now) uid.now b.items) }
+        ensures { IfOk result (λ b. (l : InLanguage) (s : ClusterState) → IsClusterFor l s self.now → AnswersCase l OneImage s case.now.review.now case.now.limits (request_view case.now.request.now) uid.now b.items) }
     {
         let events = self.events(case)?;
         self.keep_wanted(case);
@@ -128,7 +128,7 @@ impl<'s, 'a> Cluster<'s, 'a> {
     fn events(&self, case: &Case<'_, '_, 'a>) -> Result<Events, AllocError>
         requires { IsBesideIf case.now.opened case.now.place (namespace_named (request_view case.now.request.now).attributes.namespace (state_view self.now.state.now).objects) }
         ensures { IfOk result (λ e. (l : InLanguage) (s : ClusterState) → IsClusterFor l s self.now
-            → GivesEvents l OneImage s case.now.review.now case.now.steps (request_view case.now.request.now) (policies_asked s (request_view case.now.request.now)) e) }
+            → GivesEvents l OneImage s case.now.review.now case.now.limits (request_view case.now.request.now) (policies_asked s (request_view case.now.request.now)) e) }
     {
         let request = case.request;
         if request.attributes.resource.is_exempt() {
@@ -142,7 +142,7 @@ impl<'s, 'a> Cluster<'s, 'a> {
     fn dispatch(&self, case: &Case<'_, '_, 'a>) -> Result<Events, AllocError>
         requires { IsBesideIf case.now.opened case.now.place (namespace_named (request_view case.now.request.now).attributes.namespace (state_view self.now.state.now).objects) }
         ensures { IfOk result (λ e. (l : InLanguage) (s : ClusterState) → IsClusterFor l s self.now
-            → GivesEvents l OneImage s case.now.review.now case.now.steps (request_view case.now.request.now) s.policies e) }
+            → GivesEvents l OneImage s case.now.review.now case.now.limits (request_view case.now.request.now) s.policies e) }
     {
         let mut events = Events::new(self.alloc);
         let gates = self.gates.as_slice();

@@ -37,7 +37,7 @@ pub(crate) fn evaluate<'a>(
 ) -> Result<Result<Vec<Finding>, ClusterRefusal>, AllocError>
     requires { IsBesideIf case.now.opened case.now.place (option_map (λ v. view v.now) namespace) }
     ensures { IfOk result (λ r. (l : Language) (p : BoundPolicy) → IsAskedGate l p gate.now
-        → FindsOrRefuses l OneImage case.now.review.now case.now.steps p (option_map (λ v. view v.now) params.entry) (option_map (λ v. view v.now) namespace.entry) r) }
+        → FindsOrRefuses l OneImage case.now.review.now case.now.limits p (option_map (λ v. view v.now) params.entry) (option_map (λ v. view v.now) namespace.entry) r) }
 {
     let Some(opened) = case.opened else {
         return evaluate_alone(alloc, gate, case, params, namespace);
@@ -63,7 +63,7 @@ fn evaluate_on(
     table: Result<Table, ReviewError>,
 ) -> Result<Result<Vec<Finding>, ClusterRefusal>, AllocError>
     ensures { IfOk result (λ r. (l : Language) (p : BoundPolicy) (params namespace : Option Data) → IsAskedGate l p gate.now → GivesTable case.now.review.now params namespace table
-        → FindsOrRefuses l OneImage case.now.review.now case.now.steps p params namespace r) }
+        → FindsOrRefuses l OneImage case.now.review.now case.now.limits p params namespace r) }
 {
     found(findings_on(gate, case, table))
 }
@@ -74,12 +74,12 @@ fn findings_on(
     case: &Case<'_, '_, '_>,
     table: Result<Table, ReviewError>,
 ) -> Result<Vec<Finding>, RunError>
-    ensures finds { (d : Documents) → IsGateOn d.language d.policy gate.now → IsTableOf d table → FindsReview d case.now.steps (findings_view result) }
+    ensures finds { (d : Documents) → IsGateOn d.language d.policy gate.now → IsTableOf d table → FindsReview d case.now.limits (findings_view result) }
     ensures runs { (d : Documents) → IsGateOn d.language d.policy gate.now → OneImage gate.now.policy gate.now.image → IsTableOf d table
-        → RunAgrees OneImage d case.now.steps (findings_view result) }
+        → RunAgrees OneImage d case.now.limits (findings_view result) }
 {
     let table = table?;
-    gate.findings_on(table, case.steps)
+    gate.findings_on(table, case.limits)
 }
 
 /// `evaluate`, with the review read for this evaluation alone.
@@ -91,7 +91,7 @@ fn evaluate_alone(
     namespace: Option<&Value>,
 ) -> Result<Result<Vec<Finding>, ClusterRefusal>, AllocError>
     ensures { IfOk result (λ r. (l : Language) (p : BoundPolicy) → IsAskedGate l p gate.now
-        → FindsOrRefuses l OneImage case.now.review.now case.now.steps p (option_map (λ v. view v.now) params.entry) (option_map (λ v. view v.now) namespace.entry) r) }
+        → FindsOrRefuses l OneImage case.now.review.now case.now.limits p (option_map (λ v. view v.now) params.entry) (option_map (λ v. view v.now) namespace.entry) r) }
 {
     let params = text_if(alloc, params)?;
     let namespace = text_if(alloc, namespace)?;
@@ -107,12 +107,12 @@ fn findings_with(
     namespace: Option<&[u8]>,
 ) -> Result<Vec<Finding>, RunError>
     ensures finds { (l : Language) (policy : List ℕ) → IsGateOn l policy gate.now
-        → FindsReview (documents_in l policy case.now.review.now namespace.entry params.entry) case.now.steps (findings_view result) }
+        → FindsReview (documents_in l policy case.now.review.now namespace.entry params.entry) case.now.limits (findings_view result) }
     ensures runs { (l : Language) (policy : List ℕ) → IsGateOn l policy gate.now → OneImage gate.now.policy gate.now.image
-        → RunAgrees OneImage (documents_in l policy case.now.review.now namespace.entry params.entry) case.now.steps (findings_view result) }
+        → RunAgrees OneImage (documents_in l policy case.now.review.now namespace.entry params.entry) case.now.limits (findings_view result) }
 {
     let (table, _uid) = Table::of_review(alloc, case.review, namespace, params)?;
-    gate.findings_on(table, case.steps)
+    gate.findings_on(table, case.limits)
 }
 
 /// The findings, or the refusal that reports the policy.
@@ -130,6 +130,7 @@ fn found(
         }
         Err(RunError::OutOfSteps) => Ok(Err(ClusterRefusal::OutOfSteps)),
         Err(RunError::OverLimit) => Ok(Err(ClusterRefusal::OverLimit)),
+        Err(RunError::OutOfReads) => Ok(Err(ClusterRefusal::OutOfReads)),
         Err(RunError::Memory) => Err(AllocError),
     }
 }

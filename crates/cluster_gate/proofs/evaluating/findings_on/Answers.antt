@@ -12,7 +12,7 @@ pub returns-in_err-table-clause-finds : goal.returns-in_err-table-clause-finds
 returns-in_err-table-clause-finds c =
     rw (is_err c.from_residual.ensures.1)
     (λ d of table.
-    (not_opened c.args.gate.now d of c.args.case.now.steps {S = Held} held_contents c.in_err-table.field-0.0 (subst (IsTableOf d) c.in_err-table.was table)).0)
+    (not_opened c.args.gate.now d of c.args.case.now.limits {S = Held} held_contents c.in_err-table.field-0.0 (subst (IsTableOf d) c.in_err-table.was table)).0)
 
 pub returns-clause-finds : goal.returns-clause-finds
 returns-clause-finds c d of table =

@@ -15,7 +15,7 @@ pub returns-in_err-table-clause-finds : goal.returns-in_err-table-clause-finds
 returns-in_err-table-clause-finds c =
     let documents = λ (l : Language) (policy : List ℕ). documents_in l policy c.args.case.now.review.now c.args.namespace c.args.params in
     rw (is_err c.from_residual.ensures.1)
-    (λ l policy of. (not_opened c.args.gate.now (documents l policy) of c.args.case.now.steps {S = Table × String Global} (λ r. record { values = r.0.values; charge = r.0.charge }) _ c.in_err-table.ensures.table).0)
+    (λ l policy of. (not_opened c.args.gate.now (documents l policy) of c.args.case.now.limits {S = Table × String Global} (λ r. record { values = r.0.values; charge = r.0.charge }) _ c.in_err-table.ensures.table).0)
 
 pub returns-clause-finds : goal.returns-clause-finds
 returns-clause-finds c l policy of =

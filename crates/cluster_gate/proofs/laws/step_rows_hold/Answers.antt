@@ -16,6 +16,7 @@ returns-clause-steps c = record {
   next_binding_after_refusal = next_binding (refused refl refl) (next_binding (found refl no_steps) no_bindings);
   next_binding_after_unknown = next_binding not_known (next_binding no_steps (next_binding (found refl no_steps) no_bindings));
   other_params_of_binding = next_binding (refused refl refl) (next_binding (found refl no_steps) no_bindings);
+  next_binding_after_reads = next_binding (refused refl refl) (next_binding (found refl no_steps) no_bindings);
   not_found_after_refusal = next_binding (refused refl refl) (last_binding at_end);
   not_found_before_denial = at_end;
   not_found_after_error = denied at_end;

@@ -17,7 +17,7 @@ pub returns-in_ok-answer-in-Some-of : goal.returns-in_ok-answer-in-Some-of
 returns-in_ok-answer-in-Some-of c language s is document =
     let answer = c.in_ok-answer-in-Some-of.ensures language s is in
     let uid = uid_is c.args.review.now (view c.args.document.now) c.in-Some.found.uid.now document c.in-Some.ensures.uid in
-    subst (λ (t : List ℕ). DecidesInCluster language OneImage s c.args.review.now c.args.n (Some t))
+    subst (λ (t : List ℕ). DecidesInCluster language OneImage s c.args.review.now c.args.limits (Some t))
     (sym (answer.2 ∙ ap (λ (u : List ℕ). cluster_response (request_view c.in-Some-of.request) u answer.0) (sym uid)))
     (decided
     (request_is c.args.review.now (view c.args.document.now) (view c.in-Some.found.document.now) document (sym c.in-Some.ensures.document) ∙ sym c.in-Some-of.ensures)
