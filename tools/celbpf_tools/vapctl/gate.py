@@ -13,6 +13,7 @@ MEANINGS = {
     "N4": "its program takes more steps than are allowed",
     "N5": "its program takes more memory than is allowed",
     "N6": "its rules name another version or group of the resource, to which a server may convert the request",
+    "N7": "its program reads more than is allowed",
     "C7": "the policy is refused: `vapctl lint` shows where",
     "C8": "the kind of its params is not in the state",
     "memory": "memory ran out",
