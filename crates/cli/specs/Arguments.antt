@@ -1,8 +1,8 @@
--- The arguments that both programs accept, as declared to clap.
+-- The arguments that both programs accept, and the gatekeeper's limit of reads, as declared to clap.
 use Rattle.std.specs.Prelude.{true, [], ◌∷◌, Some, codes}
 use Rattle.clap.specs.Words.{App, Rule, Text, new_rule, with_rule}
 use Rattle.clap.specs.declared.builder.value_parser.ValueParser.TheVariants as parser
-use Rattle.cli.specs.Limits.{step_limit}
+use Rattle.cli.specs.Limits.{most_reads, step_limit}
 
 -- an optional file name
 unfoldable pub option_rule : Text → Rule
@@ -18,6 +18,14 @@ steps_rule = record (new_rule (codes "steps")) {
   long = Some (codes "steps");
   defaults = codes "10000000" ∷ [];
   parser = Some (parser.Unsigned 0 step_limit);
+}
+
+-- a number of bytes that helper calls read, at most 2^62
+unfoldable pub reads_rule : Rule
+reads_rule = record (new_rule (codes "reads")) {
+  long = Some (codes "reads");
+  defaults = codes "268435456" ∷ [];
+  parser = Some (parser.Unsigned 0 most_reads);
 }
 
 -- a command with [--namespace F] [--params F]

@@ -1,5 +1,5 @@
--- Limits of steps for both programs.
-use Rattle.std.specs.Prelude.{ℕ}
+-- Limits of steps for both programs, and of reads for the gatekeeper.
+use Rattle.std.specs.Prelude.{ℕ, ◌^◌}
 
 -- the largest number of steps of a run
 abbrev pub step_limit : ℕ
@@ -8,3 +8,11 @@ step_limit = 1000000000
 -- the number of steps of a run if none is given
 abbrev pub default_steps : ℕ
 default_steps = 10000000
+
+-- the largest limit of the bytes that helper calls read in a run
+abbrev pub most_reads : ℕ
+most_reads = 2 ^ 62
+
+-- the limit of these bytes if none is given
+abbrev pub default_reads : ℕ
+default_reads = 268435456

@@ -27,7 +27,7 @@ use Rattle.host.specs.declared.file_error.FileError.{FileError, TheVariants.Fail
 use Rattle.host.specs.declared.file_error.FileError.TheVariants as file_error
 use Rattle.host.specs.declared.order_error.OrderError.{OrderError, TheVariants.InvalidArguments}
 use Rattle.host.specs.declared.order_error.OrderError.TheVariants as order_error
-use Rattle.admission.specs.declared.run_error.RunError.{RunError, TheVariants.PolicyRefused, TheVariants.OutOfSteps, TheVariants.OverLimit}
+use Rattle.admission.specs.declared.run_error.RunError.{RunError, TheVariants.PolicyRefused, TheVariants.OutOfSteps, TheVariants.OverLimit, TheVariants.OutOfReads}
 use Rattle.admission.specs.declared.policy_refusal.PolicyRefusal.{PolicyRefusal, TheVariants.Unread, TheVariants.Uncompiled}
 use Rattle.admission.specs.declared.policy_refusal.PolicyRefusal.TheVariants as policy_refusal
 use Rattle.admission.specs.declared.run_error.RunError.TheVariants as run_error
@@ -147,4 +147,5 @@ abbrev pub refusal_status : Refusal → ℕ
 refusal_status Words = 2
 refusal_status (Run OutOfSteps) = 4
 refusal_status (Run OverLimit) = 4
+refusal_status (Run OutOfReads) = 4
 refusal_status _ = 3

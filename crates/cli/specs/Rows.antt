@@ -16,12 +16,12 @@ use Rattle.policy_glue.specs.declared.policy_error.PolicyError.TheVariants.{NotJ
 use Rattle.admission.specs.declared.policy_refusal.PolicyRefusal.TheVariants as policy_refusal
 use Rattle.admission.specs.declared.policy_refusal.PolicyRefusal.TheVariants.{Unread, Uncompiled}
 use Rattle.admission.specs.declared.run_error.RunError.TheVariants as run_error
-use Rattle.admission.specs.declared.run_error.RunError.TheVariants.{PolicyRefused, ReviewRefused, NamespaceOrParamsRefused, OutOfSteps, OverLimit}
+use Rattle.admission.specs.declared.run_error.RunError.TheVariants.{PolicyRefused, ReviewRefused, NamespaceOrParamsRefused, OutOfSteps, OverLimit, OutOfReads}
 use Rattle.streams.specs.declared.session_error.SessionError.TheVariants as session_error
 use Rattle.host.specs.declared.file_error.FileError.TheVariants as file_error
 use Rattle.host.specs.declared.order_error.OrderError.TheVariants as order_error
 use Rattle.cli.specs.Ending.{ending_line, ending_status}
-use Rattle.cli.specs.Limits.{default_steps, step_limit}
+use Rattle.cli.specs.Limits.{default_reads, default_steps, most_reads, step_limit}
 use Rattle.cli.specs.Number.{number_of}
 use Rattle.cli.specs.Refusals.{file_refusal, load_refusal, order_refusal, policy_refusal_of, program_refusal, refusal_line, refusal_status, run_refusal, session_refusal}
 use Rattle.cli.specs.declared.refusal.Refusal.{Refusal}
@@ -67,6 +67,7 @@ pub record RefusalLineRowsStand : Type 0 where
   pub no_params : Says (Run NamespaceOrParamsRefused) "celbpf: N3\n" 3
   pub no_end : Says (Run OutOfSteps) "celbpf: N4\n" 4
   pub over_limit : Says (Run OverLimit) "celbpf: N5\n" 4
+  pub out_of_reads : Says (Run OutOfReads) "celbpf: N7\n" 4
 
 -- each refusal of an expression: the kind and the place of its part, its code, and for a text the byte
 pub record ExpressionRowsStand : Type 0 where
@@ -156,3 +157,5 @@ pub record NumberRowsStand : Type 0 where
   pub left_out : number_of None ≡ None
   pub steps_left_out : default_steps ≡ 10000000
   pub most_steps : step_limit ≡ 1000000000
+  pub reads_left_out : default_reads ≡ 268435456
+  pub most_read : most_reads ≡ 4611686018427387904

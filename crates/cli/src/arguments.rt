@@ -1,10 +1,11 @@
-//! The arguments that both programs accept, as they are declared to `clap`.
+//! The arguments that both programs accept, and the gatekeeper's limit of reads, as they are
+//! declared to `clap`.
 ghost use Rattle.std.specs.Prelude.{◌≡◌, IfOk, false};
 ghost use Rattle.clap.specs.Words.{app_of, rule_of};
 ghost use Rattle.clap.specs.declared.builder.command.Command.TheViews.{out-Command as fields_of};
-ghost use Rattle.cli.specs.Arguments.{option_rule, required_option_rule, steps_rule, with_documents};
+ghost use Rattle.cli.specs.Arguments.{option_rule, reads_rule, required_option_rule, steps_rule, with_documents};
 
-use crate::limits::STEP_LIMIT;
+use crate::limits::{MOST_READS, STEP_LIMIT};
 use clap::{Arg, Command, value_parser};
 use std::alloc::{AllocError, Global};
 
@@ -36,6 +37,18 @@ pub fn steps_argument<'a>(alloc: Global) -> Arg<'a>
         .long("steps")
         .value_parser(value_parser!(u64).range(0..=STEP_LIMIT as i64))
         .default_value("10000000")
+}
+
+// --reads N, the most bytes that helper calls may read
+#[tactic(auto, unfolding(crate::specs::Arguments::reads_rule))]
+pub fn reads_argument<'a>(alloc: Global) -> Arg<'a>
+    ensures rule { rule_of result ≡ reads_rule }
+    ensures local { result.global ≡ false }
+{
+    Arg::new(alloc, "reads")
+        .long("reads")
+        .value_parser(value_parser!(u64).range(0..=MOST_READS as i64))
+        .default_value("268435456")
 }
 
 // the command with the options for a namespace and for params

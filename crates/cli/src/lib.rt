@@ -12,10 +12,12 @@ mod refusal;
 pub mod rows;
 mod values;
 
-pub use arguments::{option_argument, required_option_argument, steps_argument, with_documents};
+pub use arguments::{
+    option_argument, reads_argument, required_option_argument, steps_argument, with_documents,
+};
 pub use ending::{exit_with, texts_of};
 pub use given_files::{read_given, read_named};
 pub use lines::{LONGEST_LINE, RefusalLine, refusal_line};
 pub use parsing::parse;
 pub use refusal::Refusal;
-pub use values::{name_in, number_in, steps_in, text_in, text_or_empty};
+pub use values::{name_in, number_in, reads_in, steps_in, text_in, text_or_empty};

@@ -139,7 +139,7 @@ fn run_error_status(error: RunError) -> u8
     ensures { result ≡ refusal_status (refusal.Run error) }
 {
     match error {
-        RunError::OutOfSteps | RunError::OverLimit => 4,
+        RunError::OutOfSteps | RunError::OverLimit | RunError::OutOfReads => 4,
         RunError::PolicyRefused(_)
         | RunError::ReviewRefused
         | RunError::NamespaceOrParamsRefused

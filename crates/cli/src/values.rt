@@ -2,9 +2,9 @@
 ghost use Rattle.std.specs.Prelude.{◌≡◌, codes, option_map, string_bytes, unwrap_or, [], IfOk};
 ghost use Rattle.clap.specs.Words.{first_of, found_of, one_of, rows_of};
 ghost use Rattle.cli.specs.Number.{number_of};
-ghost use Rattle.cli.specs.Limits.{default_steps};
+ghost use Rattle.cli.specs.Limits.{default_reads, default_steps};
 
-use crate::limits::DEFAULT_STEPS;
+use crate::limits::{DEFAULT_READS, DEFAULT_STEPS};
 use clap::ArgMatches;
 use std::alloc::{AllocError, Global};
 
@@ -44,4 +44,11 @@ pub fn steps_in(matches: &ArgMatches) -> u64
     ensures { result ≡ unwrap_or (number_of (one_of (codes "steps") (rows_of (found_of matches.now)))) default_steps }
 {
     number_in(matches, "steps").unwrap_or(DEFAULT_STEPS)
+}
+
+// the value of --reads
+pub fn reads_in(matches: &ArgMatches) -> u64
+    ensures { result ≡ unwrap_or (number_of (one_of (codes "reads") (rows_of (found_of matches.now)))) default_reads }
+{
+    number_in(matches, "reads").unwrap_or(DEFAULT_READS)
 }
