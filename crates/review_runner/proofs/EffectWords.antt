@@ -16,7 +16,6 @@ use Rattle.streams.specs.declared.session_error.SessionError.TheVariants as sess
 use Rattle.debugger.specs.Transcript.{IsSession}
 use Rattle.admission.specs.Reviews.{contents_given}
 use Rattle.admission.specs.Standing.{Images}
-use Rattle.policy_glue.specs.OneAnswer.{CompileHasOneResult}
 use Rattle.cli.specs.declared.refusal.Refusal.TheVariants as refusal
 use Rattle.clap.specs.Words.{one_of}
 use Rattle.cli.specs.Ending.{AsksNothing}
@@ -33,7 +32,7 @@ use Rattle.review_runner.specs.Performing as performing
 use Rattle.review_runner.specs.Program as program
 use Rattle.review_runner.specs.Program.{Delivers, ending_of}
 use Rattle.review_runner.proofs.EffectFiles.{names_of, FilesBy, by_files, kept}
-use Rattle.review_runner.proofs.Effects.{seen, compiled, assembled, listed, run, reviewed, not_started}
+use Rattle.review_runner.proofs.Effects.{ReviewLaws, seen, compiled, assembled, listed, run, reviewed, not_started}
 
 -- ---- sessions
 
@@ -64,7 +63,7 @@ by_image h state (Err e) is due = cc
 abbrev limit_in : List Row → ℕ
 limit_in rows = unwrap_or (number_of (one_of (codes "steps") rows)) default_steps
 
-module _ (once : CompileHasOneResult) (chosen : Images) (rows : List Row) (read : limit_in rows ≡ steps_of rows) (old new : System) where
+module _ (laws : ReviewLaws) (chosen : Images) (rows : List Row) (read : limit_in rows ≡ steps_of rows) (old new : System) where
   abbrev Ends : Text → Ending → Type 0
   Ends command ending = Does chosen rows old new command ending
 
@@ -147,7 +146,7 @@ module _ (once : CompileHasOneResult) (chosen : Images) (rows : List Row) (read 
       → CarriesOut chosen rows old.files new.files (codes "review") (seen outcome)
   unfolding review_in
   review_performed outcome (performing.performs m) =
-      reviewed chosen rows old.files once new.files _ _ m.held outcome refl (by_files old.files _ _ _ m.holds)
+      reviewed chosen rows old.files laws new.files _ _ m.held outcome refl (by_files old.files _ _ _ m.holds)
       (subst (λ (n : ℕ). ReviewsHeld chosen n m.held outcome) read m.reviews) m.stays
   review_performed outcome (performing.lacks_memory l) = absurd l
 
@@ -196,22 +195,22 @@ test_by P name word false is here other = other is
 test : (P : Text → Type 0) (name word : Text) → P word → (bytes_eq name word ≡ false → P name) → P name
 test P name word here other = test_by P name word (bytes_eq name word) refl here other
 
-named : (once : CompileHasOneResult) (chosen : Images) (rows : List Row) (read : limit_in rows ≡ steps_of rows) (old new : System) (name : Text) → Named once chosen rows read old new name
-named once chosen rows read old new name =
-    let P : Text → Type 0 = Named once chosen rows read old new in
-    test P name (codes "compile") (compiles once chosen rows read old new) (λ e1. test P name (codes "review") (reviews once chosen rows read old new)
-    (λ e2. test P name (codes "run-image") (runs once chosen rows read old new) (λ e3. test P name (codes "asm") (assembles once chosen rows read old new)
-    (λ e4. test P name (codes "list") (lists once chosen rows read old new) (λ e5. rw (e1, e2, e3, e4, e5) (sessions once chosen rows read old new))))))
+named : (laws : ReviewLaws) (chosen : Images) (rows : List Row) (read : limit_in rows ≡ steps_of rows) (old new : System) (name : Text) → Named laws chosen rows read old new name
+named laws chosen rows read old new name =
+    let P : Text → Type 0 = Named laws chosen rows read old new in
+    test P name (codes "compile") (compiles laws chosen rows read old new) (λ e1. test P name (codes "review") (reviews laws chosen rows read old new)
+    (λ e2. test P name (codes "run-image") (runs laws chosen rows read old new) (λ e3. test P name (codes "asm") (assembles laws chosen rows read old new)
+    (λ e4. test P name (codes "list") (lists laws chosen rows read old new) (λ e5. rw (e1, e2, e3, e4, e5) (sessions laws chosen rows read old new))))))
 
 -- ---- the words
 
-by_entered : (once : CompileHasOneResult) (chosen : Images) (given : Given) (old new : System) (words : List Text) (o : Option (Text × List Row)) (wanted : Order) (ending : Ending) → given ≡ Ok words
+by_entered : (laws : ReviewLaws) (chosen : Images) (given : Given) (old new : System) (words : List Text) (o : Option (Text × List Row)) (wanted : Order) (ending : Ending) → given ≡ Ok words
     → faults words ≡ [] → entered words ≡ o → order_in o ≡ Some wanted → DoesOrder chosen old new wanted ending → WordsEffect chosen given old new ending
 unfolding faults entered
-by_entered once chosen given old new words (Some p) wanted ending are taken is asked d =
+by_entered laws chosen given old new words (Some p) wanted ending are taken is asked d =
     let same = ap (λ (o : Option Order). unwrap_or o wanted) asked in
-    effect.does are taken is (named once chosen p.1 (limit_is_read words p taken is) old new p.0 ending (subst (λ (w : Order). DoesOrder chosen old new w ending) (sym same) d))
-by_entered once chosen given old new words None wanted ending are taken is asked d = cc
+    effect.does are taken is (named laws chosen p.1 (limit_is_read words p taken is) old new p.0 ending (subst (λ (w : Order). DoesOrder chosen old new w ending) (sym same) d))
+by_entered laws chosen given old new words None wanted ending are taken is asked d = cc
 
 nothing_done : (chosen : Images) (given : Given) (old new : System) (r : Refusal) → AsksNothing faults given r → new ≡ old → WordsEffect chosen given old new (Err r)
 unfolding faults
@@ -221,8 +220,8 @@ nothing_done chosen given old new r (ending.not_taken bad) same = effect.not_tak
 nothing_done chosen given old new r ending.no_memory same = effect.no_memory_for_words (λ is. cc) same
 
 -- the effect by orders is an effect of the words
-pub by_words : (once : CompileHasOneResult) (chosen : Images) (given : Given) (old new : System) (ending : Ending) → ProgramEffect chosen given old new ending
+pub by_words : (laws : ReviewLaws) (chosen : Images) (given : Given) (old new : System) (ending : Ending) → ProgramEffect chosen given old new ending
     → WordsEffect chosen given old new ending
 unfolding faults
-by_words once chosen given old new ending (program.nothing {r} asks same) = nothing_done chosen given old new r asks same
-by_words once chosen given old new ending (program.does_order asks d) = by_entered once chosen given old new asks.words _ _ ending asks.are_given asks.are_taken refl asks.asked d
+by_words laws chosen given old new ending (program.nothing {r} asks same) = nothing_done chosen given old new r asks same
+by_words laws chosen given old new ending (program.does_order asks d) = by_entered laws chosen given old new asks.words _ _ ending asks.are_given asks.are_taken refl asks.asked d

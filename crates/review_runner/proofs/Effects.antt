@@ -6,7 +6,7 @@ use Rattle.review_runner.proofs.Prelude.{start_of, started_on, Reply, Documents,
 use Rattle.review_runner.proofs.Prelude.{Assembled, ListingOutcome, WritesImage, CompiledFrom, file_from, opened}
 use Rattle.review_runner.proofs.Prelude.{opened_by, run_outcome, run_image_outcome, ReviewsHeld, review_outcome}
 use Rattle.review_runner.proofs.Prelude.{DocumentFiles, OrderOutcome, Refusal, file_refusal, FileError, Failed}
-use Rattle.review_runner.proofs.Prelude.{RunError, Contents}
+use Rattle.review_runner.proofs.Prelude.{RunError, Contents, arith}
 use Rattle.loader.specs.Contents.{Image}
 use Rattle.loader.specs.declared.load_error.LoadError.TheVariants as load_error
 use Rattle.bpf_machine.specs.State.{State}
@@ -17,12 +17,15 @@ use Rattle.streams.specs.Lines.{input_lines}
 use Rattle.review_runner.proofs.SourceLines.{same_lines}
 use Rattle.admission.specs.Deciding.{Case, Reviews, answer_of, decision, is_allowed, started}
 use Rattle.admission.specs.Reviews.{contents_given, uid_in}
-use Rattle.admission.specs.Standing.{Images, RunAgrees, RunHasStatus}
+use Rattle.admission.specs.Endings.{NoLimitOfReads}
+use Rattle.admission.specs.Standing.{Ending, Images, RunAgrees, RunEnds, ending_by, has_stopped, out_of_reads, out_of_steps, steps_alone}
 use Rattle.admission.specs.declared.run_error.RunError.TheVariants as run_error
 use Rattle.admission.proofs.OneReview.{cases_once}
 use Rattle.admission.proofs.Said.{profile_said, profile_told}
 use Rattle.admission.specs.declared.language.Language.TheVariants.{Profile}
-use Rattle.bpf_machine.specs.declared.status.Status.{Status}
+use Rattle.bpf_machine.specs.State.{start_state}
+use Rattle.bpf_machine.specs.Trace.{state_after}
+use Rattle.bpf_machine.specs.declared.status.Status.{Status, TheVariants.Running, TheVariants.Exited, TheVariants.Fault}
 use Rattle.cel_macros.specs.Environment.{Roots}
 use Rattle.expression_code.specs.Limits.{charge_per_unit, steps_per_visit}
 use Rattle.policy_glue.specs.Budget.{IsDeepPolicy, policy_spent, policy_work}
@@ -60,6 +63,27 @@ status_is false = refl
 pub assembled_lines : (text code : List ℕ) → Source text code → Assembles (input_lines text) (Ok code)
 assembled_lines text code source = subst (λ (ls : List (List ℕ)). Assembles ls (Ok code)) (same_lines text) (of_source text code source)
 
+-- ---- runs
+
+-- the laws that reviews need
+pub record ReviewLaws : Type 0 where
+  pub once : CompileHasOneResult
+  pub unlimited : NoLimitOfReads
+
+-- the last status of a run with this end
+abbrev pub last_status : Ending → Status
+last_status (has_stopped t) = t
+last_status out_of_steps = Running
+last_status out_of_reads = Running
+
+is_last : (t : Status) → last_status (ending_by t false) ≡ t
+is_last Running = refl
+is_last (Exited w) = refl
+is_last (Fault f) = refl
+
+not_below_itself : (m : ℕ) → m < m → ⊥
+not_below_itself m h = omega (arith, h)
+
 -- ---- reviews
 
 -- what holds of one case of the documents holds of each
@@ -70,9 +94,9 @@ moved once d c e P given =
     subst (λ (p : Policy). P p e.policy.trees e.roots) same.0
     (subst (λ (t : PolicyTree). P c.policy.parsed t e.roots) same.1 (subst (λ (r : Roots). P c.policy.parsed c.policy.trees r) same.2 given))
 
-pub run_of_review : (chosen : Images) (d : Documents) (n : ℕ) (due : Verdict → Status) → d.language ≡ Profile → RunHasStatus chosen d n due
-    → ReviewRun chosen n d.policy d.review d.namespace d.params due
-run_of_review chosen d n due profile has = record {
+pub run_of_review : NoLimitOfReads → (chosen : Images) (d : Documents) (n : ℕ) (due : Verdict → Ending) → d.language ≡ Profile → RunEnds chosen d (steps_alone n) due
+    → ReviewRun chosen n d.policy d.review d.namespace d.params (λ v. last_status (due v))
+run_of_review unlimited chosen d n due profile has = record {
   policy = has.run.case.policy.parsed;
   is_policy = profile_said d has.run.case.policy.told has.run.case.policy.parsed profile has.run.case.policy.is_said;
   trees = has.run.case.policy.trees;
@@ -84,7 +108,9 @@ run_of_review chosen d n due profile has = record {
   are_given = has.run.case.are_given;
   verdict = decision has.run.case;
   is_verdict = refl;
-  status = has.status;
+  status =
+      let first = start_state has.run.image (started has.run.case.roots) in
+      sym (is_last (state_after n first).status) ∙ ap last_status (sym (unlimited first n) ∙ has.ends);
 }
 
 -- ---- commands but for sessions
@@ -161,38 +187,39 @@ module _ (chosen : Images) (rows : List Row) (old : Option FileSystem) where
   run new (Ok file) is same = of_run new file (image_in file) is refl same
   run new (Err e) is same = unread new (codes "run-image") e (fails_at old [] [] [] (Some (value (codes "IMAGE") rows)) e tt is) same
 
-  pub replied : CompileHasOneResult → (new : Option FileSystem) (d : Documents) (answer : Result Reply RunError) → d.language ≡ Profile → Holds d → Reviews d (steps_of rows) answer
-      → RunAgrees chosen d (steps_of rows) answer → new ≡ old → Has new (codes "review") (seen (review_outcome answer))
+  pub replied : ReviewLaws → (new : Option FileSystem) (d : Documents) (answer : Result Reply RunError) → d.language ≡ Profile → Holds d
+      → Reviews d (steps_alone (steps_of rows)) answer → RunAgrees chosen d (steps_alone (steps_of rows)) answer → new ≡ old → Has new (codes "review") (seen (review_outcome answer))
   unfolding run_of_review
-  replied once new d (Ok reply) profile hold reviews agrees same =
-      let run = run_of_review chosen d (steps_of rows) _ profile agrees in
+  replied laws new d (Ok reply) profile hold reviews agrees same =
+      let run = run_of_review laws.unlimited chosen d (steps_of rows) _ profile agrees in
       let own = reviews.case.policy in
       let as_compiled = reviews.answer_is ∙ ap (λ (p : Policy). answer_of p (decision reviews.case) (uid_in d.review)) (profile_told d own.told own.parsed profile own.is_said) in
-      let due = moved once d reviews.case agrees.run.case (λ p t r. reply ≡ answer_of p (decision_of p.failure_policy t r) (uid_in d.review)) as_compiled in
+      let due = moved laws.once d reviews.case agrees.run.case (λ p t r. reply ≡ answer_of p (decision_of p.failure_policy t r) (uid_in d.review)) as_compiled in
       subst (λ (r : Reply). Has new (codes "review") (Ok (answer_status r.allowed, r.response ++ 10 ∷ []))) (sym due)
       (subst (λ (n : ℕ). Has new (codes "review") (Ok (n, response_of run.policy run.verdict (uid_in d.review) ++ 10 ∷ [])))
       (status_is (is_allowed run.verdict.outcome)) (effect.given hold (effect.replied run) same))
-  replied once new d (Err (run_error.PolicyRefused e)) profile hold refused agrees same = effect.given hold (effect.no_policy {others = Some d.review ∷ d.namespace ∷ d.params ∷ []} refused.1) same
-  replied once new d (Err run_error.ReviewRefused) profile hold both agrees same =
+  replied laws new d (Err (run_error.PolicyRefused e)) profile hold refused agrees same = effect.given hold (effect.no_policy {others = Some d.review ∷ d.namespace ∷ d.params ∷ []} refused.1) same
+  replied laws new d (Err run_error.ReviewRefused) profile hold both agrees same =
       effect.given hold (effect.no_review (profile_said d both.0.told both.0.parsed profile both.0.is_said) both.0.compiles both.1) same
-  replied once new d (Err run_error.NamespaceOrParamsRefused) profile hold both agrees same =
+  replied laws new d (Err run_error.NamespaceOrParamsRefused) profile hold both agrees same =
       effect.given hold (effect.no_review (profile_said d both.0.told both.0.parsed profile both.0.is_said) both.0.compiles both.1) same
-  replied once new d (Err run_error.OutOfSteps) profile hold unended agrees same =
-      effect.given hold (effect.unended (run_of_review chosen d (steps_of rows) _ profile agrees)
-      (moved once d unended.case agrees.run.case (λ p t r. steps_of rows < steps_per_visit * policy_work p.failure_policy t r) unended.early)) same
-  replied once new d (Err run_error.OverLimit) profile hold stopped agrees same =
-      effect.given hold (effect.stopped (run_of_review chosen d (steps_of rows) _ profile agrees)
-      (moved once d stopped.case agrees.run.case
+  replied laws new d (Err run_error.OutOfSteps) profile hold unended agrees same =
+      effect.given hold (effect.unended (run_of_review laws.unlimited chosen d (steps_of rows) _ profile agrees)
+      (moved laws.once d unended.case agrees.run.case (λ p t r. steps_of rows < steps_per_visit * policy_work p.failure_policy t r) unended.early)) same
+  replied laws new d (Err run_error.OverLimit) profile hold stopped agrees same =
+      effect.given hold (effect.stopped (run_of_review laws.unlimited chosen d (steps_of rows) _ profile agrees)
+      (moved laws.once d stopped.case agrees.run.case
       (λ p t r. (charge_limit < (started r).charge + charge_per_unit * policy_spent p.failure_policy t r) ⊎ IsDeepPolicy p.failure_policy t r) stopped.beyond)) same
-  replied once new d (Err run_error.Memory) profile hold reviews agrees same = effect.no_memory same
+  replied laws new d (Err run_error.OutOfReads) profile hold read agrees same = absurd (not_below_itself _ read.limited)
+  replied laws new d (Err run_error.Memory) profile hold reviews agrees same = effect.no_memory same
 
-  pub reviewed : CompileHasOneResult → (new : Option FileSystem) (files : DocumentFiles) (policy : List ℕ) (held : Result Documents FileError) (outcome : OrderOutcome)
+  pub reviewed : ReviewLaws → (new : Option FileSystem) (files : DocumentFiles) (policy : List ℕ) (held : Result Documents FileError) (outcome : OrderOutcome)
       → names_of policy files ≡ files_read (codes "review") rows → FilesBy old policy files (held_of_review held)
       → ReviewsHeld chosen (steps_of rows) held outcome → new ≡ old → Has new (codes "review") (seen outcome)
-  reviewed once new files policy (Err e) outcome names hold policy_files.unread same =
+  reviewed laws new files policy (Err e) outcome names hold policy_files.unread same =
       unread new (codes "review") e (subst (λ (n : List (Option Text)). Fails old n e) names hold) same
-  reviewed once new files policy (Ok d) outcome names hold (policy_files.reviewed answer profile reviews agrees) same =
-      replied once new d answer profile
+  reviewed laws new files policy (Ok d) outcome names hold (policy_files.reviewed answer profile reviews agrees) same =
+      replied laws new d answer profile
       (subst (λ (n : List (Option Text)). Hold old n (Some d.policy ∷ Some d.review ∷ d.namespace ∷ d.params ∷ [])) names hold) reviews agrees same
 
   pub of_refusal : Result State Refusal → Result (ℕ × List ℕ) Refusal

@@ -1,6 +1,7 @@
 -- Policies and reviews in files.
 use Rattle.review_runner.proofs.Prelude.{◌≡◌, ℕ, List, Option, Some, None, Result, Ok, Err, refl, sym, subst, inl, inr, arith, IsSome, OneImage, HoldsFiles, IsReadingGiven, ReadingGiven, held_by, Reply, CompilesDocument, Documents, Reviews, FileSystem, FileRead, MadeBy, ReviewFiles, review, OrderOutcome, PerformsBy, performs, ReviewsHeld, held_with, named_files, no_image, review_outcome, reviewed, policy_refusal_of, RunAgrees, PolicyRefusal, RunError, PolicyDocument}
 use Rattle.review_runner.specs.Debugging.{SessionFiles}
+use Rattle.admission.specs.Standing.{steps_alone}
 use Rattle.admission.specs.declared.language.Language.TheVariants.{Profile}
 use Rattle.admission.specs.declared.policy_refusal.PolicyRefusal.TheVariants as policy_refusal
 
@@ -36,10 +37,12 @@ pub same_documents : (d e : Documents) (h : SessionFiles) → d.language ≡ e.l
     → d.params ≡ h.params → d ≡ e
 same_documents d e h language is policy given namespace params = grind arith
 
-pub was_reviewed : (d e : Documents) (n : ℕ) (answer : Result Reply RunError) → d ≡ e → e.language ≡ Profile → Reviews d n answer → RunAgrees OneImage d n answer
+pub was_reviewed : (d e : Documents) (n : ℕ) (answer : Result Reply RunError) → d ≡ e → e.language ≡ Profile
+    → Reviews d (steps_alone n) answer → RunAgrees OneImage d (steps_alone n) answer
     → ReviewsHeld OneImage n (Ok e) (review_outcome answer)
 was_reviewed d e n answer same profile reviews stands =
-    reviewed answer profile (subst (λ (held : Documents). Reviews held n answer) same reviews) (subst (λ (held : Documents). RunAgrees OneImage held n answer) same stands)
+    reviewed answer profile (subst (λ (held : Documents). Reviews held (steps_alone n) answer) same reviews)
+    (subst (λ (held : Documents). RunAgrees OneImage held (steps_alone n) answer) same stands)
 
 pub was_held : (old new : Option FileSystem) (files : ReviewFiles) (n : ℕ) (h : SessionFiles) (outcome : OrderOutcome)
     → HoldsFiles old files.policy (named_files files) (Ok h) → IsSome h.review → new ≡ old

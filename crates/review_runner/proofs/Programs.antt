@@ -1,6 +1,6 @@
 -- The end of the program.
 use Rattle.review_runner.proofs.Prelude.{◌≡◌, ◌∙◌, ℕ, ◌<◌, ◌==◌, ◌∷◌, ◌++◌, Bool, true, false, List, [], length, take, Option, Result, Ok, Err, Some, refl, sym, ap, subst, arith, append-nil, OnErr, OnOk, OneImage, AddsBytes, Stream, one_more, FileSystem, Order, OrderOutcome, output_by, output_of, IsDone, Performs, performs, AnswersOrder, AsksOrder, ProgramEffect, DoesOrder, Ending, EndsBy, Given, Puts, System, WritesBytes, WritesPart, cut, ending_line, order, does_order, whole, Done as CodeDone, Refusal, File}
-use Rattle.policy_glue.specs.OneAnswer.{CompileHasOneResult}
+use Rattle.review_runner.proofs.Effects.{ReviewLaws}
 use Rattle.streams.specs.declared.failed.Failed.{Failed}
 use Rattle.review_runner.specs.Output.{Done}
 use Rattle.review_runner.specs.Program.{ProgramResult, refused}
@@ -75,7 +75,7 @@ as_asked given old new asked (Ok d) asks by = (by.0, does_order asks by.1, by.2)
 as_asked given old new asked (Err r) asks by = does_order asks by
 
 -- the remaining output was written
-pub closes : CompileHasOneResult → (given : Given) (old new : System) (errors errors_after : Stream) (d : CodeDone) (status : ℕ) → EndsBy (ProgramEffect OneImage given old new) (Ok d) → status ≡ d.status
+pub closes : ReviewLaws → (given : Given) (old new : System) (errors errors_after : Stream) (d : CodeDone) (status : ℕ) → EndsBy (ProgramEffect OneImage given old new) (Ok d) → status ≡ d.status
     → ((ending : Ending) → d.err.items ≡ ending_line ending → WritesError errors errors_after ending) → ProgramResult OneImage given old new errors errors_after status
-closes once given old new errors errors_after d status by is says =
-    record { ending = by.0; does = by_words once _ given old new by.0 by.1; status_is = is ∙ by.2.status; says = says by.0 by.2.line }
+closes laws given old new errors errors_after d status by is says =
+    record { ending = by.0; does = by_words laws _ given old new by.0 by.1; status_is = is ∙ by.2.status; says = says by.0 by.2.line }

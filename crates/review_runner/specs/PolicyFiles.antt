@@ -11,7 +11,7 @@ use Rattle.host.specs.FileSystem.{FileSystem, FileRead}
 use Rattle.review_runner.specs.Order.{DocumentFiles, ReviewFiles}
 use Rattle.review_runner.specs.Output.{OrderOutcome, Report}
 use Rattle.cli.specs.Refusals.{file_refusal, run_refusal}
-use Rattle.admission.specs.Standing.{Images, RunAgrees}
+use Rattle.admission.specs.Standing.{Images, RunAgrees, steps_alone}
 use Rattle.host.specs.declared.file_error.FileError.{FileError}
 use Rattle.admission.specs.declared.language.Language.TheVariants.{Profile}
 use Rattle.admission.specs.declared.policy_refusal.PolicyRefusal.{PolicyRefusal}
@@ -60,11 +60,11 @@ abbrev pub review_outcome : Result Reply RunError → OrderOutcome
 review_outcome (Ok a) = Ok (answer_report a)
 review_outcome (Err e) = Err (run_refusal e)
 
--- the result of a review with these documents, of a policy in the language that is compiled
+-- the result of a review with these documents, of a policy in the language that is compiled; reads have no limit
 pub data ReviewsHeld (chosen : Images) (n : ℕ) : Result Documents FileError → OrderOutcome → Type 0 where
   unread : {e : FileError} → ReviewsHeld chosen n (Err e) (Err (file_refusal e))
-  reviewed : {d : Documents} (answer : Result Reply RunError) → d.language ≡ Profile → Reviews d n answer → RunAgrees chosen d n answer
-      → ReviewsHeld chosen n (Ok d) (review_outcome answer)
+  reviewed : {d : Documents} (answer : Result Reply RunError) → d.language ≡ Profile → Reviews d (steps_alone n) answer
+      → RunAgrees chosen d (steps_alone n) answer → ReviewsHeld chosen n (Ok d) (review_outcome answer)
 
 -- `review`, for any contents of its files
 pub record ReviewsFiles (chosen : Images) (old : Option FileSystem) (files : ReviewFiles) (n : ℕ) (new : Option FileSystem)

@@ -5,6 +5,7 @@ use Rattle.loader.specs.Format.{image_in}
 use Rattle.value_store.specs.Value.{ValueOrError}
 use Rattle.bpf_machine.specs.State.{State, start_state}
 use Rattle.bpf_machine.specs.Step.{is_running}
+use Rattle.bpf_machine.specs.Trace.{state_after}
 use Rattle.bpf_machine.specs.declared.status.Status.TheVariants.{Exited, Fault}
 use Rattle.expression_code.specs.Limits.{steps_per_visit}
 use Rattle.policy_glue.specs.Layout.{IsMessageWord, outcome_word, truth_word}
@@ -17,7 +18,7 @@ use Rattle.admission.specs.Deciding.{Documents, IsBeyond, decision, started, wor
 use Rattle.admission.specs.declared.language.Language.TheVariants.{Profile}
 use Rattle.review_runner.specs.Debugging.{start_of}
 use Rattle.review_runner.specs.PolicyFiles.{held_with}
-use Rattle.admission.specs.Standing.{PolicyRun, stands}
+use Rattle.admission.specs.Standing.{PolicyRun}
 
 -- ---- the output of `w`
 
@@ -57,7 +58,7 @@ module _ {d : Documents} (run : PolicyRun d) where
 
   -- the state of the machine that it then shows
   abbrev pub shown_after : List Line → State
-  shown_after lines = stands run (session_state_after lines).place
+  shown_after lines = state_after (session_state_after lines).place start
 
   -- the session continues, and shows a stopped state, or one after `steps_per_visit` steps for each unit of the
   -- policy's work

@@ -12,6 +12,7 @@ use crate::command_line::reader::order;
 use crate::done::Done;
 use crate::images::debugging::debug;
 use crate::performing::perform;
+use admission::laws::runs_end_once;
 use cli::{Refusal, exit_with, texts_of};
 use host::{Files, OrderError};
 use policy_glue::laws::compiles_once;
@@ -38,6 +39,7 @@ pub fn exit_code<F: Files, R: Source, W: Sink, E: Sink>(
         ProgramResult OneImage (given_of words) before after told told_after (exit_status result) }
 {
     compiles_once();
+    runs_end_once();
     match ending(alloc, words, files, input, output) {
         Ok(done) => left(&done, errors),
         Err(refusal) => exit_with(alloc, Err(refusal), errors),

@@ -6,7 +6,7 @@ use Rattle.review_runner.proofs.Programs.{closes}
 use Rattle.review_runner.proofs.program.exit_code.Goals as goal
 
 pub returns-in-Ok : goal.returns-in-Ok
-returns-in-Ok g c = closes c.compiles_once.ensures.answer _ _ _ _ _ c.in-Ok.done _ c.in-Ok.ensures c.left.ensures.status c.left.ensures.says
+returns-in-Ok g c = closes (record { once = c.compiles_once.ensures.answer; unlimited = c.runs_end_once.ensures.unlimited }) _ _ _ _ _ c.in-Ok.done _ c.in-Ok.ensures c.left.ensures.status c.left.ensures.says
 
 pub returns-in-Err : goal.returns-in-Err
-returns-in-Err g c = record { ending = Err _; does = by_words c.compiles_once.ensures.answer _ _ _ _ _ c.in-Err.ensures; status_is = c.exit_with.ensures.status; says = c.exit_with.ensures.says }
+returns-in-Err g c = record { ending = Err _; does = by_words (record { once = c.compiles_once.ensures.answer; unlimited = c.runs_end_once.ensures.unlimited }) _ _ _ _ _ c.in-Err.ensures; status_is = c.exit_with.ensures.status; says = c.exit_with.ensures.says }
