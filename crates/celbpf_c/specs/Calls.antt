@@ -7,12 +7,14 @@ use Rattle.admission.specs.Deciding.{CompilesDocument, Documents, IsGateOn, IsPo
 use Rattle.admission.specs.GatePolicies.{GatePolicy}
 use Rattle.admission.specs.Standing.{exactly, Images, RunAgrees}
 use Rattle.admission.specs.declared.language.Language.TheVariants.{Profile}
+use Rattle.admission.specs.declared.limits.Limits.{Limits}
 use Rattle.admission.specs.declared.policy_and_image.PolicyAndImage.{PolicyAndImage}
 use Rattle.admission.specs.declared.policy_refusal.PolicyRefusal.{PolicyRefusal}
 use Rattle.admission.specs.declared.run_error.RunError.{RunError}
 use Rattle.cli.specs.Refusals.{policy_refusal_of, refusal_line}
 use Rattle.celbpf_c.specs.Statuses.{policy_status}
 use Rattle.celbpf_c.specs.Output.{fits, Writes, WritesDecision}
+use Rattle.celbpf_c.specs.declared.asked.Asked.{Asked}
 
 -- the version of the interface
 abbrev pub interface_version : ℕ
@@ -28,6 +30,10 @@ given document = if length document == 0 then None else Some document
 abbrev pub documents_of : List ℕ → List ℕ → List ℕ → List ℕ → Documents
 documents_of policy review namespace params =
     record { language = Profile; policy = policy; review = review; namespace = given namespace; params = given params }
+
+-- these documents, as they are asked
+abbrev pub documents_asked : List ℕ → Asked → Documents
+documents_asked policy asked = documents_of policy asked.review.now asked.namespace.now asked.params.now
 
 -- ---- gates
 
@@ -61,10 +67,10 @@ abbrev pub image_held : Option GatePolicy → Images
 image_held (Some gate) = exactly gate.image
 image_held None = λ p image. ⊥
 
--- the result of the review is written, and after these steps the run of such an image matches it
-abbrev pub Answers : Images → Documents → ℕ → ℕ → List ℕ → List ℕ → ℕ → Type 0
-Answers chosen d steps status before after n =
-    (answer : Result Reply RunError) × Reviews d steps answer × RunAgrees chosen d steps answer
+-- the result of the review is written, and the run of such an image within these limits matches it
+abbrev pub Answers : Images → Documents → Limits → ℕ → List ℕ → List ℕ → ℕ → Type 0
+Answers chosen d limits status before after n =
+    (answer : Result Reply RunError) × Reviews d limits answer × RunAgrees chosen d limits answer
     × WritesDecision answer status before after n
 
 -- ---- files of images

@@ -1,17 +1,16 @@
 //! The calls on a gate that the caller holds in its own memory.
 ghost use Rattle.std.specs.Prelude.{◌≡◌, ℕ, List, [], None, IfOk};
 ghost use Rattle.policy_glue.specs.OneImage.{OneImage};
-ghost use Rattle.admission.specs.Deciding.{answer_view, IsGateOn, OpensGate, Reviews};
-ghost use Rattle.admission.specs.declared.language.Language.TheVariants.{Profile};
-ghost use Rattle.celbpf_c.specs.Calls.{documents_of, gate_view, image_held, Answers, Holds, MakesGate};
-ghost use Rattle.admission.specs.Standing.{exactly, RunAgrees};
+ghost use Rattle.admission.specs.Deciding.{OpensGate};
+ghost use Rattle.admission.specs.Standing.{steps_alone};
+ghost use Rattle.celbpf_c.specs.Calls.{documents_asked, documents_of, gate_view, image_held, Answers, Holds, MakesGate};
 ghost use Rattle.celbpf_c.specs.Output.{Writes};
 
+use crate::asked::Asked;
 use crate::gate_place::GatePlace;
 use crate::output::{write_answer, write_refusal};
 use crate::statuses::policy_status;
-use crate::without_gate::given;
-use admission::{Gate, PolicyRefusal, Reply, RunError};
+use admission::{Gate, Limits, PolicyRefusal};
 use cli::Refusal;
 use std::alloc::{AllocError, Global};
 
@@ -40,8 +39,9 @@ pub extern "C" fn celbpf_gate_new(
     }
 }
 
-/// Decides a review with the gate in the place. The text is the response, or the refusal's line. If
-/// the namespace or the params have no bytes, there is no such document. The place keeps its gate.
+/// Decides a review with the gate in the place, whose program may take at most `steps` steps and
+/// reads without a limit. The text is the response, or the refusal's line. If the namespace or the
+/// params have no bytes, there is no such document. The place keeps its gate.
 #[unsafe(no_mangle)]
 pub extern "C" fn celbpf_gate_decide(
     alloc: Global,
@@ -56,15 +56,43 @@ pub extern "C" fn celbpf_gate_decide(
     ensures kept { place.new.gate ≡ place.old.gate }
     ensures empty { place.old.gate ≡ None → (result ≡ 10) × Writes [] room.old room.new len.new }
     ensures answers { (policy : List ℕ) → Holds policy place.old.gate
-        → Answers (image_held place.old.gate) (documents_of policy review.now namespace.now params.now) steps result room.old room.new len.new }
+        → Answers (image_held place.old.gate) (documents_of policy review.now namespace.now params.now) (steps_alone steps) result room.old room.new len.new }
 {
-    *len = 0;
-    let Some(held) = place.take(alloc) else {
-        return 10;
+    let asked = Asked {
+        review,
+        namespace,
+        params,
+        limits: Limits::of_steps(steps),
     };
-    let answer = decided(&held, review, namespace, params, steps);
-    place.put(held);
-    write_answer(alloc, answer, room, len)
+    decide(alloc, place, asked, room, len)
+}
+
+/// Decides a review as `celbpf_gate_decide` does. The helper calls of the policy's program may read
+/// at most `reads` bytes together; the greatest number is no limit.
+#[unsafe(no_mangle)]
+pub extern "C" fn celbpf_gate_decide_within(
+    alloc: Global,
+    place: &mut GatePlace,
+    review: &[u8],
+    namespace: &[u8],
+    params: &[u8],
+    steps: u64,
+    reads: u64,
+    room: &mut [u8],
+    len: &mut usize,
+) -> u32
+    ensures kept { place.new.gate ≡ place.old.gate }
+    ensures empty { place.old.gate ≡ None → (result ≡ 10) × Writes [] room.old room.new len.new }
+    ensures answers { (policy : List ℕ) → Holds policy place.old.gate
+        → Answers (image_held place.old.gate) (documents_of policy review.now namespace.now params.now) (record { steps = steps; reads = reads }) result room.old room.new len.new }
+{
+    let asked = Asked {
+        review,
+        namespace,
+        params,
+        limits: Limits { steps, reads },
+    };
+    decide(alloc, place, asked, room, len)
 }
 
 /// Frees the gate in the place. An empty place stays empty.
@@ -95,16 +123,24 @@ fn boxed<T: Send + Drop>(alloc: Global, value: T) -> Result<Box<T>, AllocError>
     }
 }
 
-/// The decision of the gate.
-fn decided(
-    gate: &Gate,
-    review: &[u8],
-    namespace: &[u8],
-    params: &[u8],
-    steps: u64,
-) -> Result<Reply, RunError>
-    ensures reviews { (policy : List ℕ) → IsGateOn Profile policy gate.now → Reviews (documents_of policy review.now namespace.now params.now) steps (answer_view result) }
-    ensures runs { (policy : List ℕ) → IsGateOn Profile policy gate.now → RunAgrees (exactly gate.now.image) (documents_of policy review.now namespace.now params.now) steps (answer_view result) }
+/// Decides what is asked with the gate in the place, which keeps it.
+fn decide(
+    alloc: Global,
+    place: &mut GatePlace,
+    asked: Asked,
+    room: &mut [u8],
+    len: &mut usize,
+) -> u32
+    ensures kept { place.new.gate ≡ place.old.gate }
+    ensures empty { place.old.gate ≡ None → (result ≡ 10) × Writes [] room.old room.new len.new }
+    ensures answers { (policy : List ℕ) → Holds policy place.old.gate
+        → Answers (image_held place.old.gate) (documents_asked policy asked.entry) asked.entry.limits result room.old room.new len.new }
 {
-    gate.decide(review, given(namespace), given(params), steps)
+    *len = 0;
+    let Some(held) = place.take(alloc) else {
+        return 10;
+    };
+    let answer = asked.decided_by(&held);
+    place.put(held);
+    write_answer(alloc, answer, room, len)
 }

@@ -3,6 +3,7 @@
 //! and states what the C side must ensure, which nothing checks.
 #![tactic(auto)]
 
+mod asked;
 mod box_parts;
 mod gate_place;
 mod gates;

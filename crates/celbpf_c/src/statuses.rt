@@ -25,6 +25,7 @@ pub fn run_status(error: RunError) -> u32
         RunError::NamespaceOrParamsRefused => 5,
         RunError::OutOfSteps => 6,
         RunError::OverLimit => 7,
+        RunError::OutOfReads => 12,
         RunError::Memory => 9,
     }
 }

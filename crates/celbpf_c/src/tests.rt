@@ -1,8 +1,10 @@
 //! One call of each export, on documents whose responses are worked by hand.
 
 use crate::gate_place::GatePlace;
-use crate::gates::{celbpf_gate_decide, celbpf_gate_free, celbpf_gate_new};
-use crate::without_gate::{celbpf_compile, celbpf_review, celbpf_version};
+use crate::gates::{
+    celbpf_gate_decide, celbpf_gate_decide_within, celbpf_gate_free, celbpf_gate_new,
+};
+use crate::without_gate::{celbpf_compile, celbpf_review, celbpf_review_within, celbpf_version};
 
 const POLICY: &[u8] =
     br#"{"apiVersion":"admissionregistration.k8s.io/v1","kind":"ValidatingAdmissionPolicy","spec":{"validations":[{"expression":"object.n < 3"}]}}"#;
@@ -36,6 +38,61 @@ fn a_gate_decides(rt: HostRuntime) {
     assert_eq!(rt; status, 1);
     assert!(rt; room.get(..len) == Some(RESPONSE));
     drop(place.into_gate());
+}
+
+// The policy reads one byte of the review: that of the key `n`, in a map of one entry.
+#[test]
+fn a_gate_decides_within_reads(rt: HostRuntime) {
+    let mut place = GatePlace::empty(rt.alloc());
+    let mut room = [0u8; 256];
+    let mut len = 0;
+    celbpf_gate_new(rt.alloc(), &mut place, POLICY, &mut room, &mut len);
+    let status = celbpf_gate_decide_within(
+        rt.alloc(),
+        &mut place,
+        REVIEW,
+        b"",
+        b"",
+        STEPS,
+        0,
+        &mut room,
+        &mut len,
+    );
+    assert_eq!(rt; status, 12);
+    assert!(rt; room.get(..len) == Some(&b"celbpf: N7\n"[..]));
+    let status = celbpf_gate_decide_within(
+        rt.alloc(),
+        &mut place,
+        REVIEW,
+        b"",
+        b"",
+        STEPS,
+        1,
+        &mut room,
+        &mut len,
+    );
+    assert_eq!(rt; status, 1);
+    assert!(rt; room.get(..len) == Some(RESPONSE));
+    drop(place.into_gate());
+}
+
+#[test]
+fn a_review_is_decided_within_reads(rt: HostRuntime) {
+    let mut room = [0u8; 256];
+    let mut len = 0;
+    let status = celbpf_review_within(
+        rt.alloc(),
+        POLICY,
+        REVIEW,
+        b"",
+        b"",
+        STEPS,
+        0,
+        &mut room,
+        &mut len,
+    );
+    assert_eq!(rt; status, 12);
+    assert!(rt; room.get(..len) == Some(&b"celbpf: N7\n"[..]));
 }
 
 #[test]

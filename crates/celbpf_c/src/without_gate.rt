@@ -1,18 +1,20 @@
 //! The calls without a gate. Each compiles its policy again.
-ghost use Rattle.std.specs.Prelude.{◌≡◌, option_map};
+ghost use Rattle.std.specs.Prelude.{◌≡◌};
 ghost use Rattle.policy_glue.specs.OneImage.{OneImage};
 ghost use Rattle.admission.specs.Deciding.{answer_view, Reviews};
-ghost use Rattle.admission.specs.Standing.{RunAgrees};
-ghost use Rattle.celbpf_c.specs.Calls.{documents_of, file_view, given, interface_version, Answers, CompilesToRoom, IsFileOf};
+ghost use Rattle.admission.specs.Standing.{steps_alone, RunAgrees};
+ghost use Rattle.celbpf_c.specs.Calls.{documents_asked, documents_of, file_view, interface_version, Answers, CompilesToRoom, IsFileOf};
 
+use crate::asked::Asked;
 use crate::output::{write_answer, write_refusal, write_text};
 use crate::statuses::policy_status;
-use admission::{PolicyRefusal, Reply, RunError, compile_document, review};
+use admission::{Gate, Limits, PolicyRefusal, Reply, RunError, compile_document};
 use cli::Refusal;
 use std::alloc::Global;
 
-/// Decides a review under a policy. The text is the response, or the refusal's line. If the
-/// namespace or the params have no bytes, there is no such document.
+/// Decides a review under a policy, whose program may take at most `steps` steps and reads without a
+/// limit. The text is the response, or the refusal's line. If the namespace or the params have no
+/// bytes, there is no such document.
 #[unsafe(no_mangle)]
 pub extern "C" fn celbpf_review(
     alloc: Global,
@@ -24,9 +26,41 @@ pub extern "C" fn celbpf_review(
     room: &mut [u8],
     len: &mut usize,
 ) -> u32
-    ensures { Answers OneImage (documents_of policy.now review.now namespace.now params.now) steps result room.old room.new len.new }
+    ensures { Answers OneImage (documents_of policy.now review.now namespace.now params.now) (steps_alone steps) result room.old room.new len.new }
 {
-    let answer = reviewed(alloc, policy, review, namespace, params, steps);
+    let asked = Asked {
+        review,
+        namespace,
+        params,
+        limits: Limits::of_steps(steps),
+    };
+    let answer = reviewed(alloc, policy, asked);
+    write_answer(alloc, answer, room, len)
+}
+
+/// Decides a review as `celbpf_review` does. The helper calls of the policy's program may read at
+/// most `reads` bytes together; the greatest number is no limit.
+#[unsafe(no_mangle)]
+pub extern "C" fn celbpf_review_within(
+    alloc: Global,
+    policy: &[u8],
+    review: &[u8],
+    namespace: &[u8],
+    params: &[u8],
+    steps: u64,
+    reads: u64,
+    room: &mut [u8],
+    len: &mut usize,
+) -> u32
+    ensures { Answers OneImage (documents_of policy.now review.now namespace.now params.now) (record { steps = steps; reads = reads }) result room.old room.new len.new }
+{
+    let asked = Asked {
+        review,
+        namespace,
+        params,
+        limits: Limits { steps, reads },
+    };
+    let answer = reviewed(alloc, policy, asked);
     write_answer(alloc, answer, room, len)
 }
 
@@ -57,37 +91,13 @@ pub extern "C" fn celbpf_version() -> u32
     1
 }
 
-/// The document, if there is one.
-pub fn given(document: &[u8]) -> Option<&[u8]>
-    ensures { option_map (λ b. b.now) result ≡ given document.now }
+/// The result of a review under a policy.
+fn reviewed(alloc: Global, policy: &[u8], asked: Asked) -> Result<Reply, RunError>
+    ensures reviews { Reviews (documents_asked policy.now asked.entry) asked.entry.limits (answer_view result) }
+    ensures runs { RunAgrees OneImage (documents_asked policy.now asked.entry) asked.entry.limits (answer_view result) }
 {
-    if document.is_empty() {
-        None
-    } else {
-        Some(document)
-    }
-}
-
-/// The result of a review.
-fn reviewed(
-    alloc: Global,
-    policy: &[u8],
-    document: &[u8],
-    namespace: &[u8],
-    params: &[u8],
-    steps: u64,
-) -> Result<Reply, RunError>
-    ensures reviews { Reviews (documents_of policy.now document.now namespace.now params.now) steps (answer_view result) }
-    ensures runs { RunAgrees OneImage (documents_of policy.now document.now namespace.now params.now) steps (answer_view result) }
-{
-    review(
-        alloc,
-        policy,
-        document,
-        given(namespace),
-        given(params),
-        steps,
-    )
+    let gate = Gate::new(alloc, policy)?;
+    asked.decided_by(&gate)
 }
 
 /// The file of a policy's image.
