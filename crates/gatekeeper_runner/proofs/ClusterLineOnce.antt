@@ -1,5 +1,5 @@
 -- A line has one answer in a cluster.
-use Rattle.gatekeeper_runner.proofs.Prelude.{◌≡◌, ℕ, List, [], ◌∷◌, Ok, ap, OneImage, too_long_text}
+use Rattle.gatekeeper_runner.proofs.Prelude.{◌≡◌, ℕ, Limits, List, [], ◌∷◌, Ok, ap, OneImage, too_long_text}
 use Rattle.std.proofs.Common.{Bool, true, false, Option, Some, None}
 use Rattle.std.proofs.lemmas.List.Elements.{All-nil, All-push}
 use Rattle.std.specs.List.{All}
@@ -36,11 +36,11 @@ lists_shallow known _ _ (next {names = names} {lists = lists} {list = list} {tex
 
 -- ---- lines
 
-text_once : ReviewsHaveOneAnswer → (l : Language) (s : ClusterState) (steps most : ℕ) (line : List ℕ) → HasShallowDocuments s → HasOneText most too_long_text (DecidesClusterLine l OneImage s steps) line
-text_once one l s steps most line shallow _ _ (decides {decision = x} by) (decides {decision = y} also) =
-    ap (decision_text line) (one l s line steps x y shallow by also)
+text_once : ReviewsHaveOneAnswer → (l : Language) (s : ClusterState) (limits : Limits) (most : ℕ) (line : List ℕ) → HasShallowDocuments s → HasOneText most too_long_text (DecidesClusterLine l OneImage s limits) line
+text_once one l s limits most line shallow _ _ (decides {decision = x} by) (decides {decision = y} also) =
+    ap (decision_text line) (one l s line limits x y shallow by also)
 
 pub cluster_lines_once : ReviewsHaveOneAnswer → StatesAreShallow → ClusterLinesHaveOneAnswer
 cluster_lines_once one shallow known order _ line a b (ready {lists = lists} {s = s} hold is opens) some other first second =
-    answers_same order.max_line too_long_text (DecidesClusterLine order.language OneImage s order.steps) line
-    (text_once one order.language s order.steps order.max_line line (shallow lists s (lists_shallow known order.files lists hold) is)) a b some other first second
+    answers_same order.max_line too_long_text (DecidesClusterLine order.language OneImage s order.limits) line
+    (text_once one order.language s order.limits order.max_line line (shallow lists s (lists_shallow known order.files lists hold) is)) a b some other first second

@@ -51,5 +51,5 @@ module _ (known : Option FileSystem) (order : ClusterOrder) (lists : List json.D
     not_opened (Cluster (Untaken e)) opens = absurd opens
 
     pub opened : (k : ClusterKeeper) → OpensKeeper lists order s (Ok k)
-        → ClusterStarts known order (Ok (record { lists = lists; language = order.language; state = s; steps = order.steps; max_line = order.max_line }))
+        → ClusterStarts known order (Ok (record { lists = lists; language = order.language; state = s; limits = order.limits; max_line = order.max_line }))
     opened k opens = ready hold is opens.1

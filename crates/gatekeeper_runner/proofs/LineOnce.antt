@@ -7,7 +7,7 @@ use Rattle.gatekeeper_runner.proofs.SaidOnce.{says_once}
 
 module _ (compiles_once : policy.CompileHasOneResult) (reviews_once : ReviewHasOneResult) (t : Gatekeeper) (line : List ℕ) where
   result_once : (p : PolicyFile) (r s : Result Decision RunError) → IsResult OneImage t line (record { policy = p; result = r }) → IsResult OneImage t line (record { policy = p; result = s }) → r ≡ s
-  result_once p r s a b = says_once compiles_once reviews_once (under t p line) t.steps r s a.no_memory b.no_memory a.decides b.decides
+  result_once p r s a b = says_once compiles_once reviews_once (under t p line) t.limits r s a.no_memory b.no_memory a.decides b.decides
 
   results_once : (xs ys : List PolicyResult) → map (λ r. r.policy) xs ≡ map (λ r. r.policy) ys → AreResults OneImage t line xs → AreResults OneImage t line ys → xs ≡ ys
   results_once [] [] same a b = refl

@@ -33,7 +33,8 @@ pub use Rattle.cli.specs.declared.refusal.Refusal.{Refusal}
 pub use Rattle.cli.specs.Ending.{no_words}
 pub use Rattle.admission.specs.declared.run_error.RunError.{RunError}
 pub use Rattle.admission.specs.declared.run_error.RunError.TheVariants.{Memory}
-unfoldable pub use Rattle.cli.specs.Arguments.{option_rule, steps_rule, with_documents}
+unfoldable pub use Rattle.cli.specs.Arguments.{option_rule, reads_rule, steps_rule, with_documents}
+pub use Rattle.admission.specs.declared.limits.Limits.{Limits}
 unfoldable pub use Rattle.admission.specs.Reviews.{uid_in}
 pub use Rattle.gatekeeper_runner.specs.Lines.{DecidesLine, answer_text, decides, too_long_text}
 pub use Rattle.gatekeeper_runner.specs.Orders.{GatekeeperOrderReturns, choice_faults, go_together, lines_order_view}

@@ -1,11 +1,11 @@
 -- The program's command is simple in the sense of `clap`, which states exactly what such a command accepts.
-use Rattle.gatekeeper_runner.proofs.Prelude.{◌≡◌, true, refl, is_simple, is_simple_and_free, option_rule, steps_rule, with_documents, files_rule, gatekeeper_app, lines_app, leave_messages_rule, max_line_rule, partial_rule, policies_app, profile_rule, status_rule, verbose_rule}
+use Rattle.gatekeeper_runner.proofs.Prelude.{◌≡◌, true, refl, is_simple, is_simple_and_free, option_rule, reads_rule, steps_rule, with_documents, files_rule, gatekeeper_app, lines_app, leave_messages_rule, max_line_rule, partial_rule, policies_app, profile_rule, status_rule, verbose_rule}
 use Rattle.clap.proofs.OnLiterals.{clap_on_literals}
 
 pub simple : is_simple gatekeeper_app ≡ true
-unfolding clap_on_literals gatekeeper_app lines_app policies_app max_line_rule files_rule partial_rule status_rule verbose_rule profile_rule leave_messages_rule with_documents option_rule steps_rule
+unfolding clap_on_literals gatekeeper_app lines_app policies_app max_line_rule files_rule partial_rule status_rule verbose_rule profile_rule leave_messages_rule with_documents option_rule steps_rule reads_rule
 simple = refl
 
 pub free : is_simple_and_free gatekeeper_app ≡ true
-unfolding clap_on_literals gatekeeper_app lines_app policies_app max_line_rule files_rule partial_rule status_rule verbose_rule profile_rule leave_messages_rule with_documents option_rule steps_rule
+unfolding clap_on_literals gatekeeper_app lines_app policies_app max_line_rule files_rule partial_rule status_rule verbose_rule profile_rule leave_messages_rule with_documents option_rule steps_rule reads_rule
 free = refl

@@ -8,10 +8,11 @@ use Rattle.cli.specs.Ending.{Given}
 unfoldable pub help_text : Text
 help_text =
     codes "usage: gatekeeper --policy F [--policy F ..] [--namespace F] [--params F]\n"
-    ++ (codes "                  [--profile] [--steps N] [--max-line N] [--verbose] [--status]\n"
-    ++ (codes "       gatekeeper --cluster F [--cluster F ..] [--partial]\n"
-    ++ (codes "                  [--profile | --leave-messages] [--steps N] [--max-line N]\n"
+    ++ (codes "                  [--profile] [--steps N] [--reads N] [--max-line N]\n"
     ++ (codes "                  [--verbose] [--status]\n"
+    ++ (codes "       gatekeeper --cluster F [--cluster F ..] [--partial]\n"
+    ++ (codes "                  [--profile | --leave-messages] [--steps N] [--reads N]\n"
+    ++ (codes "                  [--max-line N] [--verbose] [--status]\n"
     ++ (codes "\n"
     ++ (codes "Compiles the policies, and answers each review on standard input, a JSON document\n"
     ++ (codes "a line, with a line on standard output.\n"
@@ -28,11 +29,12 @@ help_text =
     ++ (codes "  --leave-messages\n"
     ++ (codes "                 a message expression that is refused is left out of its policy\n"
     ++ (codes "  --steps N      the most steps of a policy's program; 10000000 if not given\n"
+    ++ (codes "  --reads N      the most bytes that its helper calls read; 268435456 if not given\n"
     ++ (codes "  --max-line N   the most bytes of a line; 16777216 if not given\n"
     ++ (codes "  --verbose      tells of each refused line on standard error, with its number\n"
     ++ (codes "  --status       ends with status 1 if an answer is a denial or a refusal\n"
     ++ (codes "  --help         prints this text\n"
-    ++ codes "  --version      prints the version\n"))))))))))))))))))))))))
+    ++ codes "  --version      prints the version\n"))))))))))))))))))))))))))
 
 -- the text for `--version`
 unfoldable pub version_text : Text

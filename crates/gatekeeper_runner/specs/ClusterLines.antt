@@ -6,6 +6,7 @@ use Rattle.policy_glue.specs.Documents.{document_of}
 use Rattle.cli.specs.declared.refusal.Refusal.TheVariants.{Memory}
 use Rattle.admission.specs.Standing.{Images}
 use Rattle.admission.specs.declared.language.Language.{Language}
+use Rattle.admission.specs.declared.limits.Limits.{Limits}
 use Rattle.admission.specs.declared.run_error.RunError.{TheVariants.ReviewRefused}
 use Rattle.cluster_state.specs.State.{ClusterState}
 use Rattle.cluster_gate.specs.Dispatch.{DecidesInCluster}
@@ -28,25 +29,25 @@ decision_text line (Some text) = text
 decision_text line None = no_review_text line
 
 -- a line that is read and is not blank, and its text by what the cluster decides, whose policies are read in this language
-pub data DecidesClusterLine (l : Language) (chosen : Images) (s : ClusterState) (steps : ℕ) (line : List ℕ) : List ℕ → Type 0 where
-  decides : {decision : Option (List ℕ)} → DecidesInCluster l chosen s line steps decision
-      → DecidesClusterLine l chosen s steps line (decision_text line decision)
+pub data DecidesClusterLine (l : Language) (chosen : Images) (s : ClusterState) (limits : Limits) (line : List ℕ) : List ℕ → Type 0 where
+  decides : {decision : Option (List ℕ)} → DecidesInCluster l chosen s line limits decision
+      → DecidesClusterLine l chosen s limits line (decision_text line decision)
 
 -- a line, and what is written for it, which depends on the cluster's state and this line alone
 abbrev pub AnswersClusterLine : Images → AnsweringCluster → LineTexts
-AnswersClusterLine chosen c = AnswersInputLine c.max_line too_long_text (DecidesClusterLine c.language chosen c.state c.steps)
+AnswersClusterLine chosen c = AnswersInputLine c.max_line too_long_text (DecidesClusterLine c.language chosen c.state c.limits)
 
 -- ---- the code's
 
 -- the line is decided by the state of the code's cluster
 abbrev pub DecidesAsCluster : Images → ClusterKeeper → List ℕ → List ℕ → Type 0
 DecidesAsCluster chosen k line text =
-    (l : Language) (s : ClusterState) → IsClusterFor l s k.cluster → DecidesClusterLine l chosen s k.steps line text
+    (l : Language) (s : ClusterState) → IsClusterFor l s k.cluster → DecidesClusterLine l chosen s k.limits line text
 
 -- the code's cluster, and its lines on the policies, are these
 pub record IsKeeperOf (c : AnsweringCluster) (k : ClusterKeeper) : Type 0 where
   pub of_state : IsClusterFor c.language c.state k.cluster
-  pub steps : k.steps ≡ c.steps
+  pub limits : k.limits ≡ c.limits
   pub max_line : k.max_line ≡ c.max_line
   pub told : TellsPolicies c.language c.lists c.state c.state.policies k.told.items
 
@@ -57,7 +58,7 @@ OpensKeeper lists order s (Ok k) =
       lists = lists;
       language = order.language;
       state = s;
-      steps = order.steps;
+      limits = order.limits;
       max_line = order.max_line;
     }) k
     × (order.partial ≡ false → NoneIsBlocked order.language s s.policies)

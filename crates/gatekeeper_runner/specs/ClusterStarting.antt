@@ -29,13 +29,13 @@ use Rattle.gatekeeper_runner.specs.WideTexts.{wide_text}
 use Rattle.gatekeeper_runner.specs.declared.cluster_fault.ClusterFault.{ClusterFault, TheVariants.NoList, TheVariants.NoState, TheVariants.Blocked, TheVariants.Untaken}
 use Rattle.gatekeeper_runner.specs.declared.start_refusal.StartRefusal.{StartRefusal, TheVariants.Plain, TheVariants.Cluster}
 
--- what every line is answered under: the lists and the state in them, the language of its policies, the most steps of a
--- policy's program, the most bytes of a line
+-- what every line is answered under: the lists and the state in them, the language of its policies, the limits of each
+-- evaluation, the most bytes of a line
 pub record AnsweringCluster : Type 0 where
   pub lists : List json.Data
   pub language : Language
   pub state : ClusterState
-  pub steps : ℕ
+  pub limits : Limits
   pub max_line : ℕ
 
 -- ---- the lists
@@ -90,7 +90,7 @@ pub data ClusterStarts (known : Option FileSystem) (order : ClusterOrder) : Resu
         lists = lists;
         language = order.language;
         state = s;
-        steps = order.steps;
+        limits = order.limits;
         max_line = order.max_line;
       }))
 

@@ -7,13 +7,14 @@ use Rattle.clap.specs.Walk.{all_of}
 use Rattle.clap.specs.declared.builder.action.ArgAction.TheVariants as arg_action
 use Rattle.clap.specs.declared.builder.value_parser.ValueParser.TheVariants as parser
 use Rattle.clap.specs.declared.error.kind.ErrorKind.TheVariants.{ArgumentConflict}
-use Rattle.cli.specs.Arguments.{option_rule, steps_rule, with_documents}
+use Rattle.cli.specs.Arguments.{option_rule, reads_rule, steps_rule, with_documents}
 use Rattle.cli.specs.Number.{number_of}
 use Rattle.cli.specs.Parsing.{TakesWords}
-use Rattle.cli.specs.Limits.{default_steps}
+use Rattle.cli.specs.Limits.{default_reads, default_steps}
 use Rattle.host.specs.declared.order_error.OrderError.{OrderError}
 use Rattle.wide_policy.specs.declared.message_rule.MessageRule.TheVariants.{Required, LeftOut}
 use Rattle.admission.specs.declared.language.Language.{Language, TheVariants.Profile, TheVariants.Wide}
+use Rattle.admission.specs.declared.limits.Limits.{Limits}
 use Rattle.gatekeeper_runner.specs.declared.cluster_order.ClusterOrder.{ClusterOrder as CodeClusterOrder}
 use Rattle.gatekeeper_runner.specs.declared.order.Order.{Order as CodeOrder}
 use Rattle.gatekeeper_runner.specs.declared.order.Order.TheVariants as code
@@ -59,11 +60,12 @@ max_line_rule = record (new_rule (codes "max-line")) {
 unfoldable pub policies_app : App
 policies_app = with_documents (with_rule (new_app (codes "gatekeeper")) (files_rule (codes "policy")))
 
--- the arguments under policies, and [--cluster F ..] [--partial] [--steps N] [--max-line N] [--verbose] [--status]
+-- the arguments under policies, and [--cluster F ..] [--partial] [--steps N] [--reads N] [--max-line N] [--verbose]
+-- [--status]
 unfoldable pub lines_app : App
 lines_app =
-    with_rule (with_rule (with_rule (with_rule (with_rule (with_rule policies_app (files_rule (codes "cluster"))) partial_rule)
-    steps_rule) max_line_rule) verbose_rule) status_rule
+    with_rule (with_rule (with_rule (with_rule (with_rule (with_rule (with_rule policies_app (files_rule (codes "cluster"))) partial_rule)
+    steps_rule) reads_rule) max_line_rule) verbose_rule) status_rule
 
 -- these, and [--profile] [--leave-messages]
 unfoldable pub gatekeeper_app : App
@@ -118,26 +120,26 @@ faults words = fault_of gatekeeper_app words ++ choice_faults (entered words)
 
 -- ---- what they ask for
 
--- the names of the files, the policies in the order of the words and their language, the most steps, the most bytes of a
--- line, whether refused lines are reported, and whether the status reports answers that do not allow
+-- the names of the files, the policies in the order of the words and their language, the limits of a policy's program, the
+-- most bytes of a line, whether refused lines are reported, and whether the status reports answers that do not allow
 pub record GatekeeperOrder : Type 0 where
   pub policies : List Text
   pub language : Language
   pub namespace : Option Text
   pub params : Option Text
-  pub steps : ℕ
+  pub limits : Limits
   pub max_line : ℕ
   pub verbose : Bool
   pub status : Bool
 
 -- the names of the files of a cluster's state in the order of the words, the language of its policies, whether a policy
--- may be refused, the most steps, the most bytes of a line, whether refused lines are reported, and whether the status
+-- may be refused, the limits of a policy's program, the most bytes of a line, whether refused lines are reported, and whether the status
 -- reports answers that do not allow
 pub record ClusterOrder : Type 0 where
   pub files : List Text
   pub language : Language
   pub partial : Bool
-  pub steps : ℕ
+  pub limits : Limits
   pub max_line : ℕ
   pub verbose : Bool
   pub status : Bool
@@ -155,6 +157,14 @@ texts_of id rows = unwrap_or (all_of id rows) []
 abbrev pub steps_from : List Row → ℕ
 steps_from rows = unwrap_or (number_of (one_of (codes "steps") rows)) default_steps
 
+-- the most bytes that helper calls read; the default if no number is given
+abbrev pub reads_from : List Row → ℕ
+reads_from rows = unwrap_or (number_of (one_of (codes "reads") rows)) default_reads
+
+-- the limits of a policy's program
+abbrev pub limits_from : List Row → Limits
+limits_from rows = record { steps = steps_from rows; reads = reads_from rows }
+
 -- the most bytes of a line
 abbrev pub max_line_from : List Row → ℕ
 max_line_from rows = unwrap_or (number_of (one_of (codes "max-line") rows)) longest_line
@@ -170,7 +180,7 @@ policies_from rows = record {
   language = language_from rows;
   namespace = first_of (codes "namespace") rows;
   params = first_of (codes "params") rows;
-  steps = steps_from rows;
+  limits = limits_from rows;
   max_line = max_line_from rows;
   verbose = is_verbose rows;
   status = has_status rows;
@@ -182,7 +192,7 @@ cluster_from rows = record {
   files = texts_of (codes "cluster") rows;
   language = language_from rows;
   partial = is_partial rows;
-  steps = steps_from rows;
+  limits = limits_from rows;
   max_line = max_line_from rows;
   verbose = is_verbose rows;
   status = has_status rows;
@@ -201,7 +211,7 @@ order_view o = record {
   language = o.language;
   namespace = option_map string_bytes o.namespace;
   params = option_map string_bytes o.params;
-  steps = o.steps;
+  limits = o.limits;
   max_line = o.max_line;
   verbose = o.verbose;
   status = o.status;
@@ -212,7 +222,7 @@ cluster_order_view o = record {
   files = map string_bytes o.files.items;
   language = o.language;
   partial = o.partial;
-  steps = o.steps;
+  limits = o.limits;
   max_line = o.max_line;
   verbose = o.verbose;
   status = o.status;

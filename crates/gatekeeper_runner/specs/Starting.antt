@@ -64,7 +64,7 @@ pub data GatekeeperStarts (known : Option FileSystem) (order : GatekeeperOrder) 
         policies = policies;
         namespace = namespace;
         params = params;
-        steps = order.steps;
+        limits = order.limits;
         max_line = order.max_line;
       }))
 

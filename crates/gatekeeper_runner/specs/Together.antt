@@ -13,6 +13,7 @@ use Rattle.admission.specs.Reviews.{contents_given, uid_in}
 use Rattle.admission.specs.Standing.{Images, RunAgrees}
 use Rattle.admission.specs.declared.decision.Decision.{Decision as CodeDecision}
 use Rattle.admission.specs.declared.language.Language.{Language}
+use Rattle.admission.specs.declared.limits.Limits.{Limits}
 use Rattle.admission.specs.declared.run_error.RunError.{RunError, TheVariants.Memory}
 use Rattle.cluster_response.specs.Firsts.{told_of}
 use Rattle.gatekeeper_runner.specs.Texts.{text_at}
@@ -29,13 +30,13 @@ pub record PolicyFile : Type 0 where
   pub language : Language
   pub document : List ℕ
 
--- what every line is decided under: the policies in order, the other documents, the limit of steps for a policy's
--- program, and the largest length of a line
+-- what every line is decided under: the policies in order, the other documents, the limits of each policy's program,
+-- and the largest length of a line
 pub record Gatekeeper : Type 0 where
   pub policies : List PolicyFile
   pub namespace : Option (List ℕ)
   pub params : Option (List ℕ)
-  pub steps : ℕ
+  pub limits : Limits
   pub max_line : ℕ
 
 -- the label of a policy in a refusal
@@ -65,7 +66,7 @@ under t policy review = record {
 -- the result of one policy for a review, and the matching state of its program's run
 abbrev pub DecidesAlone : Images → Gatekeeper → PolicyFile → List ℕ → Result Decision RunError → Type 0
 DecidesAlone chosen t policy review result =
-    DecidesReview (under t policy review) t.steps result × RunAgrees chosen (under t policy review) t.steps result
+    DecidesReview (under t policy review) t.limits result × RunAgrees chosen (under t policy review) t.limits result
 
 -- a policy and its result
 pub record PolicyResult : Type 0 where
@@ -194,7 +195,7 @@ gatekeeper_of policies k = record {
   policies = policies;
   namespace = k.documents.namespace;
   params = k.documents.params;
-  steps = k.steps;
+  limits = k.limits;
   max_line = k.max_line;
 }
 

@@ -36,10 +36,11 @@ fn help_text() -> &'static str
     ensures { result.now ≡ help_text }
 {
     "usage: gatekeeper --policy F [--policy F ..] [--namespace F] [--params F]
-                  [--profile] [--steps N] [--max-line N] [--verbose] [--status]
-       gatekeeper --cluster F [--cluster F ..] [--partial]
-                  [--profile | --leave-messages] [--steps N] [--max-line N]
+                  [--profile] [--steps N] [--reads N] [--max-line N]
                   [--verbose] [--status]
+       gatekeeper --cluster F [--cluster F ..] [--partial]
+                  [--profile | --leave-messages] [--steps N] [--reads N]
+                  [--max-line N] [--verbose] [--status]
 
 Compiles the policies, and answers each review on standard input, a JSON document
 a line, with a line on standard output.
@@ -56,6 +57,7 @@ a line, with a line on standard output.
   --leave-messages
                  a message expression that is refused is left out of its policy
   --steps N      the most steps of a policy's program; 10000000 if not given
+  --reads N      the most bytes that its helper calls read; 268435456 if not given
   --max-line N   the most bytes of a line; 16777216 if not given
   --verbose      tells of each refused line on standard error, with its number
   --status       ends with status 1 if an answer is a denial or a refusal

@@ -18,7 +18,7 @@ impl<'s, 'a> Decider for ClusterKeeper<'s, 'a> {
     ghost refuses = { λ _. too_long_text };
 
     fn answer(&self, line: &[u8]) -> Result<Vec<u8>, AllocError> {
-        let decision = self.cluster.decide(line, self.steps)?;
+        let decision = self.cluster.decide(line, self.limits)?;
         decision_text(self.alloc, decision, line)
     }
 

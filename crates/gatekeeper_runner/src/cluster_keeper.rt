@@ -1,5 +1,6 @@
 //! What decides the lines as a cluster does.
 
+use admission::Limits;
 use cluster_gate::Cluster;
 use std::alloc::Global;
 
@@ -8,8 +9,8 @@ use std::alloc::Global;
 pub struct ClusterKeeper<'s, 'a> {
     pub alloc: Global,
     pub cluster: Cluster<'s, 'a>,
-    /// The most steps that a policy's program may take.
-    pub steps: u64,
+    /// What each evaluation of a policy may take.
+    pub limits: Limits,
     /// The most bytes of a line that is read.
     pub max_line: u64,
     /// The lines on its policies, written before the first review is read.

@@ -33,7 +33,7 @@ pub fn open_cluster<'s, 'a>(
     Ok(ClusterKeeper {
         alloc: task.alloc,
         cluster,
-        steps: task.order.steps,
+        limits: task.order.limits,
         max_line: task.order.max_line,
         told,
     })

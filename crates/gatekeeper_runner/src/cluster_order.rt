@@ -1,6 +1,6 @@
 //! A cluster's state that the words name.
 
-use admission::Language;
+use admission::{Language, Limits};
 
 /// The names of files, and numbers.
 #[derive(Drop)]
@@ -11,8 +11,8 @@ pub struct ClusterOrder {
     pub language: Language,
     /// Whether a policy may be refused, with each request that it matches.
     pub partial: bool,
-    /// The most steps of a policy's program.
-    pub steps: u64,
+    /// What each evaluation may take.
+    pub limits: Limits,
     /// The most bytes of a line.
     pub max_line: u64,
     /// Whether refused lines are reported.

@@ -6,7 +6,7 @@ ghost use Rattle.gatekeeper_runner.specs.Orders.{entered, files_rule, gatekeeper
 
 use crate::limits::LONGEST_LINE;
 use clap::{Arg, ArgAction, ArgMatches, Command, value_parser};
-use cli::{option_argument, parse, steps_argument, with_documents};
+use cli::{option_argument, parse, reads_argument, steps_argument, with_documents};
 use host::OrderError;
 use std::alloc::{AllocError, Global};
 
@@ -90,6 +90,7 @@ fn lines_command<'a>(alloc: Global) -> Result<Command<'a>, AllocError>
     let command = command
         .arg(partial_argument(alloc))?
         .arg(steps_argument(alloc))?;
+    let command = command.arg(reads_argument(alloc))?;
     let command = command.arg(max_line_argument(alloc))?;
     let command = command.arg(verbose_argument(alloc))?;
     command.arg(status_argument(alloc))

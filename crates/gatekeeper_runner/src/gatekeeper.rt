@@ -11,7 +11,7 @@ use crate::errors::is_memory;
 use crate::named_gate::NamedGate;
 use crate::refused::Refused;
 use crate::tally::Tally;
-use admission::{Decision, RunError};
+use admission::{Decision, Limits, RunError};
 use policy_glue::Rejection;
 use std::alloc::{AllocError, Global};
 use value_store::ValueStore;
@@ -26,8 +26,8 @@ pub struct Gatekeeper {
     pub gates: Vec<NamedGate>,
     /// The namespace and the params, each null if it is not given. They are parsed once.
     pub documents: SharedDocuments,
-    /// The largest number of steps of a policy's program.
-    pub steps: u64,
+    /// What each policy's program may take on a line.
+    pub limits: Limits,
     /// The largest length of a line in bytes.
     pub max_line: u64,
 }
@@ -105,7 +105,7 @@ impl Gatekeeper {
             → AreValuesOf (gatekeeper_of policies self.now) review (held_contents table) uid
             → DecidesAlone OneImage (gatekeeper_of policies self.now) policy review (said_view uid result) }
     {
-        gate.gate.rejection_on(table, self.steps)
+        gate.gate.rejection_on(table, self.limits)
     }
 }
 

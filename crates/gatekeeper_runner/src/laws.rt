@@ -6,7 +6,7 @@ use admission::laws::reviews_once;
 use cluster_gate::laws::{one_answer, states_are_shallow};
 use policy_glue::laws::compiles_once;
 
-/// Under the same policies, documents and steps a line has one answer. It does not depend on the
+/// Under the same policies, documents and limits a line has one answer. It does not depend on the
 /// lines before it, unless an allocation fails.
 pub fn answers_once()
     ensures { LinesHaveOneAnswer }

@@ -1,16 +1,16 @@
 //! Reads the command line.
 ghost use Rattle.std.specs.Prelude.{◌≡◌, codes, map, string_bytes, IfOk};
 ghost use Rattle.clap.specs.Words.{found_of, rows_of};
-ghost use Rattle.gatekeeper_runner.specs.Orders.{cluster_from, cluster_order_view, go_together, has_status, is_named, is_partial, is_profile, is_verbose, language_from, leaves_messages, lines_order_view, max_line_from, order_from, order_view, policies_from, texts_of, GatekeeperOrderReturns};
+ghost use Rattle.gatekeeper_runner.specs.Orders.{cluster_from, cluster_order_view, go_together, has_status, is_named, is_partial, is_profile, is_verbose, language_from, leaves_messages, limits_from, lines_order_view, max_line_from, order_from, order_view, policies_from, texts_of, GatekeeperOrderReturns};
 
 use crate::cluster_order::ClusterOrder;
 use crate::command_line::gatekeeper_matches;
 use crate::limits::LONGEST_LINE;
 use crate::order::Order;
 use crate::policy_order::PolicyOrder;
-use admission::{Language, MessageRule};
+use admission::{Language, Limits, MessageRule};
 use clap::ArgMatches;
-use cli::{name_in, number_in, steps_in, text_in};
+use cli::{name_in, number_in, reads_in, steps_in, text_in};
 use host::OrderError;
 use std::alloc::{AllocError, Global};
 
@@ -132,7 +132,7 @@ fn policies_from(alloc: Global, matches: &ArgMatches) -> Result<PolicyOrder, All
     let language = language_in(matches);
     let namespace = name_in(alloc, matches, "namespace")?;
     let params = name_in(alloc, matches, "params")?;
-    let steps = steps_in(matches);
+    let limits = limits_in(matches);
     let max_line = max_line_in(matches);
     let verbose = is_verbose(matches);
     let status = has_status(matches);
@@ -141,7 +141,7 @@ fn policies_from(alloc: Global, matches: &ArgMatches) -> Result<PolicyOrder, All
         language,
         namespace,
         params,
-        steps,
+        limits,
         max_line,
         verbose,
         status,
@@ -155,7 +155,7 @@ fn cluster_from(alloc: Global, matches: &ArgMatches) -> Result<ClusterOrder, All
     let files = names_in(alloc, matches, "cluster")?;
     let language = language_in(matches);
     let partial = is_partial(matches);
-    let steps = steps_in(matches);
+    let limits = limits_in(matches);
     let max_line = max_line_in(matches);
     let verbose = is_verbose(matches);
     let status = has_status(matches);
@@ -163,11 +163,21 @@ fn cluster_from(alloc: Global, matches: &ArgMatches) -> Result<ClusterOrder, All
         files,
         language,
         partial,
-        steps,
+        limits,
         max_line,
         verbose,
         status,
     })
+}
+
+// the values of --steps and --reads
+fn limits_in(matches: &ArgMatches) -> Limits
+    ensures { result ≡ limits_from (rows_of (found_of matches.now)) }
+{
+    Limits {
+        steps: steps_in(matches),
+        reads: reads_in(matches),
+    }
 }
 
 // the value of --max-line

@@ -1,6 +1,6 @@
 //! Policies that the words name.
 
-use admission::Language;
+use admission::{Language, Limits};
 
 /// The names of files, and numbers.
 #[derive(Drop)]
@@ -11,8 +11,8 @@ pub struct PolicyOrder {
     pub language: Language,
     pub namespace: Option<String>,
     pub params: Option<String>,
-    /// The most steps of a policy's program.
-    pub steps: u64,
+    /// What each policy's program may take.
+    pub limits: Limits,
     /// The most bytes of a line.
     pub max_line: u64,
     /// Whether refused lines are reported.

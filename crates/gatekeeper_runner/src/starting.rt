@@ -37,7 +37,7 @@ pub fn start<F: Files>(
         alloc,
         gates,
         documents,
-        steps: order.steps,
+        limits: order.limits,
         max_line: order.max_line,
     })
 }

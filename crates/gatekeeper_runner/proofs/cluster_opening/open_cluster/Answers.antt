@@ -6,7 +6,7 @@ pub returns : goal.returns
 returns c = (
   record {
     of_state = c.in_ok-cluster.ensures.0;
-    steps = refl;
+    limits = refl;
     max_line = refl;
     told = rw c.deref.ensures.value at (c.in_ok-told.ensures _ _ refl (c.policies.ensures _ _ c.in_ok-cluster.ensures.0));
   },
