@@ -101,7 +101,7 @@ struct Case {
 }
 
 #[rattlefmt::skip]
-const CASES: [Case; 15] = [
+const CASES: [Case; 16] = [
     Case {
         name: "the namespace is selected",
         words: STATE,
@@ -213,6 +213,14 @@ const CASES: [Case; 15] = [
         binding: DENY,
         review: POD,
         answer: r#"{"policy":"p","refused":"N4","uid":"u1"}"#,
+    },
+    Case {
+        name: "too few reads",
+        words: "gatekeeper --cluster state --reads 0",
+        policy: NAMES_PARAMS,
+        binding: WITH_LIMITS,
+        review: POD,
+        answer: r#"{"policy":"p","refused":"N7","uid":"u1"}"#,
     },
     Case {
         name: "too deep a list",

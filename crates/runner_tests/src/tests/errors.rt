@@ -1,6 +1,8 @@
 //! Codes and messages of errors.
 
-use RunError::{NamespaceOrParamsRefused, OutOfSteps, OverLimit, PolicyRefused, ReviewRefused};
+use RunError::{
+    NamespaceOrParamsRefused, OutOfReads, OutOfSteps, OverLimit, PolicyRefused, ReviewRefused,
+};
 use review_runner::{FileError, OrderError, PolicyRefusal, RunError};
 use std::alloc::{AllocError, Global};
 use std::fmt::Display;
@@ -19,7 +21,7 @@ const ORDER_ERRORS: [(OrderError, &str, &str); 2] = [
 ];
 
 /// The errors of a review, with their codes and messages.
-const RUN_ERRORS: [(RunError, &str, &str); 6] = [
+const RUN_ERRORS: [(RunError, &str, &str); 7] = [
     (
         PolicyRefused(PolicyRefusal::Memory),
         "N1",
@@ -33,6 +35,7 @@ const RUN_ERRORS: [(RunError, &str, &str); 6] = [
     ),
     (OutOfSteps, "N4", "the policy's program has not ended"),
     (OverLimit, "N5", "the policy's program was stopped"),
+    (OutOfReads, "N7", "the policy's program has read too much"),
     (RunError::Memory, "memory", "out of memory"),
 ];
 

@@ -63,6 +63,28 @@ const IGNORE_REFUSED: &str =
 {"refused":"N4","uid":"u2","policy":"slow-one","failurePolicy":"Ignore"}
 "#;
 
+/// The answers if each policy may read less than it needs, and `few` is one of them.
+const FEW_UNREAD: &str = r#"{"refused":"N7","uid":"u1","policy":"few","failurePolicy":"Fail"}
+{"refused":"N7","uid":"u2","policy":"few","failurePolicy":"Fail"}
+"#;
+
+/// The answers if `lenient` alone is asked, and may read less than it needs.
+const LENIENT_UNREAD: &str =
+    r#"{"refused":"N7","uid":"u1","policy":"lenient","failurePolicy":"Ignore"}
+{"refused":"N7","uid":"u2","policy":"lenient","failurePolicy":"Ignore"}
+"#;
+
+/// The answers of `few` and `even` if `even` may read less than it needs.
+const EVEN_UNREAD: &str = r#"{"refused":"N7","uid":"u1","policy":"even","failurePolicy":"Fail"}
+{"apiVersion":"admission.k8s.io/v1","kind":"AdmissionReview","response":{"allowed":false,"status":{"code":422,"message":"failed expression: object.spec.replicas <= 3","reason":"Invalid"},"uid":"u2"}}
+"#;
+
+/// The answers of `few` and `even`.
+const FEW_AND_EVEN: &str =
+    r#"{"apiVersion":"admission.k8s.io/v1","kind":"AdmissionReview","response":{"allowed":false,"status":{"code":403,"message":"odd","reason":"Forbidden"},"uid":"u1"}}
+{"apiVersion":"admission.k8s.io/v1","kind":"AdmissionReview","response":{"allowed":false,"status":{"code":422,"message":"failed expression: object.spec.replicas <= 3; odd","reason":"Invalid"},"uid":"u2"}}
+"#;
+
 /// A review of 1.5 replicas, an empty line, a document that is not a review, one that is not JSON, and a
 /// review of 2 replicas in a line without a line feed.
 const REST: &str =
@@ -74,7 +96,7 @@ no
 
 /// The words, the input, the status, standard output and the refusal.
 #[rattlefmt::skip]
-const ROWS: [(&str, &str, u8, &str, &str); 38] = [
+const ROWS: [(&str, &str, u8, &str, &str); 48] = [
     (FEW, TWO, 0, TWO_ANSWERS, ""),
     (
         FEW,
@@ -87,15 +109,7 @@ const ROWS: [(&str, &str, u8, &str, &str); 38] = [
 "#,
         "",
     ),
-    (
-        "gatekeeper --policy few --policy even",
-        TWO,
-        0,
-        r#"{"apiVersion":"admission.k8s.io/v1","kind":"AdmissionReview","response":{"allowed":false,"status":{"code":403,"message":"odd","reason":"Forbidden"},"uid":"u1"}}
-{"apiVersion":"admission.k8s.io/v1","kind":"AdmissionReview","response":{"allowed":false,"status":{"code":422,"message":"failed expression: object.spec.replicas <= 3; odd","reason":"Invalid"},"uid":"u2"}}
-"#,
-        "",
-    ),
+    ("gatekeeper --policy few --policy even", TWO, 0, FEW_AND_EVEN, ""),
     (
         "gatekeeper --policy even --policy few",
         TWO,
@@ -109,6 +123,18 @@ const ROWS: [(&str, &str, u8, &str, &str); 38] = [
     ("gatekeeper --policy few --policy slow --steps 1", TWO, 0, BOTH_REFUSED, ""),
     ("gatekeeper --policy slow --policy few --policy even --steps 1", TWO, 0, BOTH_REFUSED, ""),
     ("gatekeeper --policy slow --policy slow --steps 1", TWO, 0, IGNORE_REFUSED, ""),
+    // `few` reads the keys `spec` and `replicas`, each in a map of one entry: 4 * 1 + 8 * 1; `even` one byte more, since
+    // it compares two digits. Each has the limit for itself
+    ("gatekeeper --policy few --profile --reads 11", TWO, 0, FEW_UNREAD, ""),
+    ("gatekeeper --policy few --profile --reads 12", TWO, 0, TWO_ANSWERS, ""),
+    ("gatekeeper --policy few --policy even --profile --reads 12", TWO, 0, EVEN_UNREAD, ""),
+    ("gatekeeper --policy even --policy few --profile --reads 12", TWO, 0, EVEN_UNREAD, ""),
+    ("gatekeeper --policy few --policy even --profile --reads 13", TWO, 0, FEW_AND_EVEN, ""),
+    ("gatekeeper --policy lenient --policy few --reads 0", TWO, 0, FEW_UNREAD, ""),
+    ("gatekeeper --policy few --policy lenient --reads 0", TWO, 0, FEW_UNREAD, ""),
+    ("gatekeeper --policy lenient --reads 0", TWO, 0, LENIENT_UNREAD, ""),
+    ("gatekeeper --policy few --reads 4611686018427387904", TWO, 0, TWO_ANSWERS, ""),
+    ("gatekeeper --policy few --reads 4611686018427387905", TWO, 2, "", "U1"),
     (
         "gatekeeper --policy deep",
         TWO,

@@ -46,7 +46,7 @@ fn is_refused(order: &Result<Order, OrderError>) -> bool {
 }
 
 /// Words that the program does not accept.
-const REFUSED: [&str; 23] = [
+const REFUSED: [&str; 24] = [
     "celbpf",
     "celbpf fly a.img",
     "celbpf run-image",
@@ -58,6 +58,7 @@ const REFUSED: [&str; 23] = [
     "celbpf run-image a.img --steps",
     "celbpf run-image a.img --steps 1 --steps 2",
     "celbpf run-image a.img --fast",
+    "celbpf run-image a.img --reads 1",
     "celbpf debug",
     "celbpf debug a.img --steps 1",
     "celbpf debug a.img --review",

@@ -6,6 +6,9 @@ use std::alloc::Global;
 const FEW: &str =
     r#"{"apiVersion":"admissionregistration.k8s.io/v1","kind":"ValidatingAdmissionPolicy","spec":{"validations":[{"expression":"object.spec.replicas <= 3"}]}}"#;
 
+const LENIENT: &str =
+    r#"{"apiVersion":"admissionregistration.k8s.io/v1","kind":"ValidatingAdmissionPolicy","spec":{"failurePolicy":"Ignore","validations":[{"expression":"object.spec.replicas <= 3"}]}}"#;
+
 const EVEN: &str =
     r#"{"apiVersion":"admissionregistration.k8s.io/v1","kind":"ValidatingAdmissionPolicy","spec":{"validations":[{"expression":"object.spec.replicas % 2 == 0","message":"odd","reason":"Forbidden"}]}}"#;
 
@@ -38,8 +41,8 @@ pub const DEEP: &str =
 {"name":"f","expression":"[[[[[[[[[[[[[[[[[[[[[[[[[[[[[[[[[[[[[[[[[[[[[[[[[[variables.e]]]]]]]]]]]]]]]]]]]]]]]]]]]]]]]]]]]]]]]]]]]]]]]]]]"}],
 "validations":[{"expression":"size(variables.f) == 1"}]}}"#;
 
-/// `few` allows at most 3 replicas, `even` an even number of them, `slow` any number
-/// after many steps, `deep` is stopped, and `none` is not a policy. `optional` is as `few`, in the
+/// `few` allows at most 3 replicas, `lenient` too, under Ignore, `even` an even number of them, `slow`
+/// any number after many steps, `deep` is stopped, and `none` is not a policy. `optional` is as `few`, in the
 /// wide language; `unknown`, `no-value` and `bytes` are refused there.
 #[derive(Drop)]
 pub struct Policies;
@@ -52,6 +55,7 @@ impl Files for Policies {
     fn read(&mut self, alloc: Global, name: &str) -> Result<Vec<u8>, FileError> {
         let text = match name {
             "few" => FEW,
+            "lenient" => LENIENT,
             "even" => EVEN,
             "slow" => SLOW,
             "deep" => DEEP,
