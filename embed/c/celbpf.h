@@ -9,13 +9,14 @@
  *
  * - Pointers: none is null, even if its count is 0. The bytes are there, and what a call writes (the gate, the room, the
  *   length) overlaps nothing else that is passed.
- * - Stack: CELBPF_NEW_STACK bytes in celbpf_gate_new, celbpf_compile and celbpf_review, CELBPF_DECIDE_STACK bytes in
- *   celbpf_gate_decide. With less a hostile policy or document can overflow the stack, which ends the process.
+ * - Stack: CELBPF_NEW_STACK bytes in celbpf_gate_new, celbpf_compile, celbpf_review and celbpf_review_within,
+ *   CELBPF_DECIDE_STACK bytes in celbpf_gate_decide and celbpf_gate_decide_within. With less a hostile policy or document
+ *   can overflow the stack, which ends the process.
  *
  * Both forms ask of you:
  *
  * - Threads: a gate has one call at a time, and may move between threads. Different gates need no lock. So give each
- *   thread a gate, or lock. celbpf_review and celbpf_compile may run on any thread at any time.
+ *   thread a gate, or lock. celbpf_review, celbpf_review_within and celbpf_compile may run on any thread at any time.
  * - Ownership: a gate is a struct of yours. Start it with {0}, do not copy it while it is full, and free it once. What
  *   is passed in is read during the call alone. The library keeps no pointer to it.
  * - Not from a signal handler, nor from a forked child of a process with threads. malloc, realloc and free are the
@@ -42,6 +43,9 @@ extern "C" {
 /* The steps that the program celbpf gives a policy's program, unless it is told otherwise. */
 #define CELBPF_STEPS UINT64_C(10000000)
 
+/* The bytes that the program gatekeeper lets helper calls read, unless it is told otherwise. */
+#define CELBPF_READS UINT64_C(268435456)
+
 /* Bytes of stack that suffice, as measured: the most that was seen are 4.8 MB and 140 KB. */
 #define CELBPF_NEW_STACK ((size_t)6 << 20)
 #define CELBPF_DECIDE_STACK ((size_t)256 << 10)
@@ -67,7 +71,9 @@ enum {
     CELBPF_ROOM = 8,   /* the room is too small: call again with as many bytes as the length says */
     CELBPF_MEMORY = 9, /* malloc or realloc failed. It says nothing of the documents */
     CELBPF_EMPTY = 10, /* the place holds no gate */
-    CELBPF_STACK = 11  /* `_checked` calls alone: there is no stack to compile a policy, and nothing was done */
+    CELBPF_STACK = 11, /* `_checked` calls alone: there is no stack to compile a policy, and nothing was done */
+
+    CELBPF_OUT_OF_READS = 12 /* `_within` calls alone: a helper call would have read past the limit */
 };
 
 /*
@@ -86,12 +92,22 @@ uint32_t celbpf_gate_new(celbpf_gate *place, const uint8_t *policy, size_t polic
 
 /*
  * Decides a review. No bytes for `ns` (the namespace) or `params` mean that there is none. The program may take `steps`
- * steps, CELBPF_STEPS say. The place keeps its gate, whatever comes of the call.
+ * steps, CELBPF_STEPS say, and each may read much: a hostile document can take long. celbpf_gate_decide_within bounds
+ * that too. The place keeps its gate, whatever comes of the call.
  * ALLOWED, DENIED: the response, an AdmissionReview. 4 to 7, MEMORY: the line. ROOM. EMPTY: no text.
  */
 uint32_t celbpf_gate_decide(celbpf_gate *place, const uint8_t *review, size_t review_len, const uint8_t *ns, size_t ns_len,
                             const uint8_t *params, size_t params_len, uint64_t steps, uint8_t *room, size_t room_len,
                             size_t *len);
+
+/*
+ * Decides a review as celbpf_gate_decide does, but the helper calls of the program may read at most `reads` bytes
+ * together, CELBPF_READS say. UINT64_MAX is no limit.
+ * As celbpf_gate_decide; and OUT_OF_READS: the line, "celbpf: N7\n".
+ */
+uint32_t celbpf_gate_decide_within(celbpf_gate *place, const uint8_t *review, size_t review_len, const uint8_t *ns,
+                                   size_t ns_len, const uint8_t *params, size_t params_len, uint64_t steps, uint64_t reads,
+                                   uint8_t *room, size_t room_len, size_t *len);
 
 /* Frees the gate in the place, which is empty then. An empty place stays empty, so a second call does nothing. */
 void celbpf_gate_free(celbpf_gate *place);
@@ -103,6 +119,14 @@ void celbpf_gate_free(celbpf_gate *place);
 uint32_t celbpf_review(const uint8_t *policy, size_t policy_len, const uint8_t *review, size_t review_len, const uint8_t *ns,
                        size_t ns_len, const uint8_t *params, size_t params_len, uint64_t steps, uint8_t *room,
                        size_t room_len, size_t *len);
+
+/*
+ * Decides a review as celbpf_review does, but the helper calls of the program may read at most `reads` bytes together.
+ * As celbpf_review; and OUT_OF_READS, as there.
+ */
+uint32_t celbpf_review_within(const uint8_t *policy, size_t policy_len, const uint8_t *review, size_t review_len,
+                              const uint8_t *ns, size_t ns_len, const uint8_t *params, size_t params_len, uint64_t steps,
+                              uint64_t reads, uint8_t *room, size_t room_len, size_t *len);
 
 /*
  * Compiles a policy to the file of its image, which `celbpf debug`, `list` and `run-image` take.
@@ -121,18 +145,24 @@ size_t celbpf_stack_left(void);
 /*
  * The calls above, which may be passed null for documents, the room and the length. A null place is an empty one. If the
  * thread has less than CELBPF_NEW_STACK left, those that compile run on a thread of their own, with a stack of 16 MB,
- * which has ended when they return; CELBPF_STACK if there can be no such thread. celbpf_gate_decide_checked does not ask
- * for the stack, since that takes longer than many a decision: see CELBPF_DECIDE_STACK.
+ * which has ended when they return; CELBPF_STACK if there can be no such thread. The two that decide with a gate do not
+ * ask for the stack, since that takes longer than many a decision: see CELBPF_DECIDE_STACK.
  */
 uint32_t celbpf_gate_new_checked(celbpf_gate *place, const void *policy, size_t policy_len, void *room, size_t room_len,
                                  size_t *len);
 uint32_t celbpf_gate_decide_checked(celbpf_gate *place, const void *review, size_t review_len, const void *ns, size_t ns_len,
                                     const void *params, size_t params_len, uint64_t steps, void *room, size_t room_len,
                                     size_t *len);
+uint32_t celbpf_gate_decide_within_checked(celbpf_gate *place, const void *review, size_t review_len, const void *ns,
+                                           size_t ns_len, const void *params, size_t params_len, uint64_t steps,
+                                           uint64_t reads, void *room, size_t room_len, size_t *len);
 void celbpf_gate_free_checked(celbpf_gate *place);
 uint32_t celbpf_review_checked(const void *policy, size_t policy_len, const void *review, size_t review_len, const void *ns,
                                size_t ns_len, const void *params, size_t params_len, uint64_t steps, void *room,
                                size_t room_len, size_t *len);
+uint32_t celbpf_review_within_checked(const void *policy, size_t policy_len, const void *review, size_t review_len,
+                                      const void *ns, size_t ns_len, const void *params, size_t params_len, uint64_t steps,
+                                      uint64_t reads, void *room, size_t room_len, size_t *len);
 uint32_t celbpf_compile_checked(const void *policy, size_t policy_len, void *room, size_t room_len, size_t *len);
 
 #ifdef __cplusplus

@@ -14,7 +14,7 @@ struct call {
     celbpf_gate *place;
     const uint8_t *policy, *review, *ns, *params;
     size_t policy_len, review_len, ns_len, params_len;
-    uint64_t steps;
+    uint64_t steps, reads;
     uint8_t *room;
     size_t room_len, *len;
     uint32_t status;
@@ -34,6 +34,12 @@ static void run_new(struct call *call) {
 static void run_review(struct call *call) {
     call->status = celbpf_review(call->policy, call->policy_len, call->review, call->review_len, call->ns, call->ns_len,
                                  call->params, call->params_len, call->steps, call->room, call->room_len, call->len);
+}
+
+static void run_review_within(struct call *call) {
+    call->status = celbpf_review_within(call->policy, call->policy_len, call->review, call->review_len, call->ns,
+                                        call->ns_len, call->params, call->params_len, call->steps, call->reads, call->room,
+                                        call->room_len, call->len);
 }
 
 static void run_compile(struct call *call) {
@@ -113,6 +119,19 @@ uint32_t celbpf_gate_decide_checked(celbpf_gate *place, const void *review, size
                               params ? params_len : 0, steps, writable(room), room ? room_len : 0, len);
 }
 
+uint32_t celbpf_gate_decide_within_checked(celbpf_gate *place, const void *review, size_t review_len, const void *ns,
+                                           size_t ns_len, const void *params, size_t params_len, uint64_t steps,
+                                           uint64_t reads, void *room, size_t room_len, size_t *len) {
+    size_t unused;
+    len = len ? len : &unused;
+    *len = 0;
+    if (!place)
+        return CELBPF_EMPTY;
+    return celbpf_gate_decide_within(place, bytes(review), review ? review_len : 0, bytes(ns), ns ? ns_len : 0,
+                                     bytes(params), params ? params_len : 0, steps, reads, writable(room),
+                                     room ? room_len : 0, len);
+}
+
 void celbpf_gate_free_checked(celbpf_gate *place) {
     if (place)
         celbpf_gate_free(place);
@@ -127,6 +146,19 @@ uint32_t celbpf_review_checked(const void *policy, size_t policy_len, const void
         .review_len = review ? review_len : 0, .ns = bytes(ns), .ns_len = ns ? ns_len : 0, .params = bytes(params),
         .params_len = params ? params_len : 0, .steps = steps, .room = writable(room), .room_len = room ? room_len : 0,
         .len = len ? len : &unused,
+    };
+    return with_stack(&call);
+}
+
+uint32_t celbpf_review_within_checked(const void *policy, size_t policy_len, const void *review, size_t review_len,
+                                      const void *ns, size_t ns_len, const void *params, size_t params_len, uint64_t steps,
+                                      uint64_t reads, void *room, size_t room_len, size_t *len) {
+    size_t unused;
+    struct call call = {
+        .run = run_review_within, .policy = bytes(policy), .policy_len = policy ? policy_len : 0, .review = bytes(review),
+        .review_len = review ? review_len : 0, .ns = bytes(ns), .ns_len = ns ? ns_len : 0, .params = bytes(params),
+        .params_len = params ? params_len : 0, .steps = steps, .reads = reads, .room = writable(room),
+        .room_len = room ? room_len : 0, .len = len ? len : &unused,
     };
     return with_stack(&call);
 }

@@ -20,8 +20,8 @@ int main(int argc, char **argv) {
     size_t policy_len = read_file(argv[1], policy, sizeof policy), review_len = read_file(argv[2], review, sizeof review);
     uint32_t status = celbpf_gate_new_checked(&gate, policy, policy_len, response, sizeof response, &len);
     if (status == CELBPF_DONE)
-        status = celbpf_gate_decide_checked(&gate, review, review_len, NULL, 0, NULL, 0, CELBPF_STEPS, response,
-                                            sizeof response, &len);
+        status = celbpf_gate_decide_within_checked(&gate, review, review_len, NULL, 0, NULL, 0, CELBPF_STEPS, CELBPF_READS,
+                                                   response, sizeof response, &len);
     celbpf_gate_free_checked(&gate);
     if (status == CELBPF_ROOM)
         fprintf(stderr, "the response has %zu bytes\n", len);

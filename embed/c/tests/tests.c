@@ -136,6 +136,15 @@ static uint32_t decide(celbpf_gate *gate, size_t room_len, size_t *len) {
     return celbpf_gate_decide_checked(gate, review.at, review.len, NULL, 0, NULL, 0, CELBPF_STEPS, room, room_len, len);
 }
 
+/*
+ * The policy reads 28 bytes of the review: the key `spec` in a map of 4 entries, whose number has 3 binary digits, and
+ * `replicas` in one of 2 entries, whose number has 2: 4 * 3 + 8 * 2.
+ */
+static uint32_t within(celbpf_gate *gate, uint64_t reads, size_t *len) {
+    return celbpf_gate_decide_within_checked(gate, review.at, review.len, NULL, 0, NULL, 0, CELBPF_STEPS, reads, room,
+                                             sizeof room, len);
+}
+
 static void check_rooms(void) {
     celbpf_gate gate = {0};
     size_t needed, len;
@@ -178,6 +187,16 @@ static void check_refusals(void) {
                   CELBPF_OUT_OF_STEPS &&
               is_text(room, len, "celbpf: N4\n"),
           "one step", "decide");
+    check(within(&gate, 27, &len) == CELBPF_OUT_OF_READS && is_text(room, len, "celbpf: N7\n"), "a byte too few", "decide");
+    check(within(&gate, 28, &len) == CELBPF_DENIED, "just enough reads", "decide");
+    check(within(NULL, 28, &len) == CELBPF_EMPTY && len == 0, "no place", "decide within");
+    check(celbpf_review_within_checked(policy.at, policy.len, review.at, review.len, NULL, 0, NULL, 0, CELBPF_STEPS, 27, room,
+                                       sizeof room, &len) == CELBPF_OUT_OF_READS &&
+              is_text(room, len, "celbpf: N7\n"),
+          "a byte too few", "review");
+    check(celbpf_review_within_checked(policy.at, policy.len, review.at, review.len, NULL, 0, NULL, 0, CELBPF_STEPS, 28, room,
+                                       sizeof room, &len) == CELBPF_DENIED,
+          "just enough reads", "review");
     check(celbpf_review_checked("[]", 2, review.at, review.len, NULL, 0, NULL, 0, CELBPF_STEPS, room, sizeof room, &len) ==
                   CELBPF_POLICY_UNREAD &&
               is_text(room, len, "celbpf: N1 K2\n"),

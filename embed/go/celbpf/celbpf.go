@@ -19,8 +19,8 @@
 //
 // An error is no decision: deny the request under the failure policy Fail, and allow it under Ignore.
 //
-// No context ends a call. [Request.Steps] bounds what a policy does; the reading of a review takes time and memory in
-// proportion to its size, so bound that where it comes in.
+// No context ends a call. [Request.Steps] and [Request.Reads] bound what a policy does; the reading of a review takes time
+// and memory in proportion to its size, so bound that where it comes in.
 package celbpf
 
 /*
@@ -39,6 +39,9 @@ import (
 // DefaultSteps is how many steps a policy's program may take if [Request.Steps] is 0.
 const DefaultSteps = 10_000_000
 
+// DefaultReads is how many bytes the helper calls of a policy's program may read together if [Request.Reads] is 0.
+const DefaultReads = 268_435_456
+
 // firstRoom is the room for a response at the first try. Most are shorter.
 const firstRoom = 4096
 
@@ -52,6 +55,8 @@ type Request struct {
 	Params []byte
 	// Steps is how many steps the policy's program may take. 0: DefaultSteps.
 	Steps uint64
+	// Reads is how many bytes its helper calls may read together. 0: DefaultReads. math.MaxUint64 is no limit.
+	Reads uint64
 }
 
 // Response is a decision.
@@ -88,9 +93,10 @@ func (gate *Gate) Decide(request Request) (Response, error) {
 	defer gate.mutex.Unlock()
 	for {
 		var size C.size_t
-		status := C.celbpf_gate_decide_checked(&gate.place,
+		status := C.celbpf_gate_decide_within_checked(&gate.place,
 			pointer(request.Review), C.size_t(len(request.Review)), pointer(request.Namespace), C.size_t(len(request.Namespace)),
-			pointer(request.Params), C.size_t(len(request.Params)), steps(request), pointer(gate.room), C.size_t(len(gate.room)), &size)
+			pointer(request.Params), C.size_t(len(request.Params)), steps(request), reads(request),
+			pointer(gate.room), C.size_t(len(gate.room)), &size)
 		if status != C.CELBPF_ROOM {
 			return answer(status, gate.room, size)
 		}
@@ -111,9 +117,10 @@ func Review(policy []byte, request Request) (Response, error) {
 	room := make([]byte, firstRoom)
 	for {
 		var size C.size_t
-		status := C.celbpf_review_checked(pointer(policy), C.size_t(len(policy)),
+		status := C.celbpf_review_within_checked(pointer(policy), C.size_t(len(policy)),
 			pointer(request.Review), C.size_t(len(request.Review)), pointer(request.Namespace), C.size_t(len(request.Namespace)),
-			pointer(request.Params), C.size_t(len(request.Params)), steps(request), pointer(room), C.size_t(len(room)), &size)
+			pointer(request.Params), C.size_t(len(request.Params)), steps(request), reads(request),
+			pointer(room), C.size_t(len(room)), &size)
 		if status != C.CELBPF_ROOM {
 			return answer(status, room, size)
 		}
@@ -143,6 +150,13 @@ func steps(request Request) C.uint64_t {
 		return DefaultSteps
 	}
 	return C.uint64_t(request.Steps)
+}
+
+func reads(request Request) C.uint64_t {
+	if request.Reads == 0 {
+		return DefaultReads
+	}
+	return C.uint64_t(request.Reads)
 }
 
 func answer(status C.uint32_t, room []byte, size C.size_t) (Response, error) {

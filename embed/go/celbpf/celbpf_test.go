@@ -147,6 +147,7 @@ func TestRefusals(t *testing.T) {
 		ReviewRefused:   {Review: []byte("{")},
 		DocumentRefused: {Review: of.request.Review, Params: []byte("[")},
 		OutOfSteps:      {Review: of.request.Review, Steps: 1},
+		OutOfReads:      {Review: of.request.Review, Reads: 1},
 	} {
 		if _, err := gate.Decide(request); !errors.Is(err, want) {
 			t.Error(want, err)

@@ -25,6 +25,8 @@ const (
 	Closed Status = 10
 	// SmallStack: there is no stack to compile a policy, and no thread that has it could be started.
 	SmallStack Status = 11
+	// OutOfReads: a helper call of the policy's program would have read past the limit of reads.
+	OutOfReads Status = 12
 )
 
 var texts = map[Status]string{
@@ -37,6 +39,7 @@ var texts = map[Status]string{
 	NoMemory:         "out of memory",
 	Closed:           "the gate is closed",
 	SmallStack:       "no stack to compile a policy",
+	OutOfReads:       "the policy's program has read too much",
 }
 
 func (status Status) Error() string {

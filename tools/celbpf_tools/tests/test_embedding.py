@@ -18,8 +18,10 @@ void *rattle_alloc(size_t size, size_t align);
 void *other(void) { return rattle_alloc(1, 1); }
 uint32_t celbpf_gate_new(void) { return other() != 0; }
 uint32_t celbpf_gate_decide(void) { return 0; }
+uint32_t celbpf_gate_decide_within(void) { return 0; }
 void celbpf_gate_free(void) {}
 uint32_t celbpf_review(void) { return 0; }
+uint32_t celbpf_review_within(void) { return 0; }
 uint32_t celbpf_compile(void) { return 0; }
 """
 
@@ -43,7 +45,7 @@ class Building(unittest.TestCase):
         made(self.folder / "stand_in.a", self.folder / "dist")
 
     def test_names(self) -> None:
-        calls = ("gate_new", "gate_decide", "gate_free", "review", "compile")
+        calls = ("gate_new", "gate_decide", "gate_decide_within", "gate_free", "review", "review_within", "compile")
         wanted = {"celbpf_stack_left"} | {f"celbpf_{call}{form}" for call in calls for form in ("", "_checked")}
         library = self.folder / "dist" / "lib"
         self.assertEqual(names(library / "libcelbpf.a"), wanted)

@@ -9,7 +9,7 @@ Documents are bytes of JSON. A `Refused` is raised if there is no decision. The 
 celbpf, byte for byte: both are the same proved code. This package is a thin layer over it, and is not proved.
 """
 
-from .gate import DEFAULT_STEPS, Gate, Response, compile_policy, review
+from .gate import DEFAULT_READS, DEFAULT_STEPS, Gate, Response, compile_policy, review
 from .refusal import Refused, Status
 
-__all__ = ["DEFAULT_STEPS", "Gate", "Refused", "Response", "Status", "compile_policy", "review"]
+__all__ = ["DEFAULT_READS", "DEFAULT_STEPS", "Gate", "Refused", "Response", "Status", "compile_policy", "review"]

@@ -6,7 +6,9 @@ from typing import Any, NamedTuple, Optional
 
 from .library import DONE, LIBRARY, Place, called
 
+# the steps that a policy's program may take, and the bytes that its helper calls may read together
 DEFAULT_STEPS = 10_000_000
+DEFAULT_READS = 268_435_456
 
 
 class Response(NamedTuple):
@@ -31,13 +33,18 @@ class Gate:
         called(lambda *room: LIBRARY.celbpf_gate_new_checked(ctypes.byref(self._place), *documents(policy), *room))
 
     def decide(
-        self, review: bytes, namespace: Optional[bytes] = None, params: Optional[bytes] = None, steps: int = DEFAULT_STEPS
+        self,
+        review: bytes,
+        namespace: Optional[bytes] = None,
+        params: Optional[bytes] = None,
+        steps: int = DEFAULT_STEPS,
+        reads: int = DEFAULT_READS,
     ) -> Response:
         """Decides an AdmissionReview. Raises `Refused`, which is no decision."""
         given = documents(review, namespace, params)
         with self._lock:
             status, text = called(
-                lambda *room: LIBRARY.celbpf_gate_decide_checked(ctypes.byref(self._place), *given, steps, *room)
+                lambda *room: LIBRARY.celbpf_gate_decide_within_checked(ctypes.byref(self._place), *given, steps, reads, *room)
             )
         return Response(status == DONE, text)
 
@@ -58,11 +65,16 @@ class Gate:
 
 
 def review(
-    policy: bytes, document: bytes, namespace: Optional[bytes] = None, params: Optional[bytes] = None, steps: int = DEFAULT_STEPS
+    policy: bytes,
+    document: bytes,
+    namespace: Optional[bytes] = None,
+    params: Optional[bytes] = None,
+    steps: int = DEFAULT_STEPS,
+    reads: int = DEFAULT_READS,
 ) -> Response:
     """Decides a review under a policy that is compiled for this call alone. Raises `Refused`."""
     given = documents(policy, document, namespace, params)
-    status, text = called(lambda *room: LIBRARY.celbpf_review_checked(*given, steps, *room))
+    status, text = called(lambda *room: LIBRARY.celbpf_review_within_checked(*given, steps, reads, *room))
     return Response(status == DONE, text)
 
 

@@ -30,12 +30,12 @@ def loaded() -> ctypes.CDLL:
     status, size, text = ctypes.c_uint32, ctypes.c_size_t, ctypes.c_char_p
     place, length = ctypes.POINTER(Place), ctypes.POINTER(ctypes.c_size_t)
     document, written = [text, size], [text, size, length]
-    reviewed = [*document, *document, *document, ctypes.c_uint64, *written]
+    reviewed = [*document, *document, *document, ctypes.c_uint64, ctypes.c_uint64, *written]
     for name, takes, gives in (
         ("celbpf_gate_new_checked", [place, *document, *written], status),
-        ("celbpf_gate_decide_checked", [place, *reviewed], status),
+        ("celbpf_gate_decide_within_checked", [place, *reviewed], status),
         ("celbpf_gate_free", [place], None),
-        ("celbpf_review_checked", [*document, *reviewed], status),
+        ("celbpf_review_within_checked", [*document, *reviewed], status),
         ("celbpf_compile_checked", [*document, *written], status),
         ("celbpf_version", [], status),
     ):

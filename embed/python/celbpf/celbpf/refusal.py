@@ -15,6 +15,7 @@ class Status(enum.IntEnum):
     NO_MEMORY = 9
     CLOSED = 10
     SMALL_STACK = 11
+    OUT_OF_READS = 12
 
 
 TEXTS = {
@@ -27,6 +28,7 @@ TEXTS = {
     Status.NO_MEMORY: "out of memory",
     Status.CLOSED: "the gate is closed",
     Status.SMALL_STACK: "no stack to compile a policy",
+    Status.OUT_OF_READS: "the policy's program has read too much",
 }
 
 

@@ -73,6 +73,8 @@ class Edges(unittest.TestCase):
         self.refused(Status.REVIEW_REFUSED, "celbpf: N2", gate.decide, b"{")
         self.refused(Status.DOCUMENT_REFUSED, "celbpf: N3", gate.decide, self.given[0], params=b"[")
         self.refused(Status.OUT_OF_STEPS, "celbpf: N4", gate.decide, self.given[0], steps=1)
+        self.refused(Status.OUT_OF_READS, "celbpf: N7", gate.decide, self.given[0], reads=0)
+        self.refused(Status.OUT_OF_READS, "celbpf: N7", review, self.policy, self.given[0], reads=0)
         self.assertEqual(gate.decide(*self.given), self.wanted)
         gate.close()
         gate.close()

@@ -19,7 +19,7 @@ extern "C" {
         room_len: usize,
         len: *mut usize,
     ) -> u32;
-    pub fn celbpf_gate_decide_checked(
+    pub fn celbpf_gate_decide_within_checked(
         place: *mut Place,
         review: *const u8,
         review_len: usize,
@@ -28,12 +28,13 @@ extern "C" {
         params: *const u8,
         params_len: usize,
         steps: u64,
+        reads: u64,
         room: *mut u8,
         room_len: usize,
         len: *mut usize,
     ) -> u32;
     pub fn celbpf_gate_free(place: *mut Place);
-    pub fn celbpf_review_checked(
+    pub fn celbpf_review_within_checked(
         policy: *const u8,
         policy_len: usize,
         review: *const u8,
@@ -43,6 +44,7 @@ extern "C" {
         params: *const u8,
         params_len: usize,
         steps: u64,
+        reads: u64,
         room: *mut u8,
         room_len: usize,
         len: *mut usize,

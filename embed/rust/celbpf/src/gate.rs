@@ -1,13 +1,16 @@
 //! Gates, and the calls that need none.
 use crate::ffi::{
-    celbpf_compile_checked, celbpf_gate_decide_checked, celbpf_gate_free, celbpf_gate_new_checked, celbpf_review_checked, Place,
-    DENIED, DONE, ROOM,
+    celbpf_compile_checked, celbpf_gate_decide_within_checked, celbpf_gate_free, celbpf_gate_new_checked,
+    celbpf_review_within_checked, Place, DENIED, DONE, ROOM,
 };
 use crate::refusal::{Refusal, Status};
 use std::ptr::null_mut;
 
 /// How many steps a policy's program may take, unless a request says otherwise.
 pub const DEFAULT_STEPS: u64 = 10_000_000;
+
+/// How many bytes the helper calls of a policy's program may read together, unless a call says otherwise.
+pub const DEFAULT_READS: u64 = 268_435_456;
 
 /// The room for a text at the first try. Most are shorter.
 const FIRST_ROOM: usize = 4096;
@@ -64,9 +67,14 @@ impl Gate {
 
     /// Decides a request. An error is no decision.
     pub fn decide(&mut self, request: &Request) -> Result<Response, Refusal> {
+        self.decide_within(request, DEFAULT_READS)
+    }
+
+    /// Decides a request; helper calls may read this many bytes together. `u64::MAX` is no limit.
+    pub fn decide_within(&mut self, request: &Request, reads: u64) -> Result<Response, Refusal> {
         let place = &mut self.place;
         told(&mut self.room, |room, room_len, len| unsafe {
-            celbpf_gate_decide_checked(
+            celbpf_gate_decide_within_checked(
                 place,
                 request.review.as_ptr(),
                 request.review.len(),
@@ -75,6 +83,7 @@ impl Gate {
                 request.params.as_ptr(),
                 request.params.len(),
                 request.steps,
+                reads,
                 room,
                 room_len,
                 len,
@@ -91,8 +100,13 @@ impl Drop for Gate {
 
 /// Decides a request under a policy that is compiled for this call alone.
 pub fn review(policy: &[u8], request: &Request) -> Result<Response, Refusal> {
+    review_within(policy, request, DEFAULT_READS)
+}
+
+/// Decides such a request; helper calls may read this many bytes together. `u64::MAX` is no limit.
+pub fn review_within(policy: &[u8], request: &Request, reads: u64) -> Result<Response, Refusal> {
     told(&mut Vec::new(), |room, room_len, len| unsafe {
-        celbpf_review_checked(
+        celbpf_review_within_checked(
             policy.as_ptr(),
             policy.len(),
             request.review.as_ptr(),
@@ -102,6 +116,7 @@ pub fn review(policy: &[u8], request: &Request) -> Result<Response, Refusal> {
             request.params.as_ptr(),
             request.params.len(),
             request.steps,
+            reads,
             room,
             room_len,
             len,

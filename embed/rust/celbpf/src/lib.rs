@@ -12,12 +12,12 @@
 //!
 //! A [`Gate`] is a policy that is compiled once. It is `Send` and takes `&mut self`, so give each thread one. The
 //! decisions are those of the program celbpf, byte for byte: both are the same proved code. This crate is a thin layer
-//! over it, and is not proved.
+//! over it, and is not proved. [`Gate::decide_within`] takes another limit of reads than [`DEFAULT_READS`].
 #![deny(missing_docs)]
 
 mod ffi;
 mod gate;
 mod refusal;
 
-pub use gate::{compile, review, Gate, Request, Response, DEFAULT_STEPS};
+pub use gate::{compile, review, review_within, Gate, Request, Response, DEFAULT_READS, DEFAULT_STEPS};
 pub use refusal::{Refusal, Status};

@@ -22,6 +22,8 @@ pub enum Status {
     NoMemory,
     /// There is no stack to compile a policy, and no thread that has it could be started.
     SmallStack,
+    /// A helper call of the policy's program would have read past the limit of reads.
+    OutOfReads,
 }
 
 impl Status {
@@ -35,6 +37,7 @@ impl Status {
             7 => Status::OverLimit,
             9 => Status::NoMemory,
             11 => Status::SmallStack,
+            12 => Status::OutOfReads,
             _ => unreachable!("the library returned the status {status}"),
         }
     }
@@ -49,6 +52,7 @@ impl Status {
             Status::OverLimit => "the policy's program was stopped",
             Status::NoMemory => "out of memory",
             Status::SmallStack => "no stack to compile a policy",
+            Status::OutOfReads => "the policy's program has read too much",
         }
     }
 }

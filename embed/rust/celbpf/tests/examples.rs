@@ -106,6 +106,11 @@ fn refusals() {
         gate.decide(&Request { steps: 1, ..of.request() }).unwrap_err().to_string(),
         "celbpf: N4: the policy's program has not ended"
     );
+    assert_eq!(
+        gate.decide_within(&of.request(), 0).unwrap_err().to_string(),
+        "celbpf: N7: the policy's program has read too much"
+    );
+    assert_eq!(celbpf::review_within(&of.policy, &of.request(), 0).unwrap_err().status, Status::OutOfReads);
     assert_eq!(gate.decide(&of.request()), Ok(of.response.clone()));
 }
 
