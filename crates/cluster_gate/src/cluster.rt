@@ -72,8 +72,8 @@ impl<'s, 'a> Cluster<'s, 'a> {
     }
 
     /// The text that answers a review (AdmissionReview, `admission.k8s.io/v1`), in which each
-    /// evaluation of a policy has limits of its own; none if the bytes are no review. The error is
-    /// a failed allocation, which implies nothing about the review.
+    /// evaluation of a policy has these limits for itself; none if the bytes are no review. The
+    /// error is a failed allocation, which implies nothing about the review.
     pub fn decide(&self, review: &[u8], limits: Limits) -> Result<Option<Vec<u8>>, AllocError>
         ensures { IfOk result (λ o. (l : InLanguage) (s : ClusterState) → IsClusterFor l s self.now → DecidesInCluster l OneImage s review.now limits (option_map (λ b. b.items) o)) }
     {
