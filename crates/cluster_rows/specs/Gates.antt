@@ -48,6 +48,7 @@ pub record ErrorRowsHold : Type 0 where
   pub refused_namespace : error_refusal run_error.NamespaceOrParamsRefused ≡ Some refusal.NamespaceOrParamsRefused
   pub out_of_steps : error_refusal run_error.OutOfSteps ≡ Some refusal.OutOfSteps
   pub over_limit : error_refusal run_error.OverLimit ≡ Some refusal.OverLimit
+  pub out_of_reads : error_refusal run_error.OutOfReads ≡ Some refusal.OutOfReads
   pub no_memory : error_refusal run_error.Memory ≡ None
 
 -- ---- documents

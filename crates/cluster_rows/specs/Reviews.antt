@@ -9,7 +9,7 @@ use Rattle.admission.specs.ErrorCodes.{run_error_code}
 use Rattle.admission.specs.Reviews.{root_refusal}
 use Rattle.admission.specs.declared.policy_refusal.PolicyRefusal.TheVariants.{Unread}
 use Rattle.admission.specs.declared.run_error.RunError.TheVariants.{PolicyRefused, ReviewRefused}
-use Rattle.admission.specs.declared.run_error.RunError.TheVariants.{NamespaceOrParamsRefused, OutOfSteps, OverLimit}
+use Rattle.admission.specs.declared.run_error.RunError.TheVariants.{NamespaceOrParamsRefused, OutOfSteps, OverLimit, OutOfReads}
 use Rattle.admission.specs.declared.run_error.RunError.TheVariants.{Memory}
 
 -- a policy that skips a request, or has nothing against it, allows it
@@ -40,4 +40,5 @@ pub record CodeRowsHold : Type 0 where
   pub namespace_or_params : run_error_code NamespaceOrParamsRefused ≡ codes "N3"
   pub steps : run_error_code OutOfSteps ≡ codes "N4"
   pub limit : run_error_code OverLimit ≡ codes "N5"
+  pub reads : run_error_code OutOfReads ≡ codes "N7"
   pub memory : run_error_code Memory ≡ codes "memory"

@@ -1,11 +1,12 @@
 -- The program gatekeeper: its command lines, with what they ask for according to its pages, and its help.
-use Rattle.std.specs.Prelude.{◌≡◌, true, false, List, [], ◌∷◌, ◌++◌, Some, None, Ok, Err, codes}
+use Rattle.std.specs.Prelude.{◌≡◌, true, false, ℕ, List, [], ◌∷◌, ◌++◌, Some, None, Ok, Err, codes}
 use Rattle.clap.specs.Words.{Text}
 use Rattle.host.specs.declared.order_error.OrderError.TheVariants.{InvalidArguments}
 use Rattle.gatekeeper_runner.specs.About.{text_asked}
 use Rattle.gatekeeper_runner.specs.Orders.{by_cluster, by_policies, entered, faults, has_status, is_partial, is_profile, is_verbose, leaves_messages, order_from}
 use Rattle.wide_policy.specs.declared.message_rule.MessageRule.TheVariants.{Required, LeftOut}
 use Rattle.admission.specs.declared.language.Language.TheVariants.{Profile, Wide}
+use Rattle.admission.specs.declared.limits.Limits.{Limits}
 
 -- gatekeeper --policy a.json
 abbrev pub under_policy : List Text
@@ -19,7 +20,19 @@ as_cluster = codes "gatekeeper" ∷ codes "--cluster" ∷ codes "c.json" ∷ []
 abbrev pub with_line : Text → List Text
 with_line number = under_policy ++ codes "--max-line" ∷ number ∷ []
 
--- what command lines ask for: 10,000,000 steps and lines of 16 MiB by default
+-- gatekeeper --policy a.json --reads N
+abbrev pub with_reads : Text → List Text
+with_reads number = under_policy ++ codes "--reads" ∷ number ∷ []
+
+-- this many steps, and this many bytes read
+abbrev pub limited : ℕ → ℕ → Limits
+limited steps reads = record { steps = steps; reads = reads }
+
+-- the limits of a policy's program if none are given
+abbrev pub by_default : Limits
+by_default = limited 10000000 268435456
+
+-- what command lines ask for: 10,000,000 steps, 268,435,456 bytes read and lines of 16 MiB by default
 pub record CommandOrdersHold : Type 0 where
   pub policy : order_from (entered under_policy)
       ≡ by_policies (record {
@@ -27,7 +40,7 @@ pub record CommandOrdersHold : Type 0 where
         language = Wide Required;
         namespace = None;
         params = None;
-        steps = 10000000;
+        limits = by_default;
         max_line = 16777216;
         verbose = false;
         status = false;
@@ -40,7 +53,18 @@ pub record CommandOrdersHold : Type 0 where
         language = Wide Required;
         namespace = Some (codes "n.json");
         params = None;
-        steps = 5;
+        limits = limited 5 268435456;
+        max_line = 16777216;
+        verbose = false;
+        status = false;
+      })
+  pub reads : order_from (entered (with_reads (codes "7")))
+      ≡ by_policies (record {
+        policies = codes "a.json" ∷ [];
+        language = Wide Required;
+        namespace = None;
+        params = None;
+        limits = limited 10000000 7;
         max_line = 16777216;
         verbose = false;
         status = false;
@@ -50,7 +74,18 @@ pub record CommandOrdersHold : Type 0 where
         files = codes "c.json" ∷ [];
         language = Wide Required;
         partial = false;
-        steps = 10000000;
+        limits = by_default;
+        max_line = 16777216;
+        verbose = false;
+        status = false;
+      })
+  pub limited_cluster : order_from
+      (entered (as_cluster ++ codes "--reads" ∷ codes "0" ∷ codes "--steps" ∷ codes "5" ∷ []))
+      ≡ by_cluster (record {
+        files = codes "c.json" ∷ [];
+        language = Wide Required;
+        partial = false;
+        limits = limited 5 0;
         max_line = 16777216;
         verbose = false;
         status = false;
@@ -60,7 +95,7 @@ pub record CommandOrdersHold : Type 0 where
         files = codes "c.json" ∷ [];
         language = Wide Required;
         partial = true;
-        steps = 10000000;
+        limits = by_default;
         max_line = 16777216;
         verbose = false;
         status = false;
@@ -71,7 +106,7 @@ pub record CommandOrdersHold : Type 0 where
         language = Wide Required;
         namespace = None;
         params = None;
-        steps = 10000000;
+        limits = by_default;
         max_line = 16777216;
         verbose = true;
         status = false;
@@ -81,7 +116,7 @@ pub record CommandOrdersHold : Type 0 where
         files = codes "c.json" ∷ [];
         language = Wide Required;
         partial = false;
-        steps = 10000000;
+        limits = by_default;
         max_line = 16777216;
         verbose = true;
         status = false;
@@ -92,7 +127,7 @@ pub record CommandOrdersHold : Type 0 where
         language = Wide Required;
         namespace = None;
         params = None;
-        steps = 10000000;
+        limits = by_default;
         max_line = 16777216;
         verbose = false;
         status = true;
@@ -102,7 +137,7 @@ pub record CommandOrdersHold : Type 0 where
         files = codes "c.json" ∷ [];
         language = Wide Required;
         partial = false;
-        steps = 10000000;
+        limits = by_default;
         max_line = 16777216;
         verbose = true;
         status = true;
@@ -113,7 +148,7 @@ pub record CommandOrdersHold : Type 0 where
         language = Profile;
         namespace = None;
         params = None;
-        steps = 10000000;
+        limits = by_default;
         max_line = 16777216;
         verbose = false;
         status = false;
@@ -123,7 +158,7 @@ pub record CommandOrdersHold : Type 0 where
         files = codes "c.json" ∷ [];
         language = Profile;
         partial = false;
-        steps = 10000000;
+        limits = by_default;
         max_line = 16777216;
         verbose = false;
         status = false;
@@ -133,7 +168,7 @@ pub record CommandOrdersHold : Type 0 where
         files = codes "c.json" ∷ [];
         language = Wide LeftOut;
         partial = false;
-        steps = 10000000;
+        limits = by_default;
         max_line = 16777216;
         verbose = false;
         status = false;
@@ -174,13 +209,19 @@ pub record FaultRowsHold : Type 0 where
   pub longer : faults (with_line (codes "16777217")) ≡ [] → ⊥
   pub shortest : faults (with_line (codes "1")) ≡ []
   pub no_bytes : faults (with_line (codes "0")) ≡ [] → ⊥
+  -- 0 to 2^62 bytes may be read
+  pub most_reads : faults (with_reads (codes "4611686018427387904")) ≡ []
+  pub more_reads : faults (with_reads (codes "4611686018427387905")) ≡ [] → ⊥
+  pub no_reads : faults (with_reads (codes "0")) ≡ []
+  pub reads_value : faults (with_reads (codes "all")) ≡ [] → ⊥
+  pub reads_twice : faults (with_reads (codes "1") ++ codes "--reads" ∷ codes "1" ∷ []) ≡ [] → ⊥
 
 -- the usage that the program prints
 abbrev pub usage : Text
 usage =
-    codes "usage: gatekeeper --policy F [--policy F ..] [--namespace F] [--params F]\n                  [--profile] [--steps N] [--max-line N] [--verbose] [--status]\n"
-    ++ (codes "       gatekeeper --cluster F [--cluster F ..] [--partial]\n                  [--profile | --leave-messages] [--steps N] [--max-line N]\n"
-    ++ (codes "                  [--verbose] [--status]\n\n"
+    codes "usage: gatekeeper --policy F [--policy F ..] [--namespace F] [--params F]\n                  [--profile] [--steps N] [--reads N] [--max-line N]\n                  [--verbose] [--status]\n"
+    ++ (codes "       gatekeeper --cluster F [--cluster F ..] [--partial]\n                  [--profile | --leave-messages] [--steps N] [--reads N]\n"
+    ++ (codes "                  [--max-line N] [--verbose] [--status]\n\n"
     ++ (codes "Compiles the policies, and answers each review on standard input, a JSON document\n"
     ++ (codes "a line, with a line on standard output.\n\n"
     ++ (codes "  --policy F     a ValidatingAdmissionPolicy; once or more\n  --namespace F  the namespace of the requests\n"
@@ -192,10 +233,11 @@ usage =
     ++ (codes "                 them, and not as clusters store them\n"
     ++ (codes "  --leave-messages\n                 a message expression that is refused is left out of its policy\n"
     ++ (codes "  --steps N      the most steps of a policy's program; 10000000 if not given\n"
+    ++ (codes "  --reads N      the most bytes that its helper calls read; 268435456 if not given\n"
     ++ (codes "  --max-line N   the most bytes of a line; 16777216 if not given\n"
     ++ (codes "  --verbose      tells of each refused line on standard error, with its number\n"
     ++ (codes "  --status       ends with status 1 if an answer is a denial or a refusal\n"
-    ++ codes "  --help         prints this text\n  --version      prints the version\n"))))))))))))))))
+    ++ codes "  --help         prints this text\n  --version      prints the version\n")))))))))))))))))
 
 -- the first word after the program's name asks for a text
 pub record HelpRowsHold : Type 0 where

@@ -28,6 +28,7 @@ returns-clause-errors c = record {
   refused_namespace = refl;
   out_of_steps = refl;
   over_limit = refl;
+  out_of_reads = refl;
   no_memory = refl;
 }
 

@@ -33,5 +33,6 @@ returns-clause-names c = record {
   namespace_or_params = refl;
   steps = refl;
   limit = refl;
+  reads = refl;
   memory = refl;
 }

@@ -2,18 +2,20 @@
 
 use Rattle.std.proofs.Common.{refl}
 use Rattle.clap.proofs.OnLiterals.{clap_on_literals}
-use Rattle.cli.specs.Arguments.{option_rule, steps_rule, with_documents}
+use Rattle.cli.specs.Arguments.{option_rule, reads_rule, steps_rule, with_documents}
 use Rattle.cli.specs.Number.{number_of}
 use Rattle.gatekeeper_runner.specs.About.{help_text, version_text}
 use Rattle.gatekeeper_runner.specs.Orders.{cluster_from, entered, faults, files_rule, gatekeeper_app, leave_messages_rule, lines_app, max_line_rule, partial_rule, policies_app, policies_from, profile_rule, status_rule, verbose_rule}
 use Rattle.cluster_rows.proofs.rows.word_rows_stand.Goals as goal
 
 pub returns-clause-orders : goal.returns-clause-orders
-unfolding clap_on_literals gatekeeper_app lines_app policies_app max_line_rule files_rule partial_rule status_rule verbose_rule profile_rule leave_messages_rule with_documents option_rule steps_rule entered faults policies_from cluster_from number_of help_text version_text
+unfolding clap_on_literals gatekeeper_app lines_app policies_app max_line_rule files_rule partial_rule status_rule verbose_rule profile_rule leave_messages_rule with_documents option_rule steps_rule reads_rule entered faults policies_from cluster_from number_of help_text version_text
 returns-clause-orders c = record {
   policy = refl;
   more = refl;
+  reads = refl;
   cluster = refl;
+  limited_cluster = refl;
   partial = refl;
   verbose = refl;
   verbose_cluster = refl;
@@ -25,7 +27,7 @@ returns-clause-orders c = record {
 }
 
 pub returns-clause-faults : goal.returns-clause-faults
-unfolding clap_on_literals gatekeeper_app lines_app policies_app max_line_rule files_rule partial_rule status_rule verbose_rule profile_rule leave_messages_rule with_documents option_rule steps_rule entered faults policies_from cluster_from number_of help_text version_text
+unfolding clap_on_literals gatekeeper_app lines_app policies_app max_line_rule files_rule partial_rule status_rule verbose_rule profile_rule leave_messages_rule with_documents option_rule steps_rule reads_rule entered faults policies_from cluster_from number_of help_text version_text
 returns-clause-faults c = record {
   policy_taken = refl;
   partial_taken = refl;
@@ -55,10 +57,15 @@ returns-clause-faults c = record {
   longer = λ e. cc;
   shortest = refl;
   no_bytes = λ e. cc;
+  most_reads = refl;
+  more_reads = λ e. cc;
+  no_reads = refl;
+  reads_value = λ e. cc;
+  reads_twice = λ e. cc;
 }
 
 pub returns-clause-help : goal.returns-clause-help
-unfolding clap_on_literals gatekeeper_app lines_app policies_app max_line_rule files_rule partial_rule status_rule verbose_rule profile_rule leave_messages_rule with_documents option_rule steps_rule entered faults policies_from cluster_from number_of help_text version_text
+unfolding clap_on_literals gatekeeper_app lines_app policies_app max_line_rule files_rule partial_rule status_rule verbose_rule profile_rule leave_messages_rule with_documents option_rule steps_rule reads_rule entered faults policies_from cluster_from number_of help_text version_text
 returns-clause-help c = record {
   help = refl;
   help_before_others = refl;
