@@ -2,7 +2,7 @@
 
     computing   the values of definitions, computed from their text
     mutating    definitions that are changed one at a time, and whether a row notices
-    hostile     reviews that are made to stall a gatekeeper
+    hostile     reviews that take long to decide or to read
     measures    runs that are timed
     commands    a module for each script
     tests       unit tests, which `tools/run-units` runs

@@ -1,187 +1,144 @@
-"""Feeds a gatekeeper reviews that are made to stall it, and prints the costliest.
+"""Gives a gatekeeper reviews that take long to decide or to read, and prints what each takes.
 
-usage: research/hostile [--seed N] [--count N] [--keep FOLDER] [--program PROGRAM]
-       research/hostile --loops [--seed N] [--count N] [--keep FOLDER] [--program PROGRAM]
-       research/hostile --rows [--keep FOLDER] [--program PROGRAM]
+usage: research/hostile [--own | --examples] [--keep FOLDER] [--program PROGRAM] [SHAPE..]
 
-Each review is one of `examples/policies` or of a policy from a seed, of up to three mebibytes, with texts, lists or
-maps that are made large. A gatekeeper is started for it, with the policy and the default number of steps. It has to
-answer with one line, within 1 s of processor time and 200 MB. It prints the ten that took most time and the ten that
-took most memory, and ends with status 1 if one took more than that, or was not answered. With `--keep` the
-documents of those are written to a folder. An interrupt ends it early, with what it found so far. It builds nothing.
+A shape is a loop whose calls of helpers read as much as they can, or a document that takes long to read; shapes.py in
+celbpf_research/hostile has a dozen: contains, equal, member, keys, put, join, less, ends, ints, towers, 'small maps',
+'many keys'. Without names it takes all. Each is a line of some three mebibytes. First it is given to a gatekeeper with
+a policy of its own (--own), then its parts are put into the longest review of each of `examples/policies`, at up to
+four places (--examples).
 
-With --loops the policies are loops that read large parts of a document in each turn, and values that are alike but
-for one place. A gatekeeper gets 25 reviews, one after another. With --rows it is given the documents that once
-stalled it, of rows.py, repeats.py, stalls.py and written.py in celbpf_research/hostile.
+Each line has to be decided or refused within 0.5 s of processor time, or 0.8 s if its program takes all ten million
+steps, and 150 MB. For a loop that the limit of reads ends, ten times the limit has to take at most about ten times as
+long; for the others ten times the bytes. It prints each shape under its own policy, and of the examples the costliest
+line of each shape. It ends with status 1 if one took more; with `--keep` such lines are written to a folder, with
+their policies. An interrupt ends it early. It builds nothing.
 """
 
 import argparse
 import json
-import signal
 import tempfile
-from itertools import chain
+from dataclasses import dataclass, field
 from pathlib import Path
-from typing import Any, Iterator
+from typing import Any, Optional
 
 from celbpf_tools.entry import parser_of
 from celbpf_tools.home import built
-from ..hostile import loops
-from ..hostile.costs import Cost, cost_of, worst
-from ..hostile.repeats import repeats
-from ..hostile.reviews import hostile
-from ..hostile.rows import rows
-from ..hostile.stalls import stalls
-from ..hostile.written import written
-from ..hostile.watched import Watched
-from celbpf_tools.seeded.cases import Case, case_of, wanted
-from celbpf_tools.seeded.examples import examples
-from celbpf_tools.seeded.numbers import Numbers
+from ..hostile.places import cases, lines
+from ..hostile.shapes import MOST, SHAPES, Shape
+from ..hostile.watched import OUT_OF_READS, Cost, Watched
 
-# policies from the seed, beside those of the examples
-SEEDED = 40
 NAMES = ("policy", "namespace", "params")
-# reviews that a gatekeeper gets with --loops
-LINES = 25
+# the gatekeeper's limit of reads if none is given
+READS = 2**28
+TIMES = 10
+# ten times the limit may take a little more than ten times as long, since a run is measured once
+MOST_TIMES = 13.0
 
 
 def words() -> argparse.Namespace:
     parser = parser_of(__doc__)
-    parser.add_argument("--seed", type=int, default=1)
-    parser.add_argument("--count", type=int, default=5_000)
+    parser.add_argument("shapes", nargs="*", metavar="SHAPE", choices=[[], *(shape.name for shape in SHAPES)])
     parser.add_argument("--keep", type=Path)
     parser.add_argument("--program", default=built("gatekeeper"))
-    forms = parser.add_mutually_exclusive_group()
-    forms.add_argument("--loops", action="store_true")
-    forms.add_argument("--rows", action="store_true")
+    parts = parser.add_mutually_exclusive_group()
+    parts.add_argument("--own", action="store_true")
+    parts.add_argument("--examples", action="store_true")
     return parser.parse_args()
 
 
-def is_review(review: bytes) -> bool:
-    """Whether these bytes are a document that a large part can be put in."""
-    try:
-        document = json.loads(review)
-    except ValueError:
-        return False
-    return isinstance(document, dict) and isinstance(document.get("request"), dict)
+def told(name: str, length: int, cost: Cost, more: str = "") -> None:
+    print(f"{name:34} {length:9,} bytes {cost.seconds:6.2f} s {cost.megabytes:6.0f} MB  {cost.ending}{more}", flush=True)
 
 
-def seeded(numbers: Any) -> Iterator[tuple]:
-    """Cases from a seed whose documents are accepted."""
-    place = 0
-    while True:
-        case = case_of(numbers)
-        given, _ = wanted(case)
-        if given is not None and is_review(case.review):
-            yield f"seed/{place}", case
-        place += 1
+@dataclass
+class Trial:
+    """Lines that are given to gatekeepers, and how many took too much."""
 
+    program: Any
+    folder: Path
+    keep: Optional[Path] = None
+    count: int = 0
+    bad: int = 0
+    worst: dict = field(default_factory=dict)
 
-def cases(numbers: Any) -> list:
-    """The cases of the examples, and some from the seed."""
-    found = [(name, case) for name, case, _ in examples() if is_review(case.review)]
-    more = seeded(numbers)
-    return found + [next(more) for _ in range(SEEDED)]
+    def watched(self, documents: dict, *more: str) -> Watched:
+        """A gatekeeper with these documents."""
+        arguments = list(more)
+        for name, held in documents.items():
+            path = self.folder / f"{name}.json"
+            path.write_bytes(held)
+            arguments += [f"--{name}", str(path)]
+        return Watched(self.program, arguments)
 
-
-def hold(folder: Path, case: Any) -> list:
-    """Writes the documents of a case but for its review; the gatekeeper's words."""
-    arguments: list = []
-    for name in NAMES:
-        held = getattr(case, name)
-        if held is not None:
-            (folder / f"{name}.json").write_bytes(held)
-            arguments += [f"--{name}", str(folder / f"{name}.json")]
-    return arguments
-
-
-def tell(title: str, found: list) -> None:
-    print(title)
-    tell_each(found)
-
-
-def tell_each(found: list) -> None:
-    for (name, length), cost in found:
-        print(f"  {name:48} {length:9,} bytes {cost.seconds:6.2f} s {cost.megabytes:7.1f} MB {cost.answer[:40]!r}")
-
-
-class Attack:
-    """Reviews that are given to a gatekeeper, and what each took."""
-
-    def __init__(self, asked: argparse.Namespace):
-        self.asked = asked
-        self.numbers = Numbers(asked.seed)
-        self.costs: list = []
-        self.bad = 0
-
-    def give(self, folder: Path, name: str, case: Any) -> None:
-        """Gives a gatekeeper a review that is made from a case's."""
-        line = hostile(self.numbers, json.loads(case.review))
-        self.keep(name, case, line, cost_of(self.asked.program, hold(folder, case), line))
-
-    def give_loops(self, folder: Path) -> None:
-        """Gives a gatekeeper with a policy of loops some reviews."""
-        policy = loops.policy(self.numbers)
-        case = Case(json.dumps(policy).encode(), b"")
-        name = " ".join(one["expression"] for one in policy["spec"]["validations"])
-        watched = Watched(self.asked.program, hold(folder, case))
-        try:
-            for _ in range(LINES):
-                line = loops.line(self.numbers)
-                self.keep(name, case, line, watched.give(line))
-        finally:
-            watched.end()
-
-    def give_rows(self, folder: Path) -> None:
-        """Gives gatekeepers the documents that once stalled one."""
-        for name, policy, review in chain(rows(), repeats(), stalls(), written()):
-            case = Case(json.dumps(policy).encode(), b"")
-            line = json.dumps(review, separators=(",", ":")).encode() + b"\n"
-            self.keep(name, case, line, cost_of(self.asked.program, hold(folder, case), line))
-            tell_each(self.costs[-1:])
-
-    def keep(self, name: str, case: Any, line: bytes, cost: Cost) -> None:
-        """Keeps what a review took, and tells of it if that is too much."""
-        place = len(self.costs)
-        self.costs.append(((f"{place} {name}", len(line)), cost))
-        if cost.is_within() and cost.is_answered():
+    def judge(self, is_good: bool, documents: dict, line: bytes) -> None:
+        """Counts a line, and keeps one that is not good."""
+        self.count += 1
+        if is_good:
             return
         self.bad += 1
-        if not self.asked.rows:
-            tell("exceeds the bounds:", self.costs[-1:])
-        if self.asked.keep:
-            kept = self.asked.keep / str(place)
+        if self.keep:
+            kept = self.keep / str(self.count)
             kept.mkdir(parents=True, exist_ok=True)
-            hold(kept, case)
-            (kept / "line.jsonl").write_bytes(line)
+            for name, held in {**documents, "line": line}.items():
+                (kept / f"{name}.json").write_bytes(held)
 
-    def attack(self, folder: Path) -> None:
-        """All reviews of the form that is asked for."""
-        if self.asked.rows:
-            self.give_rows(folder)
-            return
-        found = [] if self.asked.loops else cases(self.numbers)
-        while len(self.costs) < self.asked.count:
-            if self.asked.loops:
-                self.give_loops(folder)
-            else:
-                self.give(folder, *self.numbers.pick(found))
+    def cost(self, documents: dict, line: bytes, *more: str) -> Cost:
+        with self.watched(documents, *more) as watched:
+            return watched.give(line)
 
-    def run(self) -> None:
-        """All of them, or those until an interrupt, which a shell lets its background jobs ignore."""
-        signal.signal(signal.SIGINT, signal.default_int_handler)
-        with tempfile.TemporaryDirectory() as folder:
-            try:
-                self.attack(Path(folder))
-            except KeyboardInterrupt:
-                pass
+    def own(self, shape: Shape) -> None:
+        """A shape under its own policy, and how much longer ten times as much takes."""
+        documents, line = policy_of(shape), shape.line()
+        cost = self.cost(documents, line)
+        if shape.is_limited:
+            free = self.cost(documents, line, "--reads", "0").seconds
+            more = self.cost(documents, line, "--reads", str(TIMES * READS)).seconds
+            times = (more - free) / max(0.001, cost.seconds - free)
+            note = f"; {TIMES} times the limit {times:.1f} times as long"
+        else:
+            times = cost.seconds / max(0.001, self.cost(policy_of(shape, MOST // TIMES), shape.line(MOST // TIMES)).seconds)
+            note = f"; {TIMES} times the bytes {times:.1f} times as long"
+        told(shape.name, len(line), cost, note)
+        ends_so = cost.answer.startswith(OUT_OF_READS) == shape.is_limited
+        self.judge(cost.is_within and ends_so and times <= MOST_TIMES, documents, line)
+
+    def under(self, name: str, case: Any, review: dict, shape: Shape) -> None:
+        """A shape in the review of an example policy, one line after another."""
+        documents = {kind: held for kind in NAMES if (held := getattr(case, kind)) is not None}
+        with self.watched(documents) as watched:
+            for line in lines(review, shape):
+                cost = watched.give(line)
+                self.judge(cost.is_within, documents, line)
+                if not cost.is_within:
+                    told(f"{shape.name}, {name}", len(line), cost, "; too much")
+                if shape.name not in self.worst or cost.seconds > self.worst[shape.name][2].seconds:
+                    self.worst[shape.name] = name, len(line), cost
+
+    def examples(self, shapes: list) -> None:
+        """Shapes in the reviews of all example policies."""
+        for name, case, review in cases():
+            for shape in shapes:
+                self.under(name, case, review, shape)
+        for shape, (name, length, cost) in self.worst.items():
+            told(f"{shape}, {name}", length, cost)
+
+
+def policy_of(shape: Shape, room: int = MOST) -> dict:
+    return {"policy": json.dumps(shape.policy(room)).encode()}
 
 
 def main() -> int:
-    attack = Attack(words())
-    attack.run()
-    if not attack.asked.rows:
-        tell("most time:", worst(attack.costs, lambda cost: cost.seconds))
-        tell("most memory:", worst(attack.costs, lambda cost: cost.megabytes))
-    count = len(attack.costs)
-    print(f"{count - attack.bad} of {count} reviews were answered within the bounds")
-    return 1 if attack.bad else 0
+    asked = words()
+    shapes = [shape for shape in SHAPES if not asked.shapes or shape.name in asked.shapes]
+    with tempfile.TemporaryDirectory() as folder:
+        trial = Trial(asked.program, Path(folder), asked.keep)
+        try:
+            for shape in () if asked.examples else shapes:
+                trial.own(shape)
+            if not asked.own:
+                trial.examples(shapes)
+        except KeyboardInterrupt:
+            pass
+    print(f"{trial.count - trial.bad} of {trial.count} lines were answered within the bounds")
+    return 1 if trial.bad else 0

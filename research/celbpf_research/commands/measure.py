@@ -1,11 +1,11 @@
 """Runs the built program on images and documents that it makes, and prints how long each run takes.
 
-usage: research/measure [PROGRAM [PART..]]   (steps, values, policies, worst, texts, shapes, seeded)
+usage: research/measure [PROGRAM [PART..]]   (steps, values, policies, worst, reads, shapes, seeded)
 
 It builds nothing and proves nothing. Each row is the best of some runs, the program's start included:
-steps or calls a second where the row is of one long run, else milliseconds, of a whole run or of one of
-a session's lines; and the greatest resident memory, which GNU time tells. What is run stands in
-tools/measures.
+steps or calls a second if the row is of one long run, else milliseconds, of a whole run or of one of
+a session's lines; and the greatest resident memory, which GNU time tells. `reads` prints the processor
+time of calls of helpers by what they read. What is run is in celbpf_research/measures.
 """
 
 import os
@@ -13,7 +13,7 @@ import sys
 import tempfile
 
 from celbpf_tools.home import EXAMPLES, built
-from ..measures import policies, shapes, steps, texts, values, worst
+from ..measures import policies, reads, shapes, steps, values, worst
 from ..measures.runs import Runs
 
 PARTS = {
@@ -21,7 +21,7 @@ PARTS = {
     "values": values.measure,
     "policies": lambda runs: policies.measure(runs, f"{EXAMPLES}/replicas"),
     "worst": worst.measure,
-    "texts": texts.measure,
+    "reads": reads.measure,
     "shapes": shapes.measure,
     "seeded": shapes.seeded,
 }

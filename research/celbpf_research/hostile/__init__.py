@@ -1,8 +1,7 @@
-"""Reviews that are made to stall a gatekeeper, from a seed, and what each costs.
+"""A dozen shapes that take long to decide or to read, and what each costs a gatekeeper.
 
-    shapes                   texts, lists and maps that are made large, and where they are put
-    reviews                  the reviews of example policies with such parts
-    alike, loops             values that are alike but for one place, and policies that compare them in loops
-    rows                     documents that stalled a gatekeeper
-    costs, watched           runs of a gatekeeper, with their processor time and memory
+    loops       turns of loops whose calls of helpers read most
+    shapes      the dozen: such loops, and documents that take long to read
+    places      the reviews of example policies with parts of a shape
+    watched     a gatekeeper that is given many lines, with the processor time and the memory of each
 """

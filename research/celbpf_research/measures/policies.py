@@ -70,19 +70,9 @@ def many_variables(runs: Any) -> None:
         timed(runs, f"compile, {count:,} variables, refused", words, REFUSED)
 
 
-def members(runs: Any) -> None:
-    """A list in which each of its own items is searched: ints, and then texts."""
-    path = policy(runs, "members", ["object.items.all(x, x in object.items)"])
-    for count in (1_000, 10_000, 100_000):
-        for kind, items in (("ints", list(range(count))), ("texts", [f"item{item:06}" for item in range(count)])):
-            review = runs.review("searched", {"items": items})
-            reviewed(runs, f"review, {count:,} searches among {kind}", path, review, ALLOWED)
-
-
 def measure(runs: Any, example: Any) -> None:
     """Reviews and compilations; `example` is the folder of the first example."""
     first_example(runs, example)
     many_validations(runs, example)
     many_items(runs)
     many_variables(runs)
-    members(runs)

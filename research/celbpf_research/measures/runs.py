@@ -1,6 +1,7 @@
 """Runs of the built program, and how long they take."""
 
 import json
+import os
 import subprocess
 import sys
 import tempfile
@@ -23,6 +24,18 @@ class Runs:
         if ended.returncode not in statuses:
             sys.exit(f"measure: {' '.join(words)} ended with status {ended.returncode}: {ended.stderr.decode()}")
         return seconds
+
+    def processor(self, words: Any, statuses: Any, count: int = 3) -> float:
+        """The least processor time of so many runs, in seconds."""
+        return min(self.processor_once(words, statuses) for _ in range(count))
+
+    def processor_once(self, words: Any, statuses: Any) -> float:
+        running = subprocess.Popen([self.program, *words], stdout=subprocess.DEVNULL, stderr=subprocess.DEVNULL)
+        _, status, used = os.wait4(running.pid, 0)
+        running.returncode = os.waitstatus_to_exitcode(status)
+        if running.returncode not in statuses:
+            sys.exit(f"measure: {' '.join(words)} ended with status {running.returncode}")
+        return used.ru_utime + used.ru_stime
 
     def memory(self, words: Any, lines: Any = '') -> Any:
         """The greatest resident memory of one run, in megabytes."""
@@ -63,6 +76,6 @@ def left(seconds: Any, without: Any, form: Any) -> Any:
     return form(seconds - without) if seconds > without else "too short to be told"
 
 
-def row(name: str, figure: Any, memory: Any) -> None:
-    """Prints a row."""
-    print(f"{name:38} {figure:>24} {memory:8.1f} MB", flush=True)
+def row(name: str, figure: Any, memory: Any = None) -> None:
+    """Prints a row, with the memory that was taken, if it was measured."""
+    print(f"{name:38} {figure:>24}{'' if memory is None else f' {memory:8.1f} MB'}", flush=True)

@@ -3,7 +3,7 @@
 import os
 from typing import Any
 
-from .policies import ALLOWED, DENIED, policy
+from .policies import ALLOWED, policy
 from .runs import row
 
 # one run each, since some take seconds
@@ -52,62 +52,19 @@ exit
 """
 
 
-def timed(runs: Any, name: str, given: Any, words: Any, lines: Any = '', statuses: Any = (ALLOWED,)) -> Any:
-    """A row of one run on files of so many bytes: its seconds and memory."""
-    seconds, memory = runs.best(words, lines, statuses, COUNT)
+def timed(runs: Any, name: str, given: Any, words: Any, lines: Any = '') -> None:
+    """A row of one run on files of so many bytes."""
+    seconds, memory = runs.best(words, lines, (ALLOWED,), COUNT)
     row(name, f"{given / 1_000_000:.2f} MB in {seconds:.2f} s", memory)
-    return seconds, memory
 
 
-def on_request(runs: Any, name: str, expression: Any, request: Any, status: Any = ALLOWED) -> Any:
+def on_request(runs: Any, name: str, expression: Any, request: Any) -> None:
     """A review of this request under a policy with this validation."""
     path = policy(runs, "worst", [expression])
     whole = {"apiVersion": "admission.k8s.io/v1", "kind": "AdmissionReview", "request": {"uid": "u", **request}}
     review = runs.document("worst-review", whole)
     words = ["review", "--policy", path, "--review", review, "--steps", "1000000000"]
-    return timed(runs, name, os.path.getsize(review), words, statuses=(status,))
-
-
-def searches(runs: Any) -> None:
-    """Each item of one list is searched in another: ints that are there, and texts that are not."""
-    expression = "oldObject.h.all(h, h in object.h)"
-    for size in SIZES:
-        count = 850 * size
-        ints = list(range(count))
-        on_request(runs, f"in, {count:,} ints", expression, {"object": {"h": ints}, "oldObject": {"h": ints}})
-    for size in SIZES:
-        count = 320 * size
-        old, new = ([f"{head}{place:08}" for place in range(count)] for head in "ab")
-        request = {"object": {"h": new}, "oldObject": {"h": old}}
-        on_request(runs, f"! in, {count:,} texts", expression.replace("h in", "!(h in").replace(".h)", ".h))"), request)
-
-
-def comparisons(runs: Any) -> None:
-    """Two lists that differ in their last item, compared in each turn of a loop, and each list of some with each."""
-    for size in SIZES:
-        count = 1_000 * size
-        first = list(range(count))
-        thing = {"l": list(range(1_000)), "a": first, "b": [*first[:-1], -1]}
-        on_request(runs, f"!=, {count:,} ints, 1,000 times", "object.l.all(x, object.a != object.b)", {"object": thing})
-    for size in SIZES:
-        count = 7 * size
-        # the lists of each row differ from one another, each in a place of its own
-        lists = [[*[0] * place, 1, *[0] * (count - place - 1)] for place in range(count)]
-        thing = {"a": lists, "b": [[*some[:-1], 2] for some in lists]}
-        name = f"!=, {count:,} lists of {count:,} ints with each of as many"
-        on_request(runs, name, "object.a.all(x, object.b.all(y, x != y))", {"object": thing})
-
-
-def long_keys(runs: Any) -> None:
-    """A long key that is named in each turn of a loop, and one whose beginning is compared."""
-    for size in SIZES:
-        length = 10_000 * size
-        thing = {"l": list(range(1_000)), "m": {"k" * length: 1}}
-        on_request(runs, f"a key of {length:,} bytes, 1,000 times", "object.l.all(x, object.m.all(k, true))", {"object": thing})
-    for size in SIZES:
-        expression = "object.containers.all(c, object.annotations.all(k, !k.startsWith('x/')))"
-        thing = {"containers": [CONTAINER] * (10 * size), "annotations": {"k" * (7_000 * size): "v"}}
-        on_request(runs, f"annotations in {10 * size:,} containers", expression, {"object": thing})
+    timed(runs, name, os.path.getsize(review), words)
 
 
 def shapes(runs: Any) -> None:
@@ -153,8 +110,5 @@ def sessions(runs: Any) -> None:
 
 def measure(runs: Any) -> None:
     """Each of them."""
-    searches(runs)
-    comparisons(runs)
-    long_keys(runs)
     shapes(runs)
     sessions(runs)
