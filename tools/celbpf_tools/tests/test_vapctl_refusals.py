@@ -2,6 +2,7 @@
 
 import unittest
 
+from ..vapctl.gate import answer_of
 from ..vapctl.refusals import why_blocked, words_of
 
 ROWS = [
@@ -21,6 +22,11 @@ class Words(unittest.TestCase):
 
     def test_a_field_that_is_not_read(self) -> None:
         self.assertTrue(words_of("K3 auditAnnotations").endswith("(K3 auditAnnotations)"))
+
+    def test_refusals_of_reviews(self) -> None:
+        for code, due in (("N4", "its program takes more steps than are allowed"), ("N7", "its program reads more than is allowed")):
+            answer = answer_of(f'{{"policy":"p","refused":"{code}","uid":"u"}}')
+            self.assertEqual((answer.policy, answer.why_refused), ("p", f"{due} ({code})"))
 
 
 if __name__ == "__main__":
