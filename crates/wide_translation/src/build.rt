@@ -1,6 +1,6 @@
 //! Builds expressions from their parts.
 
-ghost use Rattle.std.specs.Prelude.{◌≡◌, IfOk, string_bytes};
+ghost use Rattle.std.specs.Prelude.{◌≡◌, [], ◌∷◌, ◌++◌, IfOk, string_bytes};
 ghost use Rattle.std.specs.Prelude as list;
 ghost use Rattle.cel_reader.specs.Tree as node;
 ghost use Rattle.cel_reader.specs.Tree.{view, trees, entries, entry_view};
@@ -11,6 +11,13 @@ use crate::names::{HELD, PARAMS, PARAMS_FIELD, VARIABLES};
 use cel_macros::Macro;
 use cel_reader::{BinaryOperator, Expr, Literal, UnaryOperator};
 use std::alloc::{AllocError, Global};
+
+/// An expression in a place of its own.
+fn boxed(alloc: Global, e: Expr) -> Result<Box<Expr>, AllocError>
+    ensures { IfOk result (λ b. b.value ≡ e) }
+{
+    Ok(Box::new(alloc, e)?)
+}
 
 /// A name.
 pub(crate) fn name(alloc: Global, name: &str) -> Result<Expr, AllocError>
@@ -38,7 +45,7 @@ pub(crate) fn select(alloc: Global, of: Expr, field: &str) -> Result<Expr, Alloc
     ensures { IfOk result (λ e. view e ≡ node.select (view of) field.now) }
 {
     let copy = String::from_str(alloc, field)?;
-    Ok(Expr::Select(Box::new(alloc, of)?, copy))
+    Ok(Expr::Select(boxed(alloc, of)?, copy))
 }
 
 /// A root; `params` is a field of its root if that has tables too.
@@ -64,7 +71,7 @@ pub(crate) fn variable(alloc: Global, field: &str) -> Result<Expr, AllocError>
 pub(crate) fn index(alloc: Global, of: Expr, key: Expr) -> Result<Expr, AllocError>
     ensures { IfOk result (λ e. view e ≡ node.index (view of) (view key)) }
 {
-    Ok(Expr::Index(Box::new(alloc, of)?, Box::new(alloc, key)?))
+    Ok(Expr::Index(boxed(alloc, of)?, boxed(alloc, key)?))
 }
 
 /// The first item of an expression.
@@ -74,14 +81,53 @@ pub(crate) fn first(alloc: Global, of: Expr) -> Result<Expr, AllocError>
     index(alloc, of, Expr::Literal(Literal::Int(0)))
 }
 
+/// Expressions with one more.
+pub(crate) fn more(items: Vec<Expr>, item: Expr) -> Result<Vec<Expr>, AllocError>
+    ensures { IfOk result (λ v. v.items ≡ items.items ++ item ∷ []) }
+{
+    let mut all = items;
+    all.push(item)?;
+    Ok(all)
+}
+
+/// An expression alone.
+fn single(alloc: Global, item: Expr) -> Result<Vec<Expr>, AllocError>
+    ensures { IfOk result (λ v. v.items ≡ item ∷ []) }
+{
+    more(Vec::new(alloc), item)
+}
+
+/// Two expressions.
+fn pair(alloc: Global, first: Expr, second: Expr) -> Result<Vec<Expr>, AllocError>
+    ensures { IfOk result (λ v. v.items ≡ first ∷ second ∷ []) }
+{
+    let items = single(alloc, first)?;
+    more(items, second)
+}
+
+/// Three expressions.
+fn triple(alloc: Global, first: Expr, second: Expr, third: Expr) -> Result<Vec<Expr>, AllocError>
+    ensures { IfOk result (λ v. v.items ≡ first ∷ second ∷ third ∷ []) }
+{
+    let items = pair(alloc, first, second)?;
+    more(items, third)
+}
+
+/// A call of a function.
+#[tactic(auto, using(cel_macros::proofs::Views::view_call))]
+pub(crate) fn call_of(alloc: Global, name: &str, arguments: Vec<Expr>) -> Result<Expr, AllocError>
+    ensures { IfOk result (λ e. view e ≡ node.call name.now (trees (list.map view arguments.items))) }
+{
+    let callee = String::from_str(alloc, name)?;
+    Ok(Expr::Call(callee, arguments))
+}
+
 /// A call of a function with one argument.
 pub(crate) fn call(alloc: Global, name: &str, argument: Expr) -> Result<Expr, AllocError>
     ensures { IfOk result (λ e. view e ≡ forms.call_tree name.now (view argument)) }
 {
-    let callee = String::from_str(alloc, name)?;
-    let mut arguments = Vec::new(alloc);
-    arguments.push(argument)?;
-    Ok(Expr::Call(callee, arguments))
+    let arguments = single(alloc, argument)?;
+    call_of(alloc, name, arguments)
 }
 
 /// Whether an expression has a field.
@@ -92,12 +138,25 @@ pub(crate) fn has(alloc: Global, of: Expr, field: &str) -> Result<Expr, AllocErr
     call(alloc, "has", selection)
 }
 
+/// A call of a method.
+#[tactic(auto, using(cel_macros::proofs::Views::view_method))]
+pub(crate) fn method_of(
+    alloc: Global,
+    of: Expr,
+    name: &str,
+    arguments: Vec<Expr>,
+) -> Result<Expr, AllocError>
+    ensures { IfOk result (λ e. view e ≡ node.method (view of) name.now (trees (list.map view arguments.items))) }
+{
+    let callee = String::from_str(alloc, name)?;
+    Ok(Expr::Method(boxed(alloc, of)?, callee, arguments))
+}
+
 /// A call of a method without arguments.
 pub(crate) fn method(alloc: Global, of: Expr, name: &str) -> Result<Expr, AllocError>
     ensures { IfOk result (λ e. view e ≡ node.method (view of) name.now node.no_trees) }
 {
-    let callee = String::from_str(alloc, name)?;
-    Ok(Expr::Method(Box::new(alloc, of)?, callee, Vec::new(alloc)))
+    method_of(alloc, of, name, Vec::new(alloc))
 }
 
 /// A call of a method with one argument.
@@ -109,10 +168,8 @@ pub(crate) fn method_with(
 ) -> Result<Expr, AllocError>
     ensures { IfOk result (λ e. view e ≡ node.method (view of) name.now (node.more_trees (view argument) node.no_trees)) }
 {
-    let callee = String::from_str(alloc, name)?;
-    let mut arguments = Vec::new(alloc);
-    arguments.push(argument)?;
-    Ok(Expr::Method(Box::new(alloc, of)?, callee, arguments))
+    let arguments = single(alloc, argument)?;
+    method_of(alloc, of, name, arguments)
 }
 
 /// An operator before an operand.
@@ -123,7 +180,7 @@ pub(crate) fn unary(
 ) -> Result<Expr, AllocError>
     ensures { IfOk result (λ e. view e ≡ node.unary operator (view operand)) }
 {
-    Ok(Expr::Unary(operator, Box::new(alloc, operand)?))
+    Ok(Expr::Unary(operator, boxed(alloc, operand)?))
 }
 
 /// An operator between operands.
@@ -135,7 +192,7 @@ pub(crate) fn binary(
 ) -> Result<Expr, AllocError>
     ensures { IfOk result (λ e. view e ≡ node.binary operator (view left) (view right)) }
 {
-    Ok(Expr::Binary(operator, Box::new(alloc, left)?, Box::new(alloc, right)?))
+    Ok(Expr::Binary(operator, boxed(alloc, left)?, boxed(alloc, right)?))
 }
 
 /// A conditional.
@@ -148,9 +205,9 @@ pub(crate) fn ternary(
     ensures { IfOk result (λ e. view e ≡ node.ternary (view condition) (view yes) (view no)) }
 {
     Ok(Expr::Ternary(
-        Box::new(alloc, condition)?,
-        Box::new(alloc, yes)?,
-        Box::new(alloc, no)?,
+        boxed(alloc, condition)?,
+        boxed(alloc, yes)?,
+        boxed(alloc, no)?,
     ))
 }
 
@@ -165,9 +222,8 @@ pub(crate) fn empty(alloc: Global) -> Expr
 pub(crate) fn one(alloc: Global, item: Expr) -> Result<Expr, AllocError>
     ensures { IfOk result (λ e. view e ≡ forms.one_tree (view item)) }
 {
-    let mut items = Vec::new(alloc);
-    items.push(item)?;
-    Ok(Expr::List(items))
+    let items = single(alloc, item)?;
+    Ok(list(items))
 }
 
 /// A list literal.
@@ -194,12 +250,9 @@ fn macro_named(
 ) -> Result<Expr, AllocError>
     ensures { IfOk result (λ e. view e ≡ node.method (view range) name.now (node.more_trees (node.name item.now) (node.more_trees (view part) node.no_trees))) }
 {
-    let callee = String::from_str(alloc, name)?;
-    let iteration_name = Expr::Name(String::from_str(alloc, item)?);
-    let mut arguments = Vec::new(alloc);
-    arguments.push(iteration_name)?;
-    arguments.push(part)?;
-    Ok(Expr::Method(Box::new(alloc, range)?, callee, arguments))
+    let iteration_name = self::name(alloc, item)?;
+    let arguments = pair(alloc, iteration_name, part)?;
+    method_of(alloc, range, name, arguments)
 }
 
 /// A macro over a range.
@@ -231,13 +284,9 @@ pub(crate) fn filter_map(
 ) -> Result<Expr, AllocError>
     ensures { IfOk result (λ e. view e ≡ forms.filter_map_tree item.now (view range) (view predicate) (view transform)) }
 {
-    let callee = String::from_str(alloc, "map")?;
-    let iteration_name = Expr::Name(String::from_str(alloc, item)?);
-    let mut arguments = Vec::new(alloc);
-    arguments.push(iteration_name)?;
-    arguments.push(predicate)?;
-    arguments.push(transform)?;
-    Ok(Expr::Method(Box::new(alloc, range)?, callee, arguments))
+    let iteration_name = name(alloc, item)?;
+    let arguments = triple(alloc, iteration_name, predicate, transform)?;
+    method_of(alloc, range, "map", arguments)
 }
 
 /// An expression with the name that the translation binds for the value of another.

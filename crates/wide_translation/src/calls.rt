@@ -182,15 +182,37 @@ fn value(alloc: Global, of: Carried) -> Result<Carried, TranslationError>
     }
 }
 
+/// Whether the list that the translation's name denotes is empty.
+fn held_is_empty(alloc: Global) -> Result<Expr, AllocError>
+    ensures { IfOk result (λ e. view e ≡ forms.is_empty_tree forms.held) }
+{
+    let held = build::held(alloc)?;
+    build::binary(alloc, BinaryOperator::Equal, held, build::empty(alloc))
+}
+
+/// The first item of the list that the translation's name denotes.
+fn held_first(alloc: Global) -> Result<Expr, AllocError>
+    ensures { IfOk result (λ e. view e ≡ forms.first_tree forms.held) }
+{
+    let held = build::held(alloc)?;
+    build::first(alloc, held)
+}
+
 /// The item of the list that the translation's name denotes, or a default if the list is empty.
 fn held_or(alloc: Global, default: Expr) -> Result<Expr, AllocError>
     ensures { IfOk result (λ e. view e ≡ held_or_tree (view default)) }
 {
-    let held = build::held(alloc)?;
-    let is_empty = build::binary(alloc, BinaryOperator::Equal, held, build::empty(alloc))?;
-    let again = build::held(alloc)?;
-    let item = build::first(alloc, again)?;
+    let is_empty = held_is_empty(alloc)?;
+    let item = held_first(alloc)?;
     build::ternary(alloc, is_empty, default, item)
+}
+
+/// The item of a list, or a default if the list is empty.
+fn item_or(alloc: Global, list: Expr, default: Expr) -> Result<Expr, AllocError>
+    ensures { IfOk result (λ e. view e ≡ forms.let_tree names.held_name (view list) (held_or_tree (view default))) }
+{
+    let body = held_or(alloc, default)?;
+    build::bound(alloc, list, body)
 }
 
 /// The value of an optional value, or a default.
@@ -209,8 +231,7 @@ fn or_plain(
             Ok(Carried::Plain(joined_kind(kind, other), chosen))
         }
         Carried::Listed(kind, list) => {
-            let body = held_or(alloc, default)?;
-            let chosen = build::bound(alloc, list, body)?;
+            let chosen = item_or(alloc, list, default)?;
             Ok(Carried::Plain(joined_kind(kind, other), chosen))
         }
     }
@@ -234,8 +255,7 @@ pub(crate) fn or_value(
 fn held_or_list(alloc: Global, other: Expr) -> Result<Expr, AllocError>
     ensures { IfOk result (λ e. view e ≡ held_or_list_tree (view other)) }
 {
-    let held = build::held(alloc)?;
-    let is_empty = build::binary(alloc, BinaryOperator::Equal, held, build::empty(alloc))?;
+    let is_empty = held_is_empty(alloc)?;
     let again = build::held(alloc)?;
     build::ternary(alloc, is_empty, other, again)
 }
@@ -253,6 +273,22 @@ pub(crate) fn as_list(alloc: Global, of: Carried) -> Result<Carried, AllocError>
     }
 }
 
+/// The list of a value if its guard holds, or another list.
+fn guarded_list_or(alloc: Global, guard: Expr, value: Expr, other: Expr) -> Result<Expr, AllocError>
+    ensures { IfOk result (λ e. view e ≡ node.ternary (view guard) (forms.one_tree (view value)) (view other)) }
+{
+    let first = build::one(alloc, value)?;
+    build::ternary(alloc, guard, first, other)
+}
+
+/// A list, or another if it is empty.
+fn list_or(alloc: Global, list: Expr, other: Expr) -> Result<Expr, AllocError>
+    ensures { IfOk result (λ e. view e ≡ forms.let_tree names.held_name (view list) (held_or_list_tree (view other))) }
+{
+    let body = held_or_list(alloc, other)?;
+    build::bound(alloc, list, body)
+}
+
 /// A value if its guard holds, or another optional value.
 fn guarded_or(
     alloc: Global,
@@ -266,8 +302,7 @@ fn guarded_or(
     let Carried::Listed(next, second) = other else {
         return Err(TranslationError::OptionalValue);
     };
-    let first = build::one(alloc, value)?;
-    let chosen = build::ternary(alloc, guard, first, second)?;
+    let chosen = guarded_list_or(alloc, guard, value, second)?;
     Ok(Carried::Listed(joined_kind(kind, next), chosen))
 }
 
@@ -283,8 +318,7 @@ fn listed_or(
     let Carried::Listed(next, second) = other else {
         return Err(TranslationError::OptionalValue);
     };
-    let body = held_or_list(alloc, second)?;
-    let chosen = build::bound(alloc, list, body)?;
+    let chosen = list_or(alloc, list, second)?;
     Ok(Carried::Listed(joined_kind(kind, next), chosen))
 }
 

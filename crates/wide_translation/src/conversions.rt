@@ -1,6 +1,6 @@
 //! Values as texts, texts as bools, and optional values of values that are not zero.
 
-ghost use Rattle.std.specs.Prelude.{◌≡◌, [], ◌∷◌, IfOk, map, true, false};
+ghost use Rattle.std.specs.Prelude.{◌≡◌, [], ◌∷◌, ◌++◌, IfOk, codes, map, true, false};
 ghost use Rattle.cel_reader.specs.Tree as node;
 ghost use Rattle.cel_reader.specs.Tree.{view};
 ghost use Rattle.wide_meaning.specs.Functions.{false_texts, true_texts};
@@ -13,11 +13,11 @@ use cel_reader::{BinaryOperator, Expr, Literal};
 use std::alloc::{AllocError, Global};
 use wide_kinds::ValueKind;
 
-/// A choice between the text `true` and another expression.
-fn chosen_text(alloc: Global, condition: Expr, other: Expr) -> Result<Expr, AllocError>
-    ensures { IfOk result (λ e. view e ≡ node.ternary (view condition) (node.literal (node.text forms.true_text)) (view other)) }
+/// A choice between a text and another expression.
+fn chosen_text(alloc: Global, condition: Expr, text: &str, other: Expr) -> Result<Expr, AllocError>
+    ensures { IfOk result (λ e. view e ≡ node.ternary (view condition) (node.literal (node.text text.now)) (view other)) }
 {
-    let yes = build::text(alloc, "true")?;
+    let yes = build::text(alloc, text)?;
     build::ternary(alloc, condition, yes, other)
 }
 
@@ -30,16 +30,22 @@ fn is_bool(alloc: Global, of: &Expr, value: bool) -> Result<Expr, AllocError>
     build::binary(alloc, BinaryOperator::Equal, operand, literal)
 }
 
+/// The text `false` if an expression is false, else the text of an int or of a text.
+fn false_or_text(alloc: Global, of: Expr) -> Result<Expr, AllocError>
+    ensures { IfOk result (λ e. view e ≡ node.ternary (forms.is_bool_tree (view of) false) (node.literal (node.text (codes "false"))) (forms.call_tree (codes "string") (view of))) }
+{
+    let is_false = is_bool(alloc, &of, false)?;
+    let text = build::call(alloc, "string", of)?;
+    chosen_text(alloc, is_false, "false", text)
+}
+
 /// A value of any kind as a text.
 fn any_text(alloc: Global, of: Expr) -> Result<Expr, AllocError>
     ensures { IfOk result (λ e. view e ≡ forms.text_tree (view of)) }
 {
     let is_true = is_bool(alloc, &of, true)?;
-    let is_false = is_bool(alloc, &of, false)?;
-    let no = build::text(alloc, "false")?;
-    let text = build::call(alloc, "string", of)?;
-    let inner = build::ternary(alloc, is_false, no, text)?;
-    chosen_text(alloc, is_true, inner)
+    let other = false_or_text(alloc, of)?;
+    chosen_text(alloc, is_true, "true", other)
 }
 
 /// A value of any kind as a text, with the value written once.
@@ -62,38 +68,68 @@ pub(crate) fn string(alloc: Global, kind: ValueKind, of: Expr) -> Result<Expr, A
         ValueKind::Int | ValueKind::String => build::call(alloc, "string", of),
         ValueKind::Bool => {
             let no = build::text(alloc, "false")?;
-            chosen_text(alloc, of, no)
+            chosen_text(alloc, of, "true", no)
         }
         _ => once_text(alloc, of),
     }
+}
+
+/// Expressions with one more, a text literal.
+fn with_text(alloc: Global, items: Vec<Expr>, text: &str) -> Result<Vec<Expr>, AllocError>
+    ensures { IfOk result (λ v. map view v.items ≡ map view items.items ++ node.literal (node.text text.now) ∷ []) }
+{
+    let item = build::text(alloc, text)?;
+    build::more(items, item)
 }
 
 /// The texts that denote true.
 fn true_list(alloc: Global) -> Result<Expr, AllocError>
     ensures { IfOk result (λ e. view e ≡ node.list (forms.text_trees true_texts)) }
 {
-    let mut items = Vec::new(alloc);
-    items.push(build::text(alloc, "1")?)?;
-    items.push(build::text(alloc, "t")?)?;
-    items.push(build::text(alloc, "T")?)?;
-    items.push(build::text(alloc, "true")?)?;
-    items.push(build::text(alloc, "TRUE")?)?;
-    items.push(build::text(alloc, "True")?)?;
-    Ok(build::list(items))
+    let one = with_text(alloc, Vec::new(alloc), "1")?;
+    let two = with_text(alloc, one, "t")?;
+    let three = with_text(alloc, two, "T")?;
+    let four = with_text(alloc, three, "true")?;
+    let five = with_text(alloc, four, "TRUE")?;
+    let six = with_text(alloc, five, "True")?;
+    Ok(build::list(six))
 }
 
 /// The texts that denote false.
 fn false_list(alloc: Global) -> Result<Expr, AllocError>
     ensures { IfOk result (λ e. view e ≡ node.list (forms.text_trees false_texts)) }
 {
-    let mut items = Vec::new(alloc);
-    items.push(build::text(alloc, "0")?)?;
-    items.push(build::text(alloc, "f")?)?;
-    items.push(build::text(alloc, "F")?)?;
-    items.push(build::text(alloc, "false")?)?;
-    items.push(build::text(alloc, "FALSE")?)?;
-    items.push(build::text(alloc, "False")?)?;
-    Ok(build::list(items))
+    let one = with_text(alloc, Vec::new(alloc), "0")?;
+    let two = with_text(alloc, one, "f")?;
+    let three = with_text(alloc, two, "F")?;
+    let four = with_text(alloc, three, "false")?;
+    let five = with_text(alloc, four, "FALSE")?;
+    let six = with_text(alloc, five, "False")?;
+    Ok(build::list(six))
+}
+
+/// Whether an expression is an item of a list.
+fn is_among(alloc: Global, of: &Expr, list: Expr) -> Result<Expr, AllocError>
+    ensures { IfOk result (λ e. view e ≡ node.binary forms.membership (view of.now) (view list)) }
+{
+    let operand = copy(alloc, of)?;
+    build::binary(alloc, BinaryOperator::In, operand, list)
+}
+
+/// Whether an expression is a text that denotes true.
+fn is_true_text(alloc: Global, of: &Expr) -> Result<Expr, AllocError>
+    ensures { IfOk result (λ e. view e ≡ node.binary forms.membership (view of.now) (node.list (forms.text_trees true_texts))) }
+{
+    let texts = true_list(alloc)?;
+    is_among(alloc, of, texts)
+}
+
+/// Whether an expression is a text that denotes false.
+fn is_false_text(alloc: Global, of: &Expr) -> Result<Expr, AllocError>
+    ensures { IfOk result (λ e. view e ≡ node.binary forms.membership (view of.now) (node.list (forms.text_trees false_texts))) }
+{
+    let texts = false_list(alloc)?;
+    is_among(alloc, of, texts)
 }
 
 /// The choice between true, false and the error.
@@ -108,14 +144,11 @@ fn chosen_bool(alloc: Global, is_true: Expr, is_false: Expr) -> Result<Expr, All
 }
 
 /// The bool that a text denotes.
-fn text_bool(alloc: Global, of: Expr) -> Result<Expr, AllocError>
-    ensures { IfOk result (λ e. view e ≡ forms.text_bool_tree (view of)) }
+fn text_bool(alloc: Global, of: &Expr) -> Result<Expr, AllocError>
+    ensures { IfOk result (λ e. view e ≡ forms.text_bool_tree (view of.now)) }
 {
-    let operand = copy(alloc, &of)?;
-    let yes = true_list(alloc)?;
-    let is_true = build::binary(alloc, BinaryOperator::In, operand, yes)?;
-    let no = false_list(alloc)?;
-    let is_false = build::binary(alloc, BinaryOperator::In, of, no)?;
+    let is_true = is_true_text(alloc, of)?;
+    let is_false = is_false_text(alloc, of)?;
     chosen_bool(alloc, is_true, is_false)
 }
 
@@ -124,9 +157,7 @@ fn denotes_true(alloc: Global, of: &Expr) -> Result<Expr, AllocError>
     ensures { IfOk result (λ e. view e ≡ forms.denotes_tree (view of.now) true true_texts) }
 {
     let first = is_bool(alloc, of, true)?;
-    let operand = copy(alloc, of)?;
-    let texts = true_list(alloc)?;
-    let second = build::binary(alloc, BinaryOperator::In, operand, texts)?;
+    let second = is_true_text(alloc, of)?;
     build::binary(alloc, BinaryOperator::Or, first, second)
 }
 
@@ -135,9 +166,7 @@ fn denotes_false(alloc: Global, of: &Expr) -> Result<Expr, AllocError>
     ensures { IfOk result (λ e. view e ≡ forms.denotes_tree (view of.now) false false_texts) }
 {
     let first = is_bool(alloc, of, false)?;
-    let operand = copy(alloc, of)?;
-    let texts = false_list(alloc)?;
-    let second = build::binary(alloc, BinaryOperator::In, operand, texts)?;
+    let second = is_false_text(alloc, of)?;
     build::binary(alloc, BinaryOperator::Or, first, second)
 }
 
@@ -155,10 +184,10 @@ fn once_text_bool(alloc: Global, of: Expr) -> Result<Expr, AllocError>
     ensures { IfOk result (λ e. view e ≡ specs.once (view of) forms.text_bool_tree) }
 {
     if build::is_simple(&of) {
-        return text_bool(alloc, of);
+        return text_bool(alloc, &of);
     }
     let held = build::held(alloc)?;
-    let body = text_bool(alloc, held)?;
+    let body = text_bool(alloc, &held)?;
     build::bound(alloc, of, body)
 }
 
@@ -188,25 +217,30 @@ pub(crate) fn bool_of(alloc: Global, kind: ValueKind, of: Expr) -> Result<Expr, 
 fn zero_list(alloc: Global) -> Result<Expr, AllocError>
     ensures { IfOk result (λ e. view e ≡ node.list forms.zero_trees) }
 {
-    let mut items = Vec::new(alloc);
-    items.push(Expr::Literal(Literal::Null))?;
-    items.push(Expr::Literal(Literal::Bool(false)))?;
-    items.push(Expr::Literal(Literal::Int(0)))?;
-    items.push(build::text(alloc, "")?)?;
-    items.push(build::empty(alloc))?;
-    items.push(build::map(Vec::new(alloc)))?;
-    Ok(build::list(items))
+    let one = build::more(Vec::new(alloc), Expr::Literal(Literal::Null))?;
+    let two = build::more(one, Expr::Literal(Literal::Bool(false)))?;
+    let three = build::more(two, Expr::Literal(Literal::Int(0)))?;
+    let four = with_text(alloc, three, "")?;
+    let five = build::more(four, build::empty(alloc))?;
+    let six = build::more(five, build::map(Vec::new(alloc)))?;
+    Ok(build::list(six))
+}
+
+/// Whether an expression is null, false, 0 or empty.
+fn is_zero(alloc: Global, of: &Expr) -> Result<Expr, AllocError>
+    ensures { IfOk result (λ e. view e ≡ node.binary forms.membership (view of.now) (node.list forms.zero_trees)) }
+{
+    let zeros = zero_list(alloc)?;
+    is_among(alloc, of, zeros)
 }
 
 /// The list of a value, or the empty list if it is null, false, 0 or empty.
 fn any_non_zero(alloc: Global, of: Expr) -> Result<Expr, AllocError>
     ensures { IfOk result (λ e. view e ≡ forms.non_zero_tree (view of)) }
 {
-    let operand = copy(alloc, &of)?;
-    let zeros = zero_list(alloc)?;
-    let is_zero = build::binary(alloc, BinaryOperator::In, operand, zeros)?;
+    let zero = is_zero(alloc, &of)?;
     let list = build::one(alloc, of)?;
-    build::ternary(alloc, is_zero, build::empty(alloc), list)
+    build::ternary(alloc, zero, build::empty(alloc), list)
 }
 
 /// The same, with the value written once.

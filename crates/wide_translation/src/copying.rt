@@ -5,6 +5,7 @@ ghost use Rattle.std.specs.Prelude as list;
 ghost use Rattle.cel_reader.specs.Tree as node;
 ghost use Rattle.cel_reader.specs.Tree.{view, entry_view, literal_view};
 
+use crate::build;
 use cel_reader::{Expr, Literal};
 use std::alloc::{AllocError, Global};
 
@@ -58,54 +59,47 @@ pub(crate) fn copy(alloc: Global, e: &Expr) -> Result<Expr, AllocError>
 {
     match e {
         Expr::Literal(given) => literal(alloc, given),
-        Expr::Name(name) => Ok(Expr::Name(String::from_str(alloc, name.as_str())?)),
+        Expr::Name(name) => build::name(alloc, name.as_str()),
         Expr::Select(of, field) => {
             let inner = copy(alloc, of)?;
-            let name = String::from_str(alloc, field.as_str())?;
-            Ok(Expr::Select(Box::new(alloc, inner)?, name))
+            build::select(alloc, inner, field.as_str())
         }
         Expr::Index(of, at) => {
             let first = copy(alloc, of)?;
             let second = copy(alloc, at)?;
-            Ok(Expr::Index(Box::new(alloc, first)?, Box::new(alloc, second)?))
+            build::index(alloc, first, second)
         }
         Expr::Call(name, arguments) => {
-            let callee = String::from_str(alloc, name.as_str())?;
             let parts = copies(alloc, arguments.as_slice())?;
-            Ok(Expr::Call(callee, parts))
+            build::call_of(alloc, name.as_str(), parts)
         }
         Expr::Method(of, name, arguments) => {
             let inner = copy(alloc, of)?;
-            let callee = String::from_str(alloc, name.as_str())?;
             let parts = copies(alloc, arguments.as_slice())?;
-            Ok(Expr::Method(Box::new(alloc, inner)?, callee, parts))
+            build::method_of(alloc, inner, name.as_str(), parts)
         }
         Expr::Unary(operator, operand) => {
             let inner = copy(alloc, operand)?;
-            Ok(Expr::Unary(*operator, Box::new(alloc, inner)?))
+            build::unary(alloc, *operator, inner)
         }
         Expr::Binary(operator, left, right) => {
             let first = copy(alloc, left)?;
             let second = copy(alloc, right)?;
-            Ok(Expr::Binary(*operator, Box::new(alloc, first)?, Box::new(alloc, second)?))
+            build::binary(alloc, *operator, first, second)
         }
         Expr::Ternary(condition, yes, no) => {
             let test = copy(alloc, condition)?;
             let first = copy(alloc, yes)?;
             let second = copy(alloc, no)?;
-            Ok(Expr::Ternary(
-                Box::new(alloc, test)?,
-                Box::new(alloc, first)?,
-                Box::new(alloc, second)?,
-            ))
+            build::ternary(alloc, test, first, second)
         }
         Expr::List(items) => {
             let parts = copies(alloc, items.as_slice())?;
-            Ok(Expr::List(parts))
+            Ok(build::list(parts))
         }
         Expr::Map(pairs) => {
             let parts = entry_copies(alloc, pairs.as_slice())?;
-            Ok(Expr::Map(parts))
+            Ok(build::map(parts))
         }
     }
 }

@@ -3,6 +3,7 @@
 ghost use Rattle.std.specs.Prelude.{◌≡◌, ℕ, IfOk, pos};
 ghost use Rattle.cel_reader.specs.Tree as node;
 ghost use Rattle.cel_reader.specs.Tree.{view};
+ghost use Rattle.cel_reader.specs.declared.operator.BinaryOperator.TheVariants as operation;
 ghost use Rattle.wide_translation.specs.Forms as forms;
 ghost use Rattle.wide_translation.specs.Layers.{list_size_tree};
 
@@ -32,6 +33,15 @@ fn key_in(alloc: Global, field: &str, of: &Expr) -> Result<Expr, AllocError>
     build::binary(alloc, BinaryOperator::In, key, container)
 }
 
+/// Whether a field is among the keys of an expression, whatever a test says, unless that is the error.
+fn key_if(alloc: Global, test: Expr, of: &Expr, field: &str) -> Result<Expr, AllocError>
+    ensures { IfOk result (λ e. view e ≡ node.ternary (view test) (node.binary forms.membership (node.literal (node.text field.now)) (view of.now)) (node.binary forms.membership (node.literal (node.text field.now)) (view of.now))) }
+{
+    let first = key_in(alloc, field, of)?;
+    let second = key_in(alloc, field, of)?;
+    build::ternary(alloc, test, first, second)
+}
+
 /// Whether an expression, which is not null, has a field.
 fn has_any(alloc: Global, of: &Expr, field: &str) -> Result<Expr, AllocError>
     ensures { IfOk result (λ e. view e ≡ forms.has_any_tree (view of.now) field.now) }
@@ -41,22 +51,22 @@ fn has_any(alloc: Global, of: &Expr, field: &str) -> Result<Expr, AllocError>
         return build::has(alloc, operand, field);
     }
     let test = build::has(alloc, operand, "a")?;
-    let first = key_in(alloc, field, of)?;
-    let second = key_in(alloc, field, of)?;
-    build::ternary(alloc, test, first, second)
+    key_if(alloc, test, of, field)
+}
+
+/// A comparison of an expression with null.
+fn null_test(alloc: Global, operator: BinaryOperator, of: &Expr) -> Result<Expr, AllocError>
+    ensures { IfOk result (λ e. view e ≡ node.binary operator (view of.now) (node.literal node.null)) }
+{
+    let operand = copy(alloc, of)?;
+    build::binary(alloc, operator, operand, Expr::Literal(Literal::Null))
 }
 
 /// Whether an expression has a field. Null has none.
 pub(crate) fn present(alloc: Global, of: &Expr, field: &str) -> Result<Expr, AllocError>
     ensures { IfOk result (λ e. view e ≡ forms.present_tree (view of.now) field.now) }
 {
-    let operand = copy(alloc, of)?;
-    let is_value = build::binary(
-        alloc,
-        BinaryOperator::NotEqual,
-        operand,
-        Expr::Literal(Literal::Null),
-    )?;
+    let is_value = null_test(alloc, BinaryOperator::NotEqual, of)?;
     let has_field = has_any(alloc, of, field)?;
     build::binary(alloc, BinaryOperator::And, is_value, has_field)
 }
@@ -87,25 +97,22 @@ fn list_size(alloc: Global, of: &Expr) -> Result<Expr, AllocError>
     build::call(alloc, "size", list)
 }
 
+/// Whether an index is below the number of items of a list.
+fn is_below(alloc: Global, position: i64, of: &Expr) -> Result<Expr, AllocError>
+    ensures { IfOk result (λ e. view e ≡ node.binary operation.Less (node.literal (node.int position)) (list_size_tree (view of.now))) }
+{
+    let size = list_size(alloc, of)?;
+    build::binary(alloc, BinaryOperator::Less, int(position), size)
+}
+
 /// Whether a list has an item of this index. Null has none.
 pub(crate) fn present_item(alloc: Global, of: &Expr, position: i64) -> Result<Expr, AllocError>
     ensures { IfOk result (λ e. (n : ℕ) → position ≡ pos n → view e ≡ forms.present_item_tree (view of.now) n) }
 {
-    let operand = copy(alloc, of)?;
-    let is_null = build::binary(
-        alloc,
-        BinaryOperator::Equal,
-        operand,
-        Expr::Literal(Literal::Null),
-    )?;
-    let size = list_size(alloc, of)?;
-    let is_below = build::binary(alloc, BinaryOperator::Less, int(position), size)?;
-    build::ternary(
-        alloc,
-        is_null,
-        Expr::Literal(Literal::Bool(false)),
-        is_below,
-    )
+    let is_null = null_test(alloc, BinaryOperator::Equal, of)?;
+    let has_item = is_below(alloc, position, of)?;
+    let no = Expr::Literal(Literal::Bool(false));
+    build::ternary(alloc, is_null, no, has_item)
 }
 
 /// The item of this index.
