@@ -10,7 +10,7 @@ from .runs import row
 # bytes of the document, near enough
 ROOMS = (3_000, 100_000, 3_000_000)
 # what a run reads, near enough, and one that the charge bounds
-READS, CHARGED = 200_000_000, 4_000_000
+READS, CHARGED = 100_000_000, 4_000_000
 # the turns of a loop, at most
 TURNS = 300_000
 STEPS = ["--steps", "1000000000"]
@@ -21,7 +21,7 @@ CALLS = (
 
 def seconds(runs: Any, turn: loops.Turn, side: int) -> float:
     """The processor time of a review whose loop takes this many turns on each side."""
-    review = runs.review("reads", turn.document(side))
+    review = runs.review("reads-review", turn.document(side))
     words = ["review", "--policy", policy(runs, "reads", [turn.loop]), "--review", review, *STEPS]
     return runs.processor(words, (ALLOWED,))
 

@@ -25,7 +25,7 @@ class Runs:
             sys.exit(f"measure: {' '.join(words)} ended with status {ended.returncode}: {ended.stderr.decode()}")
         return seconds
 
-    def processor(self, words: Any, statuses: Any, count: int = 3) -> float:
+    def processor(self, words: Any, statuses: Any, count: int = 2) -> float:
         """The least processor time of so many runs, in seconds."""
         return min(self.processor_once(words, statuses) for _ in range(count))
 
