@@ -1,7 +1,7 @@
 """Compares a gatekeeper with an evaluator of the wide language, on expressions from a seed.
 
-usage: tools/wide-cases [--seed N] [--count N] [GATEKEEPER]
-       tools/wide-cases --profile-only [--seed N] [--count N] [GATEKEEPER]
+usage: tools/wide-cases [--seed N] [--count N] [--all] [GATEKEEPER]
+       tools/wide-cases --profile-only [--seed N] [--count N] [--all] [GATEKEEPER]
        tools/wide-cases --evaluator [--seed N] [--count N]
 
 The wide language is a wider part of CEL than the profile: it has optionals, macros of two names, and functions of
@@ -14,16 +14,16 @@ not translate it yet, is counted apart.
 compares the gatekeeper with its option --profile on these. Each form also compares the trees and results with those of
 the profile's evaluator, if an expression is in the profile.
 
-The first difference is printed with its documents, and ends it with status 1. It prints how often each kind of refusal
-was due. --evaluator asks no program: it prints how often each clause of the meaning was evaluated, and ends with status
-1 if one never was.
+The first difference is printed with its documents, and ends it with status 1. With --all it goes on, prints each of
+them and counts them. It prints how often each kind of refusal was due. --evaluator asks no program: it prints how often
+each clause of the meaning was evaluated, and ends with status 1 if one never was.
 """
 
 import argparse
 import itertools
 import json
 from collections import Counter
-from typing import Any, Optional
+from typing import Any, Iterator, Optional
 
 from ..entry import parser_of
 from ..home import built
@@ -44,6 +44,7 @@ def words() -> argparse.Namespace:
     parser.add_argument("gatekeeper", nargs="?", default=built("gatekeeper"))
     parser.add_argument("--profile-only", action="store_true")
     parser.add_argument("--evaluator", action="store_true")
+    parser.add_argument("--all", action="store_true")
     parser.add_argument("--seed", type=int, default=SEED)
     parser.add_argument("--count", type=int)
     return parser.parse_args()
@@ -103,21 +104,31 @@ def clauses_shown(clauses: Clauses) -> int:
     return 1 if never else 0
 
 
-def main() -> int:
-    given = words()
-    run = Run(given)
-    made = cases(Numbers(given.seed), PROFILE_SHARE if given.profile_only else WIDE_SHARE, REVIEWS)
+def compared(run: Run) -> Iterator[tuple]:
+    """The place of each case that differs, with the case and its difference."""
+    share = PROFILE_SHARE if run.given.profile_only else WIDE_SHARE
+    made = cases(Numbers(run.given.seed), share, REVIEWS)
     for place in itertools.count():
         if run.is_done(place):
-            break
+            return
         case: Any = next(made)
         difference = run.difference(case)
         if difference:
-            print(f"case {place} of seed {given.seed} differs")
-            show(case, difference)
+            yield place, case, difference
+
+
+def main() -> int:
+    given = words()
+    run, differing = Run(given), 0
+    for place, case, difference in compared(run):
+        print(f"case {place} of seed {given.seed} differs")
+        show(case, difference)
+        differing += 1
+        if not given.all:
             return 1
     print(*run.lines(), sep="\n")
     if given.evaluator:
-        return clauses_shown(run.clauses)
-    print(f"the gatekeeper answered {run.compared.expressions} expressions as the evaluator")
-    return 0
+        return max(clauses_shown(run.clauses), 1 if differing else 0)
+    print(f"the gatekeeper answered {run.compared.expressions} expressions as the evaluator", end="")
+    print(f", and {differing} otherwise" if differing else "")
+    return 1 if differing else 0
