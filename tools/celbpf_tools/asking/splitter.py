@@ -18,6 +18,7 @@ TOKEN = re.compile(
 LEVELS = [("||",), ("&&",), ("<", "<=", ">", ">=", "==", "!=", "in"), ("+", "-"), ("*", "/", "%")]
 MACROS = {"all": (2,), "exists": (2,), "exists_one": (2,), "filter": (2,), "map": (2, 3)}
 CLOSING = {"(": ")", "[": "]", "{": "}"}
+WORD = re.compile(r"[_a-zA-Z][_a-zA-Z0-9]*")
 
 
 class NotCut(Exception):
@@ -46,8 +47,12 @@ class Piece:
 class Reader:
     """Tokens that are read into pieces."""
 
+    form = TOKEN
+    # the number of names and of arguments of each form of a macro
+    macros = {(word, count): 1 for word, counts in MACROS.items() for count in counts}
+
     def __init__(self, text: str):
-        self.tokens = list(tokens(text))
+        self.tokens = list(tokens(text, self.form))
         self.at = 0
 
     def token(self, ahead: int = 0) -> tuple:
@@ -131,10 +136,12 @@ class Reader:
         return self.made(target.begin, "other", [target], form="field", name=name)
 
     def method(self, target: Piece, word: str) -> Piece:
-        names = self.token(1)
         given = self.series("(", self.expression)
-        if word in MACROS and len(given) in MACROS[word] and names[0] == "name" and given[0].kind == "leaf":
-            return self.made(target.begin, "macro", [target, *given[1:]], word=word, name=names[1])
+        count = self.macros.get((word, len(given)), 0)
+        names = given[:count]
+        if count and all(one.kind == "leaf" and WORD.fullmatch(one.word) for one in names):
+            name = " ".join(one.word for one in names)
+            return self.made(target.begin, "macro", [target, *given[count:]], word=word, name=name)
         if word in MACROS:
             return self.made(target.begin, "other", [target])
         return self.made(target.begin, "other", [target, *given], form="method", name=word)
@@ -187,11 +194,11 @@ class Reader:
         return found
 
 
-def tokens(text: str) -> Iterator:
-    """The tokens of a text: kind, text, begin and end."""
+def tokens(text: str, form: re.Pattern) -> Iterator:
+    """The tokens of a text by this form: kind, text, begin and end."""
     at = 0
     while at < len(text):
-        found = TOKEN.match(text, at)
+        found = form.match(text, at)
         if not found:
             raise NotCut
         if found.lastgroup != "gap":
@@ -199,9 +206,9 @@ def tokens(text: str) -> Iterator:
         at = found.end()
 
 
-def cut(text: str) -> Piece:
+def cut(text: str, reader_of: type = Reader) -> Piece:
     """The piece that is the whole expression, with its parts."""
-    reader = Reader(text)
+    reader = reader_of(text)
     piece = reader.expression()
     if reader.at < len(reader.tokens):
         raise NotCut

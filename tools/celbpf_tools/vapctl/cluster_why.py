@@ -19,6 +19,7 @@ from .one_decision import policy_text
 from .probes import EVERYTHING, MATCHED, Probe, Probes
 from .refusals import words_of_refusal
 from .results import ERROR, Finding
+from .wide_only import missing, wide_refusal
 
 ACTIONS = {"Deny": "denies", "Warn": "warns", "Audit": "audits"}
 OUTCOMES = {"admitted": "allows", "skipped": "is skipped, since a match condition is not true"}
@@ -164,12 +165,18 @@ class ClusterWhy:
         try:
             outcome, shown = told(program, str(file))
         except NotAnswered as refused:
-            yield f"{title}: is not decided: {words_of_refusal(refused.line)}"
+            yield f"{title}: {self.not_shown(refused.line, bound.policy, str(file))}"
             return
         rejected = f"{REJECTED} {bound.actions}"
         yield f"{title}: {OUTCOMES.get(outcome, rejected if outcome == 'rejected' else bound.actions)}"
         if outcome != "admitted" or self.only:
             yield from (f"    {line}" for line in shown)
+
+    def not_shown(self, line: str, policy: Thing, file: str) -> str:
+        """Why an evaluation is not shown."""
+        if wide_refusal(file, str(self.program)) == "":
+            return f"is decided, and not shown: {missing(json.loads(policy_text(policy)), '`why`', str(self.program))}"
+        return f"is not decided: {words_of_refusal(line)}"
 
     def written(self, name: str, value: Any) -> str:
         """The file of a document."""

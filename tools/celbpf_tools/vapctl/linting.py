@@ -37,6 +37,8 @@ class Fault:
     refusal: str
     refused: Refused
     position: Position
+    # what to write instead, if it is known
+    hint: str = ""
 
     @property
     def place(self) -> str:
@@ -75,6 +77,8 @@ class Fault:
         yield on_line(f"{self.place}: {self.policy.name}: {self.message}")
         if self.refused.part:
             yield pointed(self.refused.part.text, self.refused.begin, self.refused.end)
+        if self.hint:
+            yield on_line(f"    write {self.hint}")
 
 
 def outside(text: str, at: int) -> str:

@@ -16,9 +16,10 @@ from ..one_decision import named, policy_text
 from ..positions import Marks
 from ..results import plural
 from ..statuses import GOOD, REFUSED, WORDS
+from ..wide_only import missing, wide_refusal
 
 MORE = """The image is the one that `celbpf compile` writes of the same policy in JSON; `celbpf list` and `celbpf debug` read it. If
-the policy is refused, all refusals are shown as `vapctl lint` shows them, and no image is written."""
+the policy is refused, all refusals are shown as `vapctl lint --profile` shows them, and no image is written."""
 
 
 def words(parser: argparse.ArgumentParser) -> None:
@@ -39,9 +40,11 @@ def run(given: argparse.Namespace) -> int:
     policy = named([thing for thing in things if thing.kind == POLICY], given.name, POLICY, "--name")
     with tempfile.TemporaryDirectory() as folder:
         program = Program(located(given.program), folder)
-        if program.refusal(json.loads(policy_text(policy))):
-            found = list(faults(program, policy, Marks(inputs.texts[policy.place.file])))
-            return refused(found)
+        document = json.loads(policy_text(policy))
+        if program.refusal(document):
+            if wide_refusal(document, given.program) == "":
+                raise Stop(missing(document, "`compile`", given.program), REFUSED)
+            return refused(list(faults(program, policy, Marks(inputs.texts[policy.place.file]))))
         write(program.image(), given.output)
     return GOOD
 

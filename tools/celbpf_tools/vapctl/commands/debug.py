@@ -12,6 +12,7 @@ from ...entry import Stop
 from ..one_decision import Decision, add_words
 from ..refusals import words_of_refusal
 from ..statuses import GOOD, REFUSED, WORDS
+from ..wide_only import words_of_refused
 
 MORE = """Without --dap it is a session of `celbpf debug` on the policy's program, on standard input and output: `c 1000000` goes to
 the end, `w` shows the verdict, `g 0` goes back to the start, `q` ends it. docs/DEBUGGER.md has all commands."""
@@ -43,7 +44,8 @@ def session(given: argparse.Namespace, folder: Path) -> int:
     try:
         image = program.kept_image(decision.files["policy"])
     except NotAnswered as why:
-        raise Stop(words_of_refusal(why.line), REFUSED) from why
+        policy = str(decision.files["policy"])
+        raise Stop(words_of_refused(why.line, policy, "`debug`", given.program), REFUSED) from why
     files = ((key, decision.files[key]) for key in ("review", "namespace", "params"))
     beside = [word for key, file in files if file for word in (f"--{key}", file)]
     if sys.stdin.isatty():

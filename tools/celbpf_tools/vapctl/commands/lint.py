@@ -3,21 +3,26 @@
 import argparse
 import json
 import tempfile
-from typing import Any
+from collections.abc import Iterator
+from typing import Any, Callable
 
-from ...asking.program import Program, located
+from ...asking.program import Program, located, located_gatekeeper
+from ...asking.wide_places import Gatekeeper
 from ...entry import Stop
 from ..cluster import POLICY
-from ..inputs import Inputs, Trouble
+from ..inputs import Inputs, Thing, Trouble
 from ..linting import Fault, faults
 from ..positions import Marks
 from ..reports.github import command
 from ..reports.texts import on_line
 from ..results import plural
 from ..statuses import GOOD, REFUSED
+from ..wide_linting import wide_faults
 
-MORE = """Each refusal has the line and the column in the file, the part of the policy, what is meant, and its code. Refusals of the
-whole document, such as K3, are shown one at a time. docs/CLUSTERS.md has what to write instead."""
+MORE = """Policies are judged as `vapctl check` and `gatekeeper` read them (docs/LANGUAGE.md), with --profile as `celbpf`, `vapctl
+why`, `debug` and `compile` do (docs/CEL.md). Each refusal has the line and the column in the file, the part of the policy,
+what is meant, and its code, and mostly what to write instead. Refusals of the whole document, such as K3, are shown one
+at a time."""
 FORMS = ("table", "json", "github")
 
 
@@ -25,7 +30,25 @@ def words(parser: argparse.ArgumentParser) -> None:
     """The options of the command."""
     parser.add_argument("policies", nargs="+", metavar="P", help="files and folders of policies; - is standard input")
     parser.add_argument("-o", "--output", choices=FORMS, default="table", help="the form of the report (default: table)")
-    parser.add_argument("--program", metavar="PROGRAM", help="the program celbpf to ask, if not the one that is installed")
+    parser.add_argument("--profile", action="store_true", help="judge by the narrower language that `celbpf` compiles")
+    parser.add_argument("--gatekeeper", metavar="PROGRAM", help="the gatekeeper to ask, if not the one that is installed")
+    parser.add_argument("--program", metavar="PROGRAM", help="the program celbpf to ask, likewise, with --profile")
+
+
+def asked(given: argparse.Namespace, folder: str) -> Callable[[Thing, Any], Iterator[Fault]]:
+    """What shows the refusals of a policy, by the program of the language that is asked for."""
+    if given.profile:
+        program = Program(located(given.program), folder)
+        return lambda policy, marks: faults(program, policy, marks)
+    found = located_gatekeeper(given.gatekeeper, given.program)
+    if found is None:
+        raise Stop("no gatekeeper is beside the program; --gatekeeper names one", REFUSED)
+    gatekeeper = Gatekeeper(found, folder)
+    return lambda policy, marks: wide_faults(gatekeeper, policy, marks)
+
+
+def place_of(fault: Fault) -> tuple[int, int]:
+    return fault.position.line, fault.position.column
 
 
 def run(given: argparse.Namespace) -> int:
@@ -37,9 +60,9 @@ def run(given: argparse.Namespace) -> int:
         raise Stop(f"no {POLICY} is among the inputs", REFUSED)
     found: list[Fault] = []
     with tempfile.TemporaryDirectory() as folder:
-        program = Program(located(given.program), folder)
+        shown = asked(given, folder)
         for policy in policies:
-            found += faults(program, policy, marks.get(policy.place.file))
+            found += sorted(shown(policy, marks.get(policy.place.file)), key=place_of)
     SHOWN[given.output](found, inputs.troubles)
     if given.output != "json":
         print(summary(len(policies), len({id(fault.policy) for fault in found}), len(inputs.troubles)))
@@ -64,7 +87,8 @@ def table(found: list[Fault], troubles: list[Trouble]) -> None:
 def github(found: list[Fault], troubles: list[Trouble]) -> None:
     """An annotation for each refusal."""
     for fault in found:
-        print(command("error", fault.policy.place.file, fault.position.line, fault.policy.name, fault.message))
+        message = fault.message + f"; write {fault.hint}" * bool(fault.hint)
+        print(command("error", fault.policy.place.file, fault.position.line, fault.policy.name, message))
     for trouble in troubles:
         print(command("error", trouble.place.file, trouble.place.line, "not read", trouble.why))
 
@@ -74,7 +98,8 @@ def entry(fault: Fault) -> dict[str, Any]:
     part = fault.refused.part
     piece = {"part": fault.part, "text": part.text[fault.refused.begin : fault.refused.end]} if part else {"part": fault.part}
     where = {"file": fault.policy.place.file, "line": fault.position.line, "column": fault.position.column}
-    return {**where, "policy": fault.policy.name, "code": fault.code, "refusal": fault.refusal, "message": fault.message, **piece}
+    said = {"policy": fault.policy.name, "code": fault.code, "refusal": fault.refusal, "message": fault.message}
+    return {**where, **said, **piece, **({"write": fault.hint} if fault.hint else {})}
 
 
 def as_json(found: list[Fault], troubles: list[Trouble]) -> None:

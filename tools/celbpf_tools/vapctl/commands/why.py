@@ -18,6 +18,7 @@ from ..reports.texts import on_line
 from ..requests import Asked, NoReview, Reviews, line_of
 from ..results import ALLOWED, DENIED
 from ..statuses import BAD, GOOD, REFUSED, WORDS
+from ..wide_only import words_of_refused
 
 MORE = """Of one policy it prints each part with its value, the parts of what is false with theirs, and what to change. The policy is
 asked whether or not its matchConstraints match. With --case the only argument is a test file, and the case has its
@@ -59,9 +60,19 @@ def run(given: argparse.Namespace) -> int:
         try:
             if given.cluster or given.policies:
                 return of_all(given, Path(folder))
-            return BAD if why.told(asked(given, Path(folder))) else GOOD
+            return of_one(given, Path(folder))
         except NotAnswered as refused:
             raise Stop(words_of_refusal(refused.line), REFUSED) from refused
+
+
+def of_one(given: argparse.Namespace, folder: Path) -> int:
+    """The reason of a decision of one policy."""
+    one = asked(given, folder)
+    try:
+        return BAD if why.told(one) else GOOD
+    except NotAnswered as refused:
+        policy = why.of_case(one, folder).policy if given.case is not None else one.policy
+        raise Stop(words_of_refused(refused.line, policy, "`why`", given.program), REFUSED) from refused
 
 
 def asked(given: argparse.Namespace, folder: Path) -> argparse.Namespace:

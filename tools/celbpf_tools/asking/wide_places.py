@@ -1,0 +1,214 @@
+"""The pieces of an expression that gatekeeper refuses, as it answers for each piece."""
+
+import subprocess
+from dataclasses import dataclass, field
+from typing import Any, Iterator, Optional
+
+from ..entry import Stop
+from .places import Refusals, cause_of
+from .policies import Part, as_variable, bound
+from .program import NotAnswered, Program
+from .splitter import NotCut, Piece
+from .wide_splitter import WidePiece, cut
+
+REFUSED_START = 3
+# methods that only an optional value has, and those whose argument is one
+OF_OPTIONALS = ("hasValue", "value", "orValue", "or", "optMap", "optFlatMap")
+TAKES_OPTIONAL = ("or", "optFlatMap")
+# the methods that there are
+KNOWN = {"size", "startsWith", "endsWith", "contains", *OF_OPTIONALS}
+# what stands for a piece that is refused, so that what is around it is asked
+VALUE, OPTIONAL = "dyn(null)", "optional.of(dyn(null))"
+# namespaces of functions, which are no names of values
+NAMESPACES = ("sets", "optional", "math", "cel", "lists", "strings", "format", "regex", "base64", "authorizer")
+
+
+class Gatekeeper(Program):
+    """The gatekeeper, asked whether it starts with a policy."""
+
+    def refusal(self, policy: Any) -> str:
+        """What it says at its start, as `K6 validation 0 W5 url`; empty if it starts."""
+        ran = subprocess.run(
+            [self.path, "--policy", self.file(policy)], stdin=subprocess.DEVNULL, capture_output=True, text=True
+        )
+        if ran.returncode not in (0, REFUSED_START):
+            raise Stop(f"the gatekeeper ended with status {ran.returncode}")
+        return NotAnswered(ran).line if ran.returncode else ""
+
+
+@dataclass
+class Found:
+    """What is refused: the place of the carets, the name that the refusal gives, and the piece.
+
+    `text` is the piece as its author wrote it, `around` the pieces that it is in, outermost first, and `frames` are the
+    iteration names in scope.
+    """
+
+    cause: str
+    begin: int
+    end: int
+    name: str = ""
+    piece: Optional[Piece] = None
+    around: tuple = ()
+    frames: list = field(default_factory=list)
+    text: str = ""
+
+
+def bound_to_optional(text: str, frames: list) -> str:
+    """A text of an optional value, with each iteration name standing for any item."""
+    for _, name, _ in reversed(frames):
+        text = f"optional.of(dyn(null)).optFlatMap({name},\n{text}\n)"
+    return text
+
+
+class WideRefusals(Refusals):
+    """The gatekeeper and a part; which of its pieces are refused with a cause."""
+
+    def refuses_text(self, text: str, frames: list) -> bool:
+        """Whether a text is refused so, be it of a value or of an optional one."""
+        ways = (bound, bound_to_optional) if frames else (bound,)
+        made = (as_variable(self.part.scope, way(text, frames)) for way in ways)
+        told = (cause_of(self.program.refusal(policy)) == self.cause for policy in made)
+        return all(told) if self.cause == "W4" else any(told)
+
+    def parts(self, piece: Piece, frames: list) -> Iterator:
+        """The parts of a piece with the frames in which they are; of a macro by a wrong name the range alone."""
+        names = piece.name.split() if piece.kind == "macro" else []
+        inner = [*frames, *(("", name, None) for name in names)]
+        for place, part in enumerate(piece.parts):
+            if not place and namespace_of(piece):
+                continue
+            if namespace_of(piece) == "cel":
+                # `cel.bind` would declare a name
+                return
+            if place and names and self.refuses_text("null", inner):
+                return
+            yield part, inner if place else frames
+
+    def path(self, piece: Piece, frames: list) -> tuple:
+        """The first of its parts that is refused, as deep as there is one, with those around it; and its frames."""
+        for part, inner in self.parts(piece, frames):
+            if self.refuses(part, inner):
+                around, last = self.path(part, inner)
+                return (piece, *around), last
+        return (piece,), frames
+
+
+def name_of(refusal: str) -> str:
+    """The name that a refusal of an expression gives."""
+    words = refusal.split()
+    return words[4] if len(words) == 5 and words[0] == "K6" else ""
+
+
+class Places:
+    """The gatekeeper and a part of a policy: all its pieces that are refused."""
+
+    def __init__(self, program: Any, part: Part):
+        self.program = program
+        self.part = part
+        self.text = part.text
+        # for each character of the text its place in the part's text, and one more for the end
+        self.origins = list(range(len(part.text) + 1))
+
+    def found(self) -> Iterator[Found]:
+        """The refused pieces, from the first one on; of a text that is not read its first fault alone."""
+        most = len(self.text)
+        for _ in range(most):
+            refusal = self.program.refusal(as_variable(self.part.scope, self.text))
+            cause = cause_of(refusal)
+            if not cause:
+                return
+            one = self.first(cause, refusal)
+            yield one
+            if one.piece is None or not self.replace(one):
+                return
+
+    def first(self, cause: str, refusal: str) -> Found:
+        """The piece that is refused first."""
+        if " at " in refusal:
+            # the blanks around a text are not counted
+            read = self.text.lstrip()
+            before = read.encode()[: int(refusal.split()[-1])].decode(errors="ignore")
+            return self.of_token(cause, len(self.text) - len(read) + len(before))
+        try:
+            whole = cut(self.text)
+        except NotCut:
+            return self.made(cause, 0, len(self.text), name_of(refusal))
+        refusals = WideRefusals(self.program, Part("variable", 0, self.text, self.part.scope), cause)
+        (*around, piece), frames = refusals.path(whole, [])
+        name = name_of(self.program.refusal(as_variable(self.part.scope, bound(self.text[piece.begin : piece.end], frames))))
+        found = self.made(cause, *self.shown(piece, name), name or name_of(refusal))
+        whole = self.made(cause, piece.begin, piece.end, "")
+        found.text = self.part.text[whole.begin : whole.end]
+        found.piece, found.around, found.frames = piece, tuple(around), frames
+        return found
+
+    def of_token(self, cause: str, begin: int) -> Found:
+        """The fault of a token."""
+        found = self.made(cause, begin, begin + 1, "")
+        try:
+            leaf = leaf_at(cut(self.text), begin)
+        except NotCut:
+            return found
+        if cause in ("W1", "W2") and leaf is not None:
+            found = self.made(cause, leaf.begin, leaf.end, "")
+            found.piece = leaf
+        return found
+
+    def made(self, cause: str, begin: int, end: int, name: str) -> Found:
+        """A fault at a place of the text as it is now, by its place in the part."""
+        return Found(cause, self.origins[begin], max(self.origins[begin], self.origins[max(end, 1) - 1]) + 1, name)
+
+    def takes(self, found: Found, text: str) -> bool:
+        """Whether a text is accepted in the place of a refused piece."""
+        refusals = WideRefusals(self.program, self.part, "")
+        return refusals.refuses_text(text, found.frames)
+
+    def shown(self, piece: Piece, name: str) -> tuple:
+        """Where carets stand: under the name of a method that is refused, else under the piece."""
+        if piece.parts and name and piece.form == "method" and name == piece.name:
+            begin = self.text.index(name, piece.parts[0].end)
+            return begin, begin + len(name)
+        return piece.begin, piece.end
+
+    def replace(self, found: Found) -> bool:
+        """Puts what is accepted in the place of a piece; whether it is another text than before."""
+        piece, around = found.piece, found.around
+        assert piece is not None
+        while around and around[-1].form == "method" and around[-1].parts[0] is piece and around[-1].name not in KNOWN:
+            piece, around = around[-1], around[:-1]
+        by = OPTIONAL if wants_optional(piece, around) else VALUE
+        if self.text[piece.begin : piece.end] == by:
+            return False
+        at = self.origins[piece.begin]
+        self.text = self.text[: piece.begin] + by + self.text[piece.end :]
+        self.origins[piece.begin : piece.end] = [at] * len(by)
+        return True
+
+
+def namespace_of(piece: Piece) -> str:
+    """The namespace of a function that is called as a method, such as `sets`; empty if there is none."""
+    target = piece.parts[0] if piece.form == "method" else None
+    return target.word if target and target.kind == "leaf" and target.word in NAMESPACES else ""
+
+
+def leaf_at(piece: Piece, at: int) -> Optional[Piece]:
+    """The leaf that begins at a place."""
+    if piece.kind == "leaf" and piece.begin == at:
+        return piece
+    return next((found for part in piece.parts if (found := leaf_at(part, at))), None)
+
+
+def wants_optional(piece: Piece, around: tuple) -> bool:
+    """Whether what is around a piece takes an optional value in its place."""
+    if not around:
+        return False
+    outer = around[-1]
+    is_first = outer.parts and outer.parts[0] is piece
+    if isinstance(outer, WidePiece) and any(one is piece for one in outer.optional):
+        return True
+    word = outer.word if outer.kind == "macro" else outer.name if outer.form == "method" else ""
+    if word:
+        return word in OF_OPTIONALS if is_first else word in TAKES_OPTIONAL
+    passes_on = outer.form in ("field", "index") and is_first or outer.kind == "ternary" and not is_first
+    return passes_on and wants_optional(outer, around[:-1])

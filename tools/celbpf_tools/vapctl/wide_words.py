@@ -1,0 +1,139 @@
+"""What the refusals of the language of clusters mean, and what to write instead."""
+
+from ..asking.wide_places import NAMESPACES, OF_OPTIONALS, Found, namespace_of
+from ..commands.place import MEANINGS
+
+# names of types, which are no values here
+TYPES = ("int", "uint", "double", "string", "bool", "bytes", "null_type", "list", "map", "type")
+# functions and methods of API servers that are not supported, and what to write instead, if it is known
+LATER = {
+    "matches": "startsWith, endsWith or contains for a fixed text, `e in ['a', 'b']` for a choice",
+    "split": "`e == 'a' || e.startsWith('a/')` for `e.split('/')[0] == 'a'`",
+    "join": "an item, such as `l[0]`",
+    "format": "`+`, with `string(e)` for an int or a bool",
+    "substring": "startsWith or endsWith",
+    "indexOf": "contains",
+    "lastIndexOf": "contains or endsWith",
+    "replace": "", "trim": "", "charAt": "", "find": "", "findAll": "",
+    "lowerAscii": "each spelling: `e in ['a', 'A']`",
+    "upperAscii": "each spelling: `e in ['a', 'A']`",
+    "first": "`l[?0]`",
+    "last": "`size(l) > 0 ? l[size(l) - 1] : ..`",
+    "min": "`l.filter(x, l.all(y, x <= y))[0]`",
+    "max": "`l.filter(x, l.all(y, x >= y))[0]`",
+    "sum": "", "isSorted": "", "distinct": "", "reverse": "", "slice": "", "flatten": "", "sort": "",
+    "type": "",
+    "int": "an int in the document", "double": "an int", "uint": "an int", "bytes": "a text",
+    "quantity": "a choice of texts, such as `e in ['500m', '1']`",
+    "isQuantity": "", "duration": "a choice of texts", "timestamp": "", "semver": "startsWith for a major version",
+    "isSemver": "", "ip": "", "isIP": "", "cidr": "", "isCIDR": "", "url": "startsWith", "isURL": "startsWith",
+    "sets.contains": "`b.all(x, x in a)`",
+    "sets.intersects": "`a.exists(x, x in b)`",
+    "sets.equivalent": "`a.all(x, x in b) && b.all(x, x in a)`",
+    "strings.quote": "", "lists.range": "the list itself, as `[0, 1, 2]`",
+}
+# what API servers up to 1.36 do not have
+NOT_THERE = {
+    "cel.bind": "a variable of the policy",
+    "math.greatest": "`a > b ? a : b`", "math.least": "`a < b ? a : b`", "math.abs": "`a < 0 ? -a : a`",
+    "existsOne": "`exists_one`",
+}
+AS_VALUE = "`.orValue(..)` for its value, or `.hasValue()`"
+
+
+def told(found: Found, text: str) -> tuple[str, str]:
+    """What a refusal means, and what to write instead or no text."""
+    if found.cause in OF_CAUSES:
+        return OF_CAUSES[found.cause](found, text)
+    return MEANINGS.get(found.cause, "it is refused"), ""
+
+
+def bytes_told(found: Found, text: str) -> tuple[str, str]:
+    given = text[found.begin : found.end]
+    return f"bytes, such as {given}, are not supported", f"`{given.lstrip('bB')}`"
+
+
+def number_told(found: Found, text: str) -> tuple[str, str]:
+    """A double, or an unsigned int."""
+    number = text[found.begin : found.end]
+    if number[-1:] in ("u", "U"):
+        return f"an unsigned int, {number}, is taken beside == != < <= > >= alone", f"`{number[:-1]}`"
+    return f"numbers with a fraction, such as {number}, are not supported", "an int"
+
+
+def map_told(found: Found, _: str) -> tuple[str, str]:
+    return "`transformMap` and `transformMapEntry` are not supported", "a list by `map`, or `all` and `exists`"
+
+
+def optional_told(found: Found, _: str) -> tuple[str, str]:
+    """An optional value in a wrong place, or none where one is needed."""
+    piece = found.piece
+    if piece is None:
+        return "its result is an optional value", AS_VALUE
+    if piece.form == "index":
+        return "an optional value is indexed by what is no literal", "`.orValue(..)` before the index"
+    if piece.form == "method" and piece.name in ("or", "orValue"):
+        wanted = "an optional value" if piece.name == "or" else "a value, and no optional one,"
+        return f"`{piece.name}` needs {wanted} between its brackets", "`or` with an optional value, `orValue` with another"
+    if piece.kind == "macro" and piece.word in OF_OPTIONALS:
+        hint = "`optMap` to make a value, `optFlatMap` to make an optional one"
+        return f"`{piece.word}` is for an optional value, and what it makes has to fit", hint
+    return "an optional value stands where a value is needed", AS_VALUE
+
+
+def name_told(found: Found, _: str) -> tuple[str, str]:
+    """A name or a form that is not known."""
+    piece, name = found.piece, found.name
+    if piece is None:
+        return f"`{name}` is not known here" if name else MEANINGS["W5"], ""
+    if not name:
+        return form_told(found)
+    if piece.kind == "macro" and name != piece.word:
+        return f"`{name}` is not taken as the name of an item", "another name"
+    if piece.kind == "leaf":
+        return leaf_told(name, found.text)
+    space = namespace_of(piece)
+    if space == "authorizer":
+        return "the decisions of the authorizer are not known here", ""
+    return function_told(f"{space}.{name}" if space else name)
+
+
+def function_told(name: str) -> tuple[str, str]:
+    """A function that is not supported, or that is none."""
+    if name in NOT_THERE:
+        return f"no API server up to 1.36 has `{name}`", NOT_THERE[name]
+    if name in OF_OPTIONALS:
+        return f"`{name}` follows an optional value alone", "`.?` before the field that it follows"
+    if name in LATER:
+        return f"`{name}` is not supported yet", LATER[name]
+    return f"there is no function `{name}` with these arguments", ""
+
+
+def leaf_told(name: str, text: str) -> tuple[str, str]:
+    """A name that is none, or a variable."""
+    if name == "authorizer":
+        return "the decisions of the authorizer are not known here", ""
+    if text.lstrip(".").startswith("variables"):
+        return f"no variable `{name}` is known here", "a variable that comes before; a match condition has none"
+    if name in TYPES:
+        return f"a type, such as `{name}`, is no value here", ""
+    if name in NAMESPACES:
+        return f"`{name}` is followed by a function", ""
+    return f"`{name}` is no name here", "object, oldObject, params, namespaceObject, request, or `variables.` and a name"
+
+
+def form_told(found: Found) -> tuple[str, str]:
+    """A form that is not supported."""
+    piece = found.piece
+    assert piece is not None
+    if piece.kind == "macro":
+        hint = "of a map `m.all(k, ..)` with `m[k]` for the value, of a list `l.all(v, ..)`"
+        return f"`{piece.word}` with two names is not supported yet", hint
+    if piece.form == "index":
+        return "an optional index is a text or an int of at least 0, written out", "`k in e ? e[k] : ..`"
+    if piece.form == "map":
+        return "entries with a question mark are not supported yet", "`has(e.f) ? {'a': e.f} : {}`"
+    return MEANINGS["W5"], ""
+
+
+OF_CAUSES = {"W1": bytes_told, "W2": number_told, "W3": map_told, "W4": optional_told, "W5": name_told}
