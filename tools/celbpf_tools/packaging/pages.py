@@ -10,7 +10,7 @@ from ..home import ROOT
 SCRIPTS = ("why", "place", "reviews", "test", "adapt", "as-reviews", "dap", "asm")
 PAGES = (
     "ASSEMBLER", "CEL", "CLUSTER", "CLUSTERS", "CODE", "COMMANDS", "DEBUGGER", "EMBEDDING", "GATEKEEPER", "GLOSSARY", "HELPERS",
-    "INSTALL", "MACHINE", "PERFORMANCE", "PIPELINES", "POLICIES", "SCRIPTS", "TUTORIAL", "VALUES", "VAPCTL", "WHY",
+    "INSTALL", "LANGUAGE", "MACHINE", "PERFORMANCE", "PIPELINES", "POLICIES", "SCRIPTS", "TUTORIAL", "VALUES", "VAPCTL", "WHY",
 )
 EXAMPLES = sorted(str(path.relative_to(ROOT)) for path in ROOT.glob("examples/**/README.md"))
 INSTALLED = ("README.md", "CHANGELOG.md", *(f"docs/{page}.md" for page in PAGES), *EXAMPLES)

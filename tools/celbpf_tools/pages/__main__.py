@@ -16,19 +16,22 @@ from ..asking.program import Program, located, usable
 
 from .commands import Commands, run_table
 from .expressions import Expressions
+from .language import Language
 from .texts import read
 
 
 def main() -> Any:
     path, gatekeeper = located(sys.argv[1]), usable(sys.argv[2])
     with tempfile.TemporaryDirectory() as folder, tempfile.TemporaryDirectory() as other:
+        language = Language(gatekeeper, other)
+        language.all()
         commands = Commands(path, gatekeeper, folder)
         run_table(commands, read("tools/data/run-commands/pages").splitlines())
         expressions = Expressions(Program(path, other))
         expressions.cel()
         expressions.clusters()
-    done = commands.runs + expressions.compared
-    differing = commands.differing + expressions.differing
+    done = commands.runs + expressions.compared + language.compared
+    differing = commands.differing + expressions.differing + language.differing
     print(f"{done - differing} of {done} commands and expressions of pages are as the pages say")
     return 1 if differing else 0
 
