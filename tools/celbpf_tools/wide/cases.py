@@ -13,6 +13,7 @@ from .documents import Pool
 from .expression import Scope, taken, variable
 from .expressions import WideExpressions
 from .meaning import Meaning
+from .texts import BLANKS
 
 VARIABLES = ["v", "w", "limit"]
 TYPED = ["quantity", "duration", "timestamp"]
@@ -106,8 +107,9 @@ def due(case: Case, clauses: Clauses) -> Due:
     scope, variables = Scope(), {}
     try:
         for place, (name, text) in enumerate(case.variables.items()):
-            variables[name] = variable(name, text, scope)
-        tree = taken(case.text, scope)
+            variables[name] = variable(name, text.strip(BLANKS), scope)
+        # a policy's expressions are read without the blanks around them
+        tree = taken(case.text.strip(BLANKS), scope)
     except Refused as why:
         return Due(why.text)
     found = Due()
