@@ -177,6 +177,9 @@ class Places:
         assert piece is not None
         while around and around[-1].form == "method" and around[-1].parts[0] is piece and around[-1].name not in KNOWN:
             piece, around = around[-1], around[:-1]
+        if around and piece.form == "call" and piece.name == "type" and around[-1].form in ("==", "!="):
+            # the name of a type beside it is no fault of its own
+            piece, around = around[-1], around[:-1]
         by = OPTIONAL if wants_optional(piece, around) else VALUE
         if self.text[piece.begin : piece.end] == by:
             return False

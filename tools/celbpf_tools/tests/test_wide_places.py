@@ -130,7 +130,10 @@ class Words(unittest.TestCase):
             ("2U", "W2", "", ("an unsigned int, 2U, is taken beside == != < <= > >= alone", "`2`")),
             ("o.or(1)", "W4", "",
              ("`or` needs an optional value between its brackets", "`or` with an optional value, `orValue` with another")),
-            ("o[k]", "W4", "", ("an optional value is indexed by what is no literal", "`.orValue(..)` before the index")),
+            ("o[k]", "W4", "", ("an optional value is indexed by what is no literal", "`k in o.orValue({}) ? o.orValue({})[k] : ..`")),
+            ("m.transformList(k, v, k)", "W5", "",
+             ("`transformList` with two names is not supported yet",
+              "of a map `m.map(k, ..)` with `m[k]` for the value, of a list `l.map(v, ..)`")),
             ("a", "M3", "", ("has() is asked of what is no field", "")),
         ]:
             with self.subTest(text):

@@ -38,6 +38,8 @@ NOT_THERE = {
     "math.greatest": "`a > b ? a : b`", "math.least": "`a < b ? a : b`", "math.abs": "`a < 0 ? -a : a`",
     "existsOne": "`exists_one`",
 }
+# macros of two names whose kin of one name has another
+OF_ONE_NAME = {"transformList": "map", "existsOne": "exists_one"}
 AS_VALUE = "`.orValue(..)` for its value, or `.hasValue()`"
 
 
@@ -71,7 +73,7 @@ def optional_told(found: Found, _: str) -> tuple[str, str]:
     if piece is None:
         return "its result is an optional value", AS_VALUE
     if piece.form == "index":
-        return "an optional value is indexed by what is no literal", "`.orValue(..)` before the index"
+        return "an optional value is indexed by what is no literal", "`k in o.orValue({}) ? o.orValue({})[k] : ..`"
     if piece.form == "method" and piece.name in ("or", "orValue"):
         wanted = "an optional value" if piece.name == "or" else "a value, and no optional one,"
         return f"`{piece.name}` needs {wanted} between its brackets", "`or` with an optional value, `orValue` with another"
@@ -127,7 +129,8 @@ def form_told(found: Found) -> tuple[str, str]:
     piece = found.piece
     assert piece is not None
     if piece.kind == "macro":
-        hint = "of a map `m.all(k, ..)` with `m[k]` for the value, of a list `l.all(v, ..)`"
+        word = OF_ONE_NAME.get(piece.word, piece.word)
+        hint = f"of a map `m.{word}(k, ..)` with `m[k]` for the value, of a list `l.{word}(v, ..)`"
         return f"`{piece.word}` with two names is not supported yet", hint
     if piece.form == "index":
         return "an optional index is a text or an int of at least 0, written out", "`k in e ? e[k] : ..`"

@@ -118,8 +118,10 @@ class Compared:
             self.not_yet += 1
         elif is_refused and not due.refusal and TOO_LARGE.search(errors):
             self.too_large += 1
+        elif due.refusal:
+            return errors or f"it is accepted, and {due.refusal} is due"
         else:
-            return errors if due.refusal else self.answered(ended, due)
+            return self.answered(ended, due)
         return None
 
     def answered(self, ended: subprocess.CompletedProcess, due: Due) -> Optional[str]:
