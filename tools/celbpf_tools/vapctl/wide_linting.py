@@ -8,6 +8,7 @@ from ..adapting.report import Variables
 from ..adapting.rewriter import Rewriter
 from ..adapting.syntax import NotCel
 from ..asking import policies
+from ..asking.splitter import NotCut, Piece
 from ..asking.wide_places import Found, Gatekeeper, Places
 from ..asking.wide_splitter import cut
 from ..commands.place import Refused, refused
@@ -15,6 +16,7 @@ from .inputs import Thing
 from .linting import Fault, path_of, position_of, without
 from .one_decision import policy_text
 from .positions import Marks, Path
+from .refusals import NO_NAMESPACE
 from .wide_words import told
 
 # of the whole policy, so that no other part is to blame
@@ -22,6 +24,7 @@ OF_SIZE = ("G3", "G4")
 # the longest rewriting that is shown
 MOST_SHOWN = 160
 ANNOTATIONS = "auditAnnotations"
+NAMESPACE = "namespaceObject"
 # pieces that need no brackets
 TIGHT = ("field", "index", "method", "call", "has", "list", "map")
 
@@ -41,7 +44,7 @@ class WideFault(Fault):
 def wide_faults(gatekeeper: Gatekeeper, thing: Thing, marks: Optional[Marks]) -> Iterator[Fault]:
     """The refusals of a policy, in the order in which it is compiled. One of the whole document ends them."""
     policy: Any = json.loads(policy_text(thing))
-    seen: set[Path] = set()
+    given, seen = policy, set[Path]()
     while refusal := gatekeeper.refusal(policy):
         part = part_of(policy, refusal)
         if part is None:
@@ -54,6 +57,29 @@ def wide_faults(gatekeeper: Gatekeeper, thing: Thing, marks: Optional[Marks]) ->
             return
         seen.add(path_of(part))
         policy = without(policy, part)
+    for part in policies.parts(given):
+        if part.kind == "condition":
+            yield from namespace_faults(thing, marks, part)
+
+
+def namespace_faults(thing: Thing, marks: Optional[Marks], part: policies.Part) -> Iterator[Fault]:
+    """Where a match condition reads the namespace, for which a gatekeeper with a state refuses the policy."""
+    try:
+        whole = cut(part.text)
+    except NotCut:
+        return
+    for leaf in leaves(whole):
+        if leaf.word == NAMESPACE:
+            found = Refused(NO_NAMESPACE, part, leaf.begin, leaf.end)
+            yield WideFault(thing, f"C7 {NAMESPACE}", found, position_of(thing, found, marks))
+
+
+def leaves(piece: Piece) -> Iterator[Piece]:
+    """The leaves of a piece."""
+    if piece.kind == "leaf":
+        yield piece
+    for part in piece.parts:
+        yield from leaves(part)
 
 
 def part_of(policy: Any, refusal: str) -> Optional[policies.Part]:
