@@ -15,6 +15,8 @@ REFUSED_START = 3
 # methods that only an optional value has, and those whose argument is one
 OF_OPTIONALS = ("hasValue", "value", "orValue", "or", "optMap", "optFlatMap")
 TAKES_OPTIONAL = ("or", "optFlatMap")
+# methods and macros that make one
+MAKES_OPTIONAL, OVER_OPTIONAL = ("or", "first", "last", "of", "none", "ofNonZeroValue"), ("optMap", "optFlatMap")
 # the methods that there are
 KNOWN = {"size", "startsWith", "endsWith", "contains", *OF_OPTIONALS}
 # what stands for a piece that is refused, so that what is around it is asked
@@ -203,9 +205,9 @@ def leaf_at(piece: Piece, at: int) -> Optional[Piece]:
 
 
 def wants_optional(piece: Piece, around: tuple) -> bool:
-    """Whether what is around a piece takes an optional value in its place."""
+    """Whether what is around a piece takes an optional value in its place; of a whole, whether it looks like one."""
     if not around:
-        return False
+        return piece.word == "?" or (piece.form == "method" and piece.name in MAKES_OPTIONAL) or piece.word in OVER_OPTIONAL
     outer = around[-1]
     is_first = outer.parts and outer.parts[0] is piece
     if isinstance(outer, WidePiece) and any(one is piece for one in outer.optional):

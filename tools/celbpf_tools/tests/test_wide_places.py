@@ -65,12 +65,18 @@ class Optionals(unittest.TestCase):
             ("x.f.g[0].hasValue()", True), ("a[x].hasValue()", False), ("(c ? x : a).value()", True),
             ("(x ? b : a).value()", False), ("[?x]", True), ("[x]", False), ("{'a': x}", False), ("{?'a': x}", True),
             ("{?x: a}", False), ("x.optMap(y, y)", True), ("a.optMap(y, x)", False), ("a.optFlatMap(y, x)", True),
-            ("x.map(y, y)", False), ("x.size()", False),
+            ("x.map(y, y)", False), ("x.size()", False), ("x ? a : b", False),
         ]:
             with self.subTest(text):
                 piece, path = around(text, cut(text)) or (None, ())
                 assert piece is not None
                 self.assertEqual(wants_optional(piece, path), due)
+
+
+    def test_wholes_that_are_optional_values(self) -> None:
+        for text, due in [("a[?b]", True), ("a.?b", True), ("a.first()", True), ("a.optMap(x, x)", True), ("a.b", False)]:
+            with self.subTest(text):
+                self.assertEqual(wants_optional(cut(text), ()), due)
 
 
 class Program:

@@ -52,11 +52,15 @@ def wide_faults(gatekeeper: Gatekeeper, thing: Thing, marks: Optional[Marks]) ->
             part = found.part
             yield WideFault(thing, refusal, found, position_of(thing, found, marks))
         else:
-            yield from faults_of_part(gatekeeper, thing, marks, part, refusal)
+            places = Places(gatekeeper, part)
+            yield from faults_of_part(places, thing, marks, refusal)
         if part is None or path_of(part) in seen or refusal.split()[0] in OF_SIZE:
             return
         seen.add(path_of(part))
         policy = without(policy, part)
+        if part.kind == "variable":
+            # of the kind that it would have, for the parts after it
+            policy["spec"]["variables"][part.place]["expression"] = places.text
     for part in policies.parts(given):
         if part.kind == "condition":
             yield from namespace_faults(thing, marks, part)
@@ -90,11 +94,9 @@ def part_of(policy: Any, refusal: str) -> Optional[policies.Part]:
     return next(one for one in policies.parts(policy) if one.kind == words[1] and one.place == int(words[2]))
 
 
-def faults_of_part(
-    gatekeeper: Gatekeeper, thing: Thing, marks: Optional[Marks], part: policies.Part, refusal: str
-) -> Iterator[Fault]:
+def faults_of_part(places: Places, thing: Thing, marks: Optional[Marks], refusal: str) -> Iterator[Fault]:
     """The refusals in a part, or that of the part as a whole."""
-    places = Places(gatekeeper, part)
+    part = places.part
     all_found = list(places.found()) or [Found(refusal.split()[3], 0, len(part.text))]
     for found in all_found:
         meaning, hint = told(found, part.text)
