@@ -10,6 +10,7 @@ from typing import Any, Optional
 
 from ..asking import policies
 from ..asking.program import NotAnswered, Program
+from ..asking.wide_places import Gatekeeper
 from ..commands import why
 from . import matching
 from .cluster import policy_of, spec_of
@@ -19,7 +20,7 @@ from .one_decision import policy_text
 from .probes import EVERYTHING, MATCHED, Probe, Probes
 from .refusals import words_of_refusal
 from .results import ERROR, Finding
-from .wide_only import missing, wide_refusal
+from .wide_only import missing
 
 ACTIONS = {"Deny": "denies", "Warn": "warns", "Audit": "audits"}
 OUTCOMES = {"admitted": "allows", "skipped": "is skipped, since a match condition is not true"}
@@ -174,7 +175,7 @@ class ClusterWhy:
 
     def not_shown(self, line: str, policy: Thing, file: str) -> str:
         """Why an evaluation is not shown."""
-        if wide_refusal(file, str(self.program)) == "":
+        if not Gatekeeper(self.deciding.gate.program, str(self.folder)).refusal(file):
             return f"is decided, and not shown: {missing(json.loads(policy_text(policy)), '`why`', str(self.program))}"
         return f"is not decided: {words_of_refusal(line)}"
 
