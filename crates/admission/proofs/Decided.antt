@@ -2,7 +2,7 @@
 use Rattle.std.proofs.Common.{nat_lt}
 use Rattle.admission.proofs.Prelude.{◌≡◌, ℕ, ◌+◌, ◌*◌, ◌≤◌, ◌⊎◌, Bool, true, false, ◌&&◌, List, [], ◌∷◌, ◌++◌, length, Option, Some, Result, Ok, Err, refl, sym, ap, ◌∙◌, subst, arith, inl, inr, if◌then◌else◌, cases_lt, length-map, length_push, Fault as GuestFault, F8, StartIsCanonical, Contents, Roots, StartsAreTables, State, start_state, StatesAreKept, is_running, state_after, Status, Exited, Running, HasValues, TakenOrRefused, PartsEnd, policy_work, decision_of, outcome_of, outcome_word, Compiles, Verdict, Policy, Decides, OutOfBudget, LeavesByExit, PolicyTree, Finding, decided, judged_by, verdict_of, CompileError, FailurePolicy, GatePolicy, Reply, Documents, IsAnswered, IsPolicy, decision, started, values_given, IsGateOn, Exit, Exits, HasExited, IsExit, OfVerdict, IsDecisionOf, Decision, decision_from_verdict, Images, PolicyRun, RunEnds, RunAgrees, exactly, document_given, parts_given, uid_in, RunError, ReviewRefused, NamespaceOrParamsRefused, OutOfSteps, OverLimit, OutOfReads}
 use Rattle.bpf_machine.specs.declared.status.Status.TheVariants.{Fault}
-use Rattle.bpf_machine.specs.Reads.{no_limit, LimitedStopsOnce, IsLimitedStop}
+use Rattle.bpf_machine.specs.Reads.{reads_to, IsLimitedStop, LimitedStopsOnce}
 use Rattle.policy_glue.specs.Checking as checking
 use Rattle.policy_glue.specs.Findings.{PolicyFinding, findings_of}
 use Rattle.policy_glue.specs.Rejections.{Rejection}
@@ -148,9 +148,9 @@ module _ (gate : GatePolicy) (d : Documents) (of : IsGateOn d.language d.policy 
           | inr not_before ↦ absurd (not_running (decides (omega (arith, not_before, is_not_below m limits.steps all))) running)
         ]
 
-    held : s.status ≡ Running → nat_lt m limits.steps ≡ true → ExitsSo (Err OutOfReads)
-    held running left = (
-      record { case = run.case; limited = below_limit limits.reads _ (stop.ends (is_below m limits.steps left) running) },
+    held_back : s.status ≡ Running → nat_lt m limits.steps ≡ true → ExitsSo (Err OutOfReads)
+    held_back running left = (
+      record { case = run.case; limited = below_limit limits.reads (reads_to (m + 1) first) (stop.ends (is_below m limits.steps left) running) },
       standing (λ v. out_of_reads) (λ i. ending_by (running i) (left i)),
     )
 
@@ -180,7 +180,7 @@ module _ (gate : GatePolicy) (d : Documents) (of : IsGateOn d.language d.policy 
     not_ended : (e : RunError) (status : Status) (held : Bool) → status ≡ s.status → held ≡ (nat_lt m limits.steps && is_running status) → HasExited status held (Err e)
         → ExitsSo (Err e)
     not_ended OutOfSteps status left same is (running, none) = unended (sym same ∙ running) (not_and _ status (sym is ∙ none) running)
-    not_ended OutOfReads status left same is (running, some) = held (sym same ∙ running) (of_and _ _ (sym is ∙ some))
+    not_ended OutOfReads status left same is (running, some) = held_back (sym same ∙ running) (of_and _ _ (sym is ∙ some))
     not_ended OverLimit status left same is (fault, faulted) =
         let by : s.status ≡ Fault fault = sym same ∙ faulted in
         stopped_by fault by (stopped (ap is_running by))

@@ -1,7 +1,8 @@
 -- The runs of images while a review is answered.
 use Rattle.admission.proofs.Prelude.{◌≡◌, Result, Ok, Err, arith, sym, subst, OneImage, Policy, Verdict, Documents, IsSaid, RunEnds, RunAgrees, exactly, RunError, OutOfSteps, OverLimit, OutOfReads}
 use Rattle.loader.specs.Contents as loader
-use Rattle.std.proofs.Common.{ℕ, ◌≢◌}
+use Rattle.std.proofs.Common.{ℕ}
+use Rattle.std.specs.Prelude.{◌≢◌}
 use Rattle.bpf_machine.specs.Reads.{no_limit}
 use Rattle.admission.specs.Deciding.{IsUnread, Reviews, answer_view}
 use Rattle.admission.specs.Standing.{Ending, steps_alone}
