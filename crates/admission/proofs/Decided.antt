@@ -65,14 +65,16 @@ pub record IsEndOf (limits : Limits) (first machine : State) (status : Status) (
   pub status_is : status ≡ machine.status
   pub held_is : held ≡ (nat_lt (steps_taken limits first) limits.steps && is_running status)
 
-pub end_of : (limits : Limits) (first machine : State) (taken : ℕ) (status : Status) (held : Bool) → taken ≡ steps_taken limits first
+pub end_of : (limits : Limits) (first start machine : State) (taken : ℕ) (status : Status) (held : Bool) → first ≡ start → taken ≡ steps_taken limits first
     → machine ≡ state_after taken first → status ≡ machine.status → held ≡ (nat_lt taken limits.steps && is_running status)
-    → IsEndOf limits first machine status held
-end_of limits first machine taken status held place state_is status_is held_is = record {
-  state = state_is ∙ ap (λ (k : ℕ). state_after k first) place;
-  status_is = status_is;
-  held_is = held_is ∙ ap (λ (k : ℕ). nat_lt k limits.steps && is_running status) place;
-}
+    → IsEndOf limits start machine status held
+end_of limits first start machine taken status held begins place state_is status_is held_is =
+    let whole : taken ≡ steps_taken limits start = place ∙ ap (λ (s : State). steps_taken limits s) begins in
+    record {
+      state = state_is ∙ ap (λ (s : State). state_after taken s) begins ∙ ap (λ (k : ℕ). state_after k start) whole;
+      status_is = status_is;
+      held_is = held_is ∙ ap (λ (k : ℕ). nat_lt k limits.steps && is_running status) whole;
+    }
 
 -- a refusal of the documents
 abbrev IsOfDocuments : RunError → Type 0

@@ -1,18 +1,17 @@
 -- The ends of runs within limits.
-use Rattle.std.proofs.Common.{◌≡◌, ℕ, ◌+◌, ◌<◌, ◌≤◌, ◌↔◌, Bool, true, false, ◌&&◌, nat_lt, refl, sym, ap, subst, ◌∙◌, arith, inl, inr, true≢false}
-use Rattle.std.proofs.lemmas.Bool.{cases_lt, le-leb, leb-false, leb-true}
+use Rattle.std.proofs.Common.{◌≡◌, ℕ, ◌<◌, ◌≤◌, Bool, true, false, ◌&&◌, nat_lt, refl, sym, ap, subst, ◌∙◌, arith, true≢false}
+use Rattle.std.proofs.lemmas.Bool.{le-leb, leb-false, leb-true}
 use Rattle.std.proofs.Math.Nat.{min-le_right}
 use Rattle.std.proofs.lemmas.Bool.Decides.{nat_tests}
 use Rattle.value_store.specs.Plain.{saturated}
 use Rattle.bpf_machine.specs.Laws.{is_running-true, is_running-false, stays_stopped, state_after-stop}
-use Rattle.bpf_machine.specs.Reads.{is_within, limited_place, no_limit, reads_to, IsLimitedStop, LimitedStopsOnce, NoLimitIsRun, GreaterLimitGoesOn}
+use Rattle.bpf_machine.specs.Reads.{is_within, limited_place, no_limit, reads_to, IsLimitedStop, LimitedStopsOnce, NoLimitIsRun}
 use Rattle.bpf_machine.specs.State.{State}
 use Rattle.bpf_machine.specs.Step.{is_running}
-use Rattle.bpf_machine.specs.Trace.{state_after, stop_place, IsStop, StopsOnce}
+use Rattle.bpf_machine.specs.Trace.{state_after, IsStop, StopsOnce}
 use Rattle.bpf_machine.specs.declared.status.Status.{Status, TheVariants.Running, TheVariants.Exited, TheVariants.Fault}
-use Rattle.admission.specs.Endings.{IsAt, IsHeld, IsStoppedBy, OutOfStepsOnly, OutOfReadsOnly, StoppedOnly, NoLimitOfReads, GreaterLimitDecides}
-use Rattle.admission.specs.Standing.{Ending, has_stopped, out_of_steps, out_of_reads, ending_by, ending, steps_taken, steps_alone}
-use Rattle.admission.specs.declared.limits.Limits.{Limits}
+use Rattle.admission.specs.Endings.{IsAt, OutOfStepsOnly, OutOfReadsOnly, StoppedOnly, NoLimitOfReads, GreaterLimitDecides}
+use Rattle.admission.specs.Standing.{has_stopped, out_of_steps, out_of_reads, ending_by}
 
 -- ---- what an end says
 

@@ -1,8 +1,7 @@
 -- A review has one result.
-use Rattle.admission.proofs.Prelude.{◌≡◌, ◌∙◌, ℕ, List, Result, Ok, Err, ap, arith, refl, sym, subst, Fault, F8, Roots, start_state, Exited, decision_of, outcome_word, OneImage, HasOneImage, Compiles, Policy, PolicyTree, Verdict, policy_in, CompileError, Reply, Case, Documents, IsAnswered, IsPolicy, decision, started, values_given, ReviewHasOneResult, RunEnds, RunAgrees, uid_in, Profile, RunError, ReviewRefused, NamespaceOrParamsRefused, OutOfSteps, OverLimit, OutOfReads}
+use Rattle.admission.proofs.Prelude.{◌≡◌, ◌∙◌, ℕ, List, Result, Ok, Err, ap, arith, refl, sym, subst, F8, Roots, start_state, Exited, decision_of, outcome_word, OneImage, HasOneImage, Compiles, Policy, PolicyTree, Verdict, CompileError, Reply, Case, Documents, IsAnswered, IsPolicy, decision, started, values_given, ReviewHasOneResult, RunEnds, RunAgrees, uid_in, Profile, RunError, ReviewRefused, NamespaceOrParamsRefused, OutOfSteps, OverLimit, OutOfReads}
 use Rattle.std.specs.Prelude.{◌≢◌}
 use Rattle.bpf_machine.specs.declared.status.Status.TheVariants as status
-use Rattle.loader.specs.Contents as loader
 use Rattle.policy_glue.specs.Findings.{PolicyFinding, findings_of}
 use Rattle.policy_glue.specs.OneAnswer as policy
 use Rattle.admission.specs.Deciding.{HasNoResponse, IsPolicyRefused, answer_of}

@@ -1,6 +1,5 @@
 -- The policy in a document of a language.
-use Rattle.admission.proofs.Prelude.{◌≡◌, ◌∙◌, ℕ, List, map, length, Ok, sym, ap, subst, length-map, policy_in, Policy, Documents, IsSaid, Language, Profile, Wide}
-use Rattle.policy_glue.specs.Policy.{Validation}
+use Rattle.admission.proofs.Prelude.{◌≡◌, ◌∙◌, ℕ, List, length, Ok, sym, ap, subst, length-map, policy_in, Policy, Documents, IsSaid, Language, Profile, Wide}
 use Rattle.policy_glue.specs.declared.failure_policy.FailurePolicy.{FailurePolicy}
 use Rattle.wide_policy.proofs.Once.{one_policy}
 use Rattle.wide_policy.specs.Taking.{TakenValidation, profile_validation}

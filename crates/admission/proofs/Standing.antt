@@ -1,5 +1,5 @@
 -- The runs of images while a review is answered.
-use Rattle.admission.proofs.Prelude.{◌≡◌, Result, Ok, Err, arith, sym, subst, OneImage, Policy, Verdict, Documents, IsSaid, RunEnds, RunAgrees, exactly, RunError, OutOfSteps, OverLimit, OutOfReads}
+use Rattle.admission.proofs.Prelude.{Result, Ok, Err, arith, sym, subst, OneImage, Policy, Verdict, Documents, IsSaid, RunEnds, RunAgrees, exactly, RunError, OutOfSteps, OverLimit, OutOfReads}
 use Rattle.loader.specs.Contents as loader
 use Rattle.std.proofs.Common.{ℕ}
 use Rattle.std.specs.Prelude.{◌≢◌}

@@ -1,16 +1,15 @@
 -- What policies of the wide language decide.
-use Rattle.std.specs.Prelude.{◌≡◌, ℕ, List, Result, Ok}
+use Rattle.std.specs.Prelude.{◌≡◌, Ok}
 use Rattle.cel_macros.specs.Environment.{Roots}
 use Rattle.wide_reader.specs.Tree.{Wide}
 use Rattle.wide_meaning.specs.Environment.{WideEnvironment}
 use Rattle.wide_meaning.specs.Outcome.{Outcome}
 use Rattle.policy_glue.specs.Policy.{Policy}
-use Rattle.policy_glue.specs.Verdict.{Verdict}
 use Rattle.wide_policy.specs.Reading.{IsWideTree}
 use Rattle.wide_policy.specs.WideEvaluation.{wide_decision_of}
 use Rattle.wide_policy.specs.WideTrees.{WidePolicyTree}
 use Rattle.wide_policy.specs.declared.message_rule.MessageRule.{MessageRule}
-use Rattle.admission.specs.Deciding.{Case, Documents, Reply, Reviews, IsAnswered, answer_of, decision, started, values_given}
+use Rattle.admission.specs.Deciding.{Case, Documents, Reply, IsAnswered, answer_of, decision, started, values_given}
 use Rattle.admission.specs.Reviews.{uid_in}
 use Rattle.admission.specs.declared.language.Language.TheVariants.{Wide as InWide}
 

@@ -32,7 +32,6 @@ pub fn findings_once()
 /// A run within limits has one end: the program stops, its steps are taken, or its next call would
 /// read too much. With no limit of reads the end is by the state after its steps. A greater limit of
 /// reads changes no other end.
-#[tactic(auto, using(crate::proofs::Ends::out_of_steps_only, crate::proofs::Ends::out_of_reads_only, crate::proofs::Ends::stopped_only, crate::proofs::Ends::no_limit_of_reads, crate::proofs::Ends::greater_decides))]
 pub fn runs_end_once()
     ensures steps { OutOfStepsOnly }
     ensures reads { OutOfReadsOnly }
