@@ -13,7 +13,7 @@ ghost use Rattle.wide_translation.specs.Translated as specs;
 ghost use Rattle.wide_kinds.specs.Kinds as kinds;
 ghost use Rattle.cel_reader.specs.Tree as node;
 
-use crate::carried::Carried;
+use crate::carried::{Carried, list_of, value_of};
 use crate::translation_error::TranslationError;
 use crate::{build, conversions};
 use cel_macros::TextTest;
@@ -104,7 +104,7 @@ pub(crate) fn function(
 ) -> Result<Carried, TranslationError>
     ensures { ReturnsCarried (specs.on_plain (carried_view argument) (specs.function_carried function)) result }
 {
-    let Carried::Plain(kind, of) = argument else {
+    let Some((kind, of)) = value_of(argument) else {
         return Err(TranslationError::OptionalValue);
     };
     Ok(function_of(alloc, function, kind, of)?)
@@ -114,7 +114,7 @@ pub(crate) fn function(
 pub(crate) fn optional_of(alloc: Global, argument: Carried) -> Result<Carried, TranslationError>
     ensures { ReturnsCarried (specs.on_plain (carried_view argument) (λ k a. taken (listed k (forms.one_tree a)))) result }
 {
-    let Carried::Plain(kind, of) = argument else {
+    let Some((kind, of)) = value_of(argument) else {
         return Err(TranslationError::OptionalValue);
     };
     Ok(Carried::Listed(kind, build::one(alloc, of)?))
@@ -127,7 +127,7 @@ pub(crate) fn optional_of_non_zero(
 ) -> Result<Carried, TranslationError>
     ensures { ReturnsCarried (specs.on_plain (carried_view argument) (λ k a. taken (listed k (specs.once a forms.non_zero_tree)))) result }
 {
-    let Carried::Plain(kind, of) = argument else {
+    let Some((kind, of)) = value_of(argument) else {
         return Err(TranslationError::OptionalValue);
     };
     Ok(Carried::Listed(kind, conversions::non_zero(alloc, of)?))
@@ -156,7 +156,7 @@ pub(crate) fn tested(
 ) -> Result<Carried, TranslationError>
     ensures { ReturnsCarried (specs.on_plain (carried_view argument) (λ j b. taken (specs.test_carried test (view of) b))) result }
 {
-    let Carried::Plain(_, second) = argument else {
+    let Some((_, second)) = value_of(argument) else {
         return Err(TranslationError::OptionalValue);
     };
     let name = match test {
@@ -245,7 +245,7 @@ pub(crate) fn or_value(
 ) -> Result<Carried, TranslationError>
     ensures { ReturnsCarried (specs.on_plain (carried_view other) (specs.or_value_carried (carried_view of))) result }
 {
-    let Carried::Plain(kind, default) = other else {
+    let Some((kind, default)) = value_of(other) else {
         return Err(TranslationError::OptionalValue);
     };
     or_plain(alloc, of, kind, default)
@@ -299,7 +299,7 @@ fn guarded_or(
 ) -> Result<Carried, TranslationError>
     ensures { ReturnsCarried (specs.from_list OptionalValue (carried_view other) (λ j m. taken (listed (kinds.joined_kind kind j) (node.ternary (view guard) (forms.one_tree (view value)) m)))) result }
 {
-    let Carried::Listed(next, second) = other else {
+    let Some((next, second)) = list_of(other) else {
         return Err(TranslationError::OptionalValue);
     };
     let chosen = guarded_list_or(alloc, guard, value, second)?;
@@ -315,7 +315,7 @@ fn listed_or(
 ) -> Result<Carried, TranslationError>
     ensures { ReturnsCarried (specs.from_list OptionalValue (carried_view other) (λ j m. taken (listed (kinds.joined_kind kind j) (forms.let_tree names.held_name (view list) (held_or_list_tree m))))) result }
 {
-    let Carried::Listed(next, second) = other else {
+    let Some((next, second)) = list_of(other) else {
         return Err(TranslationError::OptionalValue);
     };
     let chosen = list_or(alloc, list, second)?;
@@ -352,7 +352,7 @@ fn has_value(alloc: Global, of: Carried) -> Result<Carried, TranslationError>
 fn size(alloc: Global, of: Carried) -> Result<Carried, TranslationError>
     ensures { ReturnsCarried (specs.method_carried methods.Size (carried_view of) []) result }
 {
-    let Carried::Plain(_, operand) = of else {
+    let Some((_, operand)) = value_of(of) else {
         return Err(TranslationError::OptionalValue);
     };
     let tree = build::method(alloc, operand, "size")?;

@@ -48,6 +48,14 @@ fn any_text(alloc: Global, of: Expr) -> Result<Expr, AllocError>
     chosen_text(alloc, is_true, "true", other)
 }
 
+/// The value that the translation's name denotes as a text.
+fn held_text(alloc: Global) -> Result<Expr, AllocError>
+    ensures { IfOk result (λ e. view e ≡ forms.text_tree forms.held) }
+{
+    let held = build::held(alloc)?;
+    any_text(alloc, held)
+}
+
 /// A value of any kind as a text, with the value written once.
 fn once_text(alloc: Global, of: Expr) -> Result<Expr, AllocError>
     ensures { IfOk result (λ e. view e ≡ specs.once (view of) forms.text_tree) }
@@ -55,8 +63,7 @@ fn once_text(alloc: Global, of: Expr) -> Result<Expr, AllocError>
     if build::is_simple(&of) {
         return any_text(alloc, of);
     }
-    let held = build::held(alloc)?;
-    let body = any_text(alloc, held)?;
+    let body = held_text(alloc)?;
     build::bound(alloc, of, body)
 }
 
@@ -179,6 +186,14 @@ fn any_bool(alloc: Global, of: &Expr) -> Result<Expr, AllocError>
     chosen_bool(alloc, is_true, is_false)
 }
 
+/// The bool that the text denotes that the translation's name denotes.
+fn held_text_bool(alloc: Global) -> Result<Expr, AllocError>
+    ensures { IfOk result (λ e. view e ≡ forms.text_bool_tree forms.held) }
+{
+    let held = build::held(alloc)?;
+    text_bool(alloc, &held)
+}
+
 /// The bool that a text denotes, with the text written once.
 fn once_text_bool(alloc: Global, of: Expr) -> Result<Expr, AllocError>
     ensures { IfOk result (λ e. view e ≡ specs.once (view of) forms.text_bool_tree) }
@@ -186,9 +201,16 @@ fn once_text_bool(alloc: Global, of: Expr) -> Result<Expr, AllocError>
     if build::is_simple(&of) {
         return text_bool(alloc, &of);
     }
-    let held = build::held(alloc)?;
-    let body = text_bool(alloc, &held)?;
+    let body = held_text_bool(alloc)?;
     build::bound(alloc, of, body)
+}
+
+/// The bool that the value denotes that the translation's name denotes.
+fn held_bool(alloc: Global) -> Result<Expr, AllocError>
+    ensures { IfOk result (λ e. view e ≡ forms.bool_tree forms.held) }
+{
+    let held = build::held(alloc)?;
+    any_bool(alloc, &held)
 }
 
 /// The bool that a value of any kind denotes, with the value written once.
@@ -198,8 +220,7 @@ fn once_any_bool(alloc: Global, of: Expr) -> Result<Expr, AllocError>
     if build::is_simple(&of) {
         return any_bool(alloc, &of);
     }
-    let held = build::held(alloc)?;
-    let body = any_bool(alloc, &held)?;
+    let body = held_bool(alloc)?;
     build::bound(alloc, of, body)
 }
 
@@ -243,6 +264,14 @@ fn any_non_zero(alloc: Global, of: Expr) -> Result<Expr, AllocError>
     build::ternary(alloc, zero, build::empty(alloc), list)
 }
 
+/// The same of the value that the translation's name denotes.
+fn held_non_zero(alloc: Global) -> Result<Expr, AllocError>
+    ensures { IfOk result (λ e. view e ≡ forms.non_zero_tree forms.held) }
+{
+    let held = build::held(alloc)?;
+    any_non_zero(alloc, held)
+}
+
 /// The same, with the value written once.
 pub(crate) fn non_zero(alloc: Global, of: Expr) -> Result<Expr, AllocError>
     ensures { IfOk result (λ e. view e ≡ specs.once (view of) forms.non_zero_tree) }
@@ -250,7 +279,6 @@ pub(crate) fn non_zero(alloc: Global, of: Expr) -> Result<Expr, AllocError>
     if build::is_simple(&of) {
         return any_non_zero(alloc, of);
     }
-    let held = build::held(alloc)?;
-    let body = any_non_zero(alloc, held)?;
+    let body = held_non_zero(alloc)?;
     build::bound(alloc, of, body)
 }

@@ -1,13 +1,18 @@
 //! Fields, and whether a field is there.
 
 ghost use Rattle.std.specs.Prelude.{◌≡◌, IfOk};
+ghost use Rattle.cel_reader.specs.Tree as node;
 ghost use Rattle.cel_reader.specs.Tree.{view};
-ghost use Rattle.wide_translation.specs.Declarations.{carried_view};
+ghost use Rattle.cel_reader.specs.declared.operator.BinaryOperator.TheVariants as operation;
+ghost use Rattle.wide_kinds.specs.declared.kind.ValueKind.TheVariants as kind;
+ghost use Rattle.wide_translation.specs.Carried.{plain, taken};
+ghost use Rattle.wide_translation.specs.Declarations.{ReturnsCarried, carried_view};
 ghost use Rattle.wide_translation.specs.Forms as forms;
 ghost use Rattle.wide_translation.specs.Translated as specs;
 
 use crate::carried::Carried;
 use crate::names::HELD;
+use crate::translation_error::TranslationError;
 use crate::{build, presence};
 use cel_reader::{BinaryOperator, Expr};
 use std::alloc::{AllocError, Global};
@@ -37,6 +42,14 @@ fn field_of_list(alloc: Global, list: Expr, field: &str) -> Result<Carried, Allo
     Ok(Carried::Listed(ValueKind::Dyn, fields))
 }
 
+/// Whether a guard holds and a value has a field.
+fn also_present(alloc: Global, guard: Expr, value: &Expr, field: &str) -> Result<Expr, AllocError>
+    ensures { IfOk result (λ e. view e ≡ node.binary operation.And (view guard) (forms.present_tree (view value.now) field.now)) }
+{
+    let present = presence::present(alloc, value, field)?;
+    build::binary(alloc, BinaryOperator::And, guard, present)
+}
+
 /// The field of the value of an optional value with a guard.
 fn field_of_guarded(
     alloc: Global,
@@ -47,8 +60,7 @@ fn field_of_guarded(
     ensures { IfOk result (λ c. carried_view c ≡ specs.field_of_guarded (forms.is_simple (view value)) (view guard) (view value) field.now) }
 {
     if build::is_simple(&value) {
-        let present = presence::present(alloc, &value, field)?;
-        let both = build::binary(alloc, BinaryOperator::And, guard, present)?;
+        let both = also_present(alloc, guard, &value, field)?;
         let inner = presence::access(alloc, value, field)?;
         return Ok(Carried::Guarded(ValueKind::Dyn, both, inner));
     }
@@ -91,6 +103,14 @@ pub(crate) fn has_value(alloc: Global, of: Carried) -> Result<Expr, AllocError>
     }
 }
 
+/// Whether the value that the translation's name denotes has a field.
+fn held_has(alloc: Global, field: &str) -> Result<Expr, AllocError>
+    ensures { IfOk result (λ e. view e ≡ forms.present_tree forms.held field.now) }
+{
+    let held = build::held(alloc)?;
+    presence::present(alloc, &held, field)
+}
+
 /// Whether a value has a field.
 fn has_plain(alloc: Global, of: Expr, field: &str) -> Result<Expr, AllocError>
     ensures { IfOk result (λ e. view e ≡ specs.once (view of) (λ a. forms.present_tree a field.now)) }
@@ -98,8 +118,7 @@ fn has_plain(alloc: Global, of: Expr, field: &str) -> Result<Expr, AllocError>
     if build::is_simple(&of) {
         return presence::present(alloc, &of, field);
     }
-    let held = build::held(alloc)?;
-    let body = presence::present(alloc, &held, field)?;
+    let body = held_has(alloc, field)?;
     build::bound(alloc, of, body)
 }
 
@@ -118,4 +137,12 @@ pub(crate) fn has(alloc: Global, name: &str, of: Carried) -> Result<Expr, AllocE
             has_value(alloc, inner)
         }
     }
+}
+
+/// Whether an operand has a field, as a value.
+pub(crate) fn tested(alloc: Global, name: &str, of: Carried) -> Result<Carried, TranslationError>
+    ensures { ReturnsCarried (taken (plain kind.Bool (specs.has_carried name.now (carried_view of)))) result }
+{
+    let tree = has(alloc, name, of)?;
+    Ok(Carried::Plain(ValueKind::Bool, tree))
 }

@@ -9,7 +9,7 @@ ghost use Rattle.wide_translation.specs.Forms as forms;
 ghost use Rattle.wide_translation.specs.Keys.{IsNoLiteralKey};
 ghost use Rattle.wide_translation.specs.Translated as specs;
 
-use crate::carried::Carried;
+use crate::carried::{Carried, value_of};
 use crate::names::HELD;
 use crate::translation_error::TranslationError;
 use crate::{build, fields, presence};
@@ -29,10 +29,10 @@ fn plain_index(
 {
     match access {
         Access::Plain => {
-            let Carried::Plain(_, first) = of else {
+            let Some((_, first)) = value_of(of) else {
                 return Err(TranslationError::OptionalValue);
             };
-            let Carried::Plain(_, second) = key else {
+            let Some((_, second)) = value_of(key) else {
                 return Err(TranslationError::OptionalValue);
             };
             let tree = build::index(alloc, first, second)?;

@@ -2,23 +2,36 @@
 
 ghost use Rattle.std.specs.Prelude.{◌≡◌};
 ghost use Rattle.cel_macros.specs.Environment.{lookup};
+ghost use Rattle.cel_reader.specs.Tree as node;
+ghost use Rattle.cel_reader.specs.Tree.{literal_view};
+ghost use Rattle.wide_kinds.specs.Kinds as kinds;
 ghost use Rattle.wide_reader.specs.Tree as wide;
 ghost use Rattle.wide_meaning.specs.Environment as environment;
 ghost use Rattle.wide_meaning.specs.Functions.{qualified_named};
 ghost use Rattle.wide_meaning.specs.Meaning.{is_empty_list, namespace_in};
+ghost use Rattle.wide_translation.specs.Carried.{plain, taken};
 ghost use Rattle.wide_translation.specs.Declarations.{ReturnsCarried, scope_in};
 ghost use Rattle.wide_translation.specs.Layers as layers;
 ghost use Rattle.wide_translation.specs.Translated as specs;
 
-use crate::build;
 use crate::calls::unknown;
 use crate::carried::Carried;
 use crate::names::{Names, VARIABLES, is_root, is_wrapped, item_kind, variable_kind};
 use crate::translation_error::TranslationError;
+use crate::{build, copying};
+use cel_reader::Literal;
 use std::alloc::Global;
-use wide_kinds::{Kind, ValueKind};
+use wide_kinds::{Kind, ValueKind, literal_kind};
 use wide_meaning::Qualified;
 use wide_reader::Wide;
+
+/// A literal.
+pub(crate) fn literal(alloc: Global, given: &Literal) -> Result<Carried, TranslationError>
+    ensures { let l = literal_view given.now in ReturnsCarried (taken (plain (kinds.literal_kind l) (node.literal l))) result }
+{
+    let tree = copying::literal(alloc, given)?;
+    Ok(Carried::Plain(literal_kind(given), tree))
+}
 
 /// A root.
 pub(crate) fn root(alloc: Global, name: &str, wrapped: bool) -> Result<Carried, TranslationError>

@@ -12,7 +12,7 @@ ghost use Rattle.wide_translation.specs.Layers as layers;
 ghost use Rattle.wide_translation.specs.Translated as specs;
 
 use crate::build;
-use crate::carried::Carried;
+use crate::carried::{Carried, value_of};
 use crate::translation_error::TranslationError;
 use cel_reader::{BinaryOperator, Expr, Literal, UnaryOperator};
 use std::alloc::{AllocError, Global};
@@ -52,7 +52,7 @@ pub(crate) fn unary(
 ) -> Result<Carried, TranslationError>
     ensures { ReturnsCarried (specs.on_plain (carried_view operand) (λ k a. taken (plain (kinds.unary_kind operator) (node.unary operator a)))) result }
 {
-    let Carried::Plain(_, of) = operand else {
+    let Some((_, of)) = value_of(operand) else {
         return Err(TranslationError::OptionalValue);
     };
     let tree = build::unary(alloc, operator, of)?;
@@ -102,7 +102,7 @@ fn equality(
 {
     match left {
         Carried::Plain(_, first) => {
-            let Carried::Plain(_, second) = right else {
+            let Some((_, second)) = value_of(right) else {
                 return Err(TranslationError::OptionalValue);
             };
             Ok(compared(alloc, operator, first, second)?)
@@ -143,13 +143,13 @@ fn on_operands(
 ) -> Result<Carried, TranslationError>
     ensures { ReturnsCarried (specs.on_plain (carried_view left) (λ k a. specs.on_plain (carried_view right) (λ j b. specs.plain_binary is_empty operator k j a b))) result }
 {
-    let Carried::Plain(kind, first) = left else {
+    let Some(first) = value_of(left) else {
         return Err(TranslationError::OptionalValue);
     };
-    let Carried::Plain(other, second) = right else {
+    let Some(second) = value_of(right) else {
         return Err(TranslationError::OptionalValue);
     };
-    Ok(on_values(alloc, is_empty, operator, (kind, first), (other, second))?)
+    Ok(on_values(alloc, is_empty, operator, first, second)?)
 }
 
 /// Whether a binary operator is an equality.
@@ -211,7 +211,7 @@ pub(crate) fn ternary(
 {
     match yes {
         Carried::Plain(kind, first) => {
-            let Carried::Plain(other, second) = no else {
+            let Some((other, second)) = value_of(no) else {
                 return Err(TranslationError::OptionalValue);
             };
             let tree = build::ternary(alloc, condition, first, second)?;

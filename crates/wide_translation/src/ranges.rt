@@ -12,7 +12,7 @@ ghost use Rattle.wide_translation.specs.Translated as specs;
 
 use crate::build;
 use crate::calls::as_list;
-use crate::carried::Carried;
+use crate::carried::{Carried, list_of, value_of};
 use crate::translation_error::TranslationError;
 use cel_macros::Macro as PlainMacro;
 use cel_reader::Expr;
@@ -53,7 +53,7 @@ pub(crate) fn fold(
 ) -> Result<Carried, TranslationError>
     ensures { ReturnsCarried (specs.on_plain (carried_view part) (λ j b. taken (specs.fold_carried found item.now (view range) b))) result }
 {
-    let Carried::Plain(_, body) = part else {
+    let Some((_, body)) = value_of(part) else {
         return Err(TranslationError::OptionalValue);
     };
     let tree = build::fold(alloc, plain_macro(found), item, range, body)?;
@@ -70,7 +70,7 @@ pub(crate) fn filter_map(
 ) -> Result<Carried, TranslationError>
     ensures { ReturnsCarried (specs.on_plain (carried_view transform) (λ i c. taken (plain kind.List (forms.filter_map_tree item.now (view range) (view predicate) c)))) result }
 {
-    let Carried::Plain(_, body) = transform else {
+    let Some((_, body)) = value_of(transform) else {
         return Err(TranslationError::OptionalValue);
     };
     let tree = build::filter_map(alloc, item, range, predicate, body)?;
@@ -86,7 +86,7 @@ fn optional_map(
 ) -> Result<Carried, TranslationError>
     ensures { ReturnsCarried (specs.optional_carried optional.Map item.now (view list) (carried_view part)) result }
 {
-    let Carried::Plain(kind, body) = part else {
+    let Some((kind, body)) = value_of(part) else {
         return Err(TranslationError::OptionalValue);
     };
     let mapped = build::fold(alloc, PlainMacro::Map, item, list, body)?;
@@ -103,7 +103,7 @@ fn optional_flat_map(
     ensures { ReturnsCarried (specs.optional_carried optional.FlatMap item.now (view list) (carried_view part)) result }
 {
     let inner = as_list(alloc, part)?;
-    let Carried::Listed(kind, body) = inner else {
+    let Some((kind, body)) = list_of(inner) else {
         return Err(TranslationError::OptionalValue);
     };
     let mapped = build::flat(alloc, item, list, body)?;

@@ -4,26 +4,27 @@ ghost use Rattle.std.specs.Prelude.{[], ◌∷◌, IfOk};
 ghost use Rattle.std.specs.Prelude as list;
 ghost use Rattle.cel_reader.specs.Tree as node;
 ghost use Rattle.wide_reader.specs.Tree as wide;
+ghost use Rattle.wide_meaning.specs.Environment as environment;
 ghost use Rattle.wide_meaning.specs.Functions.{function_named};
 ghost use Rattle.wide_translation.specs.Declarations.{IsTranslation, ReturnsCarried, carried_view, scope_in};
 ghost use Rattle.wide_translation.specs.Results.{WideMeans};
-ghost use Rattle.wide_translation.specs.Scope.{scope_of};
+ghost use Rattle.wide_translation.specs.Scope.{is_hidden, scope_of};
 ghost use Rattle.wide_translation.specs.Translated as specs;
-ghost use Rattle.wide_translation.specs.Translated.{IsFinished, translated, all_translated, items_translated, entries_translated};
+ghost use Rattle.wide_translation.specs.Translated.{translated, all_translated, items_translated, entries_translated};
 
 use crate::calls::{as_list, taken_name, unknown, unknown_method};
-use crate::carried::Carried;
+use crate::carried::{Carried, list_of, value_of};
 use crate::indices::index;
 use crate::lists::ListParts;
 use crate::names::{Names, hides_variables, is_taken, is_wrapped};
 use crate::naming::{compared_uint, denotes_variables, is_empty, name, qualified, root, variable};
 use crate::scope::Scope;
-use crate::translated::Translated;
+use crate::translated::{Translated, finished};
 use crate::translation_error::TranslationError;
-use crate::{build, calls, copying, fields, operators, ranges};
+use crate::{build, calls, fields, naming, operators, ranges};
 use cel_macros::TextTest;
 use std::alloc::{AllocError, Global};
-use wide_kinds::{Kind, ValueKind, literal_kind};
+use wide_kinds::ValueKind;
 use wide_meaning::{Function, Method, Qualified};
 use wide_reader::{Access, Wide};
 
@@ -169,7 +170,7 @@ fn tested(
 ) -> Result<Carried, TranslationError>
     ensures { ReturnsCarried (specs.test_translation test (carried_view of) (translated (scope_in names.now) (wide.view argument.now))) result }
 {
-    let Carried::Plain(_, text) = of else {
+    let Some((_, text)) = value_of(of) else {
         return Err(TranslationError::OptionalValue);
     };
     let operand = translation(alloc, argument, names)?;
@@ -222,6 +223,24 @@ fn method(
     }
 }
 
+/// A variable, or a field of an operand.
+#[cycle(translation)]
+fn selected(
+    alloc: Global,
+    of: &Wide,
+    access: Access,
+    field: &str,
+    names: &Names,
+) -> Result<Carried, TranslationError>
+    ensures { let s = scope_in names.now in ReturnsCarried (specs.selected_translation (environment.denotes_variables (wide.view of.now) (is_hidden s)) access field.now s (translated s (wide.view of.now))) result }
+{
+    if denotes_variables(of, hides_variables(names)) && matches!(access, Access::Plain) {
+        return variable(alloc, field, names);
+    }
+    let inner = translation(alloc, of, names)?;
+    Ok(fields::field(alloc, access, field, inner)?)
+}
+
 /// The translation of an expression.
 #[cycle(translation)]
 #[tactic(auto, using(crate::proofs::WideViews::view_call, crate::proofs::WideViews::view_method, crate::proofs::WideViews::view_list, crate::proofs::WideViews::view_map), unfolding(crate::specs::Translated::translated))]
@@ -229,20 +248,11 @@ fn translation(alloc: Global, e: &Wide, names: &Names) -> Result<Carried, Transl
     ensures { ReturnsCarried (translated (scope_in names.now) (wide.view e.now)) result }
 {
     match e {
-        Wide::Literal(literal) => {
-            let tree = copying::literal(alloc, literal)?;
-            Ok(Carried::Plain(literal_kind(literal), tree))
-        }
+        Wide::Literal(given) => naming::literal(alloc, given),
         Wide::Uint(_) => Err(TranslationError::UnsignedInt),
         Wide::Name(given) => name(alloc, given.as_str(), names),
         Wide::Root(given) => root(alloc, given.as_str(), is_wrapped(names)),
-        Wide::Select(of, access, field) => {
-            if denotes_variables(of, hides_variables(names)) && matches!(access, Access::Plain) {
-                return variable(alloc, field.as_str(), names);
-            }
-            let inner = translation(alloc, of, names)?;
-            Ok(fields::field(alloc, *access, field.as_str(), inner)?)
-        }
+        Wide::Select(of, access, field) => selected(alloc, of, *access, field.as_str(), names),
         Wide::Index(of, access, at) => {
             let inner = translation(alloc, of, names)?;
             let key = translation(alloc, at, names)?;
@@ -250,8 +260,7 @@ fn translation(alloc: Global, e: &Wide, names: &Names) -> Result<Carried, Transl
         }
         Wide::Has(of, field) => {
             let inner = translation(alloc, of, names)?;
-            let tree = fields::has(alloc, field.as_str(), inner)?;
-            Ok(Carried::Plain(ValueKind::Bool, tree))
+            fields::tested(alloc, field.as_str(), inner)
         }
         Wide::Unary(operator, of) => {
             let inner = translation(alloc, of, names)?;
@@ -264,7 +273,7 @@ fn translation(alloc: Global, e: &Wide, names: &Names) -> Result<Carried, Transl
             operators::binary(alloc, is_empty(right), *operator, first, second)
         }
         Wide::Ternary(condition, yes, no) => {
-            let Carried::Plain(_, test) = translation(alloc, condition, names)? else {
+            let Some((_, test)) = value_of(translation(alloc, condition, names)?) else {
                 return Err(TranslationError::OptionalValue);
             };
             let first = translation(alloc, yes, names)?;
@@ -277,7 +286,7 @@ fn translation(alloc: Global, e: &Wide, names: &Names) -> Result<Carried, Transl
             if is_taken(item.as_str()) {
                 return Err(taken_name(alloc, item.as_str()));
             }
-            let Carried::Plain(_, of) = translation(alloc, range, names)? else {
+            let Some((_, of)) = value_of(translation(alloc, range, names)?) else {
                 return Err(TranslationError::OptionalValue);
             };
             let inner = Names::Within(item.as_str(), ValueKind::Dyn, &*names);
@@ -288,11 +297,11 @@ fn translation(alloc: Global, e: &Wide, names: &Names) -> Result<Carried, Transl
             if is_taken(item.as_str()) {
                 return Err(taken_name(alloc, item.as_str()));
             }
-            let Carried::Plain(_, of) = translation(alloc, range, names)? else {
+            let Some((_, of)) = value_of(translation(alloc, range, names)?) else {
                 return Err(TranslationError::OptionalValue);
             };
             let inner = Names::Within(item.as_str(), ValueKind::Dyn, &*names);
-            let Carried::Plain(_, test) = translation(alloc, predicate, &inner)? else {
+            let Some((_, test)) = value_of(translation(alloc, predicate, &inner)?) else {
                 return Err(TranslationError::OptionalValue);
             };
             let body = translation(alloc, transform, &inner)?;
@@ -305,7 +314,7 @@ fn translation(alloc: Global, e: &Wide, names: &Names) -> Result<Carried, Transl
                 return Err(taken_name(alloc, item.as_str()));
             }
             let operand = translation(alloc, of, names)?;
-            let Carried::Listed(_, list) = as_list(alloc, operand)? else {
+            let Some((_, list)) = list_of(as_list(alloc, operand)?) else {
                 return Err(TranslationError::OptionalValue);
             };
             let inner = Names::Within(item.as_str(), ValueKind::Dyn, &*names);
@@ -323,26 +332,6 @@ fn translation(alloc: Global, e: &Wide, names: &Names) -> Result<Carried, Transl
             let operand = translation(alloc, of, names)?;
             method(alloc, found, operand, arguments.as_slice(), names)
         }
-    }
-}
-
-/// An optional value as a list; a value as it is.
-fn finished(alloc: Global, of: Carried) -> Result<Translated, AllocError>
-    ensures { IfOk result (λ t. IsFinished (carried_view of) t.kind (node.view t.expression)) }
-{
-    match of {
-        Carried::Plain(kind, tree) => Ok(Translated {
-            kind: Kind::Value(kind),
-            expression: tree,
-        }),
-        Carried::Guarded(kind, guard, value) => Ok(Translated {
-            kind: Kind::Optional(kind),
-            expression: build::guarded(alloc, guard, value)?,
-        }),
-        Carried::Listed(kind, list) => Ok(Translated {
-            kind: Kind::Optional(kind),
-            expression: list,
-        }),
     }
 }
 
