@@ -21,8 +21,8 @@ const OUT_OF_READS: End = Err("N7");
 /// The greatest limit, which is none.
 const ALL: u64 = u64::MAX;
 
-fn end_of(result: Result<Reply, RunError>) -> End {
-    match result {
+fn end_of(answer: Result<Reply, RunError>) -> End {
+    match answer {
         Ok(reply) => Ok(reply.allowed),
         Err(error) => Err(error.code()),
     }
@@ -90,8 +90,8 @@ fn reviews_without_a_limit_of_reads(rt: HostRuntime) -> Result<(), Fail> {
     let policy = policy_of(rt.alloc(), CONTAINS)?;
     let document = review_of(rt.alloc(), object.as_str())?;
     for (steps, end) in [(24, OUT_OF_STEPS), (25, DENIED)] {
-        let result = review(rt.alloc(), &policy, &document, None, None, steps);
-        assert_eq!(rt; end_of(result), end, "{steps} steps");
+        let answer = review(rt.alloc(), &policy, &document, None, None, steps);
+        assert_eq!(rt; end_of(answer), end, "{steps} steps");
     }
     Ok(())
 }
