@@ -46,8 +46,8 @@ def policy(case: Case, due: Due, word: str) -> dict:
     spec = {
         "failurePolicy": POLICIES[word],
         "variables": [{"name": name, "expression": text} for name, text in named.items()],
-        # a policy without validations is refused as such
-        "validations": validations or [{"expression": "true"}],
+        # a policy without validations is refused as such, and a variable may be an optional value
+        "validations": validations or [{"expression": "dyn(variables.it) == null"}],
     }
     return {
         "apiVersion": "admissionregistration.k8s.io/v1", "kind": "ValidatingAdmissionPolicy",
