@@ -17,7 +17,8 @@ from ..evaluator.refused import Refused
 from ..seeded.examples import examples
 from ..seeded.numbers import Numbers
 from ..wide import policies
-from ..wide.comparing import names
+from ..wide.cases import Case, Due
+from ..wide.comparing import Compared, names
 from ..wide.expression import Scope, taken
 from ..wide.meaning import Meaning
 from ..wide.patterns import found_all
@@ -182,6 +183,13 @@ class Script(Files):
         self.assertEqual(status, 1)
         self.assertRegex(said, r"^case \d+ of seed 1 differs\nexpression ")
         self.assertRegex(said, r"review \d: \{.*\ndue \{")
+
+
+    def test_an_expression_that_is_taken_though_a_refusal_is_due(self) -> None:
+        program = self.file("gatekeeper", "#!/bin/sh\n")
+        program.chmod(0o755)
+        found = Compared().difference(program, Case("1 + 'a'", {}, [ROOTS]), Due("Y2 at 0"))
+        self.assertEqual(found, "it is accepted, and Y2 at 0 is due")
 
 
 class Parts(unittest.TestCase):
