@@ -22,6 +22,7 @@ use Rattle.cluster_gate.specs.declared.block_cause.BlockCause.{BlockCause, TheVa
 use Rattle.cluster_gate.specs.declared.cluster_error.ClusterError.{ClusterError, TheVariants.BlockedPolicy}
 use Rattle.cluster_gate.specs.declared.cluster_error.ClusterError.TheVariants as cluster_error
 use Rattle.admission.specs.declared.language.Language.{Language}
+use Rattle.admission.specs.declared.limits.Limits.{Limits}
 use Rattle.admission.specs.declared.wide_refusal.WideRefusal.{WideRefusal}
 use Rattle.admission.specs.declared.wide_refusal.WideRefusal.TheVariants as wide_refusal
 use Rattle.gatekeeper_runner.specs.Orders.{ClusterOrder}
