@@ -10,7 +10,7 @@ from .runs import row
 # bytes of the document, near enough
 ROOMS = (3_000, 100_000, 3_000_000)
 # what a run reads, near enough, and one that the charge bounds
-READS, CHARGED = 100_000_000, 4_000_000
+READS, CHARGED = 100_000_000, 13_500_000
 # the turns of a loop, at most
 TURNS = 300_000
 STEPS = ["--steps", "1000000000"]
