@@ -38,7 +38,7 @@ help_text =
 
 -- the text for `--version`
 unfoldable pub version_text : Text
-version_text = codes "gatekeeper 0.20261129\n"
+version_text = codes "gatekeeper 0.20261130\n"
 
 -- the text for a word
 abbrev pub text_of_word : Text → Option Text

@@ -70,5 +70,5 @@ a line, with a line on standard output.
 fn version_text() -> &'static str
     ensures { result.now ≡ version_text }
 {
-    "gatekeeper 0.20261129\n"
+    "gatekeeper 0.20261130\n"
 }

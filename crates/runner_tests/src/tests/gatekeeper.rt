@@ -173,7 +173,7 @@ const ROWS: [(&str, &str, u8, &str, &str); 48] = [
     ("gatekeeper --policy few --policy none --profile", TWO, 3, "", "K1"),
     ("gatekeeper --policy few --leave-messages", TWO, 2, "", "U1"),
     ("gatekeeper --policy few --profile --profile", TWO, 2, "", "U1"),
-    ("gatekeeper --version --policy missing", TWO, 0, "gatekeeper 0.20261129\n", ""),
+    ("gatekeeper --version --policy missing", TWO, 0, "gatekeeper 0.20261130\n", ""),
 ];
 
 /// Whether the program with these words and this input ends with this status and both
