@@ -39,7 +39,7 @@ WORK = {
     "compiled": (1200, "loader debugger policy_glue review_runner value_table"),
     "orders": (400, "debugger review_runner"),
     "review": (600, "debugger review_runner"),
-    "gatekeeper": (800, "host gatekeeper_runner"),
+    "gatekeeper": (800, "host streams gatekeeper_runner"),
 }
 RUN = re.compile(r"^case=(\d+) run=ended status=([03]) ", re.MULTILINE)
 AS_IT_IS_TO_BE = re.compile(r"^allocations: |status=[03] ")
