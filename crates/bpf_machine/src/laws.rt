@@ -3,7 +3,7 @@
 
 ghost use Rattle.bpf_machine.specs.Decoding.{DecodesSpelling};
 ghost use Rattle.bpf_machine.specs.InstructionRows.{ArithmeticRowsHold, AtomicRowsHold, CompareRowsHold, ProgramRowsHold};
-ghost use Rattle.bpf_machine.specs.ReadRows.{ReadRowsHold};
+ghost use Rattle.bpf_machine.specs.ReadRows.{RunReadRowsHold};
 ghost use Rattle.bpf_machine.specs.Reads.{GreaterLimitGoesOn, LimitedStopsOnce, NoLimitIsRun, SlicesAgree};
 ghost use Rattle.bpf_machine.specs.Rows.{MachineRowsHold};
 ghost use Rattle.bpf_machine.specs.Starts.{StartsAreTables};
@@ -36,7 +36,7 @@ pub fn rows_stand()
 
 /// What runs read, worked out by hand.
 pub fn read_rows_stand()
-    ensures { ReadRowsHold }
+    ensures { RunReadRowsHold }
 {}
 
 /// The results of single instructions, and the ends of short programs.

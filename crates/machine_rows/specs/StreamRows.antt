@@ -5,7 +5,7 @@ use Rattle.streams.specs.Failures.{FailsByResult}
 use Rattle.streams.specs.Lines.{readable}
 use Rattle.streams.specs.Streams.{one_more}
 use Rattle.streams.specs.declared.session_error.SessionError.TheVariants.{ReadFailed, WriteFailed}
-use Rattle.value_table.specs.MemberText.{text_in}
+use Rattle.review_tables.specs.MemberText.{text_in}
 
 -- a failed read counts no failed write, nor the other way round; failures are counted in 64 bits
 pub record StreamRowsHold : Type 0 where

@@ -18,7 +18,7 @@ use Rattle.review_runner.proofs.SourceLines.{same_lines}
 use Rattle.admission.specs.Deciding.{Case, Reviews, answer_of, decision, is_allowed, started}
 use Rattle.admission.specs.Reviews.{contents_given, uid_in}
 use Rattle.admission.specs.Endings.{NoLimitOfReads}
-use Rattle.admission.specs.Standing.{Ending, Images, RunAgrees, RunEnds, ending_by, has_stopped, out_of_reads, out_of_steps, steps_alone}
+use Rattle.admission.specs.Standing.{RunEnding, Images, RunAgrees, PolicyRunEnds, ending_by, has_stopped, out_of_reads, out_of_steps, steps_alone}
 use Rattle.admission.specs.declared.run_error.RunError.TheVariants as run_error
 use Rattle.admission.proofs.OneReview.{cases_once}
 use Rattle.admission.proofs.Said.{profile_said, profile_told}
@@ -71,7 +71,7 @@ pub record ReviewLaws : Type 0 where
   pub unlimited : NoLimitOfReads
 
 -- the last status of a run with this end
-abbrev pub last_status : Ending → Status
+abbrev pub last_status : RunEnding → Status
 last_status (has_stopped t) = t
 last_status out_of_steps = Running
 last_status out_of_reads = Running
@@ -94,7 +94,7 @@ moved once d c e P given =
     subst (λ (p : Policy). P p e.policy.trees e.roots) same.0
     (subst (λ (t : PolicyTree). P c.policy.parsed t e.roots) same.1 (subst (λ (r : Roots). P c.policy.parsed c.policy.trees r) same.2 given))
 
-pub run_of_review : NoLimitOfReads → (chosen : Images) (d : Documents) (n : ℕ) (due : Verdict → Ending) → d.language ≡ Profile → RunEnds chosen d (steps_alone n) due
+pub run_of_review : NoLimitOfReads → (chosen : Images) (d : Documents) (n : ℕ) (due : Verdict → RunEnding) → d.language ≡ Profile → PolicyRunEnds chosen d (steps_alone n) due
     → ReviewRun chosen n d.policy d.review d.namespace d.params (λ v. last_status (due v))
 run_of_review unlimited chosen d n due profile has = record {
   policy = has.run.case.policy.parsed;

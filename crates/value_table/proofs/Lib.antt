@@ -23,18 +23,4 @@ pub mod Lookups
 pub mod Mapped
 pub mod Printing
 pub mod Prelude
-pub mod Conversion
-pub mod PlacedValues
 mod Pooled
-pub mod PlacedMembers
-pub mod ReadLoops
-pub mod CheckLoops
-pub mod RequestReading
-pub mod ReviewReading
-pub mod RootKinds
-pub mod RootsInOrder
-pub mod ReviewTables
-pub mod Pools
-pub mod MemberTexts
-mod Membered
-mod Inserted

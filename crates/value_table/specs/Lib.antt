@@ -18,12 +18,3 @@ pub mod Start
 pub mod Tokens
 pub mod Chunks
 pub mod Lending
-pub mod Reading
-pub mod ReviewReading
-pub mod RootKind
-pub mod RootPlaces
-pub mod OtherRoots
-pub mod ReviewTable
-pub mod DocumentPool
-pub mod MemberText
-pub mod Members

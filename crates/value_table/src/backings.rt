@@ -8,7 +8,7 @@ use crate::lengths::quoted_length;
 use crate::lists::Lists;
 use crate::part::Part;
 use crate::room::repeat;
-use crate::small::small;
+use crate::small_number::small;
 use std::alloc::{AllocError, Global};
 
 /// The storage that the cells of texts, lists and maps refer to.

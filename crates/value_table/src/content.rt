@@ -4,7 +4,7 @@ use crate::part::Part;
 
 /// A simple value, or the location of a value's parts.
 #[derive(Clone, Copy, Debug, PartialEq, Eq)]
-pub(crate) enum Content {
+pub enum Content {
     Null,
     Bool(bool),
     Int(i64),

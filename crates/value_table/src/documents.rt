@@ -12,7 +12,7 @@ ghost use Rattle.value_table.specs.Heap.{heap_values, IsHeap};
 ghost use Rattle.value_table.specs.Heaps.{AreBelow};
 
 use crate::heap::Heap;
-use crate::small::small;
+use crate::small_number::small;
 use serde_json::{Map, Value};
 use std::alloc::AllocError;
 

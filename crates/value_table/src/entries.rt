@@ -16,7 +16,7 @@ use crate::lengths::put_length;
 use crate::part::Part;
 use crate::room::fill;
 use crate::search::search;
-use crate::small::small;
+use crate::small_number::small;
 use crate::text::{keys, text};
 use std::alloc::AllocError;
 

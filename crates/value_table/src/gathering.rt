@@ -14,13 +14,13 @@ use crate::heap::{Heap, room_for_cell};
 use crate::lengths::{pushed_length, put_length};
 use crate::measure::Measure;
 use crate::part::Part;
-use crate::small::small;
+use crate::small_number::small;
 use std::alloc::AllocError;
 
 // The whole gets one cell, and each part is measured once.
 impl Heap {
     /// Adds a list whose items are at these places.
-    pub(crate) fn add_list(&mut self, places: &[u32]) -> Result<u64, AllocError>
+    pub fn add_list(&mut self, places: &[u32]) -> Result<u64, AllocError>
         requires heap { IsHeap self.old }
         requires items { AreBelow (length (heap_values self.old)) places.now }
         requires ordered { IsOrdered (list (items_at (heap_values self.old) places.now)) }
@@ -38,7 +38,7 @@ impl Heap {
     }
 
     /// Adds a map with these texts as keys and the values at these places.
-    pub(crate) fn add_map(&mut self, keys: &[Part], places: &[u32]) -> Result<u64, AllocError>
+    pub fn add_map(&mut self, keys: &[Part], places: &[u32]) -> Result<u64, AllocError>
         requires heap { IsHeap self.old }
         requires texts { AreTexts self.old.backings.bytes keys.now }
         requires values { AreBelow (length (heap_values self.old)) places.now }

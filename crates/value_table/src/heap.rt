@@ -17,7 +17,7 @@ use std::alloc::{AllocError, Global};
 
 /// Values, each identified by the place of its cell. A value never changes.
 #[derive(Drop)]
-pub(crate) struct Heap {
+pub struct Heap {
     pub(crate) cells: Sequence<Cell>,
     pub(crate) backings: Backings,
     /// For each cell, the place of an equal value, as far as is known: itself or an earlier cell. A
@@ -29,7 +29,7 @@ impl Heap {
     ghost use Rattle.value_table.specs.Heap.{heap_values, IsHeap, Gains};
 
     /// A heap without values.
-    pub(crate) fn new(alloc: Global) -> Result<Heap, AllocError>
+    pub fn new(alloc: Global) -> Result<Heap, AllocError>
         ensures { IfOk result (λ h. IsHeap h × (heap_values h ≡ [])) }
     {
         Ok(Heap {
@@ -40,7 +40,7 @@ impl Heap {
     }
 
     /// A copy that shares everything unchanged. Equal values have to be found again.
-    pub(crate) fn copy(&self) -> Result<Heap, AllocError>
+    pub fn copy(&self) -> Result<Heap, AllocError>
         requires { IsHeap self.now }
         ensures { IfOk result (λ h. IsHeap h × (heap_values h ≡ heap_values self.now)) }
     {
@@ -60,9 +60,14 @@ impl Heap {
         })
     }
 
+    /// The allocator.
+    pub fn alloc(&self) -> Global {
+        self.cells.alloc()
+    }
+
     /// The cell at a place.
     #[tactic(auto, using(crate::proofs::Growth::count_values))]
-    pub(crate) fn cell(&self, place: u64) -> Cell
+    pub fn cell(&self, place: u64) -> Cell
         requires heap { IsHeap self.now }
         requires inside { place < length (heap_values self.now) }
         ensures found { CellFound self.now.backings (heap_values self.now) place result }
@@ -84,7 +89,7 @@ impl Heap {
     }
 
     /// Adds a null.
-    pub(crate) fn add_null(&mut self) -> Result<u64, AllocError>
+    pub fn add_null(&mut self) -> Result<u64, AllocError>
         requires { IsHeap self.old }
         ensures { Gains self.old (Some null) result self.new }
     {
@@ -96,7 +101,7 @@ impl Heap {
     }
 
     /// Adds a bool.
-    pub(crate) fn add_bool(&mut self, truth: bool) -> Result<u64, AllocError>
+    pub fn add_bool(&mut self, truth: bool) -> Result<u64, AllocError>
         requires { IsHeap self.old }
         ensures { Gains self.old (Some (boolean truth)) result self.new }
     {
@@ -108,7 +113,7 @@ impl Heap {
     }
 
     /// Adds an int.
-    pub(crate) fn add_int(&mut self, n: i64) -> Result<u64, AllocError>
+    pub fn add_int(&mut self, n: i64) -> Result<u64, AllocError>
         requires { IsHeap self.old }
         ensures { Gains self.old (Some (int n)) result self.new }
     {

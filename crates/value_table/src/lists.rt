@@ -10,7 +10,7 @@ ghost use Rattle.value_table.specs.declared.backings.Backings.{Backings};
 use crate::backing::Backing;
 use crate::room::fill;
 use crate::row::{Row, extend, items, shared};
-use crate::small::small;
+use crate::small_number::small;
 use std::alloc::{AllocError, Global};
 use std::marker::Model;
 use std::rc::Rc;

@@ -2,7 +2,7 @@
 
 /// A range of the bytes of all texts, and its measure.
 #[derive(Clone, Copy, Debug, PartialEq, Eq)]
-pub(crate) struct Part {
+pub struct Part {
     pub(crate) from: u32,
     pub(crate) to: u32,
     /// The length of its JSON text in bytes.

@@ -49,7 +49,7 @@ pub(crate) fn copies(roots: &[Value; 5]) -> Result<[Value; 5], AllocError>
 }
 
 /// The places of null, false and true.
-pub(crate) fn first_places(heap: &mut Heap) -> Result<Sequence<u64>, AllocError>
+pub fn first_places(heap: &mut Heap) -> Result<Sequence<u64>, AllocError>
     requires { IsHeap heap.old }
     ensures starts { IfOk result (λ ps. StartsWithValues heap.new ps first_values) }
     ensures grown { OnOk result (HasGrown (heap_values heap.old) (heap_values heap.new)) }

@@ -5,15 +5,15 @@ ghost use Rattle.value_store.specs.Value.{value, text};
 ghost use Rattle.value_store.specs.Lookup.{text_part};
 ghost use Rattle.value_store.specs.Seen.{outcome_view, shape_view, seen_size};
 ghost use Rattle.value_store.specs.Calls.{parts_of as value_parts};
-ghost use Rattle.value_table.specs.Meaning.{part_of, value_in, keys_at, key_in};
-ghost use Rattle.value_table.specs.Heaps.{IsText, IsRange, AreKeys};
+ghost use Rattle.value_table.specs.Meaning.{part_of, value_in, key_in};
+ghost use Rattle.value_table.specs.Heaps.{IsText, IsRange};
 ghost use Rattle.value_table.specs.Heap.{heap_values, IsHeap};
 
 use crate::content::Content;
 use crate::equality::parts_of;
 use crate::heap::Heap;
 use crate::part::Part;
-use crate::text::text;
+use crate::text::{keys, text};
 use std::str::from_utf8_unchecked;
 use value_store::Shape;
 
@@ -38,7 +38,7 @@ impl Heap {
     }
 
     /// The text at this place, if there is one.
-    pub(crate) fn text(&self, place: u64) -> Option<&str>
+    pub fn text(&self, place: u64) -> Option<&str>
         requires heap { IsHeap self.now }
         requires inside { place < length (heap_values self.now) }
         ensures { option_map (λ t. t.now) result ≡ text_part (value_in (heap_values self.now) place) }
@@ -92,18 +92,10 @@ impl Heap {
         ensures text { IsText self.now.backings.bytes result }
         ensures value { key_in (value_in (heap_values self.now) place) i ≡ Some (part_of self.now.backings.bytes result) }
     {
+        let all = self.backings.keys.items();
         match self.cell(place).content {
-            Content::Map(keys, _, count) => self.keys(keys as u64, count as u64)[i as usize],
+            Content::Map(first, _, count) => keys(all, first as u64, count as u64)[i as usize],
             _ => unreachable!(),
         }
-    }
-
-    // The parts of `count` keys, from this key on.
-    fn keys(&self, keys: u64, count: u64) -> &[Part]
-        requires { AreKeys self.now.backings.bytes self.now.backings.keys keys count }
-        ensures { result.now ≡ keys_at self.now.backings.keys keys count }
-    {
-        let all = self.backings.keys.items();
-        &all[keys as usize..(keys + count) as usize]
     }
 }

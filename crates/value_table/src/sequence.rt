@@ -10,7 +10,7 @@ use std::marker::Model;
 
 /// A sequence of items. A copy shares all full chunks.
 #[derive(Drop)]
-pub(crate) struct Sequence<T: Copy> {
+pub struct Sequence<T: Copy> {
     chunks: Chunks<T>,
 }
 
@@ -87,7 +87,7 @@ impl<T: Copy> Sequence<T> {
         self.chunks.reserve_more(more)
     }
 
-    pub(crate) fn push(&mut self, item: T) -> Result<(), AllocError>
+    pub fn push(&mut self, item: T) -> Result<(), AllocError>
         ensures ok { OnOk result (self.new ≡ self.old ++ item ∷ []) }
         ensures err { OnErr result (self.new ≡ self.old) }
     {

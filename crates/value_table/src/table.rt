@@ -1,6 +1,6 @@
 //! The table of a program's values.
 
-ghost use Rattle.std.specs.Prelude.{◌≡◌, ◌≤◌, ◌++◌, map, List, IfOk};
+ghost use Rattle.std.specs.Prelude.{◌≡◌, ◌≤◌, ◌++◌, map, IfOk};
 ghost use Rattle.std.specs.List.{AllByRecursion};
 ghost use Rattle.serde_json.specs.View.{view};
 ghost use Rattle.value_store.specs.Placing.{charge_limit, first_values};
@@ -9,18 +9,13 @@ ghost use Rattle.value_store.specs.Roots.{start_contents, StoreStarts};
 ghost use Rattle.value_store.specs.Value.{value};
 ghost use Rattle.value_table.specs.Held.{held_contents};
 ghost use Rattle.value_table.specs.Meaning.{reference_of};
-ghost use Rattle.serde_json.specs.Data.{Data};
-ghost use Rattle.value_table.specs.Heap.{heap_values, IsHeap};
-ghost use Rattle.value_table.specs.RootPlaces.{ArePlacedValues, AreSoundPlaces, TableReturns};
+ghost use Rattle.value_table.specs.References.{reference_values, AreReferences};
 ghost use Rattle.value_table.specs.Start.{IsWelcome};
 
 use crate::content::Content;
 use crate::heap::Heap;
-use crate::placed::Placed;
 use crate::places::{next_reference, place, place_of};
-use crate::review_error::ReviewError;
-use crate::root_places::place_roots;
-use crate::roots::{copies, first_places, start_places};
+use crate::roots::{copies, start_places};
 use crate::sequence::Sequence;
 use serde_json::Value;
 use std::alloc::{AllocError, Global};
@@ -73,32 +68,18 @@ impl Table {
         Ok(table)
     }
 
-    /// The table of these roots, as in `of_roots`. The roots are dropped as their values are added,
-    /// so that no document is in memory twice.
-    #[tactic(auto, using(crate::proofs::Starting::refused_as, crate::proofs::Starting::no_memory_for, crate::proofs::Starting::judged))]
-    pub fn of_documents(alloc: Global, roots: [Value; 5]) -> Result<Table, TableError>
-        ensures { StoreStarts held_contents (start_contents (map view roots)) result }
+    /// The table of these places of a heap, with this charge. The first places are those of null, false
+    /// and true.
+    pub fn of_parts(heap: Heap, places: Sequence<u64>, charge: u64) -> Table
+        requires references { AreReferences heap places }
+        requires limit { charge ≤ charge_limit }
+        ensures { result ≡ record { values = reference_values heap places; charge = charge } }
     {
-        let charge = start_charge(&roots)?;
-        let table = Table::charged(alloc, roots, charge)?;
-        Ok(table)
-    }
-
-    /// The table of five roots whose values are in a heap. The first refusal is returned: of a
-    /// root, by its reference, then of the charge.
-    pub(crate) fn placed(heap: Heap, roots: &[Option<Placed>; 5]) -> Result<Table, ReviewError>
-        requires heap { IsHeap heap }
-        requires sound { AreSoundPlaces (heap_values heap) roots.now }
-        ensures { (ds : List Data) → ArePlacedValues (heap_values heap) roots.now ds → TableReturns held_contents result (start_contents ds) }
-    {
-        let mut heap = heap;
-        let mut places = first_places(&mut heap)?;
-        let charge = place_roots(&heap, &mut places, roots)?;
-        Ok(Table {
+        Table {
             heap,
             places,
             charge,
-        })
+        }
     }
 
     // The table of documents whose sizes are charged.

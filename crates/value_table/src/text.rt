@@ -5,7 +5,6 @@ ghost use Rattle.value_table.specs.Meaning.{part_of, keys_at};
 ghost use Rattle.value_table.specs.Heaps.{IsText};
 
 use crate::part::Part;
-use std::str::from_utf8_unchecked;
 
 /// The bytes of a text.
 pub(crate) fn text(bytes: &[u8], part: Part) -> &[u8]
@@ -13,16 +12,6 @@ pub(crate) fn text(bytes: &[u8], part: Part) -> &[u8]
     ensures { result.now ≡ part_of bytes.now part }
 {
     &bytes[part.from as usize..part.to as usize]
-}
-
-/// A text as a string.
-pub(crate) fn string(bytes: &[u8], part: Part) -> &str
-    requires { IsText bytes.now part }
-    ensures { result.now ≡ part_of bytes.now part }
-{
-    let bytes = text(bytes, part);
-    // The bytes of each text are UTF-8.
-    unsafe { from_utf8_unchecked(bytes) }
 }
 
 /// The parts of adjacent keys.

@@ -17,7 +17,7 @@ use std::alloc::AllocError;
 
 impl Heap {
     /// Adds a text.
-    pub(crate) fn add_text(&mut self, s: &str) -> Result<u64, AllocError>
+    pub fn add_text(&mut self, s: &str) -> Result<u64, AllocError>
         requires { IsHeap self.old }
         ensures { Gains self.old (Some (text s.now)) result self.new }
     {
@@ -27,7 +27,7 @@ impl Heap {
     }
 
     /// Appends the text of a key. It does not become a value.
-    pub(crate) fn add_key(&mut self, key: &str) -> Result<Part, AllocError>
+    pub fn add_key(&mut self, key: &str) -> Result<Part, AllocError>
         requires { IsHeap self.old }
         ensures heap { IsHeap self.new }
         ensures values { heap_values self.new ≡ heap_values self.old }

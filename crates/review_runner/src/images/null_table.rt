@@ -20,7 +20,7 @@ pub fn null_table(alloc: Global) -> Result<Table, AllocError>
         Value::Null,
         Value::Null,
     ];
-    match Table::of_documents(alloc, roots) {
+    match Table::of_roots(alloc, &roots) {
         Ok(table) => Ok(table),
         Err(TableError::Memory) => Err(AllocError),
         Err(_) => unreachable!(),

@@ -168,7 +168,7 @@ fn ends_at_the_first_of_two_limits(rt: HostRuntime) -> Result<(), Fail> {
 }
 
 /// A text of 1,200,000 letters is searched for each of 100,000 items: 1,200,006 bytes each time, which is within
-/// 268,435,456 bytes 223 times.
+/// 16,777,216 bytes 13 times.
 #[test]
 fn ends_a_loop_of_searches(rt: HostRuntime) -> Result<(), Fail> {
     let letters = "a".repeat(rt.alloc(), 1_200_000)?;
@@ -176,7 +176,7 @@ fn ends_a_loop_of_searches(rt: HostRuntime) -> Result<(), Fail> {
     let object = format!(in rt.alloc(); "{{\"l\":[{items}1],\"t\":\"{letters}\"}}")?;
     let limits = Limits {
         steps: DEFAULT_STEPS,
-        reads: 268_435_456,
+        reads: 16_777_216,
     };
     let is = ends_in(rt.alloc(), EACH, object.as_str(), limits)?;
     assert_eq!(rt; is, OUT_OF_READS);
